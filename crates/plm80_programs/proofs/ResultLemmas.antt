@@ -9,5 +9,5 @@ on_ok (Err e) p = tt
 
 -- a result that was tested
 pub unless_err : {A E P : Type 0} (r : Result A E) (b : Bool) → b ≡ is_err r → b ≡ false → OnOk r P → P
-unless_err (Ok x) b is no p = p
-unless_err (Err e) b is no p = absurd (true≢false (sym is ∙ no))
+unless_err (Ok x) b is tested p = p
+unless_err (Err e) b is tested p = absurd (true≢false (sym is ∙ tested))

@@ -38,8 +38,7 @@ pub no_lines : (inputs : List (ℕ × ℕ)) (limits : Limits) (last : ℕ) (publ
     → last ≡ 0 → last_lines inputs limits last publics program ended ≡ []
 unfolding run_lines
 no_lines inputs limits last publics program ended none =
-    let count : min last (last_number ended.end ended.steps + 1) ≡ 0 =
-    ap (λ (n : ℕ). min n (last_number ended.end ended.steps + 1)) none in
+    let count : min last (last_number ended.end ended.steps + 1) ≡ 0 = omega (arith, none) in
     ap (λ (n : ℕ). run_lines program.image.regions (Some limits.outputs) (start_of program inputs) publics false
     (last_number ended.end ended.steps + 1 - n) n) count
 

@@ -2,7 +2,7 @@
 
 ghost use Rattle.std.specs.Prelude.{◌≡◌, ◌<◌, ◌++◌, [], List, false, IfNone, IfOk, IfSome, OnOk};
 ghost use Rattle.std.specs.Io.KnownBytes.{Appends};
-ghost use Rattle.std.specs.List.{cons_option};
+ghost use Rattle.std.specs.List.{cons_option, list_any};
 ghost use Rattle.image80.specs.Case.{DeclaredCase};
 ghost use Rattle.image80.specs.RegionsText.{cases_text};
 ghost use Rattle.verify80_cases.specs.Suggested.{case_of, is_open};
@@ -98,12 +98,23 @@ pub fn suggest_for_files(
 {
     let texts = arguments.texts(console)?;
     let (image, _) = texts.program(console, false)?;
-    let notes = match arguments.out {
-        Some(path) => add_cases(console, path, &image)?,
-        None => print_cases(console, &image)?,
-    };
+    let notes = found_cases(console, arguments.out, &image)?;
     report_notes(console, &notes);
     Ok(notes_status(&notes))
+}
+
+/// Prints the CASE lines, and writes the regions with them if a file is named; gives what there is to say of the PCHLs.
+fn found_cases(
+    console: Console<'_>,
+    out: Option<&str>,
+    image: &Image,
+) -> Result<Vec<Note>, Reported>
+    ensures { IfOk result (λ notes. (cases : List DeclaredCase) × FindsCases image.now cases notes.items) }
+{
+    match out {
+        Some(path) => add_cases(console, path, image),
+        None => print_cases(console, image),
+    }
 }
 
 /// Prints the line of each case as it is found, and gives what there is to say of the PCHLs.
@@ -349,11 +360,14 @@ fn push_given(notes: &mut Vec<Note>, note: Option<Note>) -> Result<(), AllocErro
 pub(crate) fn notes_status(notes: &[Note]) -> u8
     ensures { result ≡ notes_status notes.now }
 {
-    if notes.iter().any(|note| lacks_table(note)) {
-        1
-    } else {
-        0
-    }
+    if some_lacks_table(notes) { 1 } else { 0 }
+}
+
+/// Whether there is a note of a PCHL without a table.
+fn some_lacks_table(notes: &[Note]) -> bool
+    ensures { result ≡ list_any lacks_table notes.now }
+{
+    notes.iter().any(|note| lacks_table(note))
 }
 
 /// Whether a note is that of a PCHL without a table.

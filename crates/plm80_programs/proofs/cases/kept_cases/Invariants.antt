@@ -6,6 +6,6 @@ use Rattle.plm80_programs.proofs.cases.kept_cases.Given as goal
 
 abbrev pub invariant-loop-address : goal.invariant-loop-address
 invariant-loop-address l = record {
-  found : AreFoundBelow l.image l.search.reached l.search.taken l.address l.kept.cases.items l.kept.notes.items;
+  found : AreFoundBelow l.image l.search-inside.reached.items l.search-inside.taken.items l.address l.kept.cases.items l.kept.notes.items;
   lines : l.kept.lines.items ≡ cases_text l.kept.cases.items;
 }

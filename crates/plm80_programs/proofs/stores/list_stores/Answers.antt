@@ -1,4 +1,7 @@
-use Rattle.std.specs.Prelude.{map}
+use Rattle.std.specs.Borrow.{Bor}
+use Rattle.std.specs.Prelude.{ℕ, List, map}
+use Rattle.std.proofs.Common.{subst}
+use Rattle.plm80_programs.specs.Ranges.{AreRangesOf}
 use Rattle.plm80_programs.proofs.StatusLemmas.{stores_given}
 use Rattle.plm80_programs.proofs.stores.list_stores.Goals as goal
 
@@ -7,4 +10,5 @@ returns-in-Ok c =
     let arguments = c.args.arguments.now in
     stores_given (map (λ range. range.now) arguments.quiet.items) c.in_ok-quiet.quiet.items arguments.files.names
     c.in_ok-image.image c.in_ok-image.names c.in-Ok.answer c.give.result
-    c.in_ok-quiet.ensures c.in_ok-image.ensures c.in-Ok.ensures c.give.ensures
+    (subst (λ (texts : List (Bor (List ℕ))). AreRangesOf (map (λ text. text.now) texts) c.in_ok-quiet.quiet.items) c.deref.ensures.value c.in_ok-quiet.ensures)
+    c.in_ok-image.ensures c.in-Ok.ensures c.give.ensures

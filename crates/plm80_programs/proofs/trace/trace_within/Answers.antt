@@ -1,4 +1,6 @@
+use Rattle.std.specs.Prelude.{◌≡◌, IfOk}
 use Rattle.std.proofs.Common.{subst}
+use Rattle.plm80_console.specs.Answer.{AnswerValue}
 use Rattle.plm80_names.specs.Verdict.{IsVerdict}
 use Rattle.plm80_programs.specs.Running.{EndsTrace}
 use Rattle.plm80_programs.proofs.StatusLemmas.{run_accepted, run_refused}
@@ -18,4 +20,4 @@ returns-in-Ok-Refused c =
     run_refused (λ inputs. EndsTrace inputs c.args.limits c.args.span) c.args.names program.image program.names c.deref.result.now
     c.in_ok-inputs.inputs.pairs.items c.in_ok-program.ensures c.in_ok-inputs.ensures.good c.in_ok-inputs.ensures.inputs
     c.in-Ok-Refused.line.items c.give.result
-    (subst (IsVerdict program.image program.names) c.in-Ok-Refused.field-0-is c.in-Ok-Refused.ensures) c.give.ensures
+    (subst (IsVerdict program.image program.names) c.in-Ok-Refused.field-0-is c.in-Ok-Refused.ensures) (subst (λ (a : AnswerValue). IfOk c.give.result (λ status. status ≡ a.status)) c.prints.ensures c.give.ensures)

@@ -1,0 +1,4 @@
+use Rattle.plm80_programs.proofs.suggest.advised.Goals as goal
+
+pub returns : goal.returns
+returns c = ?
