@@ -12,9 +12,9 @@ use Rattle.image80.specs.Image.{Located}
 use Rattle.image80.specs.RegionsText.{case_text, cases_text}
 use Rattle.verify80_cases.specs.declared.search.Note.{Note}
 use Rattle.verify80_cases.specs.declared.search.SuggestedCase.{SuggestedCase}
-use Rattle.verify80_cases.specs.Suggested.{Finding, IsFinding, IsNote, IsSuggestedCase, case_of, is_open}
+use Rattle.verify80_cases.specs.Suggested.{Finding, IsFinding, IsNote, IsSearched, IsSuggestedCase, case_of, is_open}
 use Rattle.plm80_programs.specs.declared.cases.FoundCase.{FoundCase}
-use Rattle.plm80_programs.specs.Cases.{AreFoundBelow, IsFoundAt}
+use Rattle.plm80_programs.specs.Cases.{AreFoundBelow, FindsCases, IsFoundAt}
 
 range_more : (a n j : ℕ) → a + n ≡ j → range_with_len a (suc n) ≡ range_with_len a n ++ j ∷ []
 range_more a zero j e = ap (λ (k : ℕ). k ∷ []) (let is : a ≡ j = omega (arith, e) in is)
@@ -90,6 +90,44 @@ pub finding_of : (image : Located) (reached taken : List Bool) (at : ℕ) (found
     → IsFinding image reached taken (record { at = at; found = found; note = said })
 finding_of image reached taken at None said suggested noted = record { found = tt; at = tt; note = noted }
 finding_of image reached taken at (Some found) said suggested noted = record { found = suggested.0; at = suggested.1; note = noted }
+
+-- what is found of the PCHLs below 65536
+pub finds_cases : (image : Located) (reached taken : List Bool) (limit : ℕ) (cases : List DeclaredCase) (notes : List Note)
+    → IsSearched image reached taken → limit ≡ 65536 → AreFoundBelow image reached taken limit cases notes → FindsCases image cases notes
+finds_cases image reached taken limit cases notes searched all found = record {
+  reached = reached;
+  taken = taken;
+  searched = searched;
+  found = subst (λ (n : ℕ). AreFoundBelow image reached taken n cases notes) all found;
+}
+
+-- ---- cases that are kept with their lines
+
+pub record Kept (image : Located) (reached taken : List Bool) (limit : ℕ) (cases : List DeclaredCase) (notes : List Note) (lines : List ℕ) : Type 0 where
+  pub found : AreFoundBelow image reached taken limit cases notes
+  pub lines_are : lines ≡ cases_text cases
+
+module _ (image : Located) (reached taken : List Bool) where
+  pub kept_nothing : (cases : List DeclaredCase) (notes : List Note) (lines : List ℕ) → cases ≡ [] → notes ≡ [] → lines ≡ []
+      → Kept image reached taken 0 cases notes lines
+  kept_nothing cases notes lines no_cases no_notes no_lines = record {
+    found = subst (λ (cs : List DeclaredCase). AreFoundBelow image reached taken 0 cs notes) (sym no_cases)
+        (subst (λ (ns : List Note). AreFoundBelow image reached taken 0 [] ns) (sym no_notes) (nothing image reached taken));
+    lines_are = no_lines ∙ sym (ap cases_text no_cases);
+  }
+
+  module _ (at : ℕ) (cases : List DeclaredCase) (notes : List Note) (lines : List ℕ) (kept : Kept image reached taken at cases notes lines) where
+    pub kept_passed : is_open image reached at ≡ false → Kept image reached taken (at + 1) cases notes lines
+    kept_passed closed = record { found = passed image reached taken at cases notes kept.found closed; lines_are = kept.lines_are }
+
+    pub kept_next : (found : FoundCase) (after_cases : List DeclaredCase) (after_notes : List Note) (after_lines : List ℕ)
+        → IsFoundAt image reached taken at found → after_cases ≡ cases ++ cons_option found.case []
+        → after_lines ≡ lines ++ cases_text (cons_option found.case []) → after_notes ≡ notes ++ cons_option found.note []
+        → Kept image reached taken (at + 1) after_cases after_notes after_lines
+    kept_next found after_cases after_notes after_lines here cases_are lines_are notes_are = record {
+      found = kept_more image reached taken at cases notes kept.found found after_cases after_notes here cases_are notes_are;
+      lines_are = lines_more cases (cons_option found.case []) after_cases lines after_lines kept.lines_are lines_are cases_are;
+    }
 
 -- ---- lines that are written as they are found
 

@@ -3,6 +3,7 @@ pub mod ExplainLemmas
 pub mod ResultLemmas
 pub mod RunLemmas
 pub mod StatusLemmas
+pub mod StoresLemmas
 pub mod SuggestLemmas
 pub mod VerdictLemmas
 pub mod WordLemmas

@@ -197,19 +197,15 @@ fn added_cases<'a>(
 ) -> Result<AddedCases<'a>, AddingFault>
     ensures { IfOk result (λ added. WritesCases path.now image.now added.notes.items added.lines added.file) }
 {
-    let KeptCases {
-        cases,
-        lines,
-        notes,
-    } = kept_cases(alloc, image)?;
-    let text = regions_with_cases(alloc, &image.regions, &cases)?;
+    let kept = kept_cases(alloc, image)?;
+    let text = regions_with_cases(alloc, &image.regions, &kept.cases)?;
     if text.len() > TEXT_LIMIT {
         return Err(AddingFault::TooLong);
     }
     Ok(AddedCases {
-        lines: Answer::prints(lines, 0),
+        lines: Answer::prints(kept.lines, 0),
         file: Answer::writes(path, text, Vec::new(alloc)),
-        notes,
+        notes: kept.notes,
     })
 }
 

@@ -96,10 +96,10 @@ pub fn advise_file(console: Console<'_>, arguments: &SuggestArguments<'_>) -> Re
     let file = console.read_file(arguments.image)?;
     let image = bare_image(console, &file)?;
     match advised(console.alloc(), image, &rom, &ram) {
-        Ok(PrintedAdvice { advice, answer }) => {
-            let status = console.give(answer)?;
-            report_stack(console, &advice);
-            report_notes(console, &advice.notes);
+        Ok(printed) => {
+            let status = console.give(printed.answer)?;
+            report_stack(console, &printed.advice);
+            report_notes(console, &printed.advice.notes);
             Ok(status)
         }
         Err(LengthFault::TooLong) => Err(console.report(LengthFault::TooLong)),

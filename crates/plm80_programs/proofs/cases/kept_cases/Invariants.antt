@@ -1,11 +1,7 @@
 -- the cases so far, and their lines
-use Rattle.std.specs.Prelude.{◌≡◌}
-use Rattle.image80.specs.RegionsText.{cases_text}
-use Rattle.plm80_programs.specs.Cases.{AreFoundBelow}
+use Rattle.plm80_programs.proofs.CaseLemmas.{Kept}
 use Rattle.plm80_programs.proofs.cases.kept_cases.Given as goal
 
 abbrev pub invariant-loop-address : goal.invariant-loop-address
-invariant-loop-address l = record {
-  found : AreFoundBelow l.image l.search-inside.reached.items l.search-inside.taken.items l.address l.kept.cases.items l.kept.notes.items;
-  lines : l.kept.lines.items ≡ cases_text l.kept.cases.items;
-}
+invariant-loop-address l =
+    Kept l.image l.search-inside.reached.items l.search-inside.taken.items l.address l.kept.cases.items l.kept.notes.items l.kept.lines.items
