@@ -1,6 +1,4 @@
-use Rattle.std.proofs.Common.{◌∙◌, ap, subst}
-use Rattle.image80.specs.Image.{Located}
-use Rattle.plm80_programs.specs.Cases.{FindsCases}
+use Rattle.std.proofs.Common.{◌∙◌, ap}
 use Rattle.plm80_programs.specs.Status.{notes_status}
 use Rattle.plm80_programs.proofs.cases.suggest_for_files.Goals as goal
 
@@ -21,6 +19,6 @@ returns c =
       };
       cases = found.0;
       notes = notes;
-      found = subst (λ (i : Located). FindsCases i found.0 notes) c.image.view_is found.1;
+      found = found.1;
       status_is = c.notes_status.ensures ∙ ap notes_status c.deref-2.ensures.value;
     }
