@@ -1,4 +1,5 @@
 mod DraftLemmas
 mod NumberLemmas
 mod PieceLemmas
+mod RangeLemmas
 mod SharedLemmas

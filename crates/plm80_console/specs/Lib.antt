@@ -1,5 +1,7 @@
 pub mod Answer
+pub mod ApartPaths
 pub mod Arguments
+pub mod Kinds
 pub mod Pieces
 pub mod NumberText
 pub mod ProgramFiles
@@ -7,7 +9,6 @@ pub mod Refusals
 -- what the crate's own functions promise one another: no public contract cites these
 pub mod Drafts
 pub mod FileKinds
-pub mod Kinds
 pub mod Lines
 pub mod PathParts
 pub mod Places

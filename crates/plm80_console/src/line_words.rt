@@ -1,9 +1,10 @@
 //! What is wrong with a line of a text, in words.
 
 ghost use Rattle.std.specs.Prelude.{◌≡◌, None};
-ghost use Rattle.plm80_console.specs.Lines.{HasFlaw, ends_in_blank, has_comment, has_lower_case, is_odd_number, without_return};
+ghost use Rattle.plm80_console.specs.Lines.{ends_in_blank, has_comment, has_flaw, has_lower_case, has_odd_number, is_odd_number, without_return};
 
 use crate::console::Console;
+use crate::number_text::are_digits;
 use thiserror::Error;
 
 /// The end of a text in CP/M, and the Ctrl-Z of other systems.
@@ -88,7 +89,7 @@ impl<'a> Console<'a> {
 impl<'a> Line<'a> {
     /// Whether the line has this flaw.
     fn has(self, flaw: LineFlaw) -> bool
-        ensures { HasFlaw flaw self.entry.bytes.now self.entry.is_ended result }
+        ensures { result ≡ has_flaw flaw self.entry.bytes.now self.entry.is_ended }
     {
         match flaw {
             LineFlaw::CarriageReturn => self.bytes.ends_with(b"\r"),
@@ -97,10 +98,7 @@ impl<'a> Line<'a> {
             LineFlaw::Blank => ends_in_blank(self.bytes),
             LineFlaw::Comment => self.has_comment(),
             LineFlaw::OddDigits => {
-                !self.has_comment()
-                    && without_return(self.bytes)
-                        .split(|byte| *byte == b' ')
-                        .any(|word| is_odd_number(word))
+                !self.has_comment() && has_odd_number(without_return(self.bytes))
             }
             LineFlaw::LowerCase => !self.has_comment() && has_lower_case(self.bytes),
         }
@@ -158,9 +156,16 @@ fn has_lower_case(line: &[u8]) -> bool
     line.iter().any(|byte| byte.is_ascii_lowercase())
 }
 
+/// Whether a word of the line is of hexadecimal digits, an odd number of them.
+fn has_odd_number(line: &[u8]) -> bool
+    ensures { result ≡ has_odd_number line.now }
+{
+    line.split(|byte| *byte == b' ').any(|word| is_odd_number(word))
+}
+
 /// Whether a word is of hexadecimal digits, an odd number of them.
 fn is_odd_number(word: &[u8]) -> bool
     ensures { result ≡ is_odd_number word.now }
 {
-    word.len() % 2 == 1 && word.iter().all(|byte| byte.is_ascii_hexdigit())
+    word.len() % 2 == 1 && are_digits(word)
 }

@@ -1,1 +1,4 @@
-pub mod FindLemmas
+mod FindLemmas
+mod LinkLemmas
+mod PathLemmas
+mod RomFileLemmas

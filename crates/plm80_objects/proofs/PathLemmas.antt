@@ -1,0 +1,48 @@
+-- The paths of the files that were read.
+use Rattle.std.specs.Prelude.{◌≡◌, ℕ, ◌+◌, List, [], ◌∷◌, ◌++◌, length, map}
+use Rattle.std.specs.Borrow.{Bor}
+use Rattle.std.specs.List.{repeat}
+use Rattle.std.proofs.Common.{◌∙◌, ap, sym, refl, append_assoc, length-append, length-map, add-one, arith}
+use Rattle.plm80_console.specs.declared.link_feed.LinkFile.{LinkFile}
+use Rattle.plm80_console.specs.declared.link_feed.LinkFile.TheVariants.{Modules, Library}
+use Rattle.plm80_objects.specs.Link.{AddsFile, HavePaths}
+use Rattle.plm80_objects.specs.declared.link.LinkFiles.{LinkFiles}
+
+-- one more time behind the others
+repeat_behind : (path : List ℕ) (n : ℕ) → repeat n (path ∷ []) ++ path ∷ [] ≡ repeat (n + 1) (path ∷ [])
+repeat_behind path zero = refl
+repeat_behind path (suc n) = ap (λ (ps : List (List ℕ)). path ∷ ps) (repeat_behind path n)
+
+pub repeat_more : (path : List ℕ) (n : ℕ) (before so_far after : List (List ℕ)) → so_far ≡ before ++ repeat n (path ∷ [])
+    → after ≡ so_far ++ path ∷ [] → after ≡ before ++ repeat (n + 1) (path ∷ [])
+repeat_more path n before so_far after is more =
+    more ∙ (ap (λ (ps : List (List ℕ)). ps ++ path ∷ []) is
+    ∙ (append_assoc before (repeat n (path ∷ [])) (path ∷ []) ∙ ap (λ (ps : List (List ℕ)). before ++ ps) (repeat_behind path n)))
+
+length_repeat : (path : List ℕ) (n : ℕ) → length (repeat n (path ∷ [])) ≡ n
+length_repeat path zero = refl
+length_repeat path (suc n) = ap (λ (m : ℕ). suc m) (length_repeat path n)
+
+-- a list of lent texts is as long as that of the texts
+length_texts : (ps : List (Bor (List ℕ))) → length (map (λ p. p.now) ps) ≡ length ps
+length_texts [] = refl
+length_texts (p ∷ ps) = ap (λ (m : ℕ). suc m) (length_texts ps)
+
+pub paths_kept : (file : LinkFile) (path : List ℕ) (before after : LinkFiles) → AddsFile file path before after
+    → HavePaths before → HavePaths after
+paths_kept (Modules ms) path before after adds have = record {
+  roots =
+    sym (length_texts after.root_paths.items) ∙ (ap length adds.root_paths
+    ∙ (length-append (map (λ p. p.now) before.root_paths.items) (repeat (length ms.items) (path ∷ []))
+    ∙ omega (arith, length_texts before.root_paths.items, length_repeat path (length ms.items), have.roots, ap length adds.roots,
+      length-append before.roots.items ms.items)));
+  libraries = ap (λ v. length v.items) adds.paths ∙ (have.libraries ∙ sym (ap (λ v. length v.items) adds.libraries));
+}
+paths_kept (Library library) path before after adds have = record {
+  roots = ap (λ v. length v.items) adds.root_paths ∙ (have.roots ∙ sym (ap (λ v. length v.items) adds.roots));
+  libraries =
+    sym (length_texts after.paths.items) ∙ (ap length adds.paths
+    ∙ (length-append (map (λ p. p.now) before.paths.items) (path ∷ [])
+    ∙ omega (arith, length_texts before.paths.items, have.libraries, ap length adds.libraries,
+      length-append before.libraries.items (library ∷ []))));
+}
