@@ -14,3 +14,4 @@ pub mod PathParts
 pub mod Places
 pub mod RangeWords
 pub mod SharedPaths
+pub mod UnreadBytes

@@ -2,3 +2,4 @@ mod FindLemmas
 mod LinkLemmas
 mod PathLemmas
 mod RomFileLemmas
+mod StatusLemmas
