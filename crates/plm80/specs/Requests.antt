@@ -1,5 +1,15 @@
--- The command that a request is of.
-use Rattle.std.specs.Prelude.{ℕ, List, codes}
+-- The command that a request is of, and the exit statuses of the program. (The statuses are this project's own.)
+use Rattle.std.specs.Prelude.{◌≡◌, ◌⊎◌, ℕ, Option, List, map, codes}
+use Rattle.machine80.specs.declared.end.End.{End}
+use Rattle.plm80_names.specs.Arguments.{asks_names}
+use Rattle.plm80_names.specs.Verdict.{IsStatusFor}
+use Rattle.plm80_objects.specs.Compare.{IsCompareStatus}
+use Rattle.plm80_objects.specs.Find.{IsFindStatus}
+use Rattle.plm80_programs.specs.Cases.{IsCasesStatus}
+use Rattle.plm80_programs.specs.Printed.{IsStoresStatus, PrintsCalls, PrintsExplanation, PrintsListing, PrintsReport}
+use Rattle.plm80_programs.specs.Running.{IsCoverStatus, IsRunStatus, IsTraceStatus}
+use Rattle.plm80_programs.specs.Status.{end_status}
+use Rattle.plm80_programs.specs.Suggest.{IsAdviceStatus}
 use Rattle.plm80.specs.declared.commands.arguments.Request.{Request}
 use Rattle.plm80.specs.declared.commands.arguments.Request.TheVariants as request
 
@@ -26,3 +36,35 @@ command_name (request.Cover arguments) = codes "cover"
 command_name (request.Module arguments) = codes "module"
 command_name (request.Find arguments) = codes "find"
 command_name (request.Suggest arguments) = codes "suggest"
+
+-- the exit status of a command that is done
+abbrev pub HasStatus : Request → (status : ℕ) → Type 0
+HasStatus (request.Link arguments) status = status ≡ 0
+HasStatus (request.Locate arguments) status = status ≡ 0
+HasStatus (request.Run arguments) status = IsRunStatus arguments status
+HasStatus (request.List arguments) status = IsStatusFor (PrintsListing arguments.reached) (asks_names arguments.files) status
+HasStatus (request.Check files) status = IsStatusFor PrintsReport (asks_names files) status
+HasStatus (request.Explain files) status = IsStatusFor PrintsExplanation (asks_names files) status
+HasStatus (request.Library arguments) status = status ≡ 0
+HasStatus (request.Regions arguments) status = status ≡ 0
+HasStatus (request.Cases arguments) status = IsCasesStatus status
+HasStatus (request.Map arguments) status = status ≡ 0
+HasStatus (request.Extract arguments) status = status ≡ 0
+HasStatus (request.Absolute arguments) status = status ≡ 0
+HasStatus (request.Stores arguments) status = IsStoresStatus (map (λ range. range.now) arguments.quiet.items) (asks_names arguments.files) status
+HasStatus (request.Compare arguments) status = IsCompareStatus arguments status
+HasStatus (request.Inputs arguments) status = status ≡ 0
+HasStatus (request.Calls arguments) status = IsStatusFor (PrintsCalls arguments.dot) (asks_names arguments.files) status
+HasStatus (request.Trace arguments) status = IsTraceStatus arguments status
+HasStatus (request.Cover arguments) status = IsCoverStatus arguments status
+HasStatus (request.Module arguments) status = status ≡ 0
+HasStatus (request.Find arguments) status = IsFindStatus arguments status
+HasStatus (request.Suggest arguments) status = IsAdviceStatus status
+
+-- that of a command line: 2 at a fault, else that of the command
+abbrev pub IsCommandStatus : (status : ℕ) → Type 0
+IsCommandStatus status = (status ≡ 2) ⊎ ((request : Request) × HasStatus request status)
+
+-- that of a bundle: 2 at a fault, 1 if the image is refused, else that of the run
+abbrev pub IsBundleStatus : (status : ℕ) → Type 0
+IsBundleStatus status = (status ≡ 2) ⊎ ((status ≡ 1) ⊎ ((ending : Option End) × (status ≡ end_status ending)))

@@ -60,12 +60,12 @@ none_written matches arguments index written is none = λ found path there write
     absurd (let clash : Some path ≡ None = sym writes ∙ (ap (path_to_write matches) one ∙ none) in cc)
 
 -- all others are apart from the one with this index
-pub all_apart : (matches : ArgMatches) (arguments : List Argument) (index : ℕ) (written : Argument) (path : List ℕ) (end : ℕ)
-    → slice_get arguments index ≡ Some written → path_to_write matches written ≡ Some path → length arguments ≡ end
-    → ((place : ℕ) → place < end → (other : Argument) → slice_get arguments place ≡ Some other → place ≢ index
+pub all_apart : (matches : ArgMatches) (arguments : List Argument) (index : ℕ) (written : Argument) (path : List ℕ) (count : ℕ)
+    → slice_get arguments index ≡ Some written → path_to_write matches written ≡ Some path → length arguments ≡ count
+    → ((place : ℕ) → place < count → (other : Argument) → slice_get arguments place ≡ Some other → place ≢ index
       → IsApartFrom matches written path other)
     → IsApart matches arguments index
-all_apart matches arguments index written path end is writes ends each = λ found its there its_path place other stands differs.
+all_apart matches arguments index written path count is writes ends each = λ found its there its_path place other stands differs.
     let same : found ≡ written = (let both : Some found ≡ Some written = sym there ∙ is in cc) in
     let paths : its ≡ path = (let both : Some its ≡ Some path = sym its_path ∙ (ap (path_to_write matches) same ∙ writes) in cc) in
     let below : place < length arguments = get_below arguments place other stands in
@@ -74,8 +74,8 @@ all_apart matches arguments index written path end is writes ends each = λ foun
       ∙ apart (ap (λ (w : Argument). may_replace w.kind other.name.now) (sym same) ∙ stays)
 
 -- each argument is apart from all others
-pub each_apart : (matches : ArgMatches) (arguments : List Argument) (end : ℕ) → length arguments ≡ end
-    → ((index : ℕ) → index < end → IsApart matches arguments index) → AreApart matches arguments
-each_apart matches arguments end ends each = λ index written path there.
+pub each_apart : (matches : ArgMatches) (arguments : List Argument) (count : ℕ) → length arguments ≡ count
+    → ((index : ℕ) → index < count → IsApart matches arguments index) → AreApart matches arguments
+each_apart matches arguments count ends each = λ index written path there.
     let below : index < length arguments = get_below arguments index written there in
     each index (omega (arith, ends)) written path there

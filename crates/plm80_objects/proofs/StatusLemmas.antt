@@ -1,5 +1,5 @@
 -- The exit statuses of commands, from the answers that they give.
-use Rattle.std.specs.Prelude.{◌≡◌, ℕ, Bool, List, Result, Ok, Err, IfOk, IsOkAnd, length}
+use Rattle.std.specs.Prelude.{◌≡◌, ℕ, List, Result, Ok, Err, IfOk, IsOkAnd, length}
 use Rattle.std.proofs.lemmas.Result.{IfOk-weaker}
 use Rattle.omf_parts.specs.declared.symbols.Public.{Public}
 use Rattle.image80.specs.Image.{Located}
@@ -12,14 +12,16 @@ use Rattle.plm80_console.specs.declared.link_feed.LinkFile.{LinkFile}
 use Rattle.plm80_names.specs.Printed.{AreNamesOf}
 use Rattle.plm80_objects.specs.Compare.{IsCompareStatus, PrintsDifferences}
 use Rattle.plm80_objects.specs.Find.{IsFindStatus, IsStatusIn, PrintsFound}
+use Rattle.plm80_objects.specs.declared.compare.CompareArguments.{CompareArguments}
+use Rattle.plm80_objects.specs.declared.find.FindArguments.{FindArguments}
 
-pub compared : {E : Type 0} (first_text fill_text : List ℕ) (asked : Bool) (first fill : ℕ) (file dump : List ℕ) (image : Located)
-    (publics : List Public) (answer : AnswerValue) (r : Result ℕ E) → first ≡ word_value first_text → fill ≡ word_value fill_text
-    → SpellsImage file (without_regions image) → AreNamesOf asked file publics
+pub compared : {E : Type 0} (arguments : CompareArguments) (first fill : ℕ) (file dump : List ℕ) (image : Located)
+    (publics : List Public) (answer : AnswerValue) (r : Result ℕ E) → first ≡ word_value arguments.first.text.now
+    → fill ≡ word_value arguments.fill.text.now → SpellsImage file (without_regions image) → AreNamesOf arguments.names file publics
     → PrintsDifferences (bytes_over fill image.chunks first (length dump)) dump first publics answer
-    → IfOk r (λ status. status ≡ answer.status) → IfOk r (IsCompareStatus first_text fill_text asked)
-compared first_text fill_text asked first fill file dump image publics answer r first_is fill_is contents names answer_is gave =
-    IfOk-weaker r (λ status. status ≡ answer.status) (IsCompareStatus first_text fill_text asked)
+    → IfOk r (λ status. status ≡ answer.status) → IfOk r (IsCompareStatus arguments)
+compared arguments first fill file dump image publics answer r first_is fill_is contents names answer_is gave =
+    IfOk-weaker r (λ status. status ≡ answer.status) (IsCompareStatus arguments)
     (λ status is. record {
       first = first;
       first_is = first_is;
@@ -46,7 +48,7 @@ found_in dump files (Ok answer) r printed gave =
 found_in dump files (Err fault) r printed gave =
     IfOk-weaker r (λ status. ⊥) (IsStatusIn dump) (λ status never. absurd never) gave
 
-pub found_from : {E : Type 0} (first_text : List ℕ) (dump : DumpValue) (r : Result ℕ E) → dump.first ≡ word_value first_text
-    → IfOk r (IsStatusIn dump) → IfOk r (IsFindStatus first_text)
-found_from first_text dump r first_is gave =
-    IfOk-weaker r (IsStatusIn dump) (IsFindStatus first_text) (λ status is. record { dump = dump; first_is = first_is; is = is }) gave
+pub found_from : {E : Type 0} (arguments : FindArguments) (dump : DumpValue) (r : Result ℕ E)
+    → dump.first ≡ word_value arguments.first.text.now → IfOk r (IsStatusIn dump) → IfOk r (IsFindStatus arguments)
+found_from arguments dump r first_is gave =
+    IfOk-weaker r (IsStatusIn dump) (IsFindStatus arguments) (λ status is. record { dump = dump; first_is = first_is; is = is }) gave

@@ -7,6 +7,7 @@ use Rattle.plm80_console.specs.declared.link_feed.LinkFile.{LinkFile}
 use Rattle.plm80_console.specs.declared.link_feed.LinkFile.TheVariants.{Modules, Library}
 use Rattle.plm80_console.specs.Answer.{AnswerValue, prints}
 use Rattle.plm80_console.specs.NumberText.{word_value}
+use Rattle.plm80_objects.specs.declared.find.FindArguments.{FindArguments}
 
 -- what is found of a file's modules behind a text, and whether all of an object file's are there; of a library's some may be missing
 abbrev pub PrintsFile : DumpValue → LinkFile → (are_there : Bool) → (before after : List ℕ) → Type 0
@@ -39,7 +40,7 @@ pub record IsStatusIn (dump : DumpValue) (status : ℕ) : Type 0 where
   pub status_is : status ≡ answer.status
 
 -- of a dump from the option's first address on
-pub record IsFindStatus (first_text : List ℕ) (status : ℕ) : Type 0 where
+pub record IsFindStatus (arguments : FindArguments) (status : ℕ) : Type 0 where
   pub dump : DumpValue
-  pub first_is : dump.first ≡ word_value first_text
+  pub first_is : dump.first ≡ word_value arguments.first.text.now
   pub is : IsStatusIn dump status

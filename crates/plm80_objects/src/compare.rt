@@ -85,8 +85,7 @@ impl<'a> CompareArguments<'a> {
 
 /// Prints where the image and the dump differ; the status is 1 if they do. Both files are read before either is checked.
 pub fn compare_files(console: Console<'_>, arguments: CompareArguments<'_>) -> Result<u8, Reported>
-    ensures { let asked = arguments.entry in
-        IfOk result (IsCompareStatus asked.first.text.now asked.fill.text.now asked.names) }
+    ensures { IfOk result (IsCompareStatus arguments.entry) }
 {
     let first = console.word(arguments.first)?;
     let fill = console.byte(arguments.fill)?;

@@ -82,7 +82,7 @@ impl<'a> FindArguments<'a> {
 /// Prints where the modules of the files lie in the dump, and gives the exit status. The dump is checked before another file is
 /// opened, and each of these before the next one.
 pub fn find_modules(console: Console<'_>, arguments: &FindArguments<'_>) -> Result<u8, Reported>
-    ensures { IfOk result (IsFindStatus arguments.now.first.text.now) }
+    ensures { IfOk result (IsFindStatus arguments.now) }
 {
     let first = console.word(arguments.first)?;
     let file = console.read_file(arguments.dump)?;
