@@ -1,4 +1,5 @@
 mod DraftLemmas
+mod LineLemmas
 mod NumberLemmas
 mod PieceLemmas
 mod RangeLemmas

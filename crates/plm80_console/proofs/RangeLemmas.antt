@@ -1,9 +1,7 @@
 -- Ranges in the words of lines.
-use Rattle.std.specs.Prelude.{◌≡◌, ℕ, Bool, Option, Some, None, List, ◌∷◌, ◌++◌, take, drop, length, MatchOption, IfSome, codes, inl, inr}
-use Rattle.std.specs.Borrow.{Bor}
-use Rattle.std.specs.Cmp.Lexicographic.{pointwise}
-use Rattle.std.proofs.Common.{◌∙◌, ap, refl}
-use Rattle.plm80_console.specs.RangeWords.{IsBehindKeyword, IsKeyword}
+use Rattle.std.specs.Prelude.{◌≡◌, ℕ, List, ◌++◌, codes}
+use Rattle.std.proofs.Common.{◌∙◌, ap, refl, inl, inr}
+use Rattle.plm80_console.specs.RangeWords.{IsBehindKeyword}
 
 pub behind_code : (line rest : List ℕ) → line ≡ codes "CODE " ++ rest → IsBehindKeyword line rest
 behind_code line rest is = record { keyword = codes "CODE "; is_keyword = inl refl; line_is = is }

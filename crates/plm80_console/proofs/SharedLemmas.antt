@@ -1,7 +1,7 @@
 -- Paths that two arguments share, and arguments that share none.
-use Rattle.std.specs.Prelude.{◌≡◌, ◌≢◌, ℕ, ◌+◌, ◌<◌, Bool, true, false, ◌||◌, ◌&&◌, not, Option, Some, None, option_map, List, [], ◌∷◌, length, slice_get}
+use Rattle.std.specs.Prelude.{◌≡◌, ◌≢◌, ℕ, zero, suc, ◌<◌, Bool, true, false, ◌||◌, ◌&&◌, not, Some, None, List, [], ◌∷◌, length, slice_get}
 use Rattle.std.specs.List.{list_any}
-use Rattle.std.proofs.Common.{◌∙◌, ap, sym, refl, get_or, take, arith}
+use Rattle.std.proofs.Common.{◌∙◌, ap, sym, refl, get_or, arith}
 use Rattle.clap.specs.declared.parser.matches.ArgMatches.{ArgMatches}
 use Rattle.plm80_console.specs.ApartPaths.{AreApart, IsApart, IsApartFrom, has_path, path_to_write}
 use Rattle.plm80_console.specs.Kinds.{may_replace}

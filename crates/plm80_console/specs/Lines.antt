@@ -1,10 +1,25 @@
 -- What is often wrong with a line of the program's texts, which is then said in words.
 -- (The texts of regions and of inputs are this project's: lines that end in LF alone, without comments.)
-use Rattle.std.specs.Prelude.{ℕ, ◌-◌, ◌%◌, ◌==◌, Bool, ◌&&◌, ◌||◌, not, if◌then◌else◌, List, [], ◌∷◌, length, take}
+use Rattle.std.specs.Prelude.{ℕ, zero, suc, ◌-◌, ◌%◌, ◌==◌, Option, Some, None, is_some, slice_get, codes, Bool, false, ◌&&◌, ◌||◌, not, if◌then◌else◌, List, [], ◌∷◌, length, take}
 use Rattle.std.specs.List.{list_all, list_any, ends_with, slice_split}
 use Rattle.std.specs.Char.{is_ascii_hexdigit, is_ascii_lowercase}
+use Rattle.plm80_console.specs.FileKinds.{starts}
 use Rattle.plm80_console.specs.declared.line_words.LineFlaw.{LineFlaw}
 use Rattle.plm80_console.specs.declared.line_words.LineFlaw.TheVariants.{CarriageReturn, ControlZ, NoLineFeed, Blank, Comment, OddDigits, LowerCase}
+
+-- what stands between line feeds, or between one and an end of the text, by its index
+abbrev pub part_at : (text : List ℕ) → (index : ℕ) → Option (List ℕ)
+part_at text index = slice_get (slice_split (λ byte. byte == 10) text) index
+
+-- such a part is a line if a line feed follows it or if it has bytes
+abbrev pub line_from : Option (List ℕ) → (is_ended : Bool) → Option (List ℕ × Bool)
+line_from None is_ended = None
+line_from (Some bytes) is_ended = if length bytes == 0 && not is_ended then None else Some (bytes, is_ended)
+
+-- the line of a number, counted from 1, and whether a line feed ends it
+abbrev pub line_at : (text : List ℕ) → (number : ℕ) → Option (List ℕ × Bool)
+line_at text zero = None
+line_at text (suc index) = line_from (part_at text index) (is_some (part_at text (suc index)))
 
 abbrev pub ends_in : (byte : ℕ) → List ℕ → Bool
 ends_in byte line = ends_with (λ one other. one == other) line (byte ∷ [])
@@ -40,3 +55,11 @@ has_flaw Blank line is_ended = ends_in_blank line
 has_flaw Comment line is_ended = has_comment line
 has_flaw OddDigits line is_ended = not (has_comment line) && has_odd_number (without_return line)
 has_flaw LowerCase line is_ended = not (has_comment line) && has_lower_case line
+
+-- the line of this number is a CASE line in a text of version 1
+abbrev pub is_case_line : (text : List ℕ) → Option (List ℕ × Bool) → Bool
+is_case_line text None = false
+is_case_line text (Some line) = starts (codes "REGIONS 1\n") text && starts (codes "CASE ") line.0
+
+abbrev pub needs_version_2 : (text : List ℕ) → (number : ℕ) → Bool
+needs_version_2 text number = is_case_line text (line_at text number)

@@ -1,7 +1,7 @@
 //! What is wrong with a line of a text, in words.
 
-ghost use Rattle.std.specs.Prelude.{◌≡◌, None};
-ghost use Rattle.plm80_console.specs.Lines.{ends_in_blank, has_comment, has_flaw, has_lower_case, has_odd_number, is_odd_number, without_return};
+ghost use Rattle.std.specs.Prelude.{◌≡◌, option_copied, option_map};
+ghost use Rattle.plm80_console.specs.Lines.{ends_in_blank, has_comment, has_flaw, has_lower_case, has_odd_number, is_odd_number, line_at, part_at, without_return};
 
 use crate::console::Console;
 use crate::number_text::are_digits;
@@ -111,23 +111,24 @@ impl<'a> Line<'a> {
     }
 }
 
-/// The line of this number, counted from 1; `None` if the text has no such line.
+/// The line of this number, counted from 1; `None` if the text has no such line. What follows the last line feed is a line if it has
+/// bytes.
 pub(crate) fn line_of(text: &[u8], number: usize) -> Option<Line<'_>>
-    ensures { number ≡ 0 → result ≡ None }
+    ensures { option_map (λ line. (line.bytes.now, line.is_ended)) result ≡ line_at text.now number }
 {
-    let line = text
-        .split_inclusive(|byte| *byte == b'\n')
-        .nth(number.checked_sub(1)?)?;
-    match line.strip_suffix(b"\n") {
-        Some(bytes) => Some(Line {
-            bytes,
-            is_ended: true,
-        }),
-        None => Some(Line {
-            bytes: line,
-            is_ended: false,
-        }),
+    let bytes = part_of(text, number.checked_sub(1)?)?;
+    let is_ended = part_of(text, number).is_some();
+    if bytes.is_empty() && !is_ended {
+        return None;
     }
+    Some(Line { bytes, is_ended })
+}
+
+/// What stands between line feeds, or between one and an end of the text, by its index.
+fn part_of(text: &[u8], index: usize) -> Option<&[u8]>
+    ensures { option_copied result ≡ part_at text.now index }
+{
+    text.split(|byte| *byte == b'\n').nth(index)
 }
 
 /// The line without a carriage return at its end.

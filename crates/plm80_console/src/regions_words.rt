@@ -1,7 +1,7 @@
 //! What is wrong with a text of regions, in words.
 
-ghost use Rattle.std.specs.Prelude.{◌≡◌, ◌≢◌, true, IfOk, IfSome, codes};
-ghost use Rattle.plm80_console.specs.FileKinds.{starts};
+ghost use Rattle.std.specs.Prelude.{◌≡◌, ◌≢◌, IfOk, IfSome};
+ghost use Rattle.plm80_console.specs.Lines.{needs_version_2};
 ghost use Rattle.plm80_console.specs.RangeWords.{IsBehindKeyword, IsInWords};
 
 use crate::console::Console;
@@ -58,7 +58,7 @@ impl<'a> Console<'a> {
 
 /// Whether the line of this number needs a text of version 2: a CASE line in one of version 1.
 fn needs_version_2(text: &[u8], number: usize) -> bool
-    ensures { result ≡ true → starts (codes "REGIONS 1\n") text.now ≡ true }
+    ensures { result ≡ needs_version_2 text.now number }
 {
     match line_of(text, number) {
         Some(line) => text.starts_with(b"REGIONS 1\n") && line.bytes.starts_with(b"CASE "),

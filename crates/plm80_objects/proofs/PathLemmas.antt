@@ -1,8 +1,8 @@
 -- The paths of the files that were read.
-use Rattle.std.specs.Prelude.{◌≡◌, ℕ, ◌+◌, List, [], ◌∷◌, ◌++◌, length, map}
+use Rattle.std.specs.Prelude.{◌≡◌, ℕ, zero, suc, ◌+◌, List, [], ◌∷◌, ◌++◌, length, map}
 use Rattle.std.specs.Borrow.{Bor}
 use Rattle.std.specs.List.{repeat}
-use Rattle.std.proofs.Common.{◌∙◌, ap, sym, refl, append_assoc, length-append, length-map, add-one, arith}
+use Rattle.std.proofs.Common.{◌∙◌, ap, sym, refl, append_assoc, length-append, arith}
 use Rattle.plm80_console.specs.declared.link_feed.LinkFile.{LinkFile}
 use Rattle.plm80_console.specs.declared.link_feed.LinkFile.TheVariants.{Modules, Library}
 use Rattle.plm80_objects.specs.Link.{AddsFile, HavePaths}
@@ -36,10 +36,10 @@ paths_kept (Modules ms) path before after adds have = record {
     ∙ (length-append (map (λ p. p.now) before.root_paths.items) (repeat (length ms.items) (path ∷ []))
     ∙ omega (arith, length_texts before.root_paths.items, length_repeat path (length ms.items), have.roots, ap length adds.roots,
       length-append before.roots.items ms.items)));
-  libraries = ap (λ v. length v.items) adds.paths ∙ (have.libraries ∙ sym (ap (λ v. length v.items) adds.libraries));
+  libraries = cc (adds.paths, adds.libraries, have.libraries);
 }
 paths_kept (Library library) path before after adds have = record {
-  roots = ap (λ v. length v.items) adds.root_paths ∙ (have.roots ∙ sym (ap (λ v. length v.items) adds.roots));
+  roots = cc (adds.root_paths, adds.roots, have.roots);
   libraries =
     sym (length_texts after.paths.items) ∙ (ap length adds.paths
     ∙ (length-append (map (λ p. p.now) before.paths.items) (path ∷ [])
