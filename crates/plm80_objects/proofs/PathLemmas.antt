@@ -8,16 +8,33 @@ use Rattle.plm80_console.specs.declared.link_feed.LinkFile.TheVariants.{Modules,
 use Rattle.plm80_objects.specs.Link.{AddsFile, HavePaths}
 use Rattle.plm80_objects.specs.declared.link.LinkFiles.{LinkFiles}
 
+-- one more lent text behind the others
+map_behind : (ps : List (Bor (List ℕ))) (p : Bor (List ℕ)) → map (λ q. q.now) (ps ++ p ∷ []) ≡ map (λ q. q.now) ps ++ p.now ∷ []
+map_behind [] p = refl
+map_behind (q ∷ ps) p = ap (λ (ts : List (List ℕ)). q.now ∷ ts) (map_behind ps p)
+
+pub path_behind : (before after : List (Bor (List ℕ))) (p : Bor (List ℕ)) (path : List ℕ) → after ≡ before ++ p ∷ [] → p.now ≡ path
+    → map (λ q. q.now) after ≡ map (λ q. q.now) before ++ path ∷ []
+path_behind before after p path is same =
+    ap (λ (ps : List (Bor (List ℕ))). map (λ q. q.now) ps) is
+    ∙ (map_behind before p ∙ ap (λ (t : List ℕ). map (λ q. q.now) before ++ t ∷ []) same)
+
 -- one more time behind the others
 repeat_behind : (path : List ℕ) (n : ℕ) → repeat n (path ∷ []) ++ path ∷ [] ≡ repeat (n + 1) (path ∷ [])
 repeat_behind path zero = refl
 repeat_behind path (suc n) = ap (λ (ps : List (List ℕ)). path ∷ ps) (repeat_behind path n)
 
-pub repeat_more : (path : List ℕ) (n : ℕ) (before so_far after : List (List ℕ)) → so_far ≡ before ++ repeat n (path ∷ [])
+repeat_more : (path : List ℕ) (n : ℕ) (before so_far after : List (List ℕ)) → so_far ≡ before ++ repeat n (path ∷ [])
     → after ≡ so_far ++ path ∷ [] → after ≡ before ++ repeat (n + 1) (path ∷ [])
 repeat_more path n before so_far after is more =
     more ∙ (ap (λ (ps : List (List ℕ)). ps ++ path ∷ []) is
     ∙ (append_assoc before (repeat n (path ∷ [])) (path ∷ []) ∙ ap (λ (ps : List (List ℕ)). before ++ ps) (repeat_behind path n)))
+
+pub paths_more : (path : List ℕ) (n : ℕ) (before : List (List ℕ)) (so_far after : List (Bor (List ℕ))) (p : Bor (List ℕ))
+    → map (λ q. q.now) so_far ≡ before ++ repeat n (path ∷ []) → after ≡ so_far ++ p ∷ [] → p.now ≡ path
+    → map (λ q. q.now) after ≡ before ++ repeat (n + 1) (path ∷ [])
+paths_more path n before so_far after p is more same =
+    repeat_more path n before (map (λ q. q.now) so_far) (map (λ q. q.now) after) is (path_behind so_far after p path more same)
 
 length_repeat : (path : List ℕ) (n : ℕ) → length (repeat n (path ∷ [])) ≡ n
 length_repeat path zero = refl
