@@ -2,7 +2,7 @@
 use Rattle.std.specs.Prelude.{◌≡◌, ℕ, zero, suc, ◌+◌, List, [], ◌∷◌, ◌++◌, length, map}
 use Rattle.std.specs.Borrow.{Bor}
 use Rattle.std.specs.List.{repeat}
-use Rattle.std.proofs.Common.{◌∙◌, ap, sym, refl, append_assoc, length-append, arith}
+use Rattle.std.proofs.Common.{◌∙◌, ap, sym, refl, add-one, append_assoc, length-append, arith}
 use Rattle.plm80_console.specs.declared.link_feed.LinkFile.{LinkFile}
 use Rattle.plm80_console.specs.declared.link_feed.LinkFile.TheVariants.{Modules, Library}
 use Rattle.plm80_objects.specs.Link.{AddsFile, HavePaths}
@@ -20,7 +20,7 @@ path_behind before after p path is same =
     ∙ (map_behind before p ∙ ap (λ (t : List ℕ). map (λ q. q.now) before ++ t ∷ []) same)
 
 -- one more time behind the others
-repeat_behind : (path : List ℕ) (n : ℕ) → repeat n (path ∷ []) ++ path ∷ [] ≡ repeat (n + 1) (path ∷ [])
+repeat_behind : (path : List ℕ) (n : ℕ) → repeat n (path ∷ []) ++ path ∷ [] ≡ repeat (suc n) (path ∷ [])
 repeat_behind path zero = refl
 repeat_behind path (suc n) = ap (λ (ps : List (List ℕ)). path ∷ ps) (repeat_behind path n)
 
@@ -28,7 +28,9 @@ repeat_more : (path : List ℕ) (n : ℕ) (before so_far after : List (List ℕ)
     → after ≡ so_far ++ path ∷ [] → after ≡ before ++ repeat (n + 1) (path ∷ [])
 repeat_more path n before so_far after is more =
     more ∙ (ap (λ (ps : List (List ℕ)). ps ++ path ∷ []) is
-    ∙ (append_assoc before (repeat n (path ∷ [])) (path ∷ []) ∙ ap (λ (ps : List (List ℕ)). before ++ ps) (repeat_behind path n)))
+    ∙ (append_assoc before (repeat n (path ∷ [])) (path ∷ [])
+    ∙ (ap (λ (ps : List (List ℕ)). before ++ ps) (repeat_behind path n)
+    ∙ ap (λ (m : ℕ). before ++ repeat m (path ∷ [])) (sym (add-one n)))))
 
 pub paths_more : (path : List ℕ) (n : ℕ) (before : List (List ℕ)) (so_far after : List (Bor (List ℕ))) (p : Bor (List ℕ))
     → map (λ q. q.now) so_far ≡ before ++ repeat n (path ∷ []) → after ≡ so_far ++ p ∷ [] → p.now ≡ path
