@@ -4,7 +4,6 @@ pub mod Arguments
 pub mod Kinds
 pub mod Pieces
 pub mod NumberText
-pub mod ProgramFiles
 pub mod Refusals
 -- what the crate's own functions promise one another: no public contract cites these
 pub mod Drafts
