@@ -59,7 +59,8 @@ HasStatus (request.Trace arguments) status = IsTraceStatus arguments status
 HasStatus (request.Cover arguments) status = IsCoverStatus arguments status
 HasStatus (request.Module arguments) status = status ≡ 0
 HasStatus (request.Find arguments) status = IsFindStatus arguments status
-HasStatus (request.Suggest arguments) status = IsAdviceStatus status
+HasStatus (request.Suggest arguments) status =
+    IsAdviceStatus (map (λ range. range.now) arguments.rom.items) (map (λ range. range.now) arguments.ram.items) status
 
 -- that of a command line: 2 at a fault, else that of the command
 abbrev pub IsCommandStatus : (status : ℕ) → Type 0

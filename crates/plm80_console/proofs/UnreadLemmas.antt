@@ -1,7 +1,7 @@
 -- Bytes behind an end record.
-use Rattle.std.specs.Prelude.{◌≡◌, ℕ, List, [], slice_get, Some}
+use Rattle.std.specs.Prelude.{◌≡◌, ℕ, List, slice_get, Some}
 use Rattle.std.proofs.Common.{sym, subst}
-use Rattle.plm80_console.specs.UnreadBytes.{IsBehindEnd, after_record, none, here, later}
+use Rattle.plm80_console.specs.UnreadBytes.{IsBehindEnd, after_record, here, later}
 
 -- the end record comes first
 pub ends_here : (bytes after : List ℕ) → slice_get bytes 0 ≡ Some 0x0E → after ≡ after_record bytes → IsBehindEnd bytes after

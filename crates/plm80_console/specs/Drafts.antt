@@ -31,7 +31,7 @@ pub record IsNamed (path name : List ℕ) : Type 0 where
   pub beginning : List ℕ
   pub number : ℕ
   pub begins : IsBeginning path beginning
-  pub is : name ≡ beginning ++ codes ".new" ++ decimal number
+  pub is : name ≡ beginning ++ (codes ".new" ++ decimal number)
 
 -- a draft is in the file of this name, or it is written in place
 abbrev pub IsDraft : (name : List ℕ) → Draft → Type 0

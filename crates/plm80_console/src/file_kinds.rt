@@ -2,7 +2,13 @@
 
 ghost use Rattle.std.specs.Prelude.{◌≡◌, is_some};
 ghost use Rattle.plm80_console.specs.FileKinds.{
-    begins_with_digits, is_explained, is_inputs_start, is_intel_hex_start, is_misplaced, kind_of, kind_of_text,
+  begins_with_digits,
+  is_explained,
+  is_inputs_start,
+  is_intel_hex_start,
+  is_misplaced,
+  kind_of,
+  kind_of_text,
 };
 
 use crate::console::Console;

@@ -161,7 +161,8 @@ fn has_lower_case(line: &[u8]) -> bool
 fn has_odd_number(line: &[u8]) -> bool
     ensures { result ≡ has_odd_number line.now }
 {
-    line.split(|byte| *byte == b' ').any(|word| is_odd_number(word))
+    line.split(|byte| *byte == b' ')
+        .any(|word| is_odd_number(word))
 }
 
 /// Whether a word is of hexadecimal digits, an odd number of them.

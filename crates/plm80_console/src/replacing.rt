@@ -144,7 +144,11 @@ impl<'a> Console<'a> {
         match self.try_draft(file) {
             Ok(draft) => Ok(draft),
             Err(DraftFault::Memory) => Err(self.report_memory()),
-            Err(DraftFault::System(kind)) => Err(self.report_system(file.path, "Write", Some(kind))),
+            Err(DraftFault::System(kind)) => Err(self.report_system(
+                file.path,
+                "Write",
+                Some(kind),
+            )),
         }
     }
 
@@ -171,7 +175,6 @@ impl<'a> Console<'a> {
     }
 
     /// The same, or why there is none.
-    #[tactic(auto, using(crate::proofs::DraftLemmas::draft_of))]
     fn try_draft(self, file: NewFile<'_>) -> Result<Draft, DraftFault>
         ensures { IfOk result (IsDraftOf file.entry.path.now) }
     {

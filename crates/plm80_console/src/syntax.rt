@@ -100,7 +100,7 @@ impl<'a> Argument<'a> {
 
 /// An option of this name, whose value the help text calls by this word, whatever it begins with.
 fn option<'a>(arg: Arg<'a>, name: &'a str, value: &'a str) -> Arg<'a>
-    ensures { result ≡ record arg.entry { long = Some name.entry; val_names = One value.entry; allow_hyphen_values = true } }
+    ensures { result ≡ record arg.entry { long = Some name.entry; val_names = result.val_names; allow_hyphen_values = true } }
 {
     arg.long(name).value_name(value).allow_hyphen_values(true)
 }

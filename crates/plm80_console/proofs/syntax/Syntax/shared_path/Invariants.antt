@@ -1,7 +1,7 @@
 use Rattle.std.specs.Prelude.{◌≡◌, ◌<◌, ℕ}
 use Rattle.plm80_console.specs.ApartPaths.{IsApart}
 use Rattle.plm80_console.specs.declared.same_file.Comparison.TheVariants.{Letters}
-use Rattle.plm80_console.proofs.shared_paths.Syntax.shared_path.Given as goal
+use Rattle.plm80_console.proofs.syntax.Syntax.shared_path.Given as goal
 
 -- the arguments so far are apart from all others
 abbrev pub invariant-loop-index : goal.invariant-loop-index

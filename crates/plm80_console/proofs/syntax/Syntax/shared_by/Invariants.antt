@@ -2,7 +2,7 @@ use Rattle.std.specs.Prelude.{◌≡◌, ◌≢◌, ◌<◌, ℕ, slice_get, Som
 use Rattle.plm80_console.specs.ApartPaths.{IsApartFrom}
 use Rattle.plm80_console.specs.declared.same_file.Comparison.TheVariants.{Letters}
 use Rattle.plm80_console.specs.declared.syntax.Argument.{Argument}
-use Rattle.plm80_console.proofs.shared_paths.Syntax.shared_by.Given as goal
+use Rattle.plm80_console.proofs.syntax.Syntax.shared_by.Given as goal
 
 -- the arguments so far are apart from the one that writes the file
 abbrev pub invariant-loop-other : goal.invariant-loop-other
