@@ -58,34 +58,43 @@ impl<'a> NamedFiles<'a> {
         ensures { IfOk result (λ read. AreOfFiles self.entry.names read.0 read.1) }
     {
         let texts = self.texts(console)?;
-        program_of(console, self.names, &texts.image, &texts.regions)
+        texts.program(console, self.names)
     }
 
-    /// Both files, the image first.
+    /// Both files.
     fn texts(self, console: Console<'_>) -> Result<ProgramTexts<'a>, Reported>
         ensures image { IfOk result (λ texts. texts.image.path.now ≡ self.entry.image.now) }
         ensures regions { IfOk result (λ texts. texts.regions.path.now ≡ self.entry.regions.now) }
     {
-        let image = console.read_file(self.image)?;
-        let regions = console.read_file(self.regions)?;
-        Ok(ProgramTexts { image, regions })
+        ProgramTexts::read(console, self.image, self.regions)
     }
 }
 
-/// The image of a file, with the regions that the text of another one spells, and its names if they are asked for. The regions are
-/// checked first.
-pub fn program_of(
-    console: Console<'_>,
-    asked: bool,
-    image: &ReadFile<'_>,
-    regions: &ReadFile<'_>,
-) -> Result<(Image, Names), Reported>
-    ensures contents { IfOk result (λ read. SpellsImage image.now.bytes.items (without_regions read.0)) }
-    ensures regions { IfOk result (λ read. Spells regions.now.bytes.items read.0.regions) }
-    ensures names { IfOk result (λ read. AreNamesOf asked image.now.bytes.items read.1) }
-{
-    let areas = regions_of(console, regions.path, &regions.bytes)?;
-    let program = image_of(console, image.path, &image.bytes, areas)?;
-    let names = Names::of(console, asked, image.path, &image.bytes)?;
-    Ok((program, names))
+impl<'a> ProgramTexts<'a> {
+    /// Both files, the image first.
+    pub fn read(
+        console: Console<'_>,
+        image: &'a str,
+        regions: &'a str,
+    ) -> Result<ProgramTexts<'a>, Reported>
+        ensures image { IfOk result (λ texts. texts.image.path.now ≡ image.now) }
+        ensures regions { IfOk result (λ texts. texts.regions.path.now ≡ regions.now) }
+    {
+        let image = console.read_file(image)?;
+        let regions = console.read_file(regions)?;
+        Ok(ProgramTexts { image, regions })
+    }
+
+    /// The image of the one file, with the regions that the text of the other one spells, and its names if they are asked for. The
+    /// regions are checked first.
+    pub fn program(&self, console: Console<'_>, asked: bool) -> Result<(Image, Names), Reported>
+        ensures contents { IfOk result (λ read. SpellsImage self.now.image.bytes.items (without_regions read.0)) }
+        ensures regions { IfOk result (λ read. Spells self.now.regions.bytes.items read.0.regions) }
+        ensures names { IfOk result (λ read. AreNamesOf asked self.now.image.bytes.items read.1) }
+    {
+        let areas = regions_of(console, self.regions.path, &self.regions.bytes)?;
+        let image = image_of(console, self.image.path, &self.image.bytes, areas)?;
+        let names = Names::of(console, asked, self.image.path, &self.image.bytes)?;
+        Ok((image, names))
+    }
 }

@@ -1,5 +1,5 @@
 -- The cases and the notes of the addresses below one.
-use Rattle.std.specs.Prelude.{◌≡◌, ℕ, zero, suc, ◌+◌, Bool, true, false, if◌then◌else◌, List, [], ◌∷◌, ◌++◌, All, Option, None, Some, map, filter, filter_map, codes, refl}
+use Rattle.std.specs.Prelude.{◌≡◌, ℕ, zero, suc, ◌+◌, Bool, true, false, if◌then◌else◌, List, [], ◌∷◌, ◌++◌, All, IfSome, Option, None, Some, map, filter, filter_map, codes, refl}
 use Rattle.std.specs.List.{cons_option, range_with_len}
 use Rattle.std.proofs.Common.{◌∙◌, ap, append-nil, arith, subst, sym}
 use Rattle.std.specs.Io.KnownBytes.{Appends}
@@ -11,7 +11,8 @@ use Rattle.image80.specs.Case.{DeclaredCase}
 use Rattle.image80.specs.Image.{Located}
 use Rattle.image80.specs.RegionsText.{case_text, cases_text}
 use Rattle.verify80_cases.specs.declared.search.Note.{Note}
-use Rattle.verify80_cases.specs.Suggested.{Finding, IsFinding, case_of, is_open}
+use Rattle.verify80_cases.specs.declared.search.SuggestedCase.{SuggestedCase}
+use Rattle.verify80_cases.specs.Suggested.{Finding, IsFinding, IsNote, IsSuggestedCase, case_of, is_open}
 use Rattle.plm80_programs.specs.declared.cases.FoundCase.{FoundCase}
 use Rattle.plm80_programs.specs.Cases.{AreFoundBelow, IsFoundAt}
 
@@ -64,8 +65,31 @@ module _ (image : Located) (reached taken : List Bool) where
               ∙ sym (filter_map-append (λ (f : Finding). f.note) so_far.findings (finding ∷ []));
         }
 
-    cases_more : (one : List DeclaredCase) → cases_text (cases ++ one) ≡ cases_text cases ++ cases_text one
-    cases_more one = flat_map-append (λ (case : DeclaredCase). (codes "CASE " ++ case_text case) ++ 10 ∷ []) cases one
+    -- these are kept
+    pub kept_more : (found : FoundCase) (after_cases : List DeclaredCase) (after_notes : List Note) → IsFoundAt image reached taken at found
+        → after_cases ≡ cases ++ cons_option found.case [] → after_notes ≡ notes ++ cons_option found.note []
+        → AreFoundBelow image reached taken (at + 1) after_cases after_notes
+    kept_more found after_cases after_notes here cases_are notes_are =
+        subst (λ (cs : List DeclaredCase). AreFoundBelow image reached taken (at + 1) cs after_notes) (sym cases_are)
+        (subst (λ (ns : List Note). AreFoundBelow image reached taken (at + 1) (cases ++ cons_option found.case []) ns) (sym notes_are)
+        (one_more found here))
+
+-- ---- lines
+
+cases_more : (cases one : List DeclaredCase) → cases_text (cases ++ one) ≡ cases_text cases ++ cases_text one
+cases_more cases one = flat_map-append (λ (case : DeclaredCase). (codes "CASE " ++ case_text case) ++ 10 ∷ []) cases one
+
+pub lines_more : (cases one after : List DeclaredCase) (lines new : List ℕ) → lines ≡ cases_text cases → new ≡ lines ++ cases_text one
+    → after ≡ cases ++ one → new ≡ cases_text after
+lines_more cases one after lines new so_far added after_is =
+    added ∙ ap (λ (l : List ℕ). l ++ cases_text one) so_far ∙ sym (cases_more cases one) ∙ ap cases_text (sym after_is)
+
+-- what is found of a PCHL
+pub finding_of : (image : Located) (reached taken : List Bool) (at : ℕ) (found : Option SuggestedCase) (note : Option Note)
+    → IfSome found (λ found. IsSuggestedCase image reached taken found × (found.case.at ≡ at)) → IsNote at found note
+    → IsFinding image reached taken (record { at = at; found = found; note = note })
+finding_of image reached taken at None note suggested noted = record { found = tt; at = tt; note = noted }
+finding_of image reached taken at (Some found) note suggested noted = record { found = suggested.0; at = suggested.1; note = noted }
 
 -- ---- lines that are written as they are found
 
@@ -94,6 +118,6 @@ module _ (image : Located) (reached taken : List Bool) where
       found = subst (λ (ns : List Note). AreFoundBelow image reached taken (at + 1) (shown.cases ++ cons_option found.case []) ns) (sym noted)
           (one_more image reached taken at shown.cases notes shown.found found here);
       written = subst (λ (l : List ℕ). Appends old new l)
-          (sym (cases_more image reached taken at shown.cases notes shown.found (cons_option found.case [])))
+          (sym (cases_more shown.cases (cons_option found.case [])))
           (Appends-trans old now new (cases_text shown.cases) (cases_text (cons_option found.case [])) shown.written written);
     }

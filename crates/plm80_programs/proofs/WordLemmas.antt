@@ -11,7 +11,8 @@ use Rattle.loader80_text.specs.Words.{word_of}
 use Rattle.plm80_programs.specs.InputWords.{FaultsFile, FaultsWords, IsFirstBadWord, IsGoodWord, inputs_named}
 use Rattle.plm80_programs.specs.declared.inputs.InputsFileFault.{InputsFileFault}
 use Rattle.plm80_programs.specs.declared.inputs.InputsFileFault.TheVariants.{BadInput, TooLong, Memory}
-use Rattle.plm80_programs.specs.Ranges.{AreRangesOf, IsRangeText, more, none}
+use Rattle.plm80_programs.specs.Ranges.{AreRangesOf, IsRangeText}
+use Rattle.plm80_programs.specs.Ranges.AreRangesOf.{more}
 
 abbrev text_of : Bor (List ℕ) → List ℕ
 text_of text = text.now

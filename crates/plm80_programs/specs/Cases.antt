@@ -1,7 +1,8 @@
 -- What `cases` prints, writes and reports of an image.
 -- (That each PCHL has its line, its note or both, is this project's own.)
-use Rattle.std.specs.Prelude.{◌≡◌, ◌≤◌, ℕ, Bool, true, List, [], All, Option, length, map, filter, filter_map}
+use Rattle.std.specs.Prelude.{◌≡◌, ◌≤◌, ℕ, Bool, true, false, List, [], All, Option, length, map, filter, filter_map}
 use Rattle.std.specs.List.{range_with_len}
+use Rattle.omf_parts.specs.declared.symbols.Public.{Public}
 use Rattle.image80.specs.Case.{DeclaredCase}
 use Rattle.image80.specs.Image.{Located}
 use Rattle.image80.specs.RegionsText.{cases_text}
@@ -11,6 +12,7 @@ use Rattle.verify80_cases.specs.declared.search.SuggestedCase.{SuggestedCase}
 use Rattle.verify80_cases.specs.Added.{AddsCases}
 use Rattle.verify80_cases.specs.Suggested.{Finding, IsFinding, IsSearched, case_of, is_open}
 use Rattle.plm80_console.specs.Answer.{AnswerValue, prints, writes}
+use Rattle.plm80_names.specs.Verdict.{AreOfFiles}
 use Rattle.plm80_programs.specs.declared.cases.FoundCase.{FoundCase}
 use Rattle.plm80_programs.specs.Status.{notes_status}
 
@@ -46,9 +48,11 @@ pub record WritesCases (path : List ℕ) (image : Located) (notes : List Note) (
   pub within : length text ≤ text_limit
   pub file_is : file ≡ writes path text []
 
--- the exit status for the notes of some image
+-- the exit status for the notes of an image and its regions, as two files have them
 pub record IsCasesStatus (status : ℕ) : Type 0 where
   pub image : Located
+  pub publics : List Public
+  pub are_read : AreOfFiles false image publics
   pub cases : List DeclaredCase
   pub notes : List Note
   pub found : FindsCases image cases notes

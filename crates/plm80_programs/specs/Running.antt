@@ -1,6 +1,7 @@
 -- What commands print of a run, and how it is left. (That a run's transcript goes on with its last instructions, and the exit statuses,
 -- are this project's own.)
-use Rattle.std.specs.Prelude.{◌≡◌, ℕ, ◌⊎◌, ◌+◌, ◌-◌, ◌==◌, ◌&&◌, not, is_none, min, if◌then◌else◌, Bool, true, false, List, [], ◌++◌, Option, None, Some, codes}
+use Rattle.std.specs.Prelude.{◌≡◌, ℕ, ◌+◌, ◌-◌, ◌==◌, ◌&&◌, not, is_none, min, if◌then◌else◌, Bool, true, false, List, [], ◌++◌, Option, None, Some, Result, Ok, Err, codes}
+use Rattle.std.specs.Bool.{MatchBool}
 use Rattle.std.specs.declared.io.ErrorKind.{ErrorKind}
 use Rattle.omf_parts.specs.declared.symbols.Public.{Public}
 use Rattle.image80.specs.declared.range.Range.{Range}
@@ -120,9 +121,15 @@ pub record IsStatusOfRun (Answers : List (ℕ × ℕ) → List Public → Vouche
   pub answers : AnswersVerdict (Answers (inputs_of text) publics) image publics answer
   pub status_is : status ≡ answer.status
 
--- of a session: that of the run's end, or 1 of a refusal
-abbrev pub IsSessionStatus : ℕ → Type 0
-IsSessionStatus status = (status ≡ 1) ⊎ ((ended : Option End) × (status ≡ end_status ended))
+-- of a session: that of the run's end, or 1 of a refusal; every other fault has none
+abbrev pub session_status : Result Outcome SessionFault → Result ℕ SessionFault
+session_status (Ok outcome) = Ok (end_status outcome.end)
+session_status (Err (Refused refusal)) = Ok 1
+session_status (Err fault) = Err fault
+
+pub record IsSessionStatus (status : ℕ) : Type 0 where
+  pub answer : Result Outcome SessionFault
+  pub status_is : session_status answer ≡ Ok status
 
 -- ---- limits
 
@@ -161,7 +168,7 @@ abbrev pub is_session : RunArguments → Bool
 is_session arguments = (count_value arguments.last.text.now == 0 && is_none (dump_of arguments)) && not arguments.names
 
 abbrev pub IsRunStatus : RunArguments → (status : ℕ) → Type 0
-IsRunStatus arguments status = if is_session arguments then IsSessionStatus status else IsWatchStatus arguments status
+IsRunStatus arguments status = MatchBool (is_session arguments) (IsSessionStatus status) (IsWatchStatus arguments status)
 
 -- ---- paths of faults
 

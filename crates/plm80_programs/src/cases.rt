@@ -5,7 +5,7 @@ ghost use Rattle.std.specs.Io.KnownBytes.{Appends};
 ghost use Rattle.std.specs.List.{cons_option};
 ghost use Rattle.image80.specs.Case.{DeclaredCase};
 ghost use Rattle.image80.specs.RegionsText.{cases_text};
-ghost use Rattle.verify80_cases.specs.Suggested.{is_open};
+ghost use Rattle.verify80_cases.specs.Suggested.{case_of, is_open};
 ghost use Rattle.plm80_programs.specs.Arguments.{AreCasesArguments};
 ghost use Rattle.plm80_programs.specs.Cases.{FindsCases, IsCasesStatus, IsFoundAt, WritesCases};
 ghost use Rattle.plm80_programs.specs.Status.{lacks_table, notes_status};
@@ -19,10 +19,10 @@ use loader80_trace::TraceFault;
 use plm80_console::{
     Answer, Argument, Console, IMAGE, Kind, NotedWriter, REGIONS, Reported, Syntax, argument_text,
 };
-use plm80_names::program_of;
+use plm80_names::ProgramTexts;
 use std::alloc::{AllocError, Global};
 use verify80::ImageCode;
-use verify80_cases::{Note, Search, regions_with_cases};
+use verify80_cases::{Note, Search, SuggestedCase, regions_with_cases};
 
 /// The arguments of `cases`.
 #[derive(Clone, Copy)]
@@ -78,6 +78,14 @@ impl<'a> CasesArguments<'a> {
             out: matches.get_str("out"),
         }
     }
+
+    /// Both files.
+    fn texts(self, console: Console<'_>) -> Result<ProgramTexts<'a>, Reported>
+        ensures image { IfOk result (λ texts. texts.image.path.now ≡ self.entry.image.now) }
+        ensures regions { IfOk result (λ texts. texts.regions.path.now ≡ self.entry.regions.now) }
+    {
+        ProgramTexts::read(console, self.image, self.regions)
+    }
 }
 
 /// Prints the CASE lines, writes the regions with them if a file is named, and reports what there is to say of the PCHLs; gives status 1
@@ -88,9 +96,8 @@ pub fn suggest_for_files(
 ) -> Result<u8, Reported>
     ensures { IfOk result IsCasesStatus }
 {
-    let file = console.read_file(arguments.image)?;
-    let regions = console.read_file(arguments.regions)?;
-    let (image, _) = program_of(console, false, &file, &regions)?;
+    let texts = arguments.texts(console)?;
+    let (image, _) = texts.program(console, false)?;
     let notes = match arguments.out {
         Some(path) => add_cases(console, path, &image)?,
         None => print_cases(console, &image)?,
@@ -312,11 +319,20 @@ fn found_at(
     }
     let found = search.suggest(alloc, image, code, at)?;
     let note = search.note(code, at, &found);
-    let case = match found {
+    Ok(Some(FoundCase {
+        case: case_of(found),
+        note,
+    }))
+}
+
+/// The case of what is suggested, if something is.
+fn case_of(found: Option<SuggestedCase>) -> Option<Case>
+    ensures { result ≡ case_of found }
+{
+    match found {
         Some(found) => Some(found.case),
         None => None,
-    };
-    Ok(Some(FoundCase { case, note }))
+    }
 }
 
 /// Appends a note, if there is one.

@@ -1,6 +1,6 @@
 //! `plm80 run`: the transcript of a located program's run.
 
-ghost use Rattle.std.specs.Prelude.{IfOk};
+ghost use Rattle.std.specs.Prelude.{◌≡◌, ◌==◌, ◌&&◌, not, is_none, IfOk};
 ghost use Rattle.plm80_programs.specs.Arguments.{AreRunArguments};
 ghost use Rattle.plm80_programs.specs.Running.{IsRunStatus};
 
@@ -78,6 +78,13 @@ impl<'a> RunArguments<'a> {
             names: matches.get_flag("names"),
         }
     }
+
+    /// Whether nothing but the transcript is asked for. `last` is how many of the last instructions are.
+    fn is_session(self, last: u64) -> bool
+        ensures { let asked = self.entry in result ≡ ((last == 0 && is_none asked.dump) && not asked.names) }
+    {
+        last == 0 && self.dump.is_none() && !self.names
+    }
 }
 
 /// Runs the image of the files, and gives the exit status: a session, if nothing but its transcript is asked for.
@@ -86,7 +93,7 @@ pub fn run_files(console: Console<'_>, arguments: RunArguments<'_>) -> Result<u8
 {
     let limits = arguments.limits.numbers(console)?;
     let last = console.count(arguments.last)?;
-    if last == 0 && arguments.dump.is_none() && !arguments.names {
+    if arguments.is_session(last) {
         return run_session(console, arguments.files, limits);
     }
     let watch = Watch {

@@ -1,6 +1,6 @@
 //! `plm80 suggest`: the regions that an image's bytes suggest.
 
-ghost use Rattle.std.specs.Prelude.{◌≡◌, IfOk};
+ghost use Rattle.std.specs.Prelude.{◌≡◌, map, IfOk};
 ghost use Rattle.image80_file.specs.ImageFile.{SpellsImage, without_regions};
 ghost use Rattle.plm80_programs.specs.Suggest.{AdvisesRegions, AreSuggestArguments, IsAdviceStatus};
 
@@ -89,7 +89,7 @@ impl<'a> SuggestArguments<'a> {
 
 /// Prints the regions that the image suggests, and reports what is uncertain of them; gives status 1 if a PCHL has no table.
 pub fn advise_file(console: Console<'_>, arguments: &SuggestArguments<'_>) -> Result<u8, Reported>
-    ensures { IfOk result IsAdviceStatus }
+    ensures { IfOk result (IsAdviceStatus (map (λ range. range.now) arguments.now.rom.items) (map (λ range. range.now) arguments.now.ram.items)) }
 {
     let rom = ranges_of(console, ROM, &arguments.rom)?;
     let ram = ranges_of(console, RAM, &arguments.ram)?;

@@ -1,23 +1,24 @@
 //! `plm80 trace`: the instructions of a located program's run, a line each.
 
-ghost use Rattle.std.specs.Prelude.{◌≡◌, IfOk};
+ghost use Rattle.std.specs.Prelude.{◌≡◌, ◌<◌, true, IfOk, OnOk};
+ghost use Rattle.std.specs.Io.KnownBytes.{Appends};
 ghost use Rattle.plm80_console.specs.Answer.{AnswerValue};
 ghost use Rattle.plm80_programs.specs.Arguments.{AreTraceArguments};
-ghost use Rattle.plm80_programs.specs.Running.{EndsTrace, IsSpanOf, IsStatusOfRun, IsTraceStatus, trace_ending};
+ghost use Rattle.plm80_programs.specs.Running.{EndsTrace, IsSpanOf, IsStatusOfRun, IsTraceOf, IsTraceStatus, trace_ending, trace_lines};
 
 use crate::explain_end;
 use crate::helpers::endings::{Traced, report_lines, trace_ending_of, write_traced};
 use crate::helpers::run_arguments::{INPUTS, LimitTexts, OUTPUTS, RunFiles, STEPS};
 use clap::ArgMatches;
 use loader80::{Ended, Vouched};
-use loader80_streams::Writing;
-use loader80_trace::{Limits, Span};
+use loader80_streams::{Sink, Writing};
+use loader80_trace::{Limits, Span, TraceFault};
 use machine80::Inputs;
 use plm80_console::{
     Answer, Argument, Console, IMAGE, Kind, NotedWriter, OptionText, REGIONS, Reported, Syntax,
 };
 use plm80_names::{NAMES, Names, Verdict, judge};
-use std::alloc::AllocError;
+use std::alloc::{AllocError, Global};
 
 /// The arguments of `trace`.
 #[derive(Clone, Copy)]
@@ -137,6 +138,29 @@ fn print_trace(
     ensures { IfOk result (λ status. (answer : AnswerValue)
         × EndsTrace inputs.pairs.items limits span names.now vouched.now answer × (status ≡ answer.status)) }
 {
+    let mut output = NotedWriter::new(console.runtime().stdout());
+    let mut out = Writing::new(&mut output);
+    match write_trace(console.alloc(), vouched, inputs, limits, span, names, &mut out) {
+        Ok(ended) => end_trace(console, vouched, &ended, names),
+        Err(fault) => Err(report_lines(console, fault, output.failure())),
+    }
+}
+
+/// Writes the lines of the run, with their numbers, and gives how it ended, if they come so far.
+fn write_trace<K: Sink>(
+    alloc: Global,
+    vouched: &Vouched,
+    inputs: Inputs,
+    limits: Limits,
+    span: Span,
+    names: &Names,
+    out: &mut K,
+) -> Result<Option<Ended>, TraceFault>
+    requires { K.failed out.old < u64.MAX }
+    ensures lines { OnOk result (Appends (K.written out.old) (K.written out.new)
+        (trace_lines inputs.pairs.items limits span true names.now vouched.now)) }
+    ensures traced { IfOk result (IsTraceOf inputs.pairs.items limits span vouched.now) }
+{
     let traced = Traced {
         vouched,
         names,
@@ -144,12 +168,7 @@ fn print_trace(
         span,
         numbered: true,
     };
-    let mut output = NotedWriter::new(console.runtime().stdout());
-    let mut out = Writing::new(&mut output);
-    match write_traced(console.alloc(), traced, inputs, &mut out) {
-        Ok(ended) => end_trace(console, vouched, &ended, names),
-        Err(fault) => Err(report_lines(console, fault, output.failure())),
-    }
+    write_traced(alloc, traced, inputs, out)
 }
 
 /// Prints how a run ended, if it is known, and gives the exit status.

@@ -1,7 +1,10 @@
 //! The image, its regions and the inputs of its run, and how far it runs: what several commands that run it take.
 
 ghost use Rattle.std.specs.Prelude.{◌≡◌, None, IfOk, OnOk};
+ghost use Rattle.image80.specs.RegionsText.{Spells};
+ghost use Rattle.image80_file.specs.ImageFile.{SpellsImage, without_regions};
 ghost use Rattle.loader80.specs.InputsText.{bad_line, inputs_of};
+ghost use Rattle.plm80_names.specs.Printed.{AreNamesOf};
 ghost use Rattle.plm80_names.specs.Verdict.{AreOfFiles};
 ghost use Rattle.plm80_programs.specs.Arguments.{AreLimitTexts, AreRunFiles};
 ghost use Rattle.plm80_programs.specs.Running.{AreLimitsOf};
@@ -12,7 +15,7 @@ use loader80::{InputsFault, SessionFault, read_inputs};
 use loader80_trace::Limits;
 use machine80::Inputs;
 use plm80_console::{Argument, Console, Kind, OptionText, ReadFile, Reported, argument_text};
-use plm80_names::{Names, program_of};
+use plm80_names::{Names, ProgramTexts};
 
 /// The paths of an image, of its regions and of the inputs of its run.
 #[derive(Clone, Copy)]
@@ -46,8 +49,7 @@ pub const OUTPUTS: Argument<'static> = Argument {
 /// The bytes of an image's file, the text of its regions and that of the inputs of its run, each with its path.
 #[derive(Drop)]
 pub struct RunTexts<'a> {
-    pub image: ReadFile<'a>,
-    pub regions: ReadFile<'a>,
+    pub program: ProgramTexts<'a>,
     pub inputs: ReadFile<'a>,
 }
 
@@ -98,28 +100,18 @@ impl<'a> RunFiles<'a> {
         ensures { IfOk result (λ read. AreOfFiles names read.image read.names) }
     {
         let texts = self.texts(console)?;
-        let (image, names) = program_of(console, names, &texts.image, &texts.regions)?;
-        Ok(RunProgram {
-            image,
-            names,
-            inputs: texts.inputs.bytes,
-        })
+        texts.program(console, names)
     }
 
     /// All three files, in this order.
     fn texts(self, console: Console<'_>) -> Result<RunTexts<'a>, Reported>
-        ensures image { IfOk result (λ texts. texts.image.path.now ≡ self.entry.image.now) }
-        ensures regions { IfOk result (λ texts. texts.regions.path.now ≡ self.entry.regions.now) }
+        ensures image { IfOk result (λ texts. texts.program.image.path.now ≡ self.entry.image.now) }
+        ensures regions { IfOk result (λ texts. texts.program.regions.path.now ≡ self.entry.regions.now) }
         ensures inputs { IfOk result (λ texts. texts.inputs.path.now ≡ self.entry.inputs.now) }
     {
-        let image = console.read_file(self.image)?;
-        let regions = console.read_file(self.regions)?;
+        let program = ProgramTexts::read(console, self.image, self.regions)?;
         let inputs = console.read_file(self.inputs)?;
-        Ok(RunTexts {
-            image,
-            regions,
-            inputs,
-        })
+        Ok(RunTexts { program, inputs })
     }
 
     /// The inputs that the text of their file spells.
@@ -136,6 +128,23 @@ impl<'a> RunFiles<'a> {
             }
             Err(InputsFault::Memory) => Err(console.report_memory()),
         }
+    }
+}
+
+impl<'a> RunTexts<'a> {
+    /// The image with its regions, its names if they are asked for, and the text of its inputs.
+    fn program(self, console: Console<'_>, asked: bool) -> Result<RunProgram, Reported>
+        ensures contents { IfOk result (λ read. SpellsImage self.entry.program.image.bytes.items (without_regions read.image)) }
+        ensures regions { IfOk result (λ read. Spells self.entry.program.regions.bytes.items read.image.regions) }
+        ensures names { IfOk result (λ read. AreNamesOf asked self.entry.program.image.bytes.items read.names) }
+        ensures inputs { IfOk result (λ read. read.inputs.items ≡ self.entry.inputs.bytes.items) }
+    {
+        let (image, names) = self.program.program(console, asked)?;
+        Ok(RunProgram {
+            image,
+            names,
+            inputs: self.inputs.bytes,
+        })
     }
 }
 

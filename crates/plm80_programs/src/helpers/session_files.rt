@@ -1,7 +1,7 @@
 //! A session on files, with its transcript on standard output.
 
 ghost use Rattle.std.specs.Prelude.{◌≡◌, IfOk, option_map};
-ghost use Rattle.plm80_programs.specs.Running.{IsSessionStatus, failure_of_text, fault_path, path_of_text};
+ghost use Rattle.plm80_programs.specs.Running.{IsSessionStatus, failure_of_text, fault_path, path_of_text, session_status};
 
 use crate::helpers::run_arguments::RunFiles;
 use crate::{explain_end, status_of};
@@ -42,14 +42,24 @@ pub fn run_session(
     ensures { IfOk result IsSessionStatus }
 {
     let (answer, failures) = session_of(console, files, limits);
-    match answer {
-        Ok(outcome) => {
-            console.explain_unread(files.image_path());
-            explain_end(console, outcome.end, outcome.at);
-            Ok(status_of(outcome.end))
-        }
-        Err(SessionFault::Refused(_)) => Ok(1),
+    if let Ok(outcome) = &answer {
+        console.explain_unread(files.image_path());
+        explain_end(console, outcome.end, outcome.at);
+    }
+    match session_status(answer) {
+        Ok(status) => Ok(status),
         Err(fault) => Err(report_session(console, files, fault, failures)),
+    }
+}
+
+/// The exit status of a session's answer: that of the run, or 1 of a refusal.
+fn session_status(answer: Result<Outcome, SessionFault>) -> Result<u8, SessionFault>
+    ensures { result ≡ session_status answer }
+{
+    match answer {
+        Ok(outcome) => Ok(status_of(outcome.end)),
+        Err(SessionFault::Refused(_)) => Ok(1),
+        Err(fault) => Err(fault),
     }
 }
 
