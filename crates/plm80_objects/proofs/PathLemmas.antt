@@ -51,17 +51,28 @@ pub paths_kept : (file : LinkFile) (path : List ℕ) (before after : LinkFiles) 
     → HavePaths before → HavePaths after
 paths_kept (Modules ms) path before after adds have = record {
   roots =
-    sym (length_texts after.root_paths.items) ∙ (ap length adds.root_paths
-    ∙ (length-append (map (λ p. p.now) before.root_paths.items) (repeat (length ms.items) (path ∷ []))
-    ∙ omega (arith, length_texts before.root_paths.items, length_repeat path (length ms.items), have.roots, ap length adds.roots,
-      length-append before.roots.items ms.items)));
+      sym (length_texts after.root_paths.items) ∙ (ap length adds.root_paths
+      ∙ (length-append (map (λ p. p.now) before.root_paths.items) (repeat (length ms.items) (path ∷ []))
+      ∙ omega (
+        arith,
+        length_texts before.root_paths.items,
+        length_repeat path (length ms.items),
+        have.roots,
+        ap length adds.roots,
+        length-append before.roots.items ms.items,
+      )));
   libraries = cc (adds.paths, adds.libraries, have.libraries);
 }
 paths_kept (Library library) path before after adds have = record {
   roots = cc (adds.root_paths, adds.roots, have.roots);
   libraries =
-    sym (length_texts after.paths.items) ∙ (ap length adds.paths
-    ∙ (length-append (map (λ p. p.now) before.paths.items) (path ∷ [])
-    ∙ omega (arith, length_texts before.paths.items, have.libraries, ap length adds.libraries,
-      length-append before.libraries.items (library ∷ []))));
+      sym (length_texts after.paths.items) ∙ (ap length adds.paths
+      ∙ (length-append (map (λ p. p.now) before.paths.items) (path ∷ [])
+      ∙ omega (
+        arith,
+        length_texts before.paths.items,
+        have.libraries,
+        ap length adds.libraries,
+        length-append before.libraries.items (library ∷ []),
+      )));
 }

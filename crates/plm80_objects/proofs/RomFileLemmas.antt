@@ -2,7 +2,7 @@
 use Rattle.std.specs.Prelude.{◌≡◌, ℕ, ◌+◌, ◌<◌, List, [], ◌∷◌, ◌++◌, length, take}
 use Rattle.std.specs.Borrow.{Bor}
 use Rattle.std.specs.List.{AllZip}
-use Rattle.std.proofs.Common.{◌∙◌, ap, sym, subst, get_or}
+use Rattle.std.proofs.Common.{sym, subst, get_or}
 use Rattle.std.proofs.lemmas.List.{take_more}
 use Rattle.plm80_console.specs.NumberText.{word_value}
 use Rattle.plm80_objects.specs.Absolute.{AreRomFiles, IsRomFile}
@@ -30,11 +30,12 @@ pushed path first xs [] text file are is = absurd are
 pushed path first xs (f ∷ files) text file are is =
     (are.0, are.1, zip_pushed (λ (t : Bor (List ℕ)) (rom : RomFile). IsRomFile t.now rom) xs files text file are.2 is)
 
-pub rom_more : (path first : List ℕ) (xs : List (Bor (List ℕ))) (i : ℕ) (text : Bor (List ℕ)) (file : RomFile)
-    (files after : List RomFile) → i < length xs → text ≡ get_or xs i text → AreRomFiles path first (take i xs) files
-    → IsRomFile text.now file → after ≡ files ++ file ∷ [] → AreRomFiles path first (take (i + 1) xs) after
-rom_more path first xs i text file files after lt at so_far one is =
+pub rom_more : (path first : List ℕ) (xs ys : List (Bor (List ℕ))) (i : ℕ) (d : Bor (List ℕ)) (file : RomFile)
+    (files after : List RomFile) → ys ≡ xs → i < length ys → AreRomFiles path first (take i xs) files
+    → IsRomFile (get_or ys i d).now file → after ≡ files ++ file ∷ [] → AreRomFiles path first (take (i + 1) xs) after
+rom_more path first xs ys i d file files after same below so_far named is =
+    let lt : i < length xs = subst (λ (zs : List (Bor (List ℕ))). i < length zs) same below in
+    let one : IsRomFile (get_or xs i d).now file = subst (λ (zs : List (Bor (List ℕ))). IsRomFile (get_or zs i d).now file) same named in
     subst (λ (fs : List RomFile). AreRomFiles path first (take (i + 1) xs) fs) (sym is)
-    (subst (λ (ts : List (Bor (List ℕ))). AreRomFiles path first ts (files ++ file ∷ []))
-    (ap (λ (t : Bor (List ℕ)). take i xs ++ t ∷ []) at ∙ sym (take_more xs i text lt))
-    (pushed path first (take i xs) files text file so_far one))
+    (subst (λ (ts : List (Bor (List ℕ))). AreRomFiles path first ts (files ++ file ∷ [])) (sym (take_more xs i d lt))
+    (pushed path first (take i xs) files (get_or xs i d) file so_far one))

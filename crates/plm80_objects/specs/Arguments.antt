@@ -89,8 +89,8 @@ pub record AreLibraryArguments (matches : ArgMatches) (arguments : LibraryArgume
 pub record AreLinkArguments (matches : ArgMatches) (arguments : LinkArguments) : Type 0 where
   pub name : arguments.name.text.now ≡ argument_text matches (codes "name")
   pub out : arguments.out.now ≡ argument_text matches (codes "out")
-  pub map : IsFlag matches (codes "map") arguments.lines.map
-  pub reasons : IsFlag matches (codes "reasons") arguments.lines.reasons
+  pub asks_map : IsFlag matches (codes "map") arguments.lines.map
+  pub asks_reasons : IsFlag matches (codes "reasons") arguments.lines.reasons
   pub files : map (λ path. path.now) arguments.files.items ≡ argument_values matches (codes "FILE")
 
 pub record AreAbsoluteArguments (matches : ArgMatches) (arguments : AbsoluteArguments) : Type 0 where

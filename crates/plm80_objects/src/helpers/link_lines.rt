@@ -53,7 +53,14 @@ fn taken_lines(
     let mut lines = Vec::new(alloc);
     if reasons {
         let (roots, libraries) = (&files.roots, &files.libraries);
-        append_reasons(alloc, &mut lines, roots, libraries, &linked.taken, &files.paths)?;
+        append_reasons(
+            alloc,
+            &mut lines,
+            roots,
+            libraries,
+            &linked.taken,
+            &files.paths,
+        )?;
         Ok(lines)
     } else {
         append_taken(&mut lines, &linked.taken, &files.libraries)?;
