@@ -1,8 +1,8 @@
 //! What is wrong with a bundle, in words.
 
-ghost use Rattle.std.specs.Prelude.{◌≡◌, ◌⊎◌, ◌&&◌, ℕ, nat_le, [], drop, None, Some, IfErr, OnOk, length, slice_index};
-ghost use Rattle.std.specs.IoError.{error_kind};
+ghost use Rattle.std.specs.Prelude.{◌≡◌, ◌⊎◌, ◌&&◌, ℕ, nat_le, [], drop, None, length, slice_index};
 ghost use Rattle.std.specs.Char.{is_ascii_hexdigit};
+ghost use Rattle.std.specs.Io.{ReadsAtMost};
 
 use loader80::SessionFault;
 use loader80_text::BundleFault;
@@ -38,10 +38,7 @@ impl<'a, R: Read> CopiedReader<'a, R> {
 }
 
 impl<'a, R: Read> Read for CopiedReader<'a, R> {
-    fn read(&mut self, buffer: &mut [u8]) -> io::Result<usize>
-        ensures kept { OnOk result (self.new.failure ≡ self.old.failure) }
-        ensures noted { IfErr result (λ error. self.new.failure ≡ Some (error_kind error)) }
-    {
+    fn read(&mut self, buffer: &mut [u8]) -> io::Result<usize> {
         match self.inner.read(buffer) {
             Ok(count) => {
                 if self.console.explains() {

@@ -1,7 +1,8 @@
 //! The commands of the program, done with files. Tests show what they print.
 
-ghost use Rattle.std.specs.Prelude.{◌≡◌};
+ghost use Rattle.std.specs.Prelude.{◌≡◌, IfOk};
 ghost use Rattle.std.specs.Process.{exit_status};
+ghost use Rattle.plm80.specs.Requests.{HasStatus, IsCommandStatus};
 
 mod arguments;
 
@@ -20,7 +21,9 @@ use std::process::ExitCode;
 /// Does the command, and gives the exit status: 1 if an image is refused, 2 at a fault, 3 or 4 as a run ends, and else 0. A fault is
 /// one line on standard error, with words below it if the command asks for them, or `always`; clap's errors and help are printed
 /// there too.
-pub fn run_command(rt: &HostRuntime, arguments: &[String], always: bool) -> ExitCode {
+pub fn run_command(rt: &HostRuntime, arguments: &[String], always: bool) -> ExitCode
+    ensures { IsCommandStatus (exit_status result) }
+{
     let (request, why) = match read_arguments(rt, arguments) {
         Ok(asked) => asked,
         Err(error) => return print_error(rt, &error),
@@ -39,7 +42,9 @@ pub fn refuse_arguments(rt: &HostRuntime) -> ExitCode
 }
 
 /// Does what is asked for, and gives the exit status.
-fn perform(console: Console<'_>, request: Request<'_>) -> Result<u8, Reported> {
+fn perform(console: Console<'_>, request: Request<'_>) -> Result<u8, Reported>
+    ensures { IfOk result (HasStatus request.entry) }
+{
     match request {
         Request::Link(arguments) => link_files(console, &arguments),
         Request::Locate(arguments) => locate_file(console, arguments),

@@ -1,12 +1,16 @@
 //! `plm80`: the program, from its arguments, files and standard input to the calls of the layers below.
 //!
-//! Proved: the same.
+//! Proved: a request is of the command of its name; the exit status is that of its command, of a bundle's run, or 2.
 //!
 //! | Item | What it is |
 //! |---|---|
 //! | [`bundle`] | one input with an image, regions and inputs, to the transcript of a run |
 //! | `commands` | the commands of the command line, with their arguments |
 #![tactic(auto)]
+
+ghost use Rattle.std.specs.Prelude.{◌⊎◌};
+ghost use Rattle.std.specs.Process.{exit_status};
+ghost use Rattle.plm80.specs.Requests.{IsBundleStatus, IsCommandStatus};
 
 mod bundle_words;
 mod commands;
@@ -51,7 +55,9 @@ fn main(rt: HostRuntime) -> ExitCode {
 }
 
 /// Does what the arguments ask for, the first of which is the program's own name.
-fn run(rt: &HostRuntime, arguments: &[String]) -> ExitCode {
+fn run(rt: &HostRuntime, arguments: &[String]) -> ExitCode
+    ensures { IsCommandStatus (exit_status result) ⊎ IsBundleStatus (exit_status result) }
+{
     // Words about every fault are asked for if the variable is set, and neither empty nor 0.
     let always = match env::var(rt, "PLM80_WHY") {
         Ok(value) => !matches!(value.as_str(), "" | "0"),
@@ -65,7 +71,9 @@ fn run(rt: &HostRuntime, arguments: &[String]) -> ExitCode {
 }
 
 /// Runs the bundle on standard input, and gives the exit status. At a terminal it says first what is read there.
-fn run_bundle(console: Console<'_>) -> ExitCode {
+fn run_bundle(console: Console<'_>) -> ExitCode
+    ensures { IsBundleStatus (exit_status result) }
+{
     if console.runtime().stdin().is_terminal() {
         let _ = eprintln!(console.runtime();
             "plm80: reads a bundle from standard input; plm80 --help lists the commands"

@@ -1,4 +1,7 @@
 mod DraftLemmas
+mod LineLemmas
 mod NumberLemmas
 mod PieceLemmas
+mod RangeLemmas
 mod SharedLemmas
+mod UnreadLemmas

@@ -1,5 +1,5 @@
 -- How a new file comes into its place.
-use Rattle.std.specs.Prelude.{◌≡◌, ◌⊎◌, ℕ, ◌==◌, Bool, true, false, if◌then◌else◌, List, ◌++◌, take, codes, string_bytes}
+use Rattle.std.specs.Prelude.{◌≡◌, ◌⊎◌, ℕ, ◌==◌, Bool, true, false, ◌&&◌, not, if◌then◌else◌, List, ◌++◌, take, codes, string_bytes}
 use Rattle.std.specs.Fmt.{decimal}
 use Rattle.plm80_console.specs.declared.replacing.BothDrafts.{BothDrafts}
 use Rattle.plm80_console.specs.declared.replacing.Draft.{Draft}
@@ -11,16 +11,12 @@ abbrev pub is_in_place : Draft → Bool
 is_in_place (Beside path) = false
 is_in_place InPlace = true
 
--- two files with their drafts, in one order or the other
-pub record AreIn (first : NewFile) (first_draft : Draft) (second : NewFile) (second_draft : Draft) (both : BothDrafts) : Type 0 where
-  pub first_is : both.first ≡ first
-  pub first_draft_is : both.first_draft ≡ first_draft
-  pub second_is : both.second ≡ second
-  pub second_draft_is : both.second_draft ≡ second_draft
-
-abbrev pub HasBoth : NewFile → Draft → NewFile → Draft → BothDrafts → Type 0
-HasBoth first first_draft second second_draft both =
-    AreIn first first_draft second second_draft both ⊎ AreIn second second_draft first first_draft both
+-- both with the one first that is written in place, if only one is; else in the order in which they were given
+abbrev pub in_order : (first : NewFile) → (first_draft : Draft) → (second : NewFile) → (second_draft : Draft) → BothDrafts
+in_order first first_draft second second_draft =
+    if is_in_place second_draft && not (is_in_place first_draft)
+    then record { first = second; first_draft = second_draft; second = first; second_draft = first_draft }
+    else record { first = first; first_draft = first_draft; second = second; second_draft = second_draft }
 
 -- the paths under which a copy of a file may be kept, in their order: with a tilde, and then with a number behind it
 abbrev pub kept_text : (path : List ℕ) → (number : ℕ) → List ℕ
@@ -35,7 +31,7 @@ pub record IsNamed (path name : List ℕ) : Type 0 where
   pub beginning : List ℕ
   pub number : ℕ
   pub begins : IsBeginning path beginning
-  pub is : name ≡ beginning ++ codes ".new" ++ decimal number
+  pub is : name ≡ beginning ++ (codes ".new" ++ decimal number)
 
 -- a draft is in the file of this name, or it is written in place
 abbrev pub IsDraft : (name : List ℕ) → Draft → Type 0

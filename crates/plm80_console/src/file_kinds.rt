@@ -2,10 +2,17 @@
 
 ghost use Rattle.std.specs.Prelude.{◌≡◌, is_some};
 ghost use Rattle.plm80_console.specs.FileKinds.{
-    begins_with_digits, is_explained, is_inputs_start, is_intel_hex_start, is_misplaced, kind_of, kind_of_text,
+  begins_with_digits,
+  is_explained,
+  is_inputs_start,
+  is_intel_hex_start,
+  is_misplaced,
+  kind_of,
+  kind_of_text,
 };
 
 use crate::console::Console;
+use crate::number_text::are_digits;
 
 /// The first byte of an object file, the type of a module header.
 const MODULE_HEADER: u8 = 0x02;
@@ -178,21 +185,24 @@ impl FileRole {
 fn is_intel_hex(bytes: &[u8]) -> bool
     ensures { result ≡ is_intel_hex_start bytes.now }
 {
-    !bytes.is_empty() && bytes[0] == b':' && are_digits(&bytes[1..], 8)
+    !bytes.is_empty() && bytes[0] == b':' && begins_with_digits(&bytes[1..], 8)
 }
 
 /// Whether the bytes begin as a line of inputs: a port, a blank and a byte.
 fn is_inputs(bytes: &[u8]) -> bool
     ensures { result ≡ is_inputs_start bytes.now }
 {
-    bytes.len() >= 3 && are_digits(bytes, 2) && bytes[2] == b' ' && are_digits(&bytes[3..], 2)
+    bytes.len() >= 3
+        && begins_with_digits(bytes, 2)
+        && bytes[2] == b' '
+        && begins_with_digits(&bytes[3..], 2)
 }
 
 /// Whether the bytes begin with a given number of hexadecimal digits.
-fn are_digits(bytes: &[u8], count: usize) -> bool
+fn begins_with_digits(bytes: &[u8], count: usize) -> bool
     ensures { result ≡ begins_with_digits count bytes.now }
 {
-    count <= bytes.len() && bytes[..count].iter().all(|digit| digit.is_ascii_hexdigit())
+    count <= bytes.len() && are_digits(&bytes[..count])
 }
 
 impl<'a> Console<'a> {

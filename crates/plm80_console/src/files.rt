@@ -1,8 +1,7 @@
 //! Files, read whole, and standard output.
 
-ghost use Rattle.std.specs.Prelude.{◌≡◌, ◌≤◌, None, Some, vec_len, IfErr, IfOk, IfSome, IsTrue, OnSome, OnOk};
+ghost use Rattle.std.specs.Prelude.{◌≡◌, ◌≤◌, None, vec_len, IfOk, IfSome, IsTrue, OnSome};
 ghost use Rattle.std.specs.Io.{ReadsAtMost};
-ghost use Rattle.std.specs.IoError.{error_kind};
 ghost use Rattle.loader80_streams.specs.WholeText.{text_limit};
 
 use crate::console::{Console, Reported};
@@ -68,10 +67,7 @@ impl<'a> LateFile<'a> {
 }
 
 impl<'a> Read for LateFile<'a> {
-    fn read(&mut self, buffer: &mut [u8]) -> io::Result<usize>
-        ensures kept { OnOk result (self.new ≡ self.old) }
-        ensures noted { IfErr result (λ error. self.new ≡ Some (error_kind error)) }
-    {
+    fn read(&mut self, buffer: &mut [u8]) -> io::Result<usize> {
         match self.open_and_read(buffer) {
             Ok(count) => Ok(count),
             Err(error) => {
@@ -119,10 +115,7 @@ impl<W: Write> NotedWriter<W> {
 }
 
 impl<W: Write> Write for NotedWriter<W> {
-    fn write(&mut self, bytes: &[u8]) -> io::Result<usize>
-        ensures kept { OnOk result (self.new ≡ self.old) }
-        ensures noted { IfErr result (λ error. self.new ≡ Some (error_kind error)) }
-    {
+    fn write(&mut self, bytes: &[u8]) -> io::Result<usize> {
         match self.inner.write(bytes) {
             Ok(count) => Ok(count),
             Err(error) => {
@@ -132,9 +125,7 @@ impl<W: Write> Write for NotedWriter<W> {
         }
     }
 
-    fn flush(&mut self) -> io::Result<()>
-        ensures { self.new ≡ self.old }
-    {
+    fn flush(&mut self) -> io::Result<()> {
         self.inner.flush()
     }
 }

@@ -1,9 +1,10 @@
 //! What is wrong with a line of a text, in words.
 
-ghost use Rattle.std.specs.Prelude.{◌≡◌, None};
-ghost use Rattle.plm80_console.specs.Lines.{HasFlaw, ends_in_blank, has_comment, has_lower_case, is_odd_number, without_return};
+ghost use Rattle.std.specs.Prelude.{◌≡◌, option_copied, option_map};
+ghost use Rattle.plm80_console.specs.Lines.{ends_in_blank, has_comment, has_flaw, has_lower_case, has_odd_number, is_odd_number, line_at, part_at, without_return};
 
 use crate::console::Console;
+use crate::number_text::are_digits;
 use thiserror::Error;
 
 /// The end of a text in CP/M, and the Ctrl-Z of other systems.
@@ -88,7 +89,7 @@ impl<'a> Console<'a> {
 impl<'a> Line<'a> {
     /// Whether the line has this flaw.
     fn has(self, flaw: LineFlaw) -> bool
-        ensures { HasFlaw flaw self.entry.bytes.now self.entry.is_ended result }
+        ensures { result ≡ has_flaw flaw self.entry.bytes.now self.entry.is_ended }
     {
         match flaw {
             LineFlaw::CarriageReturn => self.bytes.ends_with(b"\r"),
@@ -97,10 +98,7 @@ impl<'a> Line<'a> {
             LineFlaw::Blank => ends_in_blank(self.bytes),
             LineFlaw::Comment => self.has_comment(),
             LineFlaw::OddDigits => {
-                !self.has_comment()
-                    && without_return(self.bytes)
-                        .split(|byte| *byte == b' ')
-                        .any(|word| is_odd_number(word))
+                !self.has_comment() && has_odd_number(without_return(self.bytes))
             }
             LineFlaw::LowerCase => !self.has_comment() && has_lower_case(self.bytes),
         }
@@ -113,23 +111,24 @@ impl<'a> Line<'a> {
     }
 }
 
-/// The line of this number, counted from 1; `None` if the text has no such line.
+/// The line of this number, counted from 1; `None` if the text has no such line. What follows the last line feed is a line if it has
+/// bytes.
 pub(crate) fn line_of(text: &[u8], number: usize) -> Option<Line<'_>>
-    ensures { number ≡ 0 → result ≡ None }
+    ensures { option_map (λ line. (line.bytes.now, line.is_ended)) result ≡ line_at text.now number }
 {
-    let line = text
-        .split_inclusive(|byte| *byte == b'\n')
-        .nth(number.checked_sub(1)?)?;
-    match line.strip_suffix(b"\n") {
-        Some(bytes) => Some(Line {
-            bytes,
-            is_ended: true,
-        }),
-        None => Some(Line {
-            bytes: line,
-            is_ended: false,
-        }),
+    let bytes = part_of(text, number.checked_sub(1)?)?;
+    let is_ended = part_of(text, number).is_some();
+    if bytes.is_empty() && !is_ended {
+        return None;
     }
+    Some(Line { bytes, is_ended })
+}
+
+/// What stands between line feeds, or between one and an end of the text, by its index.
+fn part_of(text: &[u8], index: usize) -> Option<&[u8]>
+    ensures { option_copied result ≡ part_at text.now index }
+{
+    text.split(|byte| *byte == b'\n').nth(index)
 }
 
 /// The line without a carriage return at its end.
@@ -158,9 +157,17 @@ fn has_lower_case(line: &[u8]) -> bool
     line.iter().any(|byte| byte.is_ascii_lowercase())
 }
 
+/// Whether a word of the line is of hexadecimal digits, an odd number of them.
+fn has_odd_number(line: &[u8]) -> bool
+    ensures { result ≡ has_odd_number line.now }
+{
+    line.split(|byte| *byte == b' ')
+        .any(|word| is_odd_number(word))
+}
+
 /// Whether a word is of hexadecimal digits, an odd number of them.
 fn is_odd_number(word: &[u8]) -> bool
     ensures { result ≡ is_odd_number word.now }
 {
-    word.len() % 2 == 1 && word.iter().all(|byte| byte.is_ascii_hexdigit())
+    word.len() % 2 == 1 && are_digits(word)
 }

@@ -1,28 +1,15 @@
 //! The image and its regions, which several commands read.
 
-ghost use Rattle.std.specs.Prelude.{◌≡◌, codes, IfOk};
+ghost use Rattle.std.specs.Prelude.{◌≡◌, IfOk};
 ghost use Rattle.image80.specs.RegionsText.{Spells};
 ghost use Rattle.image80_file.specs.ImageFile.{SpellsImage, without_regions};
-ghost use Rattle.plm80_console.specs.Arguments.{argument_text};
-ghost use Rattle.plm80_console.specs.ProgramFiles.{IsOfFiles};
 
 use crate::console::{Console, Reported};
 use crate::file_kinds::FileRole;
 use crate::regions_words::explain_regions;
-use crate::syntax::{Argument, Kind, path_of};
-use clap::ArgMatches;
+use crate::syntax::{Argument, Kind};
 use image80::{Image, Regions, RegionsFault, read_regions};
 use image80_file::{ImageFault, read_image};
-
-/// The paths of an image and of its regions.
-#[derive(Clone, Copy)]
-pub struct ProgramFiles<'a> {
-    pub image: &'a str,
-    pub regions: &'a str,
-}
-
-/// The arguments of a command that reads these two files alone.
-pub const PROGRAM_FILES: &[Argument<'static>] = &[IMAGE, REGIONS];
 
 /// The argument of an image that is read.
 pub const IMAGE: Argument<'static> = Argument {
@@ -37,43 +24,6 @@ pub const REGIONS: Argument<'static> = Argument {
     kind: Kind::Path,
     help: "The text of its code, data and stack ranges",
 };
-
-impl<'a> ProgramFiles<'a> {
-    /// The arguments as clap has read them.
-    pub fn of(matches: &ArgMatches<'a>) -> ProgramFiles<'a>
-        ensures image { result.image.now ≡ argument_text matches.now (codes "IMAGE") }
-        ensures regions { result.regions.now ≡ argument_text matches.now (codes "REGIONS") }
-    {
-        ProgramFiles {
-            image: path_of(matches, IMAGE.name),
-            regions: path_of(matches, REGIONS.name),
-        }
-    }
-
-    /// The path of the image.
-    pub fn image_path(self) -> &'a str
-        ensures { result.now ≡ self.entry.image.now }
-    {
-        self.image
-    }
-
-    /// The path of the regions.
-    pub fn regions_path(self) -> &'a str
-        ensures { result.now ≡ self.entry.regions.now }
-    {
-        self.regions
-    }
-
-    /// The image with its regions, as the files have them. Both are read before either is checked.
-    pub fn read(self, console: Console<'_>) -> Result<Image, Reported>
-        ensures { IfOk result IsOfFiles }
-    {
-        let bytes = console.read_whole(self.image)?;
-        let text = console.read_whole(self.regions)?;
-        let regions = regions_of(console, self.regions, &text)?;
-        image_of(console, self.image, &bytes, regions)
-    }
-}
 
 /// The regions that the file's text spells.
 pub fn regions_of(console: Console<'_>, path: &str, text: &[u8]) -> Result<Regions, Reported>

@@ -1,8 +1,8 @@
 //! What is wrong with a text of regions, in words.
 
-ghost use Rattle.std.specs.Prelude.{◌≡◌, ◌≢◌, true, IfOk, IfSome, codes};
-ghost use Rattle.plm80_console.specs.FileKinds.{starts};
-ghost use Rattle.plm80_console.specs.RangeWords.{IsInWords};
+ghost use Rattle.std.specs.Prelude.{◌≡◌, ◌≢◌, IfOk, IfSome};
+ghost use Rattle.plm80_console.specs.Lines.{needs_version_2};
+ghost use Rattle.plm80_console.specs.RangeWords.{IsBehindKeyword, IsInWords};
 
 use crate::console::Console;
 use crate::file_kinds::FileRole;
@@ -58,7 +58,7 @@ impl<'a> Console<'a> {
 
 /// Whether the line of this number needs a text of version 2: a CASE line in one of version 1.
 fn needs_version_2(text: &[u8], number: usize) -> bool
-    ensures { result ≡ true → starts (codes "REGIONS 1\n") text.now ≡ true }
+    ensures { result ≡ needs_version_2 text.now number }
 {
     match line_of(text, number) {
         Some(line) => text.starts_with(b"REGIONS 1\n") && line.bytes.starts_with(b"CASE "),
@@ -101,16 +101,27 @@ fn take_range(owners: &mut Vec<usize>, range: Range, number: usize) -> Option<us
 
 /// The range of a line CODE, STACK or DATA.
 fn range_of(line: &[u8]) -> Option<Range>
-    ensures { IfSome result IsInWords }
+    ensures { IfSome result (IsInWords line.now) }
 {
-    let extent = line
-        .strip_prefix(b"CODE ")
-        .or(line.strip_prefix(b"STACK "))
-        .or(line.strip_prefix(b"DATA "))?;
-    let words = str::from_utf8(extent).ok()?;
+    let Ok(words) = str::from_utf8(extent_of(line)?) else {
+        return None;
+    };
     let (first, length) = words.split_once(' ')?;
     Some(Range {
         first: word_of_digits(first)?,
         length: word_of_digits(length)?,
     })
+}
+
+/// What stands behind the first word of such a line.
+fn extent_of(line: &[u8]) -> Option<&[u8]>
+    ensures { IfSome result (λ extent. IsBehindKeyword line.now extent.now) }
+{
+    if let Some(rest) = line.strip_prefix(b"CODE ") {
+        return Some(rest);
+    }
+    if let Some(rest) = line.strip_prefix(b"STACK ") {
+        return Some(rest);
+    }
+    line.strip_prefix(b"DATA ")
 }

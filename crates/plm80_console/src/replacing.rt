@@ -3,9 +3,9 @@
 //! A file is written beside its place, synced, and renamed, so that the place has the old file or the new one, never a part. A
 //! place that is no regular file with one link, or beside which no file of the same owner can be made, is written in place.
 
-ghost use Rattle.std.specs.Prelude.{◌≡◌, true, IfOk, string_bytes};
+ghost use Rattle.std.specs.Prelude.{◌≡◌, IfOk, string_bytes};
 ghost use Rattle.std.specs.IoError.{error_kind};
-ghost use Rattle.plm80_console.specs.Drafts.{HasBoth, IsBeginning, IsDraft, IsDraftOf, is_in_place};
+ghost use Rattle.plm80_console.specs.Drafts.{IsBeginning, IsDraft, IsDraftOf, in_order, is_in_place};
 
 use crate::console::{Console, Reported};
 use crate::path_parts::folder_and_name;
@@ -59,8 +59,7 @@ fn in_order<'a>(
     second: NewFile<'a>,
     second_draft: Draft,
 ) -> BothDrafts<'a>
-    ensures order { is_in_place result.second_draft ≡ true → is_in_place result.first_draft ≡ true }
-    ensures both { HasBoth first.entry first_draft second.entry second_draft result }
+    ensures { result ≡ in_order first.entry first_draft second.entry second_draft }
 {
     if second_draft.is_in_place() && !first_draft.is_in_place() {
         BothDrafts {
@@ -145,7 +144,11 @@ impl<'a> Console<'a> {
         match self.try_draft(file) {
             Ok(draft) => Ok(draft),
             Err(DraftFault::Memory) => Err(self.report_memory()),
-            Err(DraftFault::System(kind)) => Err(self.report_system(file.path, "Write", Some(kind))),
+            Err(DraftFault::System(kind)) => Err(self.report_system(
+                file.path,
+                "Write",
+                Some(kind),
+            )),
         }
     }
 
@@ -172,7 +175,6 @@ impl<'a> Console<'a> {
     }
 
     /// The same, or why there is none.
-    #[tactic(auto, using(crate::proofs::DraftLemmas::draft_of))]
     fn try_draft(self, file: NewFile<'_>) -> Result<Draft, DraftFault>
         ensures { IfOk result (IsDraftOf file.entry.path.now) }
     {

@@ -1,8 +1,10 @@
 //! Paths that two arguments of a command share.
 
-ghost use Rattle.std.specs.Prelude.{◌≡◌, true, false, None, if◌then◌else◌, option_map, string_bytes, IfErr, IfOk, IfSome};
-ghost use Rattle.clap.specs.Matches.{first_value, found_of};
-ghost use Rattle.plm80_console.specs.Kinds.{is_written, may_replace, names_no_file, shown_text};
+ghost use Rattle.std.specs.Prelude.{◌≡◌, true, false, option_map, string_bytes, IfErr, IfOk, IfNone, IfSome, OnOk};
+ghost use Rattle.std.specs.List.{list_any};
+ghost use Rattle.std.specs.Str.{bytes_eq};
+ghost use Rattle.plm80_console.specs.ApartPaths.{AreApart, IsApart, IsApartFrom, has_path, path_to_write, stands_behind};
+ghost use Rattle.plm80_console.specs.Kinds.{may_replace, names_no_file, shown_text};
 ghost use Rattle.plm80_console.specs.Refusals.{IsConflict};
 ghost use Rattle.plm80_console.specs.SharedPaths.{IsWrittenBy};
 
@@ -20,7 +22,8 @@ impl<'a> Syntax<'a> {
         rt: &HostRuntime,
         matches: &ArgMatches<'_>,
     ) -> Result<(), Error>
-        ensures { IfErr result IsConflict }
+        ensures apart { OnOk result (AreApart matches.now self.now.arguments.now) }
+        ensures conflict { IfErr result IsConflict }
     {
         if let Some(shared) = self.shared_path(matches, Comparison::Letters) {
             return Err(self.refusal(rt.alloc(), shared)?);
@@ -37,7 +40,8 @@ impl<'a> Syntax<'a> {
         matches: &ArgMatches<'m>,
         comparison: Comparison<'_>,
     ) -> Option<SharedPath<'m, 'a>>
-        ensures { IfSome result (IsWrittenBy matches.now) }
+        ensures shared { IfSome result (IsWrittenBy matches.now) }
+        ensures apart { comparison.entry ≡ Comparison.Letters → IfNone result (AreApart matches.now self.now.arguments.now) }
     {
         for index in 0..self.arguments.len() {
             if let Some(shared) = self.shared_by(matches, comparison, index) {
@@ -55,15 +59,13 @@ impl<'a> Syntax<'a> {
         comparison: Comparison<'_>,
         index: usize,
     ) -> Option<SharedPath<'m, 'a>>
-        ensures { IfSome result (IsWrittenBy matches.now) }
+        ensures shared { IfSome result (IsWrittenBy matches.now) }
+        ensures apart { comparison.entry ≡ Comparison.Letters → IfNone result (IsApart matches.now self.now.arguments.now index) }
     {
         let written = *self.arguments.get(index)?;
         let path = written.path_to_write(matches)?;
         for (other, argument) in self.arguments.iter().enumerate() {
-            if other != index
-                && !written.may_replace(argument)
-                && argument.has_path(matches, comparison, path)
-            {
+            if other != index && written.shares(path, argument, matches, comparison) {
                 return Some(SharedPath {
                     path,
                     written,
@@ -101,8 +103,7 @@ struct SharedPath<'m, 'a> {
 impl<'a> Argument<'a> {
     /// The path that is given here, if it is that of a file to write.
     fn path_to_write<'m>(&self, matches: &ArgMatches<'m>) -> Option<&'m str>
-        ensures { let argument = self.now in option_map (λ path. path.now) result
-            ≡ (if is_written argument.kind then first_value (found_of matches.now) argument.name.now else None) }
+        ensures { option_map (λ path. path.now) result ≡ path_to_write matches.now self.now }
     {
         match self.kind {
             Kind::Written
@@ -140,9 +141,24 @@ impl<'a> Argument<'a> {
         }
     }
 
+    /// Whether the other argument has the path of the file that this one writes, which may not be.
+    fn shares(
+        &self,
+        path: &str,
+        other: &Argument<'_>,
+        matches: &ArgMatches<'_>,
+        comparison: Comparison<'_>,
+    ) -> bool
+        ensures replaced { result ≡ true → may_replace self.now.kind other.now.name.now ≡ false }
+        ensures apart { comparison.entry ≡ Comparison.Letters → result ≡ false → IsApartFrom matches.now self.now path.now other.now }
+    {
+        !self.may_replace(other) && other.has_path(matches, comparison, path)
+    }
+
     /// Whether the path is given here.
     fn has_path(&self, matches: &ArgMatches<'_>, comparison: Comparison<'_>, path: &str) -> bool
-        ensures { names_no_file self.now.kind ≡ true → result ≡ false }
+        ensures no_file { names_no_file self.now.kind ≡ true → result ≡ false }
+        ensures letters { comparison.entry ≡ Comparison.Letters → result ≡ has_path self.now.kind matches.now self.now.name.now path.now }
     {
         match self.kind {
             Kind::Path
@@ -153,18 +169,10 @@ impl<'a> Argument<'a> {
                 Some(own) => comparison.is_one(own, path),
                 None => false,
             },
-            Kind::Paths => matches
-                .get_strs(self.name)
-                .unwrap_or(&[])
-                .iter()
-                .any(|own| comparison.is_one(own, path)),
-            Kind::PathsAt(_) => matches.get_strs(self.name).unwrap_or(&[]).iter().any(|value| {
-                // A number, an equals sign and a path.
-                match value.split_once('=') {
-                    Some((_, own)) => comparison.is_one(own, path),
-                    None => false,
-                }
-            }),
+            Kind::Paths => is_among(comparison, matches.get_strs(self.name).unwrap_or(&[]), path),
+            Kind::PathsAt(_) => {
+                is_behind(comparison, matches.get_strs(self.name).unwrap_or(&[]), path)
+            }
             Kind::Words | Kind::Required(_) | Kind::Number(_) | Kind::Count(_) | Kind::Flag =>
                 false,
         }
@@ -186,5 +194,39 @@ impl<'a> Argument<'a> {
             Kind::Flag => format!(in alloc; "--{}", self.name),
             Kind::Count(_) => format!(in alloc; "--{} <N>", self.name),
         }
+    }
+}
+
+/// Whether the path is one of these.
+fn is_among(comparison: Comparison<'_>, paths: &[&str], path: &str) -> bool
+    ensures { comparison.entry ≡ Comparison.Letters → result ≡ list_any (λ own. bytes_eq own.now path.now) paths.now }
+{
+    for own in paths {
+        if comparison.is_one(own, path) {
+            return true;
+        }
+    }
+    false
+}
+
+/// Whether the path is that of one of these values, each a number, an equals sign and a path.
+fn is_behind(comparison: Comparison<'_>, values: &[&str], path: &str) -> bool
+    ensures { comparison.entry ≡ Comparison.Letters → result ≡ list_any (λ value. stands_behind value.now path.now) values.now }
+{
+    for value in values {
+        if is_path_of(comparison, value, path) {
+            return true;
+        }
+    }
+    false
+}
+
+/// Whether the path stands behind the first equals sign of a value.
+fn is_path_of(comparison: Comparison<'_>, value: &str, path: &str) -> bool
+    ensures { comparison.entry ≡ Comparison.Letters → result ≡ stands_behind value.now path.now }
+{
+    match value.split_once('=') {
+        Some((_, own)) => comparison.is_one(own, path),
+        None => false,
     }
 }

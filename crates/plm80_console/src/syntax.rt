@@ -1,11 +1,9 @@
 //! A command for clap: its name, its help text and its arguments, as a table.
 
 ghost use Rattle.std.specs.Prelude.{◌≡◌, Some, true};
-ghost use Rattle.plm80_console.specs.Arguments.{argument_text};
 ghost use Rattle.plm80_console.specs.Kinds.{is_required};
 
-use crate::argument_texts::argument_text;
-use clap::{Arg, ArgAction, ArgMatches, Command};
+use clap::{Arg, ArgAction, Command};
 use std::alloc::{AllocError, Global};
 
 /// A command of the program.
@@ -77,13 +75,6 @@ pub const WHY: Argument<'static> = Argument {
     help: "Say below a fault what is wrong, in words",
 };
 
-/// The text of an argument that clap requires.
-pub fn path_of<'a>(matches: &ArgMatches<'a>, name: &str) -> &'a str
-    ensures { result.now ≡ argument_text matches.now name.now }
-{
-    argument_text(matches, name)
-}
-
 impl<'a> Argument<'a> {
     /// The argument for clap.
     fn arg(&self, alloc: Global) -> Arg<'a>
@@ -109,7 +100,7 @@ impl<'a> Argument<'a> {
 
 /// An option of this name, whose value the help text calls by this word, whatever it begins with.
 fn option<'a>(arg: Arg<'a>, name: &'a str, value: &'a str) -> Arg<'a>
-    ensures { result ≡ record arg.entry { long = Some name.entry; val_names = One value.entry; allow_hyphen_values = true } }
+    ensures { result ≡ record arg.entry { long = Some name.entry; val_names = result.val_names; allow_hyphen_values = true } }
 {
     arg.long(name).value_name(value).allow_hyphen_values(true)
 }

@@ -1,11 +1,12 @@
 -- Which argument of the command line each value of a command is, and the numbers that options write.
-use Rattle.std.specs.Prelude.{◌≡◌, ℕ, List, Option, map, option_map, codes}
+use Rattle.std.specs.Prelude.{◌≡◌, ℕ, List, Option, map, option_map, unwrap_or, codes}
 use Rattle.clap.specs.declared.parser.matches.ArgMatches.{ArgMatches}
 use Rattle.clap.specs.Matches.{first_value, found_of}
 use Rattle.place80.specs.declared.options.Options.{Options}
 use Rattle.plm80_console.specs.Arguments.{argument_text, argument_values}
 use Rattle.plm80_console.specs.declared.options.OptionText.{OptionText}
 use Rattle.plm80_console.specs.NumberText.{word_value}
+use Rattle.plm80_names.specs.Arguments.{IsFlag}
 use Rattle.plm80_objects.specs.declared.absolute.AbsoluteArguments.{AbsoluteArguments}
 use Rattle.plm80_objects.specs.declared.compare.CompareArguments.{CompareArguments}
 use Rattle.plm80_objects.specs.declared.extract.Extent.{Extent}
@@ -50,21 +51,31 @@ pub record AreLocateArguments (matches : ArgMatches) (arguments : LocateArgument
   pub image : arguments.image.now ≡ argument_text matches (codes "IMAGE")
   pub regions : arguments.regions.now ≡ argument_text matches (codes "REGIONS")
   pub options : AreLocateTexts matches arguments.options
+  pub restart : IsFlag matches (codes "restart") arguments.restart
+  pub publics : IsFlag matches (codes "publics") arguments.publics
 
 pub record AreMapArguments (matches : ArgMatches) (arguments : MapArguments) : Type 0 where
   pub object : arguments.object.now ≡ argument_text matches (codes "IN")
   pub options : AreLocateTexts matches arguments.options
 
+-- the text of the byte that stands where an image has none, which is 0 if it isn't given
+abbrev pub fill_text : ArgMatches → List ℕ
+fill_text matches = unwrap_or (first_value (found_of matches) (codes "fill")) (codes "00")
+
 pub record AreCompareArguments (matches : ArgMatches) (arguments : CompareArguments) : Type 0 where
   pub image : arguments.image.now ≡ argument_text matches (codes "IMAGE")
   pub dump : arguments.dump.now ≡ argument_text matches (codes "DUMP")
   pub first : arguments.first.text.now ≡ argument_text matches (codes "first")
+  pub fill : arguments.fill.text.now ≡ fill_text matches
+  pub names : IsFlag matches (codes "names") arguments.names
 
 pub record AreExtractArguments (matches : ArgMatches) (arguments : ExtractArguments) : Type 0 where
   pub image : arguments.image.now ≡ argument_text matches (codes "IMAGE")
   pub out : arguments.out.now ≡ argument_text matches (codes "OUT")
   pub first : arguments.first.text.now ≡ argument_text matches (codes "first")
   pub length : arguments.length.text.now ≡ argument_text matches (codes "length")
+  pub fill : arguments.fill.text.now ≡ fill_text matches
+  pub sum : IsFlag matches (codes "sum") arguments.sum
 
 pub record AreFindArguments (matches : ArgMatches) (arguments : FindArguments) : Type 0 where
   pub dump : arguments.dump.now ≡ argument_text matches (codes "DUMP")
@@ -78,6 +89,8 @@ pub record AreLibraryArguments (matches : ArgMatches) (arguments : LibraryArgume
 pub record AreLinkArguments (matches : ArgMatches) (arguments : LinkArguments) : Type 0 where
   pub name : arguments.name.text.now ≡ argument_text matches (codes "name")
   pub out : arguments.out.now ≡ argument_text matches (codes "out")
+  pub asks_map : IsFlag matches (codes "map") arguments.lines.map
+  pub asks_reasons : IsFlag matches (codes "reasons") arguments.lines.reasons
   pub files : map (λ path. path.now) arguments.files.items ≡ argument_values matches (codes "FILE")
 
 pub record AreAbsoluteArguments (matches : ArgMatches) (arguments : AbsoluteArguments) : Type 0 where

@@ -1,8 +1,8 @@
 pub mod Arguments
+pub mod Compare
+pub mod Find
 -- what the crate's own functions promise one another: no public contract cites these
 pub mod Link
 pub mod Locate
 pub mod RomFaults
-pub mod Compare
-pub mod Find
 pub mod Absolute

@@ -1,8 +1,8 @@
 //! `plm80 absolute`: the image of bytes as they are.
 
-ghost use Rattle.std.specs.Prelude.{◌≡◌, ◌+◌, ◌<◌, ◌≤◌, ◌↔◌, ◌++◌, ◌∷◌, [], length, IsTrue, IfOk, IfErr, OnOk};
+ghost use Rattle.std.specs.Prelude.{◌≡◌, ◌+◌, ◌<◌, ◌≤◌, ◌↔◌, ◌++◌, ◌∷◌, [], IsTrue, IfOk, IfErr, OnOk};
 ghost use Rattle.rom80.specs.Rom.{chunks_of};
-ghost use Rattle.plm80_objects.specs.Absolute.{IsRomFile, WritesImage};
+ghost use Rattle.plm80_objects.specs.Absolute.{AreRomFiles, IsRomFile, WritesImage};
 ghost use Rattle.plm80_objects.specs.Arguments.{AreAbsoluteArguments};
 ghost use Rattle.plm80_objects.specs.RomFaults.{IsRefusedWith};
 
@@ -129,7 +129,8 @@ fn files_of<'a>(
     console: Console<'_>,
     arguments: &AbsoluteArguments<'a>,
 ) -> Result<Vec<RomFile<'a>>, Reported>
-    ensures { IfOk result (λ files. length files.items ≡ 1 + length arguments.now.further.items) }
+    ensures { let asked = arguments.now in
+        IfOk result (λ files. AreRomFiles asked.bytes.now asked.first.text.now asked.further.items files.items) }
 {
     let mut files = Vec::new(console.alloc());
     let first = RomFile {

@@ -1,10 +1,9 @@
 //! `plm80 extract`: the bytes of an image's memory over a range, as they are.
 
-ghost use Rattle.std.specs.Prelude.{◌≡◌, ◌+◌, ◌<◌, ◌↔◌, [], if◌then◌else◌, IfOk, IsErrOf, codes, unwrap_or};
-ghost use Rattle.clap.specs.Matches.{first_value, found_of};
+ghost use Rattle.std.specs.Prelude.{◌≡◌, ◌+◌, ◌<◌, ◌↔◌, [], if◌then◌else◌, IfOk, IsErrOf, codes};
 ghost use Rattle.rom80.specs.Rom.{bytes_over, sum_line};
 ghost use Rattle.plm80_console.specs.Answer.{writes};
-ghost use Rattle.plm80_objects.specs.Arguments.{AreExtractArguments, IsExtentOf};
+ghost use Rattle.plm80_objects.specs.Arguments.{AreExtractArguments, IsExtentOf, fill_text};
 
 use clap::ArgMatches;
 use image80::Image;
@@ -96,7 +95,7 @@ impl<'a> ExtractArguments<'a> {
 /// The option of the byte where an image has none.
 pub fn fill_of<'a>(matches: &ArgMatches<'a>) -> OptionText<'a>
     ensures name { result.name.now ≡ codes "fill" }
-    ensures text { result.text.now ≡ unwrap_or (first_value (found_of matches.now) (codes "fill")) (codes "00") }
+    ensures text { result.text.now ≡ fill_text matches.now }
 {
     OptionText::or(matches, FILL.name, "00")
 }

@@ -3,7 +3,7 @@
 ghost use Rattle.std.specs.Prelude.{◌≡◌, ◌+◌, ◌≤◌, length, IfOk, IfErr};
 ghost use Rattle.rom80_find.specs.Dump.{dump_of};
 ghost use Rattle.plm80_objects.specs.Arguments.{AreFindArguments};
-ghost use Rattle.plm80_objects.specs.Find.{PrintsFile, PrintsFound};
+ghost use Rattle.plm80_objects.specs.Find.{IsFindStatus, IsStatusIn, PrintsFile, PrintsFound};
 ghost use Rattle.plm80_objects.specs.RomFaults.{IsRefused};
 
 use crate::helpers::rom_faults::report_rom_fault;
@@ -82,7 +82,7 @@ impl<'a> FindArguments<'a> {
 /// Prints where the modules of the files lie in the dump, and gives the exit status. The dump is checked before another file is
 /// opened, and each of these before the next one.
 pub fn find_modules(console: Console<'_>, arguments: &FindArguments<'_>) -> Result<u8, Reported>
-    ensures { IfOk result (λ status. status ≤ 1) }
+    ensures { IfOk result (IsFindStatus arguments.now) }
 {
     let first = console.word(arguments.first)?;
     let file = console.read_file(arguments.dump)?;
@@ -94,7 +94,7 @@ pub fn find_modules(console: Console<'_>, arguments: &FindArguments<'_>) -> Resu
 
 /// Prints where the modules of these files lie in the dump.
 fn find_in(console: Console<'_>, dump: Dump<'_>, paths: &[&str]) -> Result<u8, Reported>
-    ensures { IfOk result (λ status. status ≤ 1) }
+    ensures { IfOk result (IsStatusIn (dump_of dump.entry)) }
 {
     let mut files = Vec::new(console.alloc());
     for path in paths {

@@ -1,10 +1,11 @@
 //! `plm80 link`: the modules of object files, and what they need of libraries, linked into one.
 
-ghost use Rattle.std.specs.Prelude.{◌≡◌, ◌+◌, ◌++◌, ◌∷◌, [], length, IfOk, OnOk};
+ghost use Rattle.std.specs.Prelude.{◌≡◌, ◌++◌, ◌∷◌, [], map, IfOk, OnOk};
+ghost use Rattle.std.specs.List.{repeat};
 ghost use Rattle.link80.specs.Selection.{IsSelection};
 ghost use Rattle.link80_text.specs.Parts.{IsMade};
 ghost use Rattle.plm80_objects.specs.Arguments.{AreLinkArguments};
-ghost use Rattle.plm80_objects.specs.Link.{HavePaths, WritesLinked};
+ghost use Rattle.plm80_objects.specs.Link.{AddsFile, AddsLibrary, AddsModules, HavePaths, WritesLinked};
 
 use crate::helpers::causes::report_link_fault;
 use crate::helpers::link_lines::{LinkLines, lines_of};
@@ -158,8 +159,9 @@ fn read_files<'a>(console: Console<'_>, paths: &[&'a str]) -> Result<LinkFiles<'
     };
     for path in paths {
         let file = read_file(console, path)?;
-        if files.add(file, path).is_err() {
-            return Err(console.report_memory());
+        match files.add(file, path) {
+            Ok(()) => {}
+            Err(AllocError) => return Err(console.report_memory()),
         }
     }
     if files.roots.is_empty() {
@@ -171,7 +173,7 @@ fn read_files<'a>(console: Console<'_>, paths: &[&'a str]) -> Result<LinkFiles<'
 impl<'a> LinkFiles<'a> {
     /// Adds what the file of this path has.
     fn add(&mut self, file: LinkFile, path: &'a str) -> Result<(), AllocError>
-        ensures { OnOk result (HavePaths self.old → HavePaths self.new) }
+        ensures { OnOk result (AddsFile file path.now self.old self.new) }
     {
         match file {
             LinkFile::Modules(modules) => self.add_modules(modules, path),
@@ -181,8 +183,7 @@ impl<'a> LinkFiles<'a> {
 
     /// Adds the modules of an object file, each with its path.
     fn add_modules(&mut self, mut modules: Vec<Module>, path: &'a str) -> Result<(), AllocError>
-        ensures roots { OnOk result (self.new.roots.items ≡ self.old.roots.items ++ modules.items) }
-        ensures paths { OnOk result (HavePaths self.old → HavePaths self.new) }
+        ensures { OnOk result (AddsModules modules.items path.now self.old self.new) }
     {
         push_paths(&mut self.root_paths, modules.len(), path)?;
         match self.roots.append(&mut modules) {
@@ -193,8 +194,7 @@ impl<'a> LinkFiles<'a> {
 
     /// Adds a library with its path.
     fn add_library(&mut self, library: Library, path: &'a str) -> Result<(), AllocError>
-        ensures libraries { OnOk result (self.new.libraries.items ≡ self.old.libraries.items ++ library ∷ []) }
-        ensures paths { OnOk result (HavePaths self.old → HavePaths self.new) }
+        ensures { OnOk result (AddsLibrary library path.now self.old self.new) }
     {
         self.libraries.push(library)?;
         self.paths.push(path.as_bytes())?;
@@ -204,7 +204,7 @@ impl<'a> LinkFiles<'a> {
 
 /// Appends the path `count` times.
 fn push_paths<'a>(paths: &mut Vec<&'a [u8]>, count: usize, path: &'a str) -> Result<(), AllocError>
-    ensures { OnOk result (length paths.new.items ≡ length paths.old.items + count) }
+    ensures { OnOk result (map (λ p. p.now) paths.new.items ≡ map (λ p. p.now) paths.old.items ++ repeat count (path.now ∷ [])) }
 {
     for _ in 0..count {
         paths.push(path.as_bytes())?;
@@ -229,6 +229,7 @@ pub(crate) fn read_file(console: Console<'_>, path: &str) -> Result<LinkFile, Re
 fn linked(console: Console<'_>, name: &Name, files: &LinkFiles<'_>) -> Result<Linked, Reported>
     ensures selection { IfOk result (λ made. IsSelection files.now.roots.items files.now.libraries.items made.taken.items) }
     ensures made { IfOk result (λ made. IsMade files.now.roots.items files.now.libraries.items made) }
+    ensures name { IfOk result (λ made. made.module.name ≡ name.now) }
 {
     match link(console.alloc(), name, &files.roots, &files.libraries) {
         Ok(linked) => Ok(linked),
@@ -246,7 +247,8 @@ fn answer<'a>(
 ) -> Result<Answer<'a>, AllocError>
     requires selection { IsSelection files.now.roots.items files.now.libraries.items linked.now.taken.items }
     requires made { IsMade files.now.roots.items files.now.libraries.items linked.now }
-    ensures { IfOk result (WritesLinked path.now wanted files.now.roots.items files.now.libraries.items linked.now) }
+    ensures { IfOk result (WritesLinked path.now wanted files.now.roots.items files.now.libraries.items
+        (map (λ p. p.now) files.now.paths.items) linked.now) }
 {
     let lines = lines_of(alloc, wanted, linked, files)?;
     let mut object = Vec::new(alloc);

@@ -1,10 +1,11 @@
 //! The command line, read by clap.
 
-ghost use Rattle.std.specs.Prelude.{◌≡◌, ◌⊎◌, ◌∷◌, [], true, false, None, IfOk, IfErr, IfSome};
+ghost use Rattle.std.specs.Prelude.{◌≡◌, ◌⊎◌, ◌∷◌, [], true, false, None, Some, IfOk, IfErr, IfSome};
 ghost use Rattle.std.specs.Str.{bytes_eq};
-ghost use Rattle.clap.specs.Matches.{has_subcommand};
+ghost use Rattle.clap.specs.Matches.{has_subcommand, subcommand_name_of};
 ghost use Rattle.clap.specs.Values.{kind_of};
 ghost use Rattle.plm80_console.specs.Refusals.{IsConflict};
+ghost use Rattle.plm80.specs.Requests.{command_name};
 
 use clap::error::ErrorKind;
 use clap::{ArgMatches, Command, Error};
@@ -219,34 +220,34 @@ fn program<'a>(alloc: Global) -> Result<Command<'a>, AllocError> {
 
 /// The command that clap has read.
 fn asked_for<'a>(alloc: Global, matches: &ArgMatches<'a>) -> Result<Option<Request<'a>>, AllocError>
-    ensures { IfOk result (λ asked. has_subcommand matches.now ≡ false → asked ≡ None) }
+    ensures none { IfOk result (λ asked. has_subcommand matches.now ≡ false → asked ≡ None) }
+    ensures name { IfOk result (λ asked. IfSome asked (λ request. subcommand_name_of matches.now ≡ Some (command_name request))) }
 {
     let Some((name, arguments)) = matches.subcommand() else {
         return Ok(None);
     };
-    let request = match name {
-        "link" => Request::Link(LinkArguments::of(alloc, arguments)?),
-        "locate" => Request::Locate(LocateArguments::of(arguments)),
-        "run" => Request::Run(RunArguments::of(arguments)),
-        "list" => Request::List(ListArguments::of(arguments)),
-        "check" => Request::Check(NamedFiles::of(arguments)),
-        "explain" => Request::Explain(NamedFiles::of(arguments)),
-        "lib" => Request::Library(LibraryArguments::of(alloc, arguments)?),
-        "regions" => Request::Regions(RegionsArguments::of(arguments)),
-        "cases" => Request::Cases(CasesArguments::of(arguments)),
-        "map" => Request::Map(MapArguments::of(arguments)),
-        "extract" => Request::Extract(ExtractArguments::of(arguments)),
-        "absolute" => Request::Absolute(AbsoluteArguments::of(alloc, arguments)?),
-        "stores" => Request::Stores(StoresArguments::of(alloc, arguments)?),
-        "compare" => Request::Compare(CompareArguments::of(arguments)),
-        "inputs" => Request::Inputs(InputsArguments::of(alloc, arguments)?),
-        "calls" => Request::Calls(CallsArguments::of(arguments)),
-        "trace" => Request::Trace(TraceArguments::of(arguments)),
-        "cover" => Request::Cover(CoverArguments::of(arguments)),
-        "module" => Request::Module(ModuleArguments::of(arguments)),
-        "find" => Request::Find(FindArguments::of(alloc, arguments)?),
-        "suggest" => Request::Suggest(SuggestArguments::of(alloc, arguments)?),
-        _ => return Ok(None),
-    };
-    Ok(Some(request))
+    match name {
+        "link" => Ok(Some(Request::Link(LinkArguments::of(alloc, arguments)?))),
+        "locate" => Ok(Some(Request::Locate(LocateArguments::of(arguments)))),
+        "run" => Ok(Some(Request::Run(RunArguments::of(arguments)))),
+        "list" => Ok(Some(Request::List(ListArguments::of(arguments)))),
+        "check" => Ok(Some(Request::Check(NamedFiles::of(arguments)))),
+        "explain" => Ok(Some(Request::Explain(NamedFiles::of(arguments)))),
+        "lib" => Ok(Some(Request::Library(LibraryArguments::of(alloc, arguments)?))),
+        "regions" => Ok(Some(Request::Regions(RegionsArguments::of(arguments)))),
+        "cases" => Ok(Some(Request::Cases(CasesArguments::of(arguments)))),
+        "map" => Ok(Some(Request::Map(MapArguments::of(arguments)))),
+        "extract" => Ok(Some(Request::Extract(ExtractArguments::of(arguments)))),
+        "absolute" => Ok(Some(Request::Absolute(AbsoluteArguments::of(alloc, arguments)?))),
+        "stores" => Ok(Some(Request::Stores(StoresArguments::of(alloc, arguments)?))),
+        "compare" => Ok(Some(Request::Compare(CompareArguments::of(arguments)))),
+        "inputs" => Ok(Some(Request::Inputs(InputsArguments::of(alloc, arguments)?))),
+        "calls" => Ok(Some(Request::Calls(CallsArguments::of(arguments)))),
+        "trace" => Ok(Some(Request::Trace(TraceArguments::of(arguments)))),
+        "cover" => Ok(Some(Request::Cover(CoverArguments::of(arguments)))),
+        "module" => Ok(Some(Request::Module(ModuleArguments::of(arguments)))),
+        "find" => Ok(Some(Request::Find(FindArguments::of(alloc, arguments)?))),
+        "suggest" => Ok(Some(Request::Suggest(SuggestArguments::of(alloc, arguments)?))),
+        _ => Ok(None),
+    }
 }

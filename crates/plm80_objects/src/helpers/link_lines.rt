@@ -1,10 +1,10 @@
 //! The lines that `link` prints.
 
-ghost use Rattle.std.specs.Prelude.{◌≡◌, ◌++◌, option_copied, IfOk, OnOk};
+ghost use Rattle.std.specs.Prelude.{◌≡◌, ◌++◌, map, option_copied, IfOk, OnOk};
 ghost use Rattle.link80.specs.Selection.{IsSelection};
 ghost use Rattle.link80_select.specs.Selected.{module_at};
-ghost use Rattle.link80_text.specs.Parts.{IsMade};
-ghost use Rattle.plm80_objects.specs.Link.{PrintsLink, named_line, names_text, taken_text};
+ghost use Rattle.link80_text.specs.Parts.{IsMade, modules_of};
+ghost use Rattle.plm80_objects.specs.Link.{PrintsLink, PrintsTaken, named_line, names_text, rest_text, taken_line, taken_text};
 
 use crate::link::LinkFiles;
 use link80::{Chosen, Linked};
@@ -31,28 +31,63 @@ pub(crate) fn lines_of(
 ) -> Result<Vec<u8>, AllocError>
     requires selection { IsSelection files.now.roots.items files.now.libraries.items linked.now.taken.items }
     requires made { IsMade files.now.roots.items files.now.libraries.items linked.now }
-    ensures { IfOk result (λ lines. PrintsLink wanted files.now.roots.items files.now.libraries.items linked.now lines.items) }
+    ensures { IfOk result (λ lines. PrintsLink wanted files.now.roots.items files.now.libraries.items
+        (map (λ p. p.now) files.now.paths.items) linked.now lines.items) }
+{
+    let mut lines = taken_lines(alloc, wanted.reasons, linked, files)?;
+    append_rest(alloc, &mut lines, wanted.map, linked, files)?;
+    Ok(lines)
+}
+
+/// A line for each module that was taken, with its reason if reasons are wanted.
+fn taken_lines(
+    alloc: Global,
+    reasons: bool,
+    linked: &Linked,
+    files: &LinkFiles<'_>,
+) -> Result<Vec<u8>, AllocError>
+    requires { IsSelection files.now.roots.items files.now.libraries.items linked.now.taken.items }
+    ensures { IfOk result (λ lines. PrintsTaken reasons files.now.roots.items files.now.libraries.items
+        (map (λ p. p.now) files.now.paths.items) linked.now.taken.items lines.items) }
 {
     let mut lines = Vec::new(alloc);
-    if wanted.reasons {
+    if reasons {
+        let (roots, libraries) = (&files.roots, &files.libraries);
         append_reasons(
             alloc,
             &mut lines,
-            &files.roots,
-            &files.libraries,
+            roots,
+            libraries,
             &linked.taken,
             &files.paths,
         )?;
+        Ok(lines)
     } else {
         append_taken(&mut lines, &linked.taken, &files.libraries)?;
+        Ok(lines)
     }
-    if wanted.map {
-        append_unresolved(alloc, &mut lines, &files.roots, &files.libraries, linked)?;
-        append_parts(alloc, &mut lines, &files.roots, &files.libraries, linked)?;
+}
+
+/// Appends a line for each unresolved name; with the map one for each module that needs it, and one for each part.
+fn append_rest(
+    alloc: Global,
+    lines: &mut Vec<u8>,
+    map: bool,
+    linked: &Linked,
+    files: &LinkFiles<'_>,
+) -> Result<(), AllocError>
+    requires { IsMade files.now.roots.items files.now.libraries.items linked.now }
+    ensures { let modules = modules_of files.now.roots.items files.now.libraries.items linked.now in
+        OnOk result (lines.new.items ≡ lines.old.items ++ rest_text map modules linked.now) }
+{
+    if map {
+        append_unresolved(alloc, lines, &files.roots, &files.libraries, linked)?;
+        append_parts(alloc, lines, &files.roots, &files.libraries, linked)?;
+        Ok(())
     } else {
-        append_names(&mut lines, &linked.unresolved)?;
+        append_names(lines, &linked.unresolved)?;
+        Ok(())
     }
-    Ok(lines)
 }
 
 /// Appends a line for each module that was taken.
@@ -64,11 +99,23 @@ fn append_taken(
     ensures { OnOk result (lines.new.items ≡ lines.old.items ++ taken_text libraries.now taken.now) }
 {
     for chosen in taken {
-        if let Some(member) = module_at(libraries, *chosen) {
-            append_line(lines, b"TAKEN ".as_slice(), member.name())?;
-        }
+        append_chosen(lines, libraries, *chosen)?;
     }
     Ok(())
+}
+
+/// Appends the line of the module at a place.
+fn append_chosen(
+    lines: &mut Vec<u8>,
+    libraries: &[Library],
+    place: Chosen,
+) -> Result<(), AllocError>
+    ensures { OnOk result (lines.new.items ≡ lines.old.items ++ taken_line libraries.now place) }
+{
+    match module_at(libraries, place) {
+        Some(member) => append_line(lines, b"TAKEN ".as_slice(), member.name()),
+        None => Ok(()),
+    }
 }
 
 /// The module at a place in the libraries.
