@@ -1,5 +1,5 @@
 -- The cases and the notes of the addresses below one.
-use Rattle.std.specs.Prelude.{◌≡◌, ℕ, zero, suc, ◌+◌, Bool, true, false, if◌then◌else◌, List, [], ◌∷◌, ◌++◌, All, IfSome, Option, None, Some, map, filter, filter_map, codes, refl}
+use Rattle.std.specs.Prelude.{◌≡◌, ℕ, zero, suc, ◌+◌, Bool, true, false, if◌then◌else◌, List, [], ◌∷◌, ◌++◌, IfSome, Option, None, Some, filter, filter_map, codes, refl}
 use Rattle.std.specs.List.{cons_option, range_with_len}
 use Rattle.std.proofs.Common.{◌∙◌, ap, append-nil, arith, subst, sym}
 use Rattle.std.specs.Io.KnownBytes.{Appends}

@@ -1,13 +1,12 @@
 -- Runs that are watched, and their exit statuses.
-use Rattle.std.specs.Prelude.{◌≡◌, ℕ, zero, suc, ◌+◌, ◌-◌, ◌≤◌, ◌<◌, ◌==◌, min, Bool, true, false, List, [], ◌∷◌, ◌++◌, Option, None, Some, Result, Ok, Err, IfOk, refl}
+use Rattle.std.specs.Prelude.{◌≡◌, ℕ, ◌+◌, ◌-◌, ◌≤◌, min, false, List, [], ◌++◌, Option, None, Some, Result, IfOk, refl}
 use Rattle.std.specs.Io.KnownBytes.{Appends}
-use Rattle.std.specs.List.{flat_map, range_with_len}
+use Rattle.std.specs.List.{flat_map}
 use Rattle.std.proofs.Common.{◌∙◌, ap, arith, subst, sym}
-use Rattle.std.proofs.Math.Nat.{min-eq_left, min-le_right}
+use Rattle.std.proofs.Math.Nat.{min-eq_left}
 use Rattle.std.proofs.KnownBytes.{Appends-nil, Appends-trans}
 use Rattle.std.proofs.lemmas.Result.{IfOk-weaker}
 use Rattle.omf_parts.specs.declared.symbols.Public.{Public}
-use Rattle.image80.specs.Image.{Located}
 use Rattle.image80.specs.Regions.{Areas}
 use Rattle.machine80.specs.declared.end.End.{End}
 use Rattle.machine80.specs.Run.{IsRun}
@@ -19,7 +18,7 @@ use Rattle.loader80.specs.TranscriptText.{output_line, stack_line}
 use Rattle.loader80.specs.Vouched.{Voucher}
 use Rattle.loader80_trace.specs.declared.limits.Limits.{Limits}
 use Rattle.loader80_trace.specs.declared.limits.Span.{Span}
-use Rattle.loader80_trace.specs.Traces.{count_within, last_number, run_lines}
+use Rattle.loader80_trace.specs.Traces.{last_number, run_lines}
 use Rattle.plm80_console.specs.Answer.{AnswerValue}
 use Rattle.plm80_programs.specs.Running.{EndsRun, EndsTrace, IsTraceOf, WatchesRun, dump_answer, ending, last_lines, start_of, trace_ending, trace_lines}
 

@@ -1,5 +1,5 @@
 -- What is suggested of an image doesn't depend on the regions that it has.
-use Rattle.std.specs.Prelude.{◌≡◌, ℕ, List, Option}
+use Rattle.std.specs.Prelude.{ℕ, List, Option}
 use Rattle.image80.specs.declared.range.Range.{Range}
 use Rattle.image80.specs.Image.{Located}
 use Rattle.image80.specs.Regions.{Areas}

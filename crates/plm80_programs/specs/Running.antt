@@ -1,13 +1,12 @@
 -- What commands print of a run, and how it is left. (That a run's transcript goes on with its last instructions, and the exit statuses,
 -- are this project's own.)
-use Rattle.std.specs.Prelude.{◌≡◌, ℕ, ◌+◌, ◌-◌, ◌==◌, ◌&&◌, not, is_none, min, if◌then◌else◌, Bool, true, false, List, [], ◌++◌, Option, None, Some, Result, Ok, Err, codes}
+use Rattle.std.specs.Prelude.{◌≡◌, ℕ, ◌+◌, ◌-◌, ◌==◌, ◌&&◌, not, is_none, min, if◌then◌else◌, Bool, false, List, [], ◌++◌, Option, None, Some, Result, Ok, Err, codes}
 use Rattle.std.specs.Bool.{MatchBool}
 use Rattle.std.specs.declared.io.ErrorKind.{ErrorKind}
 use Rattle.omf_parts.specs.declared.symbols.Public.{Public}
 use Rattle.image80.specs.declared.range.Range.{Range}
 use Rattle.image80.specs.Image.{Located}
 use Rattle.image80_text.specs.NameText.{named_text}
-use Rattle.machine80.specs.declared.end.End.{End}
 use Rattle.machine80.specs.Ports.{lists_of}
 use Rattle.machine80.specs.World.{World, world_at_start}
 use Rattle.loader80.specs.declared.replies.Outcome.{Outcome}

@@ -10,7 +10,9 @@ use crate::helpers::ranges::ranges_of;
 use clap::ArgMatches;
 use image80::{Image, Range};
 use loader80::Vouched;
-use plm80_console::{Answer, Argument, Console, IMAGE, Kind, REGIONS, Reported, Syntax, argument_values};
+use plm80_console::{
+    Answer, Argument, Console, IMAGE, Kind, REGIONS, Reported, Syntax, argument_values,
+};
 use plm80_names::{NAMES, NamedFiles, Names, Verdict, judge};
 use std::alloc::{AllocError, Global};
 use verify80_stores::{Stores, find_stores, stores_text};

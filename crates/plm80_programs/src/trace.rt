@@ -140,7 +140,15 @@ fn print_trace(
 {
     let mut output = NotedWriter::new(console.runtime().stdout());
     let mut out = Writing::new(&mut output);
-    match write_trace(console.alloc(), vouched, inputs, limits, span, names, &mut out) {
+    match write_trace(
+        console.alloc(),
+        vouched,
+        inputs,
+        limits,
+        span,
+        names,
+        &mut out,
+    ) {
         Ok(ended) => end_trace(console, vouched, &ended, names),
         Err(fault) => Err(report_lines(console, fault, output.failure())),
     }

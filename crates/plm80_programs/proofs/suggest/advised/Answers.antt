@@ -1,5 +1,5 @@
 use Rattle.std.specs.Prelude.{◌≡◌, ◌≤◌, ◌++◌, ℕ, List, length}
-use Rattle.std.proofs.Common.{◌∙◌, ap, arith, subst, sym}
+use Rattle.std.proofs.Common.{◌∙◌, ap, arith, subst}
 use Rattle.image80.specs.Image.{Located}
 use Rattle.image80.specs.RegionsText.{regions_text}
 use Rattle.loader80_streams.specs.WholeText.{text_limit}

@@ -20,10 +20,11 @@ returns g c =
     let inputs = c.args.inputs.first.pairs.items in
     let watch = c.args.watch in
     let finished = c.in_ok-finished.finished in
-    let front = stack_line program.stack_bytes ++ flat_map output_line finished.ports.outputs in
-    (front ++ last_lines inputs watch.limits watch.last c.args.names.now program finished.ended,
-     writes_both inputs watch.limits watch.last c.args.names.now program finished.ended c.args.inputs.second.pairs.items front
-     (g.K.Sink.written c.args.out.now) (g.K.Sink.written c.write_front.new.out) (g.K.Sink.written c.write_last.new.out)
-     c.requires.twice c.in_ok-write_front.ensures.written c.in_ok-write_last.ensures,
-     watches inputs watch.limits watch.last (option_map (λ path. path.now) watch.dump) c.args.names.now program finished.ended finished.bus
-     finished.ports c.in_ok-dump.dump c.in_ok-ending.ending c.in_ok-finished.ensures.run c.in_ok-dump.ensures c.in_ok-ending.ensures)
+    let front = stack_line program.stack_bytes ++ flat_map output_line finished.ports.outputs in (
+      front ++ last_lines inputs watch.limits watch.last c.args.names.now program finished.ended,
+      writes_both inputs watch.limits watch.last c.args.names.now program finished.ended c.args.inputs.second.pairs.items front
+          (g.K.Sink.written c.args.out.now) (g.K.Sink.written c.write_front.new.out) (g.K.Sink.written c.write_last.new.out)
+          c.requires.twice c.in_ok-write_front.ensures.written c.in_ok-write_last.ensures,
+      watches inputs watch.limits watch.last (option_map (λ path. path.now) watch.dump) c.args.names.now program finished.ended finished.bus
+          finished.ports c.in_ok-dump.dump c.in_ok-ending.ending c.in_ok-finished.ensures.run c.in_ok-dump.ensures c.in_ok-ending.ensures,
+    )
