@@ -1,5 +1,7 @@
 //! What is wrong with a bundle, in words.
 
+ghost use Rattle.std.specs.Prelude.{◌≡◌, ◌⊎◌, ◌&&◌, ℕ, nat_le, [], drop, None, length, slice_index};
+ghost use Rattle.std.specs.Char.{is_ascii_hexdigit};
 ghost use Rattle.std.specs.Io.{ReadsAtMost};
 
 use loader80::SessionFault;
@@ -22,7 +24,10 @@ pub struct CopiedReader<'a, R> {
 
 impl<'a, R: Read> CopiedReader<'a, R> {
     /// The reader, of which nothing has come.
-    pub fn new(console: Console<'a>, inner: R) -> CopiedReader<'a, R> {
+    pub fn new(console: Console<'a>, inner: R) -> CopiedReader<'a, R>
+        ensures copy { result.copy.items ≡ [] }
+        ensures failure { result.failure ≡ None }
+    {
         CopiedReader {
             console,
             inner,
@@ -67,17 +72,14 @@ pub fn explain_bundle<R: Read>(
         BundleFault::Session(SessionFault::Inputs(number)) => {
             console.explain_line(after_inputs_line(&bundle.copy), number);
         }
-        BundleFault::BadBundle => explain_parts(console, &bundle.copy),
+        BundleFault::BadBundle => {
+            console.explain_line(&bundle.copy, 1);
+            explain_second_line(console, &bundle.copy);
+            if after_inputs_line(&bundle.copy).is_empty() && !bundle.copy.ends_with(INPUTS) {
+                console.explain("there is no line INPUTS");
+            }
+        }
         BundleFault::Session(_) => {}
-    }
-}
-
-/// Says why a text has not the parts of a bundle.
-fn explain_parts(console: Console<'_>, text: &[u8]) {
-    console.explain_line(text, 1);
-    explain_second_line(console, text);
-    if after_inputs_line(text).is_empty() && !text.ends_with(INPUTS) {
-        console.explain("there is no line INPUTS");
     }
 }
 
@@ -89,28 +91,35 @@ fn explain_second_line(console: Console<'_>, text: &[u8]) {
 }
 
 /// What follows the first line.
-fn after_line(text: &[u8]) -> &[u8] {
+fn after_line(text: &[u8]) -> &[u8]
+    ensures { (result.now ≡ []) ⊎ ((place : ℕ) × (result.now ≡ drop place text.now)) }
+{
     match text.iter().position(|byte| *byte == b'\n') {
-        Some(place) => text.get(place + 1..).unwrap_or(b""),
+        Some(place) => &text[place + 1..],
         None => b"",
     }
 }
 
 /// Whether the text begins with two hexadecimal digits.
-fn begins_with_digits(text: &[u8]) -> bool {
-    match text {
-        [high, low, ..] => high.is_ascii_hexdigit() && low.is_ascii_hexdigit(),
-        _ => false,
-    }
+fn begins_with_digits(text: &[u8]) -> bool
+    ensures { result ≡ (nat_le 2 (length text.now) && is_ascii_hexdigit (slice_index text.now 0)
+        && is_ascii_hexdigit (slice_index text.now 1)) }
+{
+    text.len() >= 2 && text[0].is_ascii_hexdigit() && text[1].is_ascii_hexdigit()
 }
 
 /// What follows the first line `INPUTS`.
-fn after_inputs_line(text: &[u8]) -> &[u8] {
+fn after_inputs_line(text: &[u8]) -> &[u8]
+    ensures { (result.now ≡ []) ⊎ ((place : ℕ) × (result.now ≡ drop place text.now)) }
+{
     let mut place = 0usize;
     for line in text.split_inclusive(|byte| *byte == b'\n') {
         place = place.saturating_add(line.len());
         if line == INPUTS {
-            return text.get(place..).unwrap_or(b"");
+            return match text.get(place..) {
+                Some(rest) => rest,
+                None => b"",
+            };
         }
     }
     b""

@@ -1,5 +1,9 @@
 //! The commands of the program, done with files. Tests show what they print.
 
+ghost use Rattle.std.specs.Prelude.{◌≡◌, IfOk};
+ghost use Rattle.std.specs.Process.{exit_status};
+ghost use Rattle.plm80.specs.Requests.{HasStatus, IsCommandStatus};
+
 mod arguments;
 
 use arguments::{Request, read_arguments};
@@ -17,7 +21,9 @@ use std::process::ExitCode;
 /// Does the command, and gives the exit status: 1 if an image is refused, 2 at a fault, 3 or 4 as a run ends, and else 0. A fault is
 /// one line on standard error, with words below it if the command asks for them, or `always`; clap's errors and help are printed
 /// there too.
-pub fn run_command(rt: &HostRuntime, arguments: &[String], always: bool) -> ExitCode {
+pub fn run_command(rt: &HostRuntime, arguments: &[String], always: bool) -> ExitCode
+    ensures { IsCommandStatus (exit_status result) }
+{
     let (request, why) = match read_arguments(rt, arguments) {
         Ok(asked) => asked,
         Err(error) => return print_error(rt, &error),
@@ -29,12 +35,16 @@ pub fn run_command(rt: &HostRuntime, arguments: &[String], always: bool) -> Exit
 }
 
 /// Prints the error of arguments that are no text, and gives the exit status.
-pub fn refuse_arguments(rt: &HostRuntime) -> ExitCode {
+pub fn refuse_arguments(rt: &HostRuntime) -> ExitCode
+    ensures { exit_status result ≡ 2 }
+{
     print_error(rt, &arguments::no_text(rt.alloc()))
 }
 
 /// Does what is asked for, and gives the exit status.
-fn perform(console: Console<'_>, request: Request<'_>) -> Result<u8, Reported> {
+fn perform(console: Console<'_>, request: Request<'_>) -> Result<u8, Reported>
+    ensures { IfOk result (HasStatus request.entry) }
+{
     match request {
         Request::Link(arguments) => link_files(console, &arguments),
         Request::Locate(arguments) => locate_file(console, arguments),
@@ -61,7 +71,9 @@ fn perform(console: Console<'_>, request: Request<'_>) -> Result<u8, Reported> {
 }
 
 /// Prints an error of clap, which may be a help text, on standard error, and gives the exit status.
-fn print_error(rt: &HostRuntime, error: &clap::Error) -> ExitCode {
+fn print_error(rt: &HostRuntime, error: &clap::Error) -> ExitCode
+    ensures { exit_status result ≡ 2 }
+{
     if error.kind() == clap::error::ErrorKind::OutOfMemory {
         let Reported = Console::new(rt, false).report_memory();
         return ExitCode::from(2);

@@ -1,12 +1,16 @@
 //! `plm80`: the program, from its arguments, files and standard input to the calls of the layers below.
 //!
-//! Proved: the same.
+//! Proved: a request is of the command of its name; the exit status is that of its command, of a bundle's run, or 2.
 //!
 //! | Item | What it is |
 //! |---|---|
 //! | [`bundle`] | one input with an image, regions and inputs, to the transcript of a run |
 //! | `commands` | the commands of the command line, with their arguments |
 #![tactic(auto)]
+
+ghost use Rattle.std.specs.Prelude.{◌⊎◌};
+ghost use Rattle.std.specs.Process.{exit_status};
+ghost use Rattle.plm80.specs.Requests.{IsBundleStatus, IsCommandStatus};
 
 mod bundle_words;
 mod commands;
@@ -51,8 +55,14 @@ fn main(rt: HostRuntime) -> ExitCode {
 }
 
 /// Does what the arguments ask for, the first of which is the program's own name.
-fn run(rt: &HostRuntime, arguments: &[String]) -> ExitCode {
-    let always = is_always_explained(rt);
+fn run(rt: &HostRuntime, arguments: &[String]) -> ExitCode
+    ensures { IsCommandStatus (exit_status result) ⊎ IsBundleStatus (exit_status result) }
+{
+    // Words about every fault are asked for if the variable is set, and neither empty nor 0.
+    let always = match env::var(rt, "PLM80_WHY") {
+        Ok(value) => !matches!(value.as_str(), "" | "0"),
+        Err(_) => false,
+    };
     match arguments {
         [] | [_] => run_bundle(Console::new(rt, always)),
         [_, why] if why.as_str() == "--why" => run_bundle(Console::new(rt, true)),
@@ -60,26 +70,15 @@ fn run(rt: &HostRuntime, arguments: &[String]) -> ExitCode {
     }
 }
 
-/// Whether the environment asks for words about every fault: `PLM80_WHY` is set, and neither empty nor 0.
-fn is_always_explained(rt: &HostRuntime) -> bool {
-    match env::var(rt, "PLM80_WHY") {
-        Ok(value) => !matches!(value.as_str(), "" | "0"),
-        Err(_) => false,
-    }
-}
-
-/// Says at a terminal what is read there.
-fn announce_bundle(rt: &HostRuntime) {
-    if rt.stdin().is_terminal() {
-        let _ = eprintln!(rt;
+/// Runs the bundle on standard input, and gives the exit status. At a terminal it says first what is read there.
+fn run_bundle(console: Console<'_>) -> ExitCode
+    ensures { IsBundleStatus (exit_status result) }
+{
+    if console.runtime().stdin().is_terminal() {
+        let _ = eprintln!(console.runtime();
             "plm80: reads a bundle from standard input; plm80 --help lists the commands"
         );
     }
-}
-
-/// Runs the bundle on standard input, and gives the exit status.
-fn run_bundle(console: Console<'_>) -> ExitCode {
-    announce_bundle(console.runtime());
     let mut copied = CopiedReader::new(console, console.runtime().stdin());
     let mut output = NotedWriter::new(console.runtime().stdout());
     let mut input = Reading::new(&mut copied);

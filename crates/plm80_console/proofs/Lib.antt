@@ -1,2 +1,7 @@
+mod DraftLemmas
+mod LineLemmas
 mod NumberLemmas
 mod PieceLemmas
+mod RangeLemmas
+mod SharedLemmas
+mod UnreadLemmas

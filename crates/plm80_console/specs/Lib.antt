@@ -1,4 +1,16 @@
 pub mod Answer
+pub mod ApartPaths
 pub mod Arguments
+pub mod Kinds
 pub mod Pieces
 pub mod NumberText
+pub mod Refusals
+-- what the crate's own functions promise one another: no public contract cites these
+pub mod Drafts
+pub mod FileKinds
+pub mod Lines
+pub mod PathParts
+pub mod Places
+pub mod RangeWords
+pub mod SharedPaths
+pub mod UnreadBytes

@@ -1,6 +1,6 @@
 //! What a command answers, and what becomes of an answer: its files are written, its lines are printed, and its status is given.
 
-ghost use Rattle.std.specs.Prelude.{◌≡◌, IfOk};
+ghost use Rattle.std.specs.Prelude.{◌≡◌, IfOk, IsOkAnd};
 ghost use Rattle.plm80_console.specs.Answer.{file_of, prints, writes, writes_both};
 
 use crate::console::{Console, Reported};
@@ -77,7 +77,11 @@ impl<'a> Answer<'a> {
 }
 
 impl<'a> WrittenFile<'a> {
-    fn lent(&self) -> NewFile<'_> {
+    /// The same file, whose bytes stay here.
+    fn lent(&self) -> NewFile<'_>
+        ensures path { result.path.now ≡ self.now.path.now }
+        ensures bytes { result.bytes.now ≡ self.now.bytes.items }
+    {
         NewFile {
             path: self.path,
             bytes: &self.bytes,
@@ -95,24 +99,22 @@ impl<'a> Console<'a> {
             lines,
             status,
         } = answer;
-        self.write_files(&files)?;
+        match &files {
+            WrittenFiles::Nothing => {}
+            WrittenFiles::One(file) => self.replace(file.path, &file.bytes)?,
+            WrittenFiles::Both(first, second) => self.replace_both(first.lent(), second.lent())?,
+        }
         self.print(&lines)?;
         Ok(status)
     }
 
     /// Does an answer, unless memory ran out for it.
-    pub fn give_if_made(self, answer: Result<Answer<'_>, AllocError>) -> Result<u8, Reported> {
+    pub fn give_if_made(self, answer: Result<Answer<'_>, AllocError>) -> Result<u8, Reported>
+        ensures { IfOk result (λ status. IsOkAnd answer.entry (λ made. status ≡ made.status)) }
+    {
         match answer {
             Ok(answer) => self.give(answer),
             Err(AllocError) => Err(self.report_memory()),
-        }
-    }
-
-    fn write_files(self, files: &WrittenFiles<'_>) -> Result<(), Reported> {
-        match files {
-            WrittenFiles::Nothing => Ok(()),
-            WrittenFiles::One(file) => self.replace(file.path, &file.bytes),
-            WrittenFiles::Both(first, second) => self.replace_both(first.lent(), second.lent()),
         }
     }
 }

@@ -1,5 +1,7 @@
 //! What a command runs on, and its faults: each is one line on standard error, and words below it if they are asked for.
 
+ghost use Rattle.std.specs.Prelude.{◌≡◌};
+
 use std::alloc::Global;
 use std::fmt::Display;
 use std::io::ErrorKind;
@@ -11,18 +13,23 @@ pub struct Reported;
 /// What a command runs on, and whether its faults are explained.
 #[derive(Clone, Copy)]
 pub struct Console<'a> {
-    rt: &'a HostRuntime,
-    why: bool,
+    pub rt: &'a HostRuntime,
+    pub why: bool,
 }
 
 impl<'a> Console<'a> {
     /// The console of the program; with `why`, words about a fault follow its line.
-    pub fn new(rt: &'a HostRuntime, why: bool) -> Console<'a> {
+    pub fn new(rt: &'a HostRuntime, why: bool) -> Console<'a>
+        ensures runtime { result.rt ≡ rt.entry }
+        ensures explains { result.why ≡ why }
+    {
         Console { rt, why }
     }
 
     /// What the program runs on.
-    pub fn runtime(self) -> &'a HostRuntime {
+    pub fn runtime(self) -> &'a HostRuntime
+        ensures { result ≡ self.entry.rt }
+    {
         self.rt
     }
 
@@ -32,7 +39,9 @@ impl<'a> Console<'a> {
     }
 
     /// Whether faults are explained.
-    pub fn explains(self) -> bool {
+    pub fn explains(self) -> bool
+        ensures { result ≡ self.entry.why }
+    {
         self.why
     }
 

@@ -3,6 +3,7 @@
 ghost use Rattle.std.specs.Prelude.{◌≡◌};
 
 use crate::console::{Console, Reported};
+use crate::file_kinds::FileRole;
 use loader80_streams::ReadAllFault;
 use omf_library::LibraryFault;
 use omf_module::{Cause, ModuleFault};
@@ -24,7 +25,9 @@ impl From<ReadAllFault> for FileFault {
 
     ghost from_gives = { λ given fault. fault ≡ Unread given };
 
-    fn from(fault: ReadAllFault) -> FileFault {
+    fn from(fault: ReadAllFault) -> FileFault
+        ensures { result ≡ Unread fault }
+    {
         FileFault::Unread(fault)
     }
 }
@@ -34,7 +37,9 @@ impl From<ModuleFault> for FileFault {
 
     ghost from_gives = { λ given fault. fault ≡ Module given };
 
-    fn from(fault: ModuleFault) -> FileFault {
+    fn from(fault: ModuleFault) -> FileFault
+        ensures { result ≡ Module fault }
+    {
         FileFault::Module(fault)
     }
 }
@@ -44,7 +49,9 @@ impl From<LibraryFault> for FileFault {
 
     ghost from_gives = { λ given fault. fault ≡ Library given };
 
-    fn from(fault: LibraryFault) -> FileFault {
+    fn from(fault: LibraryFault) -> FileFault
+        ensures { result ≡ Library fault }
+    {
         FileFault::Library(fault)
     }
 }
@@ -58,7 +65,9 @@ impl FileFault {
                 Cause::Memory => console.report_memory(),
                 _ => {
                     let reported = console.report_file(path, fault);
-                    console.explain_object_file(path);
+                    if let Some(bytes) = console.text_to_explain(path) {
+                        console.explain_file(&bytes, FileRole::ObjectFile);
+                    }
                     reported
                 }
             },

@@ -1,6 +1,18 @@
 //! What a file seems to be, in words, if a command takes it for another one.
 
+ghost use Rattle.std.specs.Prelude.{◌≡◌, is_some};
+ghost use Rattle.plm80_console.specs.FileKinds.{
+  begins_with_digits,
+  is_explained,
+  is_inputs_start,
+  is_intel_hex_start,
+  is_misplaced,
+  kind_of,
+  kind_of_text,
+};
+
 use crate::console::Console;
+use crate::number_text::are_digits;
 
 /// The first byte of an object file, the type of a module header.
 const MODULE_HEADER: u8 = 0x02;
@@ -10,7 +22,7 @@ const LIBRARY_HEADER: u8 = 0x2C;
 
 /// What a file seems to be, by how it begins.
 #[derive(Clone, Copy, Debug, PartialEq, Eq)]
-enum FileKind {
+pub(crate) enum FileKind {
     Empty,
     ObjectFile,
     Library,
@@ -21,18 +33,35 @@ enum FileKind {
     Unknown,
 }
 
+/// What a file was to be, by its place among the arguments.
+#[derive(Clone, Copy, Debug, PartialEq, Eq)]
+pub(crate) enum FileRole {
+    ObjectFile,
+    Image,
+    Regions,
+    Inputs,
+}
+
 impl FileKind {
-    fn of(bytes: &[u8]) -> FileKind {
-        match bytes.first() {
-            None => FileKind::Empty,
-            Some(&MODULE_HEADER) => FileKind::ObjectFile,
-            Some(&LIBRARY_HEADER) => FileKind::Library,
-            Some(_) => FileKind::of_text(bytes),
+    /// The kind of the file with these bytes.
+    fn of(bytes: &[u8]) -> FileKind
+        ensures { result ≡ kind_of bytes.now }
+    {
+        if bytes.is_empty() {
+            FileKind::Empty
+        } else if bytes[0] == MODULE_HEADER {
+            FileKind::ObjectFile
+        } else if bytes[0] == LIBRARY_HEADER {
+            FileKind::Library
+        } else {
+            FileKind::of_text(bytes)
         }
     }
 
     /// The kind of a file that begins with another byte.
-    fn of_text(bytes: &[u8]) -> FileKind {
+    fn of_text(bytes: &[u8]) -> FileKind
+        ensures { result ≡ kind_of_text bytes.now }
+    {
         if bytes.starts_with(b"\x7FELF") {
             FileKind::Elf
         } else if is_intel_hex(bytes) {
@@ -45,92 +74,159 @@ impl FileKind {
             FileKind::Unknown
         }
     }
+
+    /// Words for the kind of a file that was to be an object file; none if it begins as one.
+    fn words_for_object(self) -> Option<&'static str>
+        ensures { is_some result ≡ is_explained FileRole.ObjectFile self }
+    {
+        match self {
+            FileKind::ObjectFile => None,
+            FileKind::Empty => Some("the file is empty"),
+            FileKind::Library => Some("this is a library, not an object file"),
+            FileKind::Regions => Some("this is a regions text, not an object file"),
+            FileKind::Inputs => Some("this is an inputs text, not an object file"),
+            FileKind::IntelHex => Some(
+                "this is Intel HEX, not an object file: absolute makes an image of the bytes that it stands for",
+            ),
+            FileKind::Elf => Some("this is an ELF file, not an object file of the 8080"),
+            FileKind::Unknown => Some("this isn't an object file, whose first byte is 02"),
+        }
+    }
+
+    /// Words for the kind of a file that was to be a text of regions; none if it begins as one, or as no file that is known.
+    fn words_for_regions(self) -> Option<&'static str>
+        ensures { is_some result ≡ is_explained FileRole.Regions self }
+    {
+        match self {
+            FileKind::Empty => Some("the file is empty: its first line is REGIONS 1 or REGIONS 2"),
+            FileKind::ObjectFile => Some("this is an object file, not a regions text"),
+            FileKind::Library => Some("this is a library, not a regions text"),
+            FileKind::Inputs => Some("this is an inputs text, not a regions text"),
+            FileKind::IntelHex => Some("this is Intel HEX, not a regions text"),
+            FileKind::Elf => Some("this is an ELF file, not a regions text"),
+            FileKind::Regions | FileKind::Unknown => None,
+        }
+    }
+
+    /// Words for the kind of a file that was to be a text of inputs; none unless it begins as another file of the same command.
+    fn words_for_inputs(self) -> Option<&'static str>
+        ensures { is_some result ≡ is_explained FileRole.Inputs self }
+    {
+        match self {
+            FileKind::Regions => Some("this is a regions text, not an inputs text"),
+            FileKind::ObjectFile => Some("this is an object file, not an inputs text"),
+            FileKind::Empty
+            | FileKind::Library
+            | FileKind::Inputs
+            | FileKind::IntelHex
+            | FileKind::Elf
+            | FileKind::Unknown => None,
+        }
+    }
+
+    /// Which path an image has, if a file of this kind seems to be another one of the command.
+    fn place_of_image(self) -> Option<&'static str>
+        ensures { is_some result ≡ is_misplaced FileRole.Image self }
+    {
+        match self {
+            FileKind::Regions | FileKind::Inputs | FileKind::Unknown => {
+                Some("IMAGE is the first path")
+            }
+            FileKind::Empty
+            | FileKind::ObjectFile
+            | FileKind::Library
+            | FileKind::IntelHex
+            | FileKind::Elf => None,
+        }
+    }
+
+    /// Which path inputs have, if a file of this kind seems to be another one of the command.
+    fn place_of_inputs(self) -> Option<&'static str>
+        ensures { is_some result ≡ is_misplaced FileRole.Inputs self }
+    {
+        match self {
+            FileKind::ObjectFile | FileKind::Regions => Some("INPUTS is the third path"),
+            FileKind::Empty
+            | FileKind::Library
+            | FileKind::Inputs
+            | FileKind::IntelHex
+            | FileKind::Elf
+            | FileKind::Unknown => None,
+        }
+    }
+}
+
+impl FileRole {
+    /// Words for the kind of a file that was to have this role; none if it may have it.
+    fn words(self, kind: FileKind) -> Option<&'static str>
+        ensures { is_some result ≡ is_explained self kind }
+    {
+        match self {
+            FileRole::ObjectFile | FileRole::Image => kind.words_for_object(),
+            FileRole::Regions => kind.words_for_regions(),
+            FileRole::Inputs => kind.words_for_inputs(),
+        }
+    }
+
+    /// Which path the file of this role has, if a file of this kind seems to be another one of the command. Of regions it is said
+    /// after the other words on them.
+    fn place(self, kind: FileKind) -> Option<&'static str>
+        ensures { is_some result ≡ is_misplaced self kind }
+    {
+        match self {
+            FileRole::ObjectFile | FileRole::Regions => None,
+            FileRole::Image => kind.place_of_image(),
+            FileRole::Inputs => kind.place_of_inputs(),
+        }
+    }
 }
 
 /// Whether the bytes begin as a record of Intel's hexadecimal format: a colon and digits.
-fn is_intel_hex(bytes: &[u8]) -> bool {
-    match bytes {
-        [b':', digits @ ..] => are_digits(digits, 8),
-        _ => false,
-    }
+fn is_intel_hex(bytes: &[u8]) -> bool
+    ensures { result ≡ is_intel_hex_start bytes.now }
+{
+    !bytes.is_empty() && bytes[0] == b':' && begins_with_digits(&bytes[1..], 8)
 }
 
 /// Whether the bytes begin as a line of inputs: a port, a blank and a byte.
-fn is_inputs(bytes: &[u8]) -> bool {
-    match bytes {
-        [high, low, b' ', rest @ ..] => {
-            high.is_ascii_hexdigit() && low.is_ascii_hexdigit() && are_digits(rest, 2)
-        }
-        _ => false,
-    }
+fn is_inputs(bytes: &[u8]) -> bool
+    ensures { result ≡ is_inputs_start bytes.now }
+{
+    bytes.len() >= 3
+        && begins_with_digits(bytes, 2)
+        && bytes[2] == b' '
+        && begins_with_digits(&bytes[3..], 2)
 }
 
 /// Whether the bytes begin with a given number of hexadecimal digits.
-fn are_digits(bytes: &[u8], count: usize) -> bool {
-    match bytes.get(..count) {
-        Some(digits) => digits.iter().all(|digit| digit.is_ascii_hexdigit()),
-        None => false,
-    }
+fn begins_with_digits(bytes: &[u8], count: usize) -> bool
+    ensures { result ≡ begins_with_digits count bytes.now }
+{
+    count <= bytes.len() && are_digits(&bytes[..count])
 }
 
 impl<'a> Console<'a> {
-    /// Says what the file of this path seems to be, which was to be an object file, unless it begins as one.
-    pub(crate) fn explain_object_file(self, path: &str) {
-        if let Some(bytes) = self.text_to_explain(path) {
-            self.explain_object_kind(FileKind::of(&bytes));
+    /// Says what these bytes seem to be, which were to be the file of this role, and which path it has, if that helps; whether it said
+    /// what they seem to be.
+    pub(crate) fn explain_file(self, bytes: &[u8], role: FileRole) -> bool
+        ensures { result ≡ is_explained role (kind_of bytes.now) }
+    {
+        let kind = FileKind::of(bytes);
+        let words = role.words(kind);
+        if let Some(words) = words {
+            self.explain(words);
         }
+        if let Some(words) = role.place(kind) {
+            self.explain(words);
+        }
+        words.is_some()
     }
 
-    /// As [`Console::explain_image`], of the file of this path.
+    /// Says what the file of this path seems to be, which was to be an image, unless it begins as one.
     pub fn explain_image_file(self, path: &str) {
         if let Some(bytes) = self.text_to_explain(path) {
-            self.explain_image(&bytes);
+            self.explain_file(&bytes, FileRole::Image);
         }
-    }
-
-    /// Says what these bytes seem to be, which were to be an image, unless they begin as one.
-    pub(crate) fn explain_image(self, bytes: &[u8]) {
-        let kind = FileKind::of(bytes);
-        self.explain_object_kind(kind);
-        if matches!(
-            kind,
-            FileKind::Regions | FileKind::Inputs | FileKind::Unknown
-        ) {
-            self.explain("IMAGE is the first path");
-        }
-    }
-
-    fn explain_object_kind(self, kind: FileKind) {
-        match kind {
-            FileKind::ObjectFile => {}
-            FileKind::Empty => self.explain("the file is empty"),
-            FileKind::Library => self.explain("this is a library, not an object file"),
-            FileKind::Regions => self.explain("this is a regions text, not an object file"),
-            FileKind::Inputs => self.explain("this is an inputs text, not an object file"),
-            FileKind::IntelHex => self.explain(
-                "this is Intel HEX, not an object file: absolute makes an image of the bytes that it stands for",
-            ),
-            FileKind::Elf => self.explain("this is an ELF file, not an object file of the 8080"),
-            FileKind::Unknown => {
-                self.explain("this isn't an object file, whose first byte is 02");
-            }
-        }
-    }
-
-    /// Says what this text seems to be, which was to be that of regions and hasn't their first line; whether it did.
-    pub(crate) fn explain_regions_kind(self, text: &[u8]) -> bool {
-        match FileKind::of(text) {
-            FileKind::Empty => {
-                self.explain("the file is empty: its first line is REGIONS 1 or REGIONS 2")
-            }
-            FileKind::ObjectFile => self.explain("this is an object file, not a regions text"),
-            FileKind::Library => self.explain("this is a library, not a regions text"),
-            FileKind::Inputs => self.explain("this is an inputs text, not a regions text"),
-            FileKind::IntelHex => self.explain("this is Intel HEX, not a regions text"),
-            FileKind::Elf => self.explain("this is an ELF file, not a regions text"),
-            FileKind::Regions | FileKind::Unknown => return false,
-        }
-        true
     }
 
     /// Says which path is that of the regions, if this text, which isn't theirs, seems to be another file of the command.
@@ -142,16 +238,8 @@ impl<'a> Console<'a> {
 
     /// Says what is wrong with the line of this number of a text that was to be that of inputs.
     pub fn explain_inputs(self, text: &[u8], number: usize) {
-        match FileKind::of(text) {
-            FileKind::Regions => {
-                self.explain("this is a regions text, not an inputs text");
-                self.explain("INPUTS is the third path");
-            }
-            FileKind::ObjectFile => {
-                self.explain("this is an object file, not an inputs text");
-                self.explain("INPUTS is the third path");
-            }
-            _ => self.explain_line(text, number),
+        if !self.explain_file(text, FileRole::Inputs) {
+            self.explain_line(text, number);
         }
     }
 }

@@ -1,11 +1,14 @@
 //! Files, read whole, and standard output.
 
+ghost use Rattle.std.specs.Prelude.{◌≡◌, ◌≤◌, None, vec_len, IfOk, IfSome, IsTrue, OnSome};
 ghost use Rattle.std.specs.Io.{ReadsAtMost};
+ghost use Rattle.loader80_streams.specs.WholeText.{text_limit};
 
 use crate::console::{Console, Reported};
 use loader80_streams::{Failed, ReadAllFault, Reading, TEXT_LIMIT, Writing, read_all, write_all};
 use std::fs::File;
 use std::io::{ErrorKind, Read, Write};
+use std::marker::Model;
 use std::{fs, io};
 
 /// A file that is opened when it is first read, so that a missing file is reported when its turn comes.
@@ -17,9 +20,21 @@ pub struct LateFile<'a> {
     failure: Option<ErrorKind>,
 }
 
+/// A contract sees why it failed last.
+impl<'a> Model for LateFile<'a> {
+    ghost use Rattle.std.specs.Prelude.{Option};
+    ghost use Rattle.std.specs.declared.io.ErrorKind.{ErrorKind};
+
+    ghost Value = { Option ErrorKind };
+
+    ghost view = { λ file. file.failure };
+}
+
 impl<'a> LateFile<'a> {
     /// The file of this path, not opened yet.
-    pub fn new(rt: &'a HostRuntime, path: &'a str) -> LateFile<'a> {
+    pub fn new(rt: &'a HostRuntime, path: &'a str) -> LateFile<'a>
+        ensures { result ≡ None }
+    {
         LateFile {
             rt,
             path,
@@ -29,12 +44,15 @@ impl<'a> LateFile<'a> {
     }
 
     /// Why opening or reading it failed last; `None` if neither did.
-    pub fn failure(&self) -> Option<ErrorKind> {
+    pub fn failure(&self) -> Option<ErrorKind>
+        ensures { result ≡ self.now }
+    {
         self.failure
     }
 
     fn open_and_read(&mut self, buffer: &mut [u8]) -> io::Result<usize>
-        ensures { ReadsAtMost result buffer.new }
+        ensures count { ReadsAtMost result buffer.new }
+        ensures failure { self.new ≡ self.old }
     {
         match &mut self.file {
             Some(file) => file.read(buffer),
@@ -67,9 +85,21 @@ pub struct NotedWriter<W> {
     failure: Option<ErrorKind>,
 }
 
+/// A contract sees why a write failed last.
+impl<W> Model for NotedWriter<W> {
+    ghost use Rattle.std.specs.Prelude.{Option};
+    ghost use Rattle.std.specs.declared.io.ErrorKind.{ErrorKind};
+
+    ghost Value = { Option ErrorKind };
+
+    ghost view = { λ writer. writer.failure };
+}
+
 impl<W: Write> NotedWriter<W> {
     /// The writer, with no failure so far.
-    pub fn new(inner: W) -> NotedWriter<W> {
+    pub fn new(inner: W) -> NotedWriter<W>
+        ensures { result ≡ None }
+    {
         NotedWriter {
             inner,
             failure: None,
@@ -77,7 +107,9 @@ impl<W: Write> NotedWriter<W> {
     }
 
     /// Why a write failed last; `None` if none did.
-    pub fn failure(&self) -> Option<ErrorKind> {
+    pub fn failure(&self) -> Option<ErrorKind>
+        ensures { result ≡ self.now }
+    {
         self.failure
     }
 }
@@ -100,7 +132,9 @@ impl<W: Write> Write for NotedWriter<W> {
 
 impl<'a> Console<'a> {
     /// All bytes of the file, of which there are no more than a text may have.
-    pub fn read_whole(self, path: &str) -> Result<Vec<u8>, Reported> {
+    pub fn read_whole(self, path: &str) -> Result<Vec<u8>, Reported>
+        ensures { IfOk result (λ bytes. vec_len bytes ≤ text_limit) }
+    {
         let mut file = LateFile::new(self.runtime(), path);
         let mut source = Reading::new(&mut file);
         match read_all(self.alloc(), &mut source, TEXT_LIMIT) {
@@ -111,20 +145,19 @@ impl<'a> Console<'a> {
 
     /// The bytes of a file that was read, to say more of it; `None` if that isn't asked for, or if it can't be read again, as a pipe
     /// can't.
-    pub fn text_to_explain(self, path: &str) -> Option<Vec<u8>> {
-        if !self.explains() || !self.is_regular(path) {
+    pub fn text_to_explain(self, path: &str) -> Option<Vec<u8>>
+        ensures asked { OnSome result (IsTrue self.entry.why) }
+        ensures within { IfSome result (λ bytes. vec_len bytes ≤ text_limit) }
+    {
+        if !self.explains() {
             return None;
+        }
+        match fs::metadata(self.runtime(), path) {
+            Ok(metadata) if metadata.is_file() => {}
+            _ => return None,
         }
         let mut source = Reading::new(LateFile::new(self.runtime(), path));
         read_all(self.alloc(), &mut source, TEXT_LIMIT).ok()
-    }
-
-    /// Whether the path is that of a regular file.
-    fn is_regular(self, path: &str) -> bool {
-        match fs::metadata(self.runtime(), path) {
-            Ok(metadata) => metadata.is_file(),
-            Err(_) => false,
-        }
     }
 
     /// Reports why not all bytes of the file of this path were read.

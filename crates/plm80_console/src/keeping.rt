@@ -1,5 +1,8 @@
 //! An object file in the place of a library that is written: a copy of it is kept under another name.
 
+ghost use Rattle.std.specs.Prelude.{◌≡◌, IfOk, string_bytes};
+ghost use Rattle.plm80_console.specs.Drafts.{kept_text};
+
 use crate::console::{Console, Reported};
 use crate::path_parts::folder_and_name;
 use crate::replacing::NewFile;
@@ -28,18 +31,15 @@ impl<'a> Console<'a> {
         }
     }
 
-    /// Keeps a copy of the file that the path names, if that is an object file.
+    /// Keeps a copy of the regular file that the path names, if that is an object file. One that can't be read may be one: it is a
+    /// fault.
     fn keep_object(self, path: &str) -> Result<(), Reported> {
         match fs::metadata(self.runtime(), path) {
-            Ok(metadata) if metadata.is_file() => self.keep_regular(path),
-            Ok(_) => Ok(()),
-            Err(error) if error.kind() == ErrorKind::NotFound => Ok(()),
-            Err(error) => Err(self.report_unwritten(path, error.kind())),
+            Ok(metadata) if metadata.is_file() => {}
+            Ok(_) => return Ok(()),
+            Err(error) if error.kind() == ErrorKind::NotFound => return Ok(()),
+            Err(error) => return Err(self.report_system(path, "Write", Some(error.kind()))),
         }
-    }
-
-    /// Keeps a copy of the regular file of this path, if it is an object file. One that can't be read may be one: it is a fault.
-    fn keep_regular(self, path: &str) -> Result<(), Reported> {
         match self.open_object(path) {
             Ok(Some(object)) => self.keep(path, object),
             Ok(None) => Ok(()),
@@ -71,10 +71,13 @@ impl<'a> Console<'a> {
                 Err(error) => return Err(self.report_unkept(path, &kept, error.kind())),
             }
         }
-        Err(self.report_unwritten(path, ErrorKind::AlreadyExists))
+        Err(self.report_system(path, "Write", Some(ErrorKind::AlreadyExists)))
     }
 
-    fn kept_path(self, path: &str, number: u32) -> Result<String, AllocError> {
+    /// The path of this number under which a copy may be kept.
+    fn kept_path(self, path: &str, number: u32) -> Result<String, AllocError>
+        ensures { IfOk result (λ kept. string_bytes kept ≡ kept_text path.now number) }
+    {
         if number == 0 {
             format!(in self.alloc(); "{path}~")
         } else {
@@ -86,7 +89,11 @@ impl<'a> Console<'a> {
     fn fill_copy(self, path: &str, object: File, kept: &str, copy: File) -> Result<(), Reported> {
         match copy_and_sync(object, copy) {
             Ok(()) => {
-                self.sync_folder(kept);
+                // With its folder on the disk the file's name outlasts a crash of the system. Not every file system can do it.
+                let (folder, _) = folder_and_name(kept);
+                if let Ok(folder) = File::open(self.runtime(), folder) {
+                    let _ = folder.sync_all();
+                }
                 Ok(())
             }
             Err(error) => {
@@ -96,17 +103,9 @@ impl<'a> Console<'a> {
         }
     }
 
-    /// Syncs the folder of this path, so that the file's name outlasts a crash of the system. Not every file system can.
-    fn sync_folder(self, path: &str) {
-        let (folder, _) = folder_and_name(path);
-        if let Ok(folder) = File::open(self.runtime(), folder) {
-            let _ = folder.sync_all();
-        }
-    }
-
     /// Reports that the object file of this path can't be kept under another name.
     fn report_unkept(self, path: &str, kept: &str, kind: ErrorKind) -> Reported {
-        let reported = self.report_unwritten(kept, kind);
+        let reported = self.report_system(kept, "Write", Some(kind));
         if self.explains() {
             let _ = eprintln!(self.runtime();
                 "  {path} is an object file, and was to be kept under that name"

@@ -7,7 +7,7 @@
 //! | [`Console`] | what a command runs on: reports faults, reads and writes files, prints |
 //! | [`Syntax`], [`Argument`], [`Kind`] | a command and its arguments, as tables for clap |
 //! | [`OptionText`] | an option with its value; a [`Console`] reads it as a number or a name |
-//! | [`ProgramFiles`] | the image and the regions that several commands read |
+//! | [`image_of`], [`regions_of`] | the image and the regions that several commands read |
 //! | [`read_link_file`], [`read_object_file`], [`LinkFile`] | object files and libraries, read in pieces |
 //! | [`Answer`], [`WrittenFile`] | what a command answers: files, lines and a status; a [`Console`] does it |
 //! | [`ReadFile`], [`FaultOf`] | a file with its path; a fault with the path of its file |
@@ -38,7 +38,7 @@ mod syntax;
 mod unread_bytes;
 
 pub use answer::{Answer, WrittenFile, WrittenFiles};
-pub use argument_texts::argument_text;
+pub use argument_texts::{argument_text, argument_values};
 pub use console::{Console, Reported};
 pub use file_fault::FileFault;
 pub use files::{LateFile, NotedWriter};
@@ -47,10 +47,8 @@ pub use number_text::{byte_of_digits, count_of_digits, length_of_digits, word_of
 pub use object_files::{append_modules, read_modules};
 pub use options::OptionText;
 pub use pieces::{TakePieces, read_in_pieces};
-pub use program_files::{
-    IMAGE, PROGRAM_FILES, ProgramFiles, REGIONS, image_of, regions_of, report_regions,
-};
+pub use program_files::{IMAGE, REGIONS, image_of, regions_of, report_regions};
 pub use read_file::{FaultOf, ReadFile};
 pub use regions_words::explain_regions;
 pub use replacing::NewFile;
-pub use syntax::{Argument, Kind, Syntax, WHY, path_of};
+pub use syntax::{Argument, Kind, Syntax, WHY};

@@ -1,117 +1,173 @@
 //! What is wrong with a line of a text, in words.
 
+ghost use Rattle.std.specs.Prelude.{◌≡◌, option_copied, option_map};
+ghost use Rattle.plm80_console.specs.Lines.{ends_in_blank, has_comment, has_flaw, has_lower_case, has_odd_number, is_odd_number, line_at, part_at, without_return};
+
 use crate::console::Console;
+use crate::number_text::are_digits;
+use thiserror::Error;
 
 /// The end of a text in CP/M, and the Ctrl-Z of other systems.
 const CONTROL_Z: u8 = 0x1A;
+
+/// What is often wrong with a line.
+#[derive(Clone, Copy, Debug, Error)]
+pub(crate) enum LineFlaw {
+    #[error("the line ends in CR LF: write LF alone")]
+    CarriageReturn,
+    #[error("the line has a Ctrl-Z (1A)")]
+    ControlZ,
+    #[error("the line has no line feed at its end")]
+    NoLineFeed,
+    #[error("the line ends in a blank")]
+    Blank,
+    #[error("the line has a ; but these texts have no comments")]
+    Comment,
+    #[error("the line has an odd number of digits")]
+    OddDigits,
+    #[error("the line has lower case: digits and words are of upper case")]
+    LowerCase,
+}
+
+/// What may be wrong with any line, in the order in which it is said.
+const FLAWS: &[LineFlaw] = &[
+    LineFlaw::CarriageReturn,
+    LineFlaw::ControlZ,
+    LineFlaw::NoLineFeed,
+    LineFlaw::Blank,
+    LineFlaw::Comment,
+    LineFlaw::OddDigits,
+];
+
+/// The same of a line whose words and digits are of upper case.
+pub(crate) const UPPER_FLAWS: &[LineFlaw] = &[
+    LineFlaw::CarriageReturn,
+    LineFlaw::ControlZ,
+    LineFlaw::NoLineFeed,
+    LineFlaw::Blank,
+    LineFlaw::Comment,
+    LineFlaw::OddDigits,
+    LineFlaw::LowerCase,
+];
+
+/// The same of a first line, whose digit stands alone.
+pub(crate) const VERSION_FLAWS: &[LineFlaw] = &[
+    LineFlaw::CarriageReturn,
+    LineFlaw::ControlZ,
+    LineFlaw::NoLineFeed,
+    LineFlaw::Blank,
+    LineFlaw::Comment,
+    LineFlaw::LowerCase,
+];
 
 /// A line without its line feed, and whether it has one.
 #[derive(Clone, Copy)]
 pub(crate) struct Line<'a> {
     pub(crate) bytes: &'a [u8],
-    is_ended: bool,
+    pub(crate) is_ended: bool,
 }
 
 impl<'a> Console<'a> {
     /// Says what is wrong with the line of this number, counted from 1, if it has one of the forms that occur most: each in a line
     /// of its own.
     pub fn explain_line(self, text: &[u8], number: usize) {
+        self.explain_flaws(text, number, FLAWS);
+    }
+
+    /// Says which of these flaws the line of this number has, each in a line of its own.
+    pub(crate) fn explain_flaws(self, text: &[u8], number: usize, flaws: &[LineFlaw]) {
         if let Some(line) = line_of(text, number) {
-            self.explain_end(line);
-            self.explain_comment(line);
-            self.explain_digits(line);
-        }
-    }
-
-    /// As [`Console::explain_line`], in a text whose words and digits are of upper case.
-    pub fn explain_upper_line(self, text: &[u8], number: usize) {
-        if let Some(line) = line_of(text, number) {
-            self.explain_end(line);
-            self.explain_comment(line);
-            self.explain_digits(line);
-            self.explain_case(line);
-        }
-    }
-
-    /// As [`Console::explain_upper_line`], of the first line, whose digit stands alone.
-    pub fn explain_version(self, text: &[u8]) {
-        if let Some(line) = line_of(text, 1) {
-            self.explain_end(line);
-            self.explain_comment(line);
-            self.explain_case(line);
-        }
-    }
-
-    fn explain_end(self, line: Line<'_>) {
-        if line.bytes.ends_with(b"\r") {
-            self.explain("the line ends in CR LF: write LF alone");
-        }
-        if line.bytes.contains(&CONTROL_Z) {
-            self.explain("the line has a Ctrl-Z (1A)");
-        }
-        if !line.is_ended {
-            self.explain("the line has no line feed at its end");
-        }
-        if without_return(line.bytes).ends_with(b" ")
-            || without_return(line.bytes).ends_with(b"\t")
-        {
-            self.explain("the line ends in a blank");
-        }
-    }
-
-    fn explain_comment(self, line: Line<'_>) {
-        if line.has_comment() {
-            self.explain("the line has a ; but these texts have no comments");
-        }
-    }
-
-    fn explain_digits(self, line: Line<'_>) {
-        if !line.has_comment() && has_odd_digits(without_return(line.bytes)) {
-            self.explain("the line has an odd number of digits");
-        }
-    }
-
-    fn explain_case(self, line: Line<'_>) {
-        if !line.has_comment() && line.bytes.iter().any(|byte| byte.is_ascii_lowercase()) {
-            self.explain("the line has lower case: digits and words are of upper case");
+            for flaw in flaws {
+                if line.has(*flaw) {
+                    self.explain(*flaw);
+                }
+            }
         }
     }
 }
 
 impl<'a> Line<'a> {
-    fn has_comment(self) -> bool {
+    /// Whether the line has this flaw.
+    fn has(self, flaw: LineFlaw) -> bool
+        ensures { result ≡ has_flaw flaw self.entry.bytes.now self.entry.is_ended }
+    {
+        match flaw {
+            LineFlaw::CarriageReturn => self.bytes.ends_with(b"\r"),
+            LineFlaw::ControlZ => self.bytes.contains(&CONTROL_Z),
+            LineFlaw::NoLineFeed => !self.is_ended,
+            LineFlaw::Blank => ends_in_blank(self.bytes),
+            LineFlaw::Comment => self.has_comment(),
+            LineFlaw::OddDigits => {
+                !self.has_comment() && has_odd_number(without_return(self.bytes))
+            }
+            LineFlaw::LowerCase => !self.has_comment() && has_lower_case(self.bytes),
+        }
+    }
+
+    fn has_comment(self) -> bool
+        ensures { result ≡ has_comment self.entry.bytes.now }
+    {
         self.bytes.contains(&b';')
     }
 }
 
-/// The line of this number, counted from 1; `None` if the text has no such line.
-pub(crate) fn line_of(text: &[u8], number: usize) -> Option<Line<'_>> {
-    let line = text
-        .split_inclusive(|byte| *byte == b'\n')
-        .nth(number.checked_sub(1)?)?;
-    match line.strip_suffix(b"\n") {
-        Some(bytes) => Some(Line {
-            bytes,
-            is_ended: true,
-        }),
-        None => Some(Line {
-            bytes: line,
-            is_ended: false,
-        }),
+/// The line of this number, counted from 1; `None` if the text has no such line. What follows the last line feed is a line if it has
+/// bytes.
+pub(crate) fn line_of(text: &[u8], number: usize) -> Option<Line<'_>>
+    ensures { option_map (λ line. (line.bytes.now, line.is_ended)) result ≡ line_at text.now number }
+{
+    let bytes = part_of(text, number.checked_sub(1)?)?;
+    let is_ended = part_of(text, number).is_some();
+    if bytes.is_empty() && !is_ended {
+        return None;
     }
+    Some(Line { bytes, is_ended })
+}
+
+/// What stands between line feeds, or between one and an end of the text, by its index.
+fn part_of(text: &[u8], index: usize) -> Option<&[u8]>
+    ensures { option_copied result ≡ part_at text.now index }
+{
+    text.split(|byte| *byte == b'\n').nth(index)
 }
 
 /// The line without a carriage return at its end.
-fn without_return(line: &[u8]) -> &[u8] {
-    line.strip_suffix(b"\r").unwrap_or(line)
+fn without_return(line: &[u8]) -> &[u8]
+    ensures { result.now ≡ without_return line.now }
+{
+    if line.ends_with(b"\r") {
+        &line[..line.len() - 1]
+    } else {
+        line
+    }
+}
+
+/// Whether the line, without a carriage return at its end, ends in a blank or a tab.
+fn ends_in_blank(line: &[u8]) -> bool
+    ensures { result ≡ ends_in_blank line.now }
+{
+    let line = without_return(line);
+    line.ends_with(b" ") || line.ends_with(b"\t")
+}
+
+/// Whether the line has a letter of lower case.
+fn has_lower_case(line: &[u8]) -> bool
+    ensures { result ≡ has_lower_case line.now }
+{
+    line.iter().any(|byte| byte.is_ascii_lowercase())
 }
 
 /// Whether a word of the line is of hexadecimal digits, an odd number of them.
-fn has_odd_digits(line: &[u8]) -> bool {
-    for word in line.split(|byte| *byte == b' ') {
-        if word.len() % 2 == 1 && word.iter().all(|byte| byte.is_ascii_hexdigit()) {
-            return true;
-        }
-    }
-    false
+fn has_odd_number(line: &[u8]) -> bool
+    ensures { result ≡ has_odd_number line.now }
+{
+    line.split(|byte| *byte == b' ')
+        .any(|word| is_odd_number(word))
+}
+
+/// Whether a word is of hexadecimal digits, an odd number of them.
+fn is_odd_number(word: &[u8]) -> bool
+    ensures { result ≡ is_odd_number word.now }
+{
+    word.len() % 2 == 1 && are_digits(word)
 }

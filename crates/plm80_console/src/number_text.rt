@@ -1,6 +1,8 @@
 //! Numbers from their texts, of digits alone.
 
 ghost use Rattle.std.specs.Prelude.{◌≡◌, ◌==◌, IfSome, IfNone, slice_index};
+ghost use Rattle.std.specs.Char.{is_ascii_hexdigit};
+ghost use Rattle.std.specs.List.{list_all};
 ghost use Rattle.plm80_console.specs.NumberText.{IsByteText, IsCountText, IsLengthText, IsWordText, count_value, word_value};
 
 /// The word that one to four hexadecimal digits write, in either case; `None` exactly for every other text.
@@ -53,4 +55,18 @@ fn has_plus(text: &[u8]) -> bool
     ensures { result ≡ (slice_index text.now 0 == 43) }
 {
     !text.is_empty() && text[0] == b'+'
+}
+
+/// Whether all bytes are hexadecimal digits, in either case.
+pub(crate) fn are_digits(bytes: &[u8]) -> bool
+    ensures { result ≡ list_all is_ascii_hexdigit bytes.now }
+{
+    bytes.iter().all(|byte| is_digit(*byte))
+}
+
+/// Whether a byte is a hexadecimal digit.
+fn is_digit(byte: u8) -> bool
+    ensures { result ≡ is_ascii_hexdigit byte }
+{
+    byte.is_ascii_hexdigit()
 }

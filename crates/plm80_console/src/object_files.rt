@@ -1,5 +1,7 @@
 //! The modules of object files, for the commands that take them.
 
+ghost use Rattle.std.specs.Prelude.{◌≡◌, ◌++◌, [], OnOk};
+
 use crate::console::{Console, Reported};
 use crate::files::LateFile;
 use crate::link_feed::read_object_file;
@@ -24,7 +26,10 @@ pub fn append_modules(
     console: Console<'_>,
     modules: &mut Vec<Module>,
     read: &mut Vec<Module>,
-) -> Result<(), Reported> {
+) -> Result<(), Reported>
+    ensures appended { OnOk result (modules.new.items ≡ modules.old.items ++ read.old.items) }
+    ensures taken { OnOk result (read.new.items ≡ []) }
+{
     match modules.append(read) {
         Ok(()) => Ok(()),
         Err(_) => Err(console.report_memory()),

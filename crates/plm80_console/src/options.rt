@@ -1,5 +1,11 @@
 //! The values of options: numbers and names.
 
+ghost use Rattle.std.specs.Prelude.{◌≡◌, unwrap_or, option_map, IfOk, IfSome, IsSomeAnd, OnErr};
+ghost use Rattle.clap.specs.Matches.{first_value, found_of};
+ghost use Rattle.plm80_console.specs.Arguments.{argument_text};
+ghost use Rattle.plm80_console.specs.NumberText.{IsByteText, IsCountText, IsLengthText, IsWordText, count_value, word_value};
+
+use crate::argument_texts::argument_text;
 use crate::console::{Console, Reported};
 use crate::number_text::{byte_of_digits, count_of_digits, length_of_digits, word_of_digits};
 use clap::ArgMatches;
@@ -8,45 +14,67 @@ use omf_core::{Name, NameFault};
 /// An option that has a value: its name, without the two hyphens, and the text of its value.
 #[derive(Clone, Copy)]
 pub struct OptionText<'a> {
-    name: &'a str,
-    text: &'a str,
+    pub name: &'a str,
+    pub text: &'a str,
 }
 
 impl<'a> OptionText<'a> {
     /// The option of this name with its value.
-    pub fn new(name: &'a str, text: &'a str) -> OptionText<'a> {
+    pub fn new(name: &'a str, text: &'a str) -> OptionText<'a>
+        ensures name { result.name.now ≡ name.now }
+        ensures text { result.text.now ≡ text.now }
+    {
         OptionText { name, text }
     }
 
     /// The option of this name, if it is given or has a default.
-    pub fn given(matches: &ArgMatches<'a>, name: &'a str) -> Option<OptionText<'a>> {
+    pub fn given(matches: &ArgMatches<'a>, name: &'a str) -> Option<OptionText<'a>>
+        ensures name { IfSome result (λ option. option.name.now ≡ name.now) }
+        ensures text { option_map (λ option. option.text.now) result ≡ first_value (found_of matches.now) name.now }
+    {
         Some(OptionText::new(name, matches.get_str(name)?))
     }
 
     /// The option of this name, which clap requires or which has a default.
-    pub fn of(matches: &ArgMatches<'a>, name: &'a str) -> OptionText<'a> {
-        OptionText::new(name, matches.get_str(name).unwrap_or(""))
+    pub fn of(matches: &ArgMatches<'a>, name: &'a str) -> OptionText<'a>
+        ensures name { result.name.now ≡ name.now }
+        ensures text { result.text.now ≡ argument_text matches.now name.now }
+    {
+        OptionText::new(name, argument_text(matches, name))
     }
 
     /// The option of this name; with this value if it isn't given.
-    pub fn or(matches: &ArgMatches<'a>, name: &'a str, default: &'a str) -> OptionText<'a> {
-        OptionText::new(name, matches.get_str(name).unwrap_or(default))
+    pub fn or(matches: &ArgMatches<'a>, name: &'a str, default: &'a str) -> OptionText<'a>
+        ensures name { result.name.now ≡ name.now }
+        ensures text { result.text.now ≡ unwrap_or (first_value (found_of matches.now) name.now) default.now }
+    {
+        match matches.get_str(name) {
+            Some(text) => OptionText::new(name, text),
+            None => OptionText::new(name, default),
+        }
     }
 
     /// Its name, without the two hyphens.
-    pub fn name(self) -> &'a str {
+    pub fn name(self) -> &'a str
+        ensures { result.now ≡ self.entry.name.now }
+    {
         self.name
     }
 
     /// The text of its value.
-    pub fn text(self) -> &'a str {
+    pub fn text(self) -> &'a str
+        ensures { result.now ≡ self.entry.text.now }
+    {
         self.text
     }
 }
 
 impl<'a> Console<'a> {
     /// The word that the option's value writes, of one to four hexadecimal digits.
-    pub fn word(self, option: OptionText<'_>) -> Result<u16, Reported> {
+    pub fn word(self, option: OptionText<'_>) -> Result<u16, Reported>
+        ensures word { let text = option.entry.text.now in IfOk result (λ word. IsWordText text × (word ≡ word_value text)) }
+        ensures fault { OnErr result (IsWordText option.entry.text.now → ⊥) }
+    {
         match word_of_digits(option.text) {
             Some(word) => Ok(word),
             None => Err(self.report_number(option, "one to four hexadecimal digits")),
@@ -54,7 +82,11 @@ impl<'a> Console<'a> {
     }
 
     /// The word of an option that needn't be given.
-    pub fn word_if_given(self, option: Option<OptionText<'_>>) -> Result<Option<u16>, Reported> {
+    pub fn word_if_given(self, option: Option<OptionText<'_>>) -> Result<Option<u16>, Reported>
+        ensures word { IfOk result (λ word. word ≡ option_map (λ given. word_value given.text.now) option.entry) }
+        ensures text { IfOk result (λ word. IfSome option.entry (λ given. IsWordText given.text.now)) }
+        ensures fault { OnErr result (IsSomeAnd option.entry (λ given. IsWordText given.text.now → ⊥)) }
+    {
         match option {
             Some(option) => Ok(Some(self.word(option)?)),
             None => Ok(None),
@@ -62,7 +94,10 @@ impl<'a> Console<'a> {
     }
 
     /// The number that the option's value writes, of one to five hexadecimal digits.
-    pub fn length(self, option: OptionText<'_>) -> Result<u32, Reported> {
+    pub fn length(self, option: OptionText<'_>) -> Result<u32, Reported>
+        ensures length { let text = option.entry.text.now in IfOk result (λ length. IsLengthText text × (length ≡ word_value text)) }
+        ensures fault { OnErr result (IsLengthText option.entry.text.now → ⊥) }
+    {
         match length_of_digits(option.text) {
             Some(length) => Ok(length),
             None => Err(self.report_number(option, "one to five hexadecimal digits")),
@@ -70,7 +105,10 @@ impl<'a> Console<'a> {
     }
 
     /// The byte that the option's value writes, of two hexadecimal digits.
-    pub fn byte(self, option: OptionText<'_>) -> Result<u8, Reported> {
+    pub fn byte(self, option: OptionText<'_>) -> Result<u8, Reported>
+        ensures byte { let text = option.entry.text.now in IfOk result (λ byte. IsByteText text × (byte ≡ word_value text)) }
+        ensures fault { OnErr result (IsByteText option.entry.text.now → ⊥) }
+    {
         match byte_of_digits(option.text) {
             Some(byte) => Ok(byte),
             None => Err(self.report_number(option, "two hexadecimal digits")),
@@ -78,7 +116,10 @@ impl<'a> Console<'a> {
     }
 
     /// The number that the option's value writes in decimal.
-    pub fn count(self, option: OptionText<'_>) -> Result<u64, Reported> {
+    pub fn count(self, option: OptionText<'_>) -> Result<u64, Reported>
+        ensures count { let text = option.entry.text.now in IfOk result (λ count. IsCountText text × (count ≡ count_value text)) }
+        ensures fault { OnErr result (IsCountText option.entry.text.now → ⊥) }
+    {
         match count_of_digits(option.text) {
             Some(count) => Ok(count),
             None => {
@@ -89,31 +130,30 @@ impl<'a> Console<'a> {
     }
 
     /// The name that the option's value is.
-    pub fn name(self, option: OptionText<'_>) -> Result<Name, Reported> {
+    pub fn name(self, option: OptionText<'_>) -> Result<Name, Reported>
+        ensures { IfOk result (λ name. name ≡ option.entry.text.now) }
+    {
         match Name::new(self.alloc(), option.text.as_bytes()) {
             Ok(name) => Ok(name),
-            Err(NameFault::BadName) => Err(self.report_name(option)),
+            Err(NameFault::BadName) => {
+                let wanted = "1 to 255 characters, 21 to 7E, without a blank";
+                Err(self.report_option(option, "BadName", wanted))
+            }
             Err(NameFault::Memory) => Err(self.report_memory()),
         }
     }
 
     /// Reports that the option's value isn't a number of its form.
     pub fn report_number(self, option: OptionText<'_>, wanted: &str) -> Reported {
-        let reported = self.report("BadNumber");
-        self.explain_option(option, wanted);
-        reported
+        self.report_option(option, "BadNumber", wanted)
     }
 
-    fn report_name(self, option: OptionText<'_>) -> Reported {
-        let reported = self.report(NameFault::BadName);
-        self.explain_option(option, "1 to 255 characters, 21 to 7E, without a blank");
-        reported
-    }
-
-    /// Says which option has which value, and what is wanted.
-    fn explain_option(self, option: OptionText<'_>, wanted: &str) {
+    /// Reports a fault of an option's value, and says which option has which value, and what is wanted.
+    fn report_option(self, option: OptionText<'_>, fault: &str, wanted: &str) -> Reported {
+        let reported = self.report(fault);
         if self.explains() {
             let _ = eprintln!(self.runtime(); "  --{} {}: {wanted}", option.name, option.text);
         }
+        reported
     }
 }

@@ -1,7 +1,12 @@
 //! What is wrong with a text of regions, in words.
 
+ghost use Rattle.std.specs.Prelude.{◌≡◌, ◌≢◌, IfOk, IfSome};
+ghost use Rattle.plm80_console.specs.Lines.{needs_version_2};
+ghost use Rattle.plm80_console.specs.RangeWords.{IsBehindKeyword, IsInWords};
+
 use crate::console::Console;
-use crate::line_words::line_of;
+use crate::file_kinds::FileRole;
+use crate::line_words::{UPPER_FLAWS, VERSION_FLAWS, line_of};
 use crate::number_text::word_of_digits;
 use image80::{Range, RegionsFault};
 use std::alloc::{AllocError, Global};
@@ -17,13 +22,15 @@ const NO_LINE: usize = 0;
 pub fn explain_regions(console: Console<'_>, text: &[u8], fault: RegionsFault) {
     match fault {
         RegionsFault::BadVersion => {
-            if !console.explain_regions_kind(text) {
-                console.explain_version(text);
+            if !console.explain_file(text, FileRole::Regions) {
+                console.explain_flaws(text, 1, VERSION_FLAWS);
             }
         }
         RegionsFault::BadLine(number) => {
-            console.explain_case_line(text, number);
-            console.explain_upper_line(text, number);
+            if needs_version_2(text, number) {
+                console.explain("a CASE line needs REGIONS 2 as the first line");
+            }
+            console.explain_flaws(text, number, UPPER_FLAWS);
         }
         RegionsFault::RegionsOverlap => console.explain_overlap(text),
         RegionsFault::NoStack | RegionsFault::Memory => {}
@@ -31,39 +38,38 @@ pub fn explain_regions(console: Console<'_>, text: &[u8], fault: RegionsFault) {
 }
 
 impl<'a> Console<'a> {
-    /// Says that the line of this number needs a text of version 2, if it is a CASE line of version 1.
-    fn explain_case_line(self, text: &[u8], number: usize) {
-        if let Some(line) = line_of(text, number) {
-            if text.starts_with(b"REGIONS 1\n") && line.bytes.starts_with(b"CASE ") {
-                self.explain("a CASE line needs REGIONS 2 as the first line");
-            }
-        }
-    }
-
     /// Says which two lines share an address. If memory runs out for that, it says nothing.
     fn explain_overlap(self, text: &[u8]) {
         if !self.explains() {
             return;
         }
         if let Ok(Some((first, second))) = overlapping_lines(self.alloc(), text) {
-            self.explain_numbered(text, first);
-            self.explain_numbered(text, second);
-        }
-    }
-
-    /// Prints the line of this number.
-    fn explain_numbered(self, text: &[u8], number: usize) {
-        let Some(line) = line_of(text, number) else {
-            return;
-        };
-        if let Ok(words) = str::from_utf8(line.bytes) {
-            let _ = eprintln!(self.runtime(); "  line {number}: {words}");
+            for number in [first, second] {
+                let Some(line) = line_of(text, number) else {
+                    continue;
+                };
+                if let Ok(words) = str::from_utf8(line.bytes) {
+                    let _ = eprintln!(self.runtime(); "  line {number}: {words}");
+                }
+            }
         }
     }
 }
 
+/// Whether the line of this number needs a text of version 2: a CASE line in one of version 1.
+fn needs_version_2(text: &[u8], number: usize) -> bool
+    ensures { result ≡ needs_version_2 text.now number }
+{
+    match line_of(text, number) {
+        Some(line) => text.starts_with(b"REGIONS 1\n") && line.bytes.starts_with(b"CASE "),
+        None => false,
+    }
+}
+
 /// The number of the first line that has an address of an earlier one, behind the number of that.
-fn overlapping_lines(alloc: Global, text: &[u8]) -> Result<Option<(usize, usize)>, AllocError> {
+fn overlapping_lines(alloc: Global, text: &[u8]) -> Result<Option<(usize, usize)>, AllocError>
+    ensures { IfOk result (λ found. IfSome found (λ lines. lines.0 ≢ NO_LINE)) }
+{
     let mut owners = vec![in alloc; NO_LINE; ADDRESSES]?;
     let mut number = NO_LINE;
     for line in text.split(|byte| *byte == b'\n') {
@@ -78,7 +84,9 @@ fn overlapping_lines(alloc: Global, text: &[u8]) -> Result<Option<(usize, usize)
 }
 
 /// Notes that the line of this number has the addresses of a range, up to the first one that an earlier line has; that line's number.
-fn take_range(owners: &mut Vec<usize>, range: Range, number: usize) -> Option<usize> {
+fn take_range(owners: &mut Vec<usize>, range: Range, number: usize) -> Option<usize>
+    ensures { IfSome result (λ earlier. earlier ≢ NO_LINE) }
+{
     let first = usize::from(range.first);
     for address in first..first + usize::from(range.length) {
         if let Some(owner) = owners.get_mut(address) {
@@ -92,8 +100,12 @@ fn take_range(owners: &mut Vec<usize>, range: Range, number: usize) -> Option<us
 }
 
 /// The range of a line CODE, STACK or DATA.
-fn range_of(line: &[u8]) -> Option<Range> {
-    let words = str::from_utf8(extent_of(line)?).ok()?;
+fn range_of(line: &[u8]) -> Option<Range>
+    ensures { IfSome result (IsInWords line.now) }
+{
+    let Ok(words) = str::from_utf8(extent_of(line)?) else {
+        return None;
+    };
     let (first, length) = words.split_once(' ')?;
     Some(Range {
         first: word_of_digits(first)?,
@@ -102,7 +114,9 @@ fn range_of(line: &[u8]) -> Option<Range> {
 }
 
 /// What stands behind the first word of such a line.
-fn extent_of(line: &[u8]) -> Option<&[u8]> {
+fn extent_of(line: &[u8]) -> Option<&[u8]>
+    ensures { IfSome result (λ extent. IsBehindKeyword line.now extent.now) }
+{
     if let Some(rest) = line.strip_prefix(b"CODE ") {
         return Some(rest);
     }

@@ -3,6 +3,10 @@
 //! A file is written beside its place, synced, and renamed, so that the place has the old file or the new one, never a part. A
 //! place that is no regular file with one link, or beside which no file of the same owner can be made, is written in place.
 
+ghost use Rattle.std.specs.Prelude.{◌≡◌, IfOk, string_bytes};
+ghost use Rattle.std.specs.IoError.{error_kind};
+ghost use Rattle.plm80_console.specs.Drafts.{IsBeginning, IsDraft, IsDraftOf, in_order, is_in_place};
+
 use crate::console::{Console, Reported};
 use crate::path_parts::folder_and_name;
 use std::alloc::AllocError;
@@ -32,8 +36,45 @@ pub(crate) enum Draft {
 }
 
 impl Draft {
-    fn is_in_place(&self) -> bool {
+    fn is_in_place(&self) -> bool
+        ensures { result ≡ is_in_place self.now }
+    {
         matches!(self, Draft::InPlace)
+    }
+}
+
+/// Two new files with their drafts.
+#[derive(Drop)]
+struct BothDrafts<'a> {
+    first: NewFile<'a>,
+    first_draft: Draft,
+    second: NewFile<'a>,
+    second_draft: Draft,
+}
+
+/// Both with the one first that is written in place, if only one is, since that may fail as it is written.
+fn in_order<'a>(
+    first: NewFile<'a>,
+    first_draft: Draft,
+    second: NewFile<'a>,
+    second_draft: Draft,
+) -> BothDrafts<'a>
+    ensures { result ≡ in_order first.entry first_draft second.entry second_draft }
+{
+    if second_draft.is_in_place() && !first_draft.is_in_place() {
+        BothDrafts {
+            first: second,
+            first_draft: second_draft,
+            second: first,
+            second_draft: first_draft,
+        }
+    } else {
+        BothDrafts {
+            first,
+            first_draft,
+            second,
+            second_draft,
+        }
     }
 }
 
@@ -45,13 +86,17 @@ enum DraftFault {
 }
 
 impl From<AllocError> for DraftFault {
-    fn from(_: AllocError) -> DraftFault {
+    fn from(_: AllocError) -> DraftFault
+        ensures { result ≡ DraftFault.Memory }
+    {
         DraftFault::Memory
     }
 }
 
 impl From<io::Error> for DraftFault {
-    fn from(error: io::Error) -> DraftFault {
+    fn from(error: io::Error) -> DraftFault
+        ensures { result ≡ DraftFault.System (error_kind error) }
+    {
         DraftFault::System(error.kind())
     }
 }
@@ -68,7 +113,12 @@ impl<'a> Console<'a> {
     pub fn replace_both(self, first: NewFile<'_>, second: NewFile<'_>) -> Result<(), Reported> {
         let first_draft = self.draft(first)?;
         match self.draft(second) {
-            Ok(second_draft) => self.settle_both(first, first_draft, second, second_draft),
+            Ok(second_draft) => self.settle_both(in_order(
+                first,
+                first_draft,
+                second,
+                second_draft,
+            )),
             Err(reported) => {
                 self.drop_draft(first_draft);
                 Err(reported)
@@ -76,44 +126,29 @@ impl<'a> Console<'a> {
         }
     }
 
-    /// Moves both drafts to their places: first one that is written in place, since that may fail as it is written.
-    fn settle_both(
-        self,
-        first: NewFile<'_>,
-        first_draft: Draft,
-        second: NewFile<'_>,
-        second_draft: Draft,
-    ) -> Result<(), Reported> {
-        if second_draft.is_in_place() && !first_draft.is_in_place() {
-            self.settle_in_order(second, second_draft, first, first_draft)
-        } else {
-            self.settle_in_order(first, first_draft, second, second_draft)
-        }
-    }
-
-    /// Moves the first draft to its place, and then the second one.
-    fn settle_in_order(
-        self,
-        first: NewFile<'_>,
-        first_draft: Draft,
-        second: NewFile<'_>,
-        second_draft: Draft,
-    ) -> Result<(), Reported> {
-        match self.settle(first, first_draft) {
-            Ok(()) => self.settle(second, second_draft),
+    /// Moves both drafts to their places, in their order.
+    fn settle_both(self, both: BothDrafts<'_>) -> Result<(), Reported> {
+        match self.settle(both.first, both.first_draft) {
+            Ok(()) => self.settle(both.second, both.second_draft),
             Err(reported) => {
-                self.drop_draft(second_draft);
+                self.drop_draft(both.second_draft);
                 Err(reported)
             }
         }
     }
 
     /// Writes the file beside its place, if it can be renamed from there.
-    pub(crate) fn draft(self, file: NewFile<'_>) -> Result<Draft, Reported> {
+    pub(crate) fn draft(self, file: NewFile<'_>) -> Result<Draft, Reported>
+        ensures { IfOk result (IsDraftOf file.entry.path.now) }
+    {
         match self.try_draft(file) {
             Ok(draft) => Ok(draft),
             Err(DraftFault::Memory) => Err(self.report_memory()),
-            Err(DraftFault::System(kind)) => Err(self.report_unwritten(file.path, kind)),
+            Err(DraftFault::System(kind)) => Err(self.report_system(
+                file.path,
+                "Write",
+                Some(kind),
+            )),
         }
     }
 
@@ -127,7 +162,7 @@ impl<'a> Console<'a> {
             Ok(()) => Ok(()),
             Err(error) => {
                 self.drop_draft(draft);
-                Err(self.report_unwritten(file.path, error.kind()))
+                Err(self.report_system(file.path, "Write", Some(error.kind())))
             }
         }
     }
@@ -139,11 +174,10 @@ impl<'a> Console<'a> {
         }
     }
 
-    pub(crate) fn report_unwritten(self, path: &str, kind: ErrorKind) -> Reported {
-        self.report_system(path, "Write", Some(kind))
-    }
-
-    fn try_draft(self, file: NewFile<'_>) -> Result<Draft, DraftFault> {
+    /// The same, or why there is none.
+    fn try_draft(self, file: NewFile<'_>) -> Result<Draft, DraftFault>
+        ensures { IfOk result (IsDraftOf file.entry.path.now) }
+    {
         let old = match self.replaced(file.path)? {
             Replaced::Nothing => None,
             Replaced::File(metadata) => Some(metadata),
@@ -179,7 +213,9 @@ impl<'a> Console<'a> {
         beside: String,
         bytes: &[u8],
         old: Option<Metadata>,
-    ) -> Result<Draft, DraftFault> {
+    ) -> Result<Draft, DraftFault>
+        ensures { IfOk result (IsDraft (string_bytes beside)) }
+    {
         let draft = Draft::Beside(beside);
         if let Some(old) = old
             && !has_place_of(&target, &old)
@@ -220,7 +256,9 @@ enum Replaced {
 }
 
 /// The path, with no more of its file's name than a draft's name begins with.
-fn with_short_name(path: &str) -> &str {
+fn with_short_name(path: &str) -> &str
+    ensures { IsBeginning path.now result.now }
+{
     let (_, name) = folder_and_name(path);
     let end = path
         .len()

@@ -1,5 +1,9 @@
 //! Whether two paths name one file.
 
+ghost use Rattle.std.specs.Prelude.{◌≡◌, ◌==◌, ◌&&◌, IfSome};
+ghost use Rattle.std.specs.Str.{bytes_eq};
+ghost use Rattle.plm80_console.specs.Places.{IsNewFile, is_one_place};
+
 use crate::path_parts::folder_and_name;
 use std::fs;
 use std::fs::Metadata;
@@ -17,7 +21,9 @@ pub(crate) enum Comparison<'a> {
 
 impl<'a> Comparison<'a> {
     /// Whether the paths are one.
-    pub(crate) fn is_one(self, first: &str, second: &str) -> bool {
+    pub(crate) fn is_one(self, first: &str, second: &str) -> bool
+        ensures { self.entry ≡ Comparison.Letters → result ≡ bytes_eq first.now second.now }
+    {
         match self {
             Comparison::Letters => first == second,
             Comparison::Files(rt) => match (place_of(rt, first), place_of(rt, second)) {
@@ -43,7 +49,10 @@ impl Node {
         }
     }
 
-    fn is(self, other: Node) -> bool {
+    /// Whether both are one file or folder.
+    fn is(self, other: Node) -> bool
+        ensures { result ≡ (self.device == other.device && self.number == other.number) }
+    {
         self.device == other.device && self.number == other.number
     }
 }
@@ -58,13 +67,16 @@ enum Place<'a> {
 }
 
 impl<'a> Place<'a> {
-    fn is(self, other: Place<'_>) -> bool {
+    /// Whether both are one file.
+    fn is(self, other: Place<'_>) -> bool
+        ensures { result ≡ is_one_place self.entry other.entry }
+    {
         match (self, other) {
             (Place::File(node), Place::File(other)) => node.is(other),
             (Place::NewFile(folder, name), Place::NewFile(other, other_name)) => {
                 folder.is(other) && name == other_name
             }
-            _ => false,
+            (Place::File(_), Place::NewFile(..)) | (Place::NewFile(..), Place::File(_)) => false,
         }
     }
 }
@@ -79,7 +91,9 @@ fn place_of<'m>(rt: &HostRuntime, path: &'m str) -> Option<Place<'m>> {
 }
 
 /// The file that would be made at the path; `None` if there can be none.
-fn new_file<'m>(rt: &HostRuntime, path: &'m str) -> Option<Place<'m>> {
+fn new_file<'m>(rt: &HostRuntime, path: &'m str) -> Option<Place<'m>>
+    ensures { IfSome result IsNewFile }
+{
     let (folder, name) = folder_and_name(path);
     if name == "" || name == "." || name == ".." {
         return None;

@@ -1,5 +1,13 @@
 //! Paths that two arguments of a command share.
 
+ghost use Rattle.std.specs.Prelude.{◌≡◌, true, false, option_map, string_bytes, IfErr, IfOk, IfNone, IfSome, OnOk};
+ghost use Rattle.std.specs.List.{list_any};
+ghost use Rattle.std.specs.Str.{bytes_eq};
+ghost use Rattle.plm80_console.specs.ApartPaths.{AreApart, IsApart, IsApartFrom, has_path, path_to_write, stands_behind};
+ghost use Rattle.plm80_console.specs.Kinds.{may_replace, names_no_file, shown_text};
+ghost use Rattle.plm80_console.specs.Refusals.{IsConflict};
+ghost use Rattle.plm80_console.specs.SharedPaths.{IsWrittenBy};
+
 use crate::same_file::Comparison;
 use crate::syntax::{Argument, Kind, Syntax};
 use clap::error::ErrorKind;
@@ -13,7 +21,10 @@ impl<'a> Syntax<'a> {
         &self,
         rt: &HostRuntime,
         matches: &ArgMatches<'_>,
-    ) -> Result<(), Error> {
+    ) -> Result<(), Error>
+        ensures apart { OnOk result (AreApart matches.now self.now.arguments.now) }
+        ensures conflict { IfErr result IsConflict }
+    {
         if let Some(shared) = self.shared_path(matches, Comparison::Letters) {
             return Err(self.refusal(rt.alloc(), shared)?);
         }
@@ -28,7 +39,10 @@ impl<'a> Syntax<'a> {
         &self,
         matches: &ArgMatches<'m>,
         comparison: Comparison<'_>,
-    ) -> Option<SharedPath<'m, 'a>> {
+    ) -> Option<SharedPath<'m, 'a>>
+        ensures shared { IfSome result (IsWrittenBy matches.now) }
+        ensures apart { comparison.entry ≡ Comparison.Letters → IfNone result (AreApart matches.now self.now.arguments.now) }
+    {
         for index in 0..self.arguments.len() {
             if let Some(shared) = self.shared_by(matches, comparison, index) {
                 return Some(shared);
@@ -38,19 +52,20 @@ impl<'a> Syntax<'a> {
     }
 
     /// The path of the argument with this index, if it is that of a file to write and another argument has it too.
+    #[tactic(auto, using(crate::proofs::SharedLemmas::is_written_by))]
     fn shared_by<'m>(
         &self,
         matches: &ArgMatches<'m>,
         comparison: Comparison<'_>,
         index: usize,
-    ) -> Option<SharedPath<'m, 'a>> {
+    ) -> Option<SharedPath<'m, 'a>>
+        ensures shared { IfSome result (IsWrittenBy matches.now) }
+        ensures apart { comparison.entry ≡ Comparison.Letters → IfNone result (IsApart matches.now self.now.arguments.now index) }
+    {
         let written = *self.arguments.get(index)?;
         let path = written.path_to_write(matches)?;
         for (other, argument) in self.arguments.iter().enumerate() {
-            if other != index
-                && !written.may_replace(argument)
-                && argument.has_path(matches, comparison, path)
-            {
+            if other != index && written.shares(path, argument, matches, comparison) {
                 return Some(SharedPath {
                     path,
                     written,
@@ -62,7 +77,9 @@ impl<'a> Syntax<'a> {
     }
 
     /// The error of a path that two arguments share, as clap prints errors of this command.
-    fn refusal(&self, alloc: Global, shared: SharedPath<'_, 'a>) -> Result<Error, AllocError> {
+    fn refusal(&self, alloc: Global, shared: SharedPath<'_, 'a>) -> Result<Error, AllocError>
+        ensures { IfOk result IsConflict }
+    {
         let (written, other) = (shared.written.shown(alloc)?, shared.other.shown(alloc)?);
         let text = format!(in alloc;
             "the path '{}' of '{written}', which is written, is also that of '{other}'",
@@ -85,26 +102,64 @@ struct SharedPath<'m, 'a> {
 
 impl<'a> Argument<'a> {
     /// The path that is given here, if it is that of a file to write.
-    fn path_to_write<'m>(&self, matches: &ArgMatches<'m>) -> Option<&'m str> {
+    fn path_to_write<'m>(&self, matches: &ArgMatches<'m>) -> Option<&'m str>
+        ensures { option_map (λ path. path.now) result ≡ path_to_write matches.now self.now }
+    {
         match self.kind {
             Kind::Written
             | Kind::WrittenOption(_)
             | Kind::WrittenIfGiven(_)
             | Kind::Replaced { .. } => matches.get_str(self.name),
-            _ => None,
+            Kind::Path
+            | Kind::Paths
+            | Kind::Words
+            | Kind::Required(_)
+            | Kind::Number(_)
+            | Kind::Count(_)
+            | Kind::Flag
+            | Kind::PathsAt(_) => None,
         }
     }
 
     /// Whether the file that this argument writes may be that of the other one, which it reads.
-    fn may_replace(&self, other: &Argument<'_>) -> bool {
+    fn may_replace(&self, other: &Argument<'_>) -> bool
+        ensures { result ≡ may_replace self.now.kind other.now.name.now }
+    {
         match self.kind {
             Kind::Replaced { old, .. } => other.name == old,
-            _ => false,
+            Kind::Path
+            | Kind::Paths
+            | Kind::Words
+            | Kind::Written
+            | Kind::WrittenOption(_)
+            | Kind::WrittenIfGiven(_)
+            | Kind::Required(_)
+            | Kind::Number(_)
+            | Kind::Count(_)
+            | Kind::Flag
+            | Kind::PathsAt(_) => false,
         }
     }
 
+    /// Whether the other argument has the path of the file that this one writes, which may not be.
+    fn shares(
+        &self,
+        path: &str,
+        other: &Argument<'_>,
+        matches: &ArgMatches<'_>,
+        comparison: Comparison<'_>,
+    ) -> bool
+        ensures replaced { result ≡ true → may_replace self.now.kind other.now.name.now ≡ false }
+        ensures apart { comparison.entry ≡ Comparison.Letters → result ≡ false → IsApartFrom matches.now self.now path.now other.now }
+    {
+        !self.may_replace(other) && other.has_path(matches, comparison, path)
+    }
+
     /// Whether the path is given here.
-    fn has_path(&self, matches: &ArgMatches<'_>, comparison: Comparison<'_>, path: &str) -> bool {
+    fn has_path(&self, matches: &ArgMatches<'_>, comparison: Comparison<'_>, path: &str) -> bool
+        ensures no_file { names_no_file self.now.kind ≡ true → result ≡ false }
+        ensures letters { comparison.entry ≡ Comparison.Letters → result ≡ has_path self.now.kind matches.now self.now.name.now path.now }
+    {
         match self.kind {
             Kind::Path
             | Kind::Written
@@ -116,7 +171,7 @@ impl<'a> Argument<'a> {
             },
             Kind::Paths => is_among(comparison, matches.get_strs(self.name).unwrap_or(&[]), path),
             Kind::PathsAt(_) => {
-                is_in_values(comparison, matches.get_strs(self.name).unwrap_or(&[]), path)
+                is_behind(comparison, matches.get_strs(self.name).unwrap_or(&[]), path)
             }
             Kind::Words | Kind::Required(_) | Kind::Number(_) | Kind::Count(_) | Kind::Flag =>
                 false,
@@ -124,7 +179,9 @@ impl<'a> Argument<'a> {
     }
 
     /// The argument as clap's errors show it.
-    fn shown(&self, alloc: Global) -> Result<String, AllocError> {
+    fn shown(&self, alloc: Global) -> Result<String, AllocError>
+        ensures { IfOk result (λ shown. string_bytes shown ≡ shown_text self.now.kind self.now.name.now) }
+    {
         match self.kind {
             Kind::Path | Kind::Written => format!(in alloc; "<{}>", self.name),
             Kind::Paths | Kind::Words => format!(in alloc; "<{}>...", self.name),
@@ -141,9 +198,11 @@ impl<'a> Argument<'a> {
 }
 
 /// Whether the path is one of these.
-fn is_among(comparison: Comparison<'_>, paths: &[&str], path: &str) -> bool {
-    for other in paths {
-        if comparison.is_one(other, path) {
+fn is_among(comparison: Comparison<'_>, paths: &[&str], path: &str) -> bool
+    ensures { comparison.entry ≡ Comparison.Letters → result ≡ list_any (λ own. bytes_eq own.now path.now) paths.now }
+{
+    for own in paths {
+        if comparison.is_one(own, path) {
             return true;
         }
     }
@@ -151,13 +210,23 @@ fn is_among(comparison: Comparison<'_>, paths: &[&str], path: &str) -> bool {
 }
 
 /// Whether the path is that of one of these values, each a number, an equals sign and a path.
-fn is_in_values(comparison: Comparison<'_>, values: &[&str], path: &str) -> bool {
+fn is_behind(comparison: Comparison<'_>, values: &[&str], path: &str) -> bool
+    ensures { comparison.entry ≡ Comparison.Letters → result ≡ list_any (λ value. stands_behind value.now path.now) values.now }
+{
     for value in values {
-        if let Some((_, of_value)) = value.split_once('=')
-            && comparison.is_one(of_value, path)
-        {
+        if is_path_of(comparison, value, path) {
             return true;
         }
     }
     false
+}
+
+/// Whether the path stands behind the first equals sign of a value.
+fn is_path_of(comparison: Comparison<'_>, value: &str, path: &str) -> bool
+    ensures { comparison.entry ≡ Comparison.Letters → result ≡ stands_behind value.now path.now }
+{
+    match value.split_once('=') {
+        Some((_, own)) => comparison.is_one(own, path),
+        None => false,
+    }
 }

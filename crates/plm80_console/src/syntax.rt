@@ -1,6 +1,9 @@
 //! A command for clap: its name, its help text and its arguments, as a table.
 
-use clap::{Arg, ArgAction, ArgMatches, Command};
+ghost use Rattle.std.specs.Prelude.{◌≡◌, Some, true};
+ghost use Rattle.plm80_console.specs.Kinds.{is_required};
+
+use clap::{Arg, ArgAction, Command};
 use std::alloc::{AllocError, Global};
 
 /// A command of the program.
@@ -53,11 +56,6 @@ pub enum Kind<'a> {
 }
 
 impl<'a> Syntax<'a> {
-    /// The program with this command.
-    pub fn add_to(&self, alloc: Global, program: Command<'a>) -> Result<Command<'a>, AllocError> {
-        program.subcommand(self.command(alloc)?)
-    }
-
     /// The command with its arguments, for clap.
     pub fn command(&self, alloc: Global) -> Result<Command<'a>, AllocError> {
         let mut command = Command::new(alloc, self.name)
@@ -77,13 +75,12 @@ pub const WHY: Argument<'static> = Argument {
     help: "Say below a fault what is wrong, in words",
 };
 
-/// The text of an argument that clap requires.
-pub fn path_of<'a>(matches: &ArgMatches<'a>, name: &str) -> &'a str {
-    matches.get_str(name).unwrap_or("")
-}
-
 impl<'a> Argument<'a> {
-    fn arg(&self, alloc: Global) -> Arg<'a> {
+    /// The argument for clap.
+    fn arg(&self, alloc: Global) -> Arg<'a>
+        ensures name { result.id ≡ self.now.name }
+        ensures required { result.required ≡ is_required self.now.kind }
+    {
         let arg = Arg::new(alloc, self.name).help(self.help);
         match self.kind {
             Kind::Path | Kind::Written => arg.required(true),
@@ -102,6 +99,8 @@ impl<'a> Argument<'a> {
 }
 
 /// An option of this name, whose value the help text calls by this word, whatever it begins with.
-fn option<'a>(arg: Arg<'a>, name: &'a str, value: &'a str) -> Arg<'a> {
+fn option<'a>(arg: Arg<'a>, name: &'a str, value: &'a str) -> Arg<'a>
+    ensures { result ≡ record arg.entry { long = Some name.entry; val_names = result.val_names; allow_hyphen_values = true } }
+{
     arg.long(name).value_name(value).allow_hyphen_values(true)
 }

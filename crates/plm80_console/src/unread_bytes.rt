@@ -1,5 +1,9 @@
 //! Bytes of an object file that aren't read, in words.
 
+ghost use Rattle.std.specs.Prelude.{◌≡◌, ◌==◌, ◌||◌, Some, IfSome, slice_get};
+ghost use Rattle.std.specs.List.{list_all};
+ghost use Rattle.plm80_console.specs.UnreadBytes.{IsBehindEnd, after_record};
+
 use crate::console::Console;
 use omf_core::RecordKind;
 
@@ -30,12 +34,16 @@ impl<'a> Console<'a> {
 }
 
 /// Whether bytes only fill up a file.
-fn is_filling(bytes: &[u8]) -> bool {
+fn is_filling(bytes: &[u8]) -> bool
+    ensures { result ≡ list_all (λ byte. byte == 0 || byte == 0x1A) bytes.now }
+{
     bytes.iter().all(|byte| *byte == 0 || *byte == CONTROL_Z)
 }
 
 /// The bytes behind the end record; none if there is no such record.
-fn behind_end(bytes: &[u8]) -> &[u8] {
+fn behind_end(bytes: &[u8]) -> &[u8]
+    ensures { IsBehindEnd bytes.now result.now }
+{
     let mut rest = bytes;
     // A record has four bytes at least.
     for _ in 0..bytes.len() {
@@ -49,7 +57,10 @@ fn behind_end(bytes: &[u8]) -> &[u8] {
 }
 
 /// The type of the record with which these bytes begin, and the bytes behind it.
-fn after_record(bytes: &[u8]) -> Option<(u8, &[u8])> {
+fn after_record(bytes: &[u8]) -> Option<(u8, &[u8])>
+    ensures kind { IfSome result (λ found. slice_get bytes.now 0 ≡ Some found.0) }
+    ensures after { IfSome result (λ found. found.1.now ≡ after_record bytes.now) }
+{
     let [kind, low, high, body @ ..] = bytes else {
         return None;
     };

@@ -1,1 +1,2 @@
 pub mod PrintedLemmas
+pub mod VerdictLemmas

@@ -6,8 +6,9 @@
 //! |---|---|
 //! | [`NAMES`] | the option by which names are printed |
 //! | [`NamedFiles`], [`NAMED_FILES`] | the image, its regions and its names, which several commands read |
+//! | [`ProgramTexts`] | the same, from what the files have |
 //! | [`Names`] | the names of an image's addresses, put into texts |
-//! | [`vouch_with_names`], [`named_refusal`] | an image that is verified, or its refusal with a name |
+//! | [`judge`], [`Verdict`], [`named_refusal`] | what the verifier says of an image: it is accepted, or its refusal with a name |
 //! | [`named_report`], [`named_refusal_report`] | the report on an image, or its refusal and its procedures, with their names |
 #![tactic(auto)]
 
@@ -16,7 +17,7 @@ mod names;
 mod refusing;
 mod reports;
 
-pub use named_files::{NAMED_FILES, NAMES, NamedFiles};
+pub use named_files::{NAMED_FILES, NAMES, NamedFiles, ProgramTexts};
 pub use names::Names;
-pub use refusing::{named_refusal, vouch_with_names};
+pub use refusing::{Verdict, judge, named_refusal};
 pub use reports::{named_refusal_report, named_report};

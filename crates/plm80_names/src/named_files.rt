@@ -1,10 +1,18 @@
 //! The image, its regions and its names, which several commands read.
 
+ghost use Rattle.std.specs.Prelude.{◌≡◌, IfOk};
+ghost use Rattle.image80.specs.RegionsText.{Spells};
+ghost use Rattle.image80_file.specs.ImageFile.{SpellsImage, without_regions};
+ghost use Rattle.plm80_names.specs.Printed.{AreNamesOf};
+ghost use Rattle.plm80_names.specs.Arguments.{AreNamedFiles};
+ghost use Rattle.plm80_names.specs.Verdict.{AreOfFiles};
+
 use crate::names::Names;
 use clap::ArgMatches;
 use image80::Image;
 use plm80_console::{
-    Argument, Console, IMAGE, Kind, ProgramFiles, REGIONS, Reported, image_of, regions_of,
+    Argument, Console, IMAGE, Kind, REGIONS, ReadFile, Reported, argument_text, image_of,
+    regions_of,
 };
 
 /// The option by which names are printed.
@@ -20,27 +28,73 @@ pub const NAMED_FILES: &[Argument<'static>] = &[IMAGE, REGIONS, NAMES];
 /// The paths of an image and of its regions, and whether names are printed.
 #[derive(Clone, Copy)]
 pub struct NamedFiles<'a> {
-    files: ProgramFiles<'a>,
+    image: &'a str,
+    regions: &'a str,
     names: bool,
+}
+
+/// The bytes of an image's file and the text of its regions, each with its path.
+#[derive(Drop)]
+pub struct ProgramTexts<'a> {
+    pub image: ReadFile<'a>,
+    pub regions: ReadFile<'a>,
 }
 
 impl<'a> NamedFiles<'a> {
     /// The arguments as clap has read them.
-    pub fn of(matches: &ArgMatches<'a>) -> NamedFiles<'a> {
+    pub fn of(matches: &ArgMatches<'a>) -> NamedFiles<'a>
+        ensures { AreNamedFiles matches.now result }
+    {
         NamedFiles {
-            files: ProgramFiles::of(matches),
-            names: matches.get_flag(NAMES.name),
+            image: argument_text(matches, "IMAGE"),
+            regions: argument_text(matches, "REGIONS"),
+            names: matches.get_flag("names"),
         }
     }
 
     /// The image with its regions, as the files have them, and its names if they are asked for. Both files are read before one is
     /// checked.
-    pub fn read(self, console: Console<'_>) -> Result<(Image, Names), Reported> {
-        let bytes = console.read_whole(self.files.image_path())?;
-        let text = console.read_whole(self.files.regions_path())?;
-        let regions = regions_of(console, self.files.regions_path(), &text)?;
-        let image = image_of(console, self.files.image_path(), &bytes, regions)?;
-        let names = Names::of(console, self.names, self.files.image_path(), &bytes)?;
+    pub fn read(self, console: Console<'_>) -> Result<(Image, Names), Reported>
+        ensures { IfOk result (λ read. AreOfFiles self.entry.names read.0 read.1) }
+    {
+        let texts = self.texts(console)?;
+        texts.program(console, self.names)
+    }
+
+    /// Both files.
+    fn texts(self, console: Console<'_>) -> Result<ProgramTexts<'a>, Reported>
+        ensures image { IfOk result (λ texts. texts.image.path.now ≡ self.entry.image.now) }
+        ensures regions { IfOk result (λ texts. texts.regions.path.now ≡ self.entry.regions.now) }
+    {
+        ProgramTexts::read(console, self.image, self.regions)
+    }
+}
+
+impl<'a> ProgramTexts<'a> {
+    /// Both files, the image first.
+    pub fn read(
+        console: Console<'_>,
+        image: &'a str,
+        regions: &'a str,
+    ) -> Result<ProgramTexts<'a>, Reported>
+        ensures image { IfOk result (λ texts. texts.image.path.now ≡ image.now) }
+        ensures regions { IfOk result (λ texts. texts.regions.path.now ≡ regions.now) }
+    {
+        let image = console.read_file(image)?;
+        let regions = console.read_file(regions)?;
+        Ok(ProgramTexts { image, regions })
+    }
+
+    /// The image of the one file, with the regions that the text of the other one spells, and its names if they are asked for. The
+    /// regions are checked first.
+    pub fn program(&self, console: Console<'_>, asked: bool) -> Result<(Image, Names), Reported>
+        ensures contents { IfOk result (λ read. SpellsImage self.now.image.bytes.items (without_regions read.0)) }
+        ensures regions { IfOk result (λ read. Spells self.now.regions.bytes.items read.0.regions) }
+        ensures names { IfOk result (λ read. AreNamesOf asked self.now.image.bytes.items read.1) }
+    {
+        let areas = regions_of(console, self.regions.path, &self.regions.bytes)?;
+        let image = image_of(console, self.image.path, &self.image.bytes, areas)?;
+        let names = Names::of(console, asked, self.image.path, &self.image.bytes)?;
         Ok((image, names))
     }
 }

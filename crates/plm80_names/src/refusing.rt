@@ -1,48 +1,52 @@
-//! Refusals with the names of their addresses.
+//! What the verifier says of an image, with the names of addresses.
 
-ghost use Rattle.std.specs.Prelude.{◌≡◌, IfOk};
+ghost use Rattle.std.specs.Prelude.{◌≡◌, ◌≢◌, IfOk, OnOk};
+ghost use Rattle.verify80_flow.specs.declared.refusal.Refusal.TheVariants.{Memory};
 ghost use Rattle.plm80_names.specs.Printed.{named_refusal_line};
+ghost use Rattle.plm80_names.specs.Verdict.{IsVerdict};
 
 use crate::names::Names;
 use image80::Image;
 use loader80::{Refusal, Vouched, refusal_text, vouch};
-use plm80_console::{Console, Reported};
 use std::alloc::{AllocError, Global};
 
-/// The image as one that was vouched for, or the exit status after its refusal was printed, with a name behind it.
-pub fn vouch_with_names(
-    console: Console<'_>,
-    image: Image,
-    names: &Names,
-) -> Result<Result<Vouched, u8>, Reported> {
-    match vouch(console.alloc(), image) {
-        Ok(vouched) => Ok(Ok(vouched)),
-        Err((image, refusal)) => Ok(Err(print_refusal(console, &image, refusal, names)?)),
+/// What the verifier says of an image.
+#[derive(Drop)]
+pub enum Verdict {
+    /// It is accepted.
+    Accepted(Vouched),
+    /// It is refused: the line of its refusal, with the name of the address.
+    Refused(Vec<u8>),
+}
+
+/// Verifies an image.
+///
+/// # Errors
+/// `AllocError` only if memory runs out; that is no answer about the image.
+pub fn judge(alloc: Global, image: Image, names: &Names) -> Result<Verdict, AllocError>
+    ensures { IfOk result (IsVerdict image names.now) }
+{
+    match vouch(alloc, image) {
+        Ok(vouched) => Ok(Verdict::Accepted(vouched)),
+        Err((image, refusal)) => {
+            let line = named_refusal(alloc, &image, refusal, names)?;
+            Ok(Verdict::Refused(line))
+        }
     }
 }
 
-/// Prints the line of a refusal with its name, and gives the exit status. Out of memory is no answer about the image.
-fn print_refusal(
-    console: Console<'_>,
-    image: &Image,
-    refusal: Refusal,
-    names: &Names,
-) -> Result<u8, Reported> {
-    let Ok(text) = named_refusal(console.alloc(), image, refusal, names) else {
-        return Err(console.report_memory());
-    };
-    console.print(&text)?;
-    Ok(1)
-}
-
-/// The line of a refusal, with the name of its address behind it; out of memory is no answer about the image.
+/// The line of a refusal, with the name of its address behind it.
+///
+/// # Errors
+/// `AllocError` only if memory runs out, or has run out: that refusal has no line.
 pub fn named_refusal(
     alloc: Global,
     image: &Image,
     refusal: Refusal,
     names: &Names,
 ) -> Result<Vec<u8>, AllocError>
-    ensures { IfOk result (λ text. text.items ≡ named_refusal_line image.now.regions.code names.now refusal) }
+    ensures line { IfOk result (λ text. text.items ≡ named_refusal_line image.now.regions.code names.now refusal) }
+    ensures no_memory { OnOk result (refusal ≢ Memory) }
 {
     if let Refusal::Memory = refusal {
         return Err(AllocError);

@@ -1,1 +1,5 @@
-pub mod FindLemmas
+mod FindLemmas
+mod LinkLemmas
+mod PathLemmas
+mod RomFileLemmas
+mod StatusLemmas

@@ -1,12 +1,18 @@
 -- What `compare` prints of an image and a dump.
 -- (The form of the lines and the status are this project's own.)
-use Rattle.std.specs.Prelude.{◌≡◌, ℕ, List, [], ◌∷◌, codes}
+use Rattle.std.specs.Prelude.{◌≡◌, ℕ, List, [], ◌∷◌, length, codes}
 use Rattle.omf_parts.specs.declared.symbols.Public.{Public}
 use Rattle.image80.specs.declared.range.Range.{Range}
+use Rattle.image80.specs.Image.{Located}
+use Rattle.image80_file.specs.ImageFile.{SpellsImage, without_regions}
 use Rattle.image80_text.specs.NameText.{named_text}
 use Rattle.rom80.specs.declared.comparing.Difference.{Difference}
 use Rattle.rom80.specs.Compare.{AreDifferences, comparison_text}
+use Rattle.rom80.specs.Rom.{bytes_over}
 use Rattle.plm80_console.specs.Answer.{AnswerValue, prints}
+use Rattle.plm80_console.specs.NumberText.{word_value}
+use Rattle.plm80_names.specs.Printed.{AreNamesOf}
+use Rattle.plm80_objects.specs.declared.compare.CompareArguments.{CompareArguments}
 
 -- all addresses but FFFF, and FFFF: a name is that of the greatest public at or below an address, whatever the regions
 abbrev pub whole_memory : List Range
@@ -23,3 +29,19 @@ pub record PrintsDifferences (image dump : List ℕ) (first : ℕ) (publics : Li
   pub are : AreDifferences image dump first ranges
   pub answer_is : answer ≡ prints (named_text whole_memory publics (codes "DIFFERS ") (comparison_text image dump first ranges))
       (status_of ranges)
+
+-- the exit status of `compare`: that of what is printed of an image's file and of a dump, by the options
+pub record IsCompareStatus (arguments : CompareArguments) (status : ℕ) : Type 0 where
+  pub first : ℕ
+  pub first_is : first ≡ word_value arguments.first.text.now
+  pub fill : ℕ
+  pub fill_is : fill ≡ word_value arguments.fill.text.now
+  pub file : List ℕ
+  pub dump : List ℕ
+  pub image : Located
+  pub contents : SpellsImage file (without_regions image)
+  pub publics : List Public
+  pub names : AreNamesOf arguments.names file publics
+  pub answer : AnswerValue
+  pub answer_is : PrintsDifferences (bytes_over fill image.chunks first (length dump)) dump first publics answer
+  pub status_is : status ≡ answer.status

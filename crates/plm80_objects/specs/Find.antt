@@ -6,6 +6,8 @@ use Rattle.rom80_find.specs.Found.{PrintsMembers, PrintsModules}
 use Rattle.plm80_console.specs.declared.link_feed.LinkFile.{LinkFile}
 use Rattle.plm80_console.specs.declared.link_feed.LinkFile.TheVariants.{Modules, Library}
 use Rattle.plm80_console.specs.Answer.{AnswerValue, prints}
+use Rattle.plm80_console.specs.NumberText.{word_value}
+use Rattle.plm80_objects.specs.declared.find.FindArguments.{FindArguments}
 
 -- what is found of a file's modules behind a text, and whether all of an object file's are there; of a library's some may be missing
 abbrev pub PrintsFile : DumpValue → LinkFile → (are_there : Bool) → (before after : List ℕ) → Type 0
@@ -29,3 +31,16 @@ pub record PrintsFound (dump : DumpValue) (files : List LinkFile) (answer : Answ
   pub text : List ℕ
   pub found : PrintsFiles dump files are_there text
   pub answer_is : answer ≡ prints text (status_of are_there)
+
+-- the exit status of `find`: that of what is printed of a dump and of files
+pub record IsStatusIn (dump : DumpValue) (status : ℕ) : Type 0 where
+  pub files : List LinkFile
+  pub answer : AnswerValue
+  pub answer_is : PrintsFound dump files answer
+  pub status_is : status ≡ answer.status
+
+-- of a dump from the option's first address on
+pub record IsFindStatus (arguments : FindArguments) (status : ℕ) : Type 0 where
+  pub dump : DumpValue
+  pub first_is : dump.first ≡ word_value arguments.first.text.now
+  pub is : IsStatusIn dump status

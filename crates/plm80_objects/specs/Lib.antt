@@ -1,7 +1,8 @@
 pub mod Arguments
--- what the crate's own functions promise one another: no public contract cites these
-pub mod Locate
-pub mod RomFaults
 pub mod Compare
 pub mod Find
+-- what the crate's own functions promise one another: no public contract cites these
+pub mod Link
+pub mod Locate
+pub mod RomFaults
 pub mod Absolute

@@ -1,8 +1,9 @@
 //! `plm80 absolute`: the image of bytes as they are.
 
-ghost use Rattle.std.specs.Prelude.{◌≡◌, ◌++◌, IfOk, IfErr, OnOk};
+ghost use Rattle.std.specs.Prelude.{◌≡◌, ◌+◌, ◌<◌, ◌≤◌, ◌↔◌, ◌++◌, ◌∷◌, [], IsTrue, IfOk, IfErr, OnOk};
 ghost use Rattle.rom80.specs.Rom.{chunks_of};
-ghost use Rattle.plm80_objects.specs.Absolute.{IsRomFile, WritesImage};
+ghost use Rattle.plm80_objects.specs.Absolute.{AreRomFiles, IsRomFile, WritesImage};
+ghost use Rattle.plm80_objects.specs.Arguments.{AreAbsoluteArguments};
 ghost use Rattle.plm80_objects.specs.RomFaults.{IsRefusedWith};
 
 use crate::helpers::rom_faults::report_rom_fault;
@@ -10,8 +11,8 @@ use clap::ArgMatches;
 use image80_file::write_image;
 use omf_core::Name;
 use plm80_console::{
-    Answer, Argument, Console, FaultOf, Kind, OptionText, ReadFile, Reported, Syntax, path_of,
-    word_of_digits,
+    Answer, Argument, Console, FaultOf, Kind, OptionText, ReadFile, Reported, Syntax,
+    argument_text, argument_values, word_of_digits,
 };
 use rom80::{Dumps, RomFault};
 use std::alloc::{AllocError, Global};
@@ -85,17 +86,16 @@ pub const ABSOLUTE: Syntax<'static> = Syntax {
 
 impl<'a> AbsoluteArguments<'a> {
     /// The arguments as clap has read them.
-    pub fn of(
-        alloc: Global,
-        matches: &ArgMatches<'a>,
-    ) -> Result<AbsoluteArguments<'a>, AllocError> {
+    pub fn of(alloc: Global, matches: &ArgMatches<'a>) -> Result<AbsoluteArguments<'a>, AllocError>
+        ensures { IfOk result (AreAbsoluteArguments matches.now) }
+    {
         Ok(AbsoluteArguments {
-            bytes: path_of(matches, "BIN"),
-            image: path_of(matches, "IMAGE"),
+            bytes: argument_text(matches, "BIN"),
+            image: argument_text(matches, "IMAGE"),
             first: OptionText::of(matches, "first"),
             start: OptionText::of(matches, "start"),
             name: OptionText::of(matches, "name"),
-            further: Vec::from_slice(alloc, matches.get_strs(FURTHER).unwrap_or(&[]))?,
+            further: argument_values(alloc, matches, FURTHER)?,
         })
     }
 }
@@ -111,29 +111,27 @@ struct RomFile<'a> {
 pub fn write_absolute(
     console: Console<'_>,
     arguments: &AbsoluteArguments<'_>,
-) -> Result<u8, Reported> {
+) -> Result<u8, Reported>
+    ensures { IfOk result (λ status. status ≡ 0) }
+{
     let start = console.word(arguments.start)?;
     let files = files_of(console, arguments)?;
     let name = console.name(arguments.name)?;
     let (dumps, has_start) = read_dumps(console, &files, start)?;
-    if !has_start {
-        explain_start(console, start);
-    }
-    console.give_if_made(answer(console.alloc(), arguments.image, dumps, name, start))
-}
-
-/// Says that no byte is at the start of an image.
-fn explain_start(console: Console<'_>, start: u16) {
-    if console.explains() {
+    if !has_start && console.explains() {
         let _ = eprintln!(console.runtime(); "  no byte is at the start, {start:04X}");
     }
+    console.give_if_made(answer(console.alloc(), arguments.image, dumps, name, start))
 }
 
 /// The files of the arguments with their addresses, in order.
 fn files_of<'a>(
     console: Console<'_>,
     arguments: &AbsoluteArguments<'a>,
-) -> Result<Vec<RomFile<'a>>, Reported> {
+) -> Result<Vec<RomFile<'a>>, Reported>
+    ensures { let asked = arguments.now in
+        IfOk result (λ files. AreRomFiles asked.bytes.now asked.first.text.now asked.further.items files.items) }
+{
     let mut files = Vec::new(console.alloc());
     let first = RomFile {
         first: console.word(arguments.first)?,
@@ -150,7 +148,9 @@ fn add_file<'a>(
     console: Console<'_>,
     files: &mut Vec<RomFile<'a>>,
     file: RomFile<'a>,
-) -> Result<(), Reported> {
+) -> Result<(), Reported>
+    ensures { OnOk result (files.new.items ≡ files.old.items ++ file.entry ∷ []) }
+{
     match files.push(file) {
         Ok(()) => Ok(()),
         Err(_) => Err(console.report_memory()),
@@ -191,7 +191,9 @@ fn read_dumps(
 }
 
 /// Whether bytes from a first address on have one at another.
-fn has_byte(first: u16, count: usize, address: u16) -> bool {
+fn has_byte(first: u16, count: usize, address: u16) -> bool
+    ensures { IsTrue result ↔ (first ≤ address) × (address < first + count) }
+{
     match address.checked_sub(first) {
         Some(offset) => usize::from(offset) < count,
         None => false,

@@ -3,7 +3,7 @@
 ghost use Rattle.std.specs.Prelude.{◌≡◌, length, IfOk, IfErr};
 ghost use Rattle.rom80.specs.Rom.{bytes_over};
 ghost use Rattle.plm80_objects.specs.Arguments.{AreCompareArguments};
-ghost use Rattle.plm80_objects.specs.Compare.{PrintsDifferences};
+ghost use Rattle.plm80_objects.specs.Compare.{IsCompareStatus, PrintsDifferences};
 ghost use Rattle.plm80_objects.specs.RomFaults.{IsRefused};
 
 use crate::extract::{FILL, fill_of};
@@ -84,10 +84,9 @@ impl<'a> CompareArguments<'a> {
 }
 
 /// Prints where the image and the dump differ; the status is 1 if they do. Both files are read before either is checked.
-pub fn compare_files(
-    console: Console<'_>,
-    arguments: CompareArguments<'_>,
-) -> Result<u8, Reported> {
+pub fn compare_files(console: Console<'_>, arguments: CompareArguments<'_>) -> Result<u8, Reported>
+    ensures { IfOk result (IsCompareStatus arguments.entry) }
+{
     let first = console.word(arguments.first)?;
     let fill = console.byte(arguments.fill)?;
     let file = console.read_file(arguments.image)?;

@@ -1,9 +1,9 @@
 //! `plm80 extract`: the bytes of an image's memory over a range, as they are.
 
-ghost use Rattle.std.specs.Prelude.{◌≡◌, ◌+◌, ◌<◌, ◌↔◌, [], if◌then◌else◌, IfOk, IsErrOf};
+ghost use Rattle.std.specs.Prelude.{◌≡◌, ◌+◌, ◌<◌, ◌↔◌, [], if◌then◌else◌, IfOk, IsErrOf, codes};
 ghost use Rattle.rom80.specs.Rom.{bytes_over, sum_line};
 ghost use Rattle.plm80_console.specs.Answer.{writes};
-ghost use Rattle.plm80_objects.specs.Arguments.{AreExtractArguments};
+ghost use Rattle.plm80_objects.specs.Arguments.{AreExtractArguments, IsExtentOf, fill_text};
 
 use clap::ArgMatches;
 use image80::Image;
@@ -93,7 +93,10 @@ impl<'a> ExtractArguments<'a> {
 }
 
 /// The option of the byte where an image has none.
-pub fn fill_of<'a>(matches: &ArgMatches<'a>) -> OptionText<'a> {
+pub fn fill_of<'a>(matches: &ArgMatches<'a>) -> OptionText<'a>
+    ensures name { result.name.now ≡ codes "fill" }
+    ensures text { result.text.now ≡ fill_text matches.now }
+{
     OptionText::or(matches, FILL.name, "00")
 }
 
@@ -107,7 +110,9 @@ struct Extent {
 
 /// Writes the bytes of the range, and prints their sum if it is asked for. No file is created or changed before every other
 /// fault is excluded.
-pub fn extract_file(console: Console<'_>, arguments: ExtractArguments<'_>) -> Result<u8, Reported> {
+pub fn extract_file(console: Console<'_>, arguments: ExtractArguments<'_>) -> Result<u8, Reported>
+    ensures { IfOk result (λ status. status ≡ 0) }
+{
     let extent = extent_of(console, arguments)?;
     let file = console.read_file(arguments.image)?;
     let image = image_of(console, file.path, &file.bytes, no_regions(console.alloc()))?;
@@ -118,7 +123,9 @@ pub fn extract_file(console: Console<'_>, arguments: ExtractArguments<'_>) -> Re
 }
 
 /// The numbers of the arguments.
-fn extent_of(console: Console<'_>, arguments: ExtractArguments<'_>) -> Result<Extent, Reported> {
+fn extent_of(console: Console<'_>, arguments: ExtractArguments<'_>) -> Result<Extent, Reported>
+    ensures { IfOk result (IsExtentOf arguments.entry) }
+{
     Ok(Extent {
         first: console.word(arguments.first)?,
         length: console.length(arguments.length)?,

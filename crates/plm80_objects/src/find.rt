@@ -2,7 +2,8 @@
 
 ghost use Rattle.std.specs.Prelude.{◌≡◌, ◌+◌, ◌≤◌, length, IfOk, IfErr};
 ghost use Rattle.rom80_find.specs.Dump.{dump_of};
-ghost use Rattle.plm80_objects.specs.Find.{PrintsFile, PrintsFound};
+ghost use Rattle.plm80_objects.specs.Arguments.{AreFindArguments};
+ghost use Rattle.plm80_objects.specs.Find.{IsFindStatus, IsStatusIn, PrintsFile, PrintsFound};
 ghost use Rattle.plm80_objects.specs.RomFaults.{IsRefused};
 
 use crate::helpers::rom_faults::report_rom_fault;
@@ -10,7 +11,7 @@ use crate::link::read_file;
 use clap::ArgMatches;
 use plm80_console::{
     Answer, Argument, Console, FaultOf, Kind, LinkFile, OptionText, ReadFile, Reported, Syntax,
-    path_of,
+    argument_text, argument_values,
 };
 use rom80::RomFault;
 use rom80_find::{Dump, append_members, append_modules};
@@ -67,18 +68,22 @@ pub const FIND: Syntax<'static> = Syntax {
 
 impl<'a> FindArguments<'a> {
     /// The arguments as clap has read them.
-    pub fn of(alloc: Global, matches: &ArgMatches<'a>) -> Result<FindArguments<'a>, AllocError> {
+    pub fn of(alloc: Global, matches: &ArgMatches<'a>) -> Result<FindArguments<'a>, AllocError>
+        ensures { IfOk result (AreFindArguments matches.now) }
+    {
         Ok(FindArguments {
-            dump: path_of(matches, "DUMP"),
+            dump: argument_text(matches, "DUMP"),
             first: OptionText::of(matches, "first"),
-            files: Vec::from_slice(alloc, matches.get_strs("FILE").unwrap_or(&[]))?,
+            files: argument_values(alloc, matches, "FILE")?,
         })
     }
 }
 
 /// Prints where the modules of the files lie in the dump, and gives the exit status. The dump is checked before another file is
 /// opened, and each of these before the next one.
-pub fn find_modules(console: Console<'_>, arguments: &FindArguments<'_>) -> Result<u8, Reported> {
+pub fn find_modules(console: Console<'_>, arguments: &FindArguments<'_>) -> Result<u8, Reported>
+    ensures { IfOk result (IsFindStatus arguments.now) }
+{
     let first = console.word(arguments.first)?;
     let file = console.read_file(arguments.dump)?;
     match dump_of(first, &file) {
@@ -88,7 +93,9 @@ pub fn find_modules(console: Console<'_>, arguments: &FindArguments<'_>) -> Resu
 }
 
 /// Prints where the modules of these files lie in the dump.
-fn find_in(console: Console<'_>, dump: Dump<'_>, paths: &[&str]) -> Result<u8, Reported> {
+fn find_in(console: Console<'_>, dump: Dump<'_>, paths: &[&str]) -> Result<u8, Reported>
+    ensures { IfOk result (IsStatusIn (dump_of dump.entry)) }
+{
     let mut files = Vec::new(console.alloc());
     for path in paths {
         let file = read_file(console, path)?;

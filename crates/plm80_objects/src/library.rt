@@ -1,10 +1,15 @@
 //! `plm80 lib`: a library of the modules of object files.
 
+ghost use Rattle.std.specs.Prelude.{◌≡◌, IfOk, IsErrOf, IsTrue};
+ghost use Rattle.omf_library.specs.Writing.{library_bytes, is_too_large};
+ghost use Rattle.plm80_objects.specs.Arguments.{AreLibraryArguments};
+
 use clap::ArgMatches;
 use omf_library::{LibraryPutFault, write_library};
 use omf_module::Module;
 use plm80_console::{
-    Argument, Console, Kind, Reported, Syntax, append_modules, path_of, read_modules,
+    Argument, Console, Kind, Reported, Syntax, append_modules, argument_text, argument_values,
+    read_modules,
 };
 use std::alloc::{AllocError, Global};
 
@@ -50,10 +55,12 @@ pub const LIB: Syntax<'static> = Syntax {
 
 impl<'a> LibraryArguments<'a> {
     /// The arguments as clap has read them.
-    pub fn of(alloc: Global, matches: &ArgMatches<'a>) -> Result<LibraryArguments<'a>, AllocError> {
+    pub fn of(alloc: Global, matches: &ArgMatches<'a>) -> Result<LibraryArguments<'a>, AllocError>
+        ensures { IfOk result (AreLibraryArguments matches.now) }
+    {
         Ok(LibraryArguments {
-            library: path_of(matches, "OUT"),
-            files: Vec::from_slice(alloc, matches.get_strs("FILE").unwrap_or(&[]))?,
+            library: argument_text(matches, "OUT"),
+            files: argument_values(alloc, matches, "FILE")?,
         })
     }
 }
@@ -63,15 +70,26 @@ impl<'a> LibraryArguments<'a> {
 pub fn write_library_file(
     console: Console<'_>,
     arguments: &LibraryArguments<'_>,
-) -> Result<u8, Reported> {
+) -> Result<u8, Reported>
+    ensures { IfOk result (λ status. status ≡ 0) }
+{
     let modules = modules_of(console, &arguments.files)?;
-    let mut library = Vec::new(console.alloc());
-    match write_library(console.alloc(), &modules, &mut library) {
-        Ok(()) => console.replace_keeping_objects(arguments.library, &library)?,
+    match library_of(console.alloc(), &modules) {
+        Ok(library) => console.replace_keeping_objects(arguments.library, &library)?,
         Err(LibraryPutFault::Memory) => return Err(console.report_memory()),
         Err(fault) => return Err(console.report(fault)),
     }
     Ok(0)
+}
+
+/// The library of these modules, as a file has it.
+fn library_of(alloc: Global, modules: &[Module]) -> Result<Vec<u8>, LibraryPutFault>
+    ensures library { IfOk result (λ library. library.items ≡ library_bytes modules.now) }
+    ensures too_large { IsErrOf result LibraryPutFault.TooLarge → IsTrue (is_too_large modules.now) }
+{
+    let mut library = Vec::new(alloc);
+    write_library(alloc, modules, &mut library)?;
+    Ok(library)
 }
 
 /// The modules of the object files of these paths, in order. Each file is checked before the next one is opened.

@@ -1,8 +1,11 @@
 //! `plm80 link`: the modules of object files, and what they need of libraries, linked into one.
 
-ghost use Rattle.std.specs.Prelude.{IfOk};
+ghost use Rattle.std.specs.Prelude.{◌≡◌, ◌++◌, ◌∷◌, [], map, IfOk, OnOk};
+ghost use Rattle.std.specs.List.{repeat};
 ghost use Rattle.link80.specs.Selection.{IsSelection};
 ghost use Rattle.link80_text.specs.Parts.{IsMade};
+ghost use Rattle.plm80_objects.specs.Arguments.{AreLinkArguments};
+ghost use Rattle.plm80_objects.specs.Link.{AddsFile, AddsLibrary, AddsModules, HavePaths, WritesLinked};
 
 use crate::helpers::causes::report_link_fault;
 use crate::helpers::link_lines::{LinkLines, lines_of};
@@ -13,8 +16,8 @@ use omf_core::Name;
 use omf_library::Library;
 use omf_module::{Module, write_file};
 use plm80_console::{
-    Argument, Console, Kind, LateFile, LinkFile, OptionText, Reported, Syntax, append_modules,
-    path_of, read_link_file,
+    Answer, Argument, Console, Kind, LateFile, LinkFile, OptionText, Reported, Syntax,
+    argument_text, argument_values, read_link_file,
 };
 use std::alloc::{AllocError, Global};
 use std::slice;
@@ -82,15 +85,17 @@ pub const LINK: Syntax<'static> = Syntax {
 
 impl<'a> LinkArguments<'a> {
     /// The arguments as clap has read them.
-    pub fn of(alloc: Global, matches: &ArgMatches<'a>) -> Result<LinkArguments<'a>, AllocError> {
+    pub fn of(alloc: Global, matches: &ArgMatches<'a>) -> Result<LinkArguments<'a>, AllocError>
+        ensures { IfOk result (AreLinkArguments matches.now) }
+    {
         Ok(LinkArguments {
             name: OptionText::of(matches, "name"),
-            out: path_of(matches, "out"),
+            out: argument_text(matches, "out"),
             lines: LinkLines {
                 map: matches.get_flag("map"),
                 reasons: matches.get_flag("reasons"),
             },
-            files: Vec::from_slice(alloc, matches.get_strs("FILE").unwrap_or(&[]))?,
+            files: argument_values(alloc, matches, "FILE")?,
         })
     }
 }
@@ -106,19 +111,12 @@ pub(crate) struct LinkFiles<'a> {
 
 /// Links the modules of the files, writes the linked one and prints which were taken and which names are unresolved. No file
 /// is created or changed before every other fault is excluded.
-pub fn link_files(console: Console<'_>, arguments: &LinkArguments<'_>) -> Result<u8, Reported> {
+pub fn link_files(console: Console<'_>, arguments: &LinkArguments<'_>) -> Result<u8, Reported>
+    ensures { IfOk result (λ status. status ≡ 0) }
+{
     let name = console.name(arguments.name)?;
-    link_named(console, arguments, &name)
-}
-
-/// Links them into a module of this name.
-fn link_named(
-    console: Console<'_>,
-    arguments: &LinkArguments<'_>,
-    name: &Name,
-) -> Result<u8, Reported> {
     let files = read_files(console, &arguments.files)?;
-    link_read(console, arguments, name, &files)
+    link_read(console, arguments, &name, &files)
 }
 
 /// Links what was read, and writes the linked module.
@@ -127,7 +125,9 @@ fn link_read(
     arguments: &LinkArguments<'_>,
     name: &Name,
     files: &LinkFiles<'_>,
-) -> Result<u8, Reported> {
+) -> Result<u8, Reported>
+    ensures { IfOk result (λ status. status ≡ 0) }
+{
     let linked = linked(console, name, files)?;
     write_linked(console, arguments, &linked, files)
 }
@@ -141,27 +141,16 @@ fn write_linked(
 ) -> Result<u8, Reported>
     requires selection { IsSelection files.now.roots.items files.now.libraries.items linked.now.taken.items }
     requires made { IsMade files.now.roots.items files.now.libraries.items linked.now }
+    ensures { IfOk result (λ status. status ≡ 0) }
 {
-    match outputs_of(console.alloc(), arguments.lines, linked, files) {
-        Ok((object, lines)) => write_outputs(console, arguments.out, &object, &lines),
-        Err(AllocError) => Err(console.report_memory()),
-    }
-}
-
-/// Writes the object file, and then prints the lines.
-fn write_outputs(
-    console: Console<'_>,
-    path: &str,
-    object: &[u8],
-    lines: &[u8],
-) -> Result<u8, Reported> {
-    console.replace(path, object)?;
-    console.print(lines)?;
-    Ok(0)
+    let (out, lines) = (arguments.out, arguments.lines);
+    console.give_if_made(answer(console.alloc(), out, lines, linked, files))
 }
 
 /// What the files of these paths have. Each file is checked before the next one is opened.
-fn read_files<'a>(console: Console<'_>, paths: &[&'a str]) -> Result<LinkFiles<'a>, Reported> {
+fn read_files<'a>(console: Console<'_>, paths: &[&'a str]) -> Result<LinkFiles<'a>, Reported>
+    ensures { IfOk result HavePaths }
+{
     let mut files = LinkFiles {
         roots: Vec::new(console.alloc()),
         root_paths: Vec::new(console.alloc()),
@@ -169,7 +158,11 @@ fn read_files<'a>(console: Console<'_>, paths: &[&'a str]) -> Result<LinkFiles<'
         paths: Vec::new(console.alloc()),
     };
     for path in paths {
-        files.add(console, path)?;
+        let file = read_file(console, path)?;
+        match files.add(file, path) {
+            Ok(()) => {}
+            Err(AllocError) => return Err(console.report_memory()),
+        }
     }
     if files.roots.is_empty() {
         console.explain("there is no object file, so nothing is taken from libraries");
@@ -179,50 +172,44 @@ fn read_files<'a>(console: Console<'_>, paths: &[&'a str]) -> Result<LinkFiles<'
 
 impl<'a> LinkFiles<'a> {
     /// Adds what the file of this path has.
-    fn add(&mut self, console: Console<'_>, path: &'a str) -> Result<(), Reported> {
-        match read_file(console, path)? {
-            LinkFile::Modules(modules) => self.add_modules(console, modules, path),
-            LinkFile::Library(library) => self.add_library(console, library, path),
+    fn add(&mut self, file: LinkFile, path: &'a str) -> Result<(), AllocError>
+        ensures { OnOk result (AddsFile file path.now self.old self.new) }
+    {
+        match file {
+            LinkFile::Modules(modules) => self.add_modules(modules, path),
+            LinkFile::Library(library) => self.add_library(library, path),
         }
     }
 
-    fn add_modules(
-        &mut self,
-        console: Console<'_>,
-        mut modules: Vec<Module>,
-        path: &'a str,
-    ) -> Result<(), Reported> {
-        match self.push_paths(modules.len(), path) {
-            Ok(()) => append_modules(console, &mut self.roots, &mut modules),
-            Err(_) => Err(console.report_memory()),
-        }
-    }
-
-    /// Adds the path of `count` modules.
-    fn push_paths(&mut self, count: usize, path: &'a str) -> Result<(), AllocError> {
-        for _ in 0..count {
-            self.root_paths.push(path.as_bytes())?;
-        }
-        Ok(())
-    }
-
-    fn add_library(
-        &mut self,
-        console: Console<'_>,
-        library: Library,
-        path: &'a str,
-    ) -> Result<(), Reported> {
-        match self.push_library(library, path) {
+    /// Adds the modules of an object file, each with its path.
+    fn add_modules(&mut self, mut modules: Vec<Module>, path: &'a str) -> Result<(), AllocError>
+        ensures { OnOk result (AddsModules modules.items path.now self.old self.new) }
+    {
+        push_paths(&mut self.root_paths, modules.len(), path)?;
+        match self.roots.append(&mut modules) {
             Ok(()) => Ok(()),
-            Err(_) => Err(console.report_memory()),
+            Err(_) => Err(AllocError),
         }
     }
 
-    fn push_library(&mut self, library: Library, path: &'a str) -> Result<(), AllocError> {
+    /// Adds a library with its path.
+    fn add_library(&mut self, library: Library, path: &'a str) -> Result<(), AllocError>
+        ensures { OnOk result (AddsLibrary library path.now self.old self.new) }
+    {
         self.libraries.push(library)?;
         self.paths.push(path.as_bytes())?;
         Ok(())
     }
+}
+
+/// Appends the path `count` times.
+fn push_paths<'a>(paths: &mut Vec<&'a [u8]>, count: usize, path: &'a str) -> Result<(), AllocError>
+    ensures { OnOk result (map (λ p. p.now) paths.new.items ≡ map (λ p. p.now) paths.old.items ++ repeat count (path.now ∷ [])) }
+{
+    for _ in 0..count {
+        paths.push(path.as_bytes())?;
+    }
+    Ok(())
 }
 
 /// What the file of this path has.
@@ -242,6 +229,7 @@ pub(crate) fn read_file(console: Console<'_>, path: &str) -> Result<LinkFile, Re
 fn linked(console: Console<'_>, name: &Name, files: &LinkFiles<'_>) -> Result<Linked, Reported>
     ensures selection { IfOk result (λ made. IsSelection files.now.roots.items files.now.libraries.items made.taken.items) }
     ensures made { IfOk result (λ made. IsMade files.now.roots.items files.now.libraries.items made) }
+    ensures name { IfOk result (λ made. made.module.name ≡ name.now) }
 {
     match link(console.alloc(), name, &files.roots, &files.libraries) {
         Ok(linked) => Ok(linked),
@@ -249,18 +237,21 @@ fn linked(console: Console<'_>, name: &Name, files: &LinkFiles<'_>) -> Result<Li
     }
 }
 
-/// The linked object file, and the lines that are printed.
-fn outputs_of(
+/// The linked object file, which goes to this path, and the lines that are printed.
+fn answer<'a>(
     alloc: Global,
+    path: &'a str,
     wanted: LinkLines,
     linked: &Linked,
     files: &LinkFiles<'_>,
-) -> Result<(Vec<u8>, Vec<u8>), AllocError>
+) -> Result<Answer<'a>, AllocError>
     requires selection { IsSelection files.now.roots.items files.now.libraries.items linked.now.taken.items }
     requires made { IsMade files.now.roots.items files.now.libraries.items linked.now }
+    ensures { IfOk result (WritesLinked path.now wanted files.now.roots.items files.now.libraries.items
+        (map (λ p. p.now) files.now.paths.items) linked.now) }
 {
     let lines = lines_of(alloc, wanted, linked, files)?;
     let mut object = Vec::new(alloc);
     write_file(alloc, slice::from_ref(&linked.module), &mut object)?;
-    Ok((object, lines))
+    Ok(Answer::writes(path, object, lines))
 }

@@ -114,7 +114,9 @@ impl<'a> LocateArguments<'a> {
 
 /// Locates the module of the object file, and writes its image and regions. No file is created or changed before every
 /// other fault is excluded.
-pub fn locate_file(console: Console<'_>, arguments: LocateArguments<'_>) -> Result<u8, Reported> {
+pub fn locate_file(console: Console<'_>, arguments: LocateArguments<'_>) -> Result<u8, Reported>
+    ensures { IfOk result (λ status. status ≡ 0) }
+{
     let options = arguments.options.numbers(console)?;
     let modules = read_program(console, arguments.object)?;
     let program = &modules[0];

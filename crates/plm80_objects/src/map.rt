@@ -6,6 +6,7 @@ ghost use Rattle.place80.specs.PlaceFault.{locate_fault};
 ghost use Rattle.place80.specs.declared.place_fault.PlaceFault.TheVariants.{Memory};
 ghost use Rattle.place80_text.specs.Map.{IsMap};
 ghost use Rattle.plm80_console.specs.Answer.{prints};
+ghost use Rattle.plm80_objects.specs.Arguments.{AreMapArguments};
 
 use crate::helpers::causes::report_place_fault;
 use crate::helpers::locate_options::{
@@ -17,7 +18,7 @@ use clap::ArgMatches;
 use omf_module::Module;
 use place80::{Options, PlaceFault};
 use place80_text::map_text;
-use plm80_console::{Answer, Argument, Console, Kind, Reported, Syntax, path_of};
+use plm80_console::{Answer, Argument, Console, Kind, Reported, Syntax, argument_text};
 use std::alloc::Global;
 
 /// The arguments of `map`.
@@ -63,16 +64,20 @@ pub const MAP: Syntax<'static> = Syntax {
 
 impl<'a> MapArguments<'a> {
     /// The arguments as clap has read them.
-    pub fn of(matches: &ArgMatches<'a>) -> MapArguments<'a> {
+    pub fn of(matches: &ArgMatches<'a>) -> MapArguments<'a>
+        ensures { AreMapArguments matches.now result }
+    {
         MapArguments {
-            object: path_of(matches, "IN"),
+            object: argument_text(matches, "IN"),
             options: LocateTexts::of(matches),
         }
     }
 }
 
 /// Prints the map of the module of the object file.
-pub fn map_file(console: Console<'_>, arguments: MapArguments<'_>) -> Result<u8, Reported> {
+pub fn map_file(console: Console<'_>, arguments: MapArguments<'_>) -> Result<u8, Reported>
+    ensures { IfOk result (λ status. status ≡ 0) }
+{
     let options = arguments.options.numbers(console)?;
     let modules = read_program(console, arguments.object)?;
     let program = &modules[0];

@@ -1,14 +1,17 @@
 //! `plm80 module`: what an object file holds, module by module.
 
-ghost use Rattle.std.specs.Prelude.{◌≡◌, IfOk};
+ghost use Rattle.std.specs.Prelude.{◌≡◌, IfOk, codes};
 ghost use Rattle.std.specs.List.{flat_map};
 ghost use Rattle.omf_text.specs.ModuleText.{module_text};
 ghost use Rattle.plm80_console.specs.Answer.{prints};
+ghost use Rattle.plm80_console.specs.Arguments.{argument_text};
 
 use clap::ArgMatches;
 use omf_module::Module;
 use omf_text::append_module_text;
-use plm80_console::{Answer, Argument, Console, Kind, Reported, Syntax, path_of, read_modules};
+use plm80_console::{
+    Answer, Argument, Console, Kind, Reported, Syntax, argument_text, read_modules,
+};
 use std::alloc::{AllocError, Global};
 
 /// The arguments of `module`.
@@ -45,15 +48,19 @@ pub const MODULE: Syntax<'static> = Syntax {
 
 impl<'a> ModuleArguments<'a> {
     /// The arguments as clap has read them.
-    pub fn of(matches: &ArgMatches<'a>) -> ModuleArguments<'a> {
+    pub fn of(matches: &ArgMatches<'a>) -> ModuleArguments<'a>
+        ensures { result.object.now ≡ argument_text matches.now (codes "FILE") }
+    {
         ModuleArguments {
-            object: path_of(matches, "FILE"),
+            object: argument_text(matches, "FILE"),
         }
     }
 }
 
 /// Prints what the object file holds.
-pub fn describe_file(console: Console<'_>, arguments: ModuleArguments<'_>) -> Result<u8, Reported> {
+pub fn describe_file(console: Console<'_>, arguments: ModuleArguments<'_>) -> Result<u8, Reported>
+    ensures { IfOk result (λ status. status ≡ 0) }
+{
     let modules = read_modules(console, arguments.object)?;
     console.give_if_made(described(console.alloc(), &modules))
 }

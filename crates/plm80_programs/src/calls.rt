@@ -1,10 +1,16 @@
 //! `plm80 calls`: the calls of a located program, or its refusal.
 
+ghost use Rattle.std.specs.Prelude.{IfOk};
+ghost use Rattle.plm80_names.specs.Arguments.{asks_names};
+ghost use Rattle.plm80_names.specs.Verdict.{IsStatusFor};
+ghost use Rattle.plm80_programs.specs.Arguments.{AreCallsArguments};
+ghost use Rattle.plm80_programs.specs.Printed.{IsCallsText, PrintsCalls};
+
 use clap::ArgMatches;
 use image80::Image;
-use loader80::{Vouched, vouch};
-use plm80_console::{Argument, Console, IMAGE, Kind, REGIONS, Reported, Syntax};
-use plm80_names::{NAMES, NamedFiles, Names, named_refusal};
+use loader80::Vouched;
+use plm80_console::{Answer, Argument, Console, IMAGE, Kind, REGIONS, Reported, Syntax};
+use plm80_names::{NAMES, NamedFiles, Names, Verdict, judge};
 use std::alloc::{AllocError, Global};
 use verify80_calls::{CallGraph, graph_text, list_text};
 
@@ -50,7 +56,9 @@ pub const CALLS: Syntax<'static> = Syntax {
 
 impl<'a> CallsArguments<'a> {
     /// The arguments as clap has read them.
-    pub fn of(matches: &ArgMatches<'a>) -> CallsArguments<'a> {
+    pub fn of(matches: &ArgMatches<'a>) -> CallsArguments<'a>
+        ensures { AreCallsArguments matches.now result }
+    {
         CallsArguments {
             files: NamedFiles::of(matches),
             dot: matches.get_flag("dot"),
@@ -59,35 +67,43 @@ impl<'a> CallsArguments<'a> {
 }
 
 /// Prints the calls of the image, or its refusal, and gives the exit status.
-pub fn show_calls(console: Console<'_>, arguments: CallsArguments<'_>) -> Result<u8, Reported> {
+pub fn show_calls(console: Console<'_>, arguments: CallsArguments<'_>) -> Result<u8, Reported>
+    ensures { let asked = arguments.entry in IfOk result (IsStatusFor (PrintsCalls asked.dot) (asks_names asked.files)) }
+{
     let (image, names) = arguments.files.read(console)?;
-    let Ok((text, status)) = verdict(console.alloc(), image, arguments.dot, &names) else {
-        return Err(console.report_memory());
-    };
-    console.print(&text)?;
-    Ok(status)
+    match shown(console.alloc(), image, arguments.dot, &names) {
+        Ok(answer) => console.give(answer),
+        Err(_) => Err(console.report_memory()),
+    }
 }
 
-/// What is printed of an image, and the exit status.
-fn verdict(
+/// The calls of an image, or its refusal.
+fn shown(
     alloc: Global,
     image: Image,
     dot: bool,
     names: &Names,
-) -> Result<(Vec<u8>, u8), AllocError> {
-    match vouch(alloc, image) {
-        Ok(vouched) => Ok((calls_text(alloc, &vouched, dot, names)?, 0)),
-        Err((image, refusal)) => Ok((named_refusal(alloc, &image, refusal, names)?, 1)),
+) -> Result<Answer<'static>, AllocError>
+    ensures { IfOk result (PrintsCalls dot image names.now) }
+{
+    match judge(alloc, image, names)? {
+        Verdict::Accepted(vouched) => {
+            let text = calls_text(alloc, &vouched, dot, names)?;
+            Ok(Answer::prints(text, 0))
+        }
+        Verdict::Refused(line) => Ok(Answer::prints(line, 1)),
     }
 }
 
-/// The calls of an image that is accepted, as lines or as a graph.
+/// The calls of a program, as lines or as a graph.
 fn calls_text(
     alloc: Global,
     vouched: &Vouched,
     dot: bool,
     names: &Names,
-) -> Result<Vec<u8>, AllocError> {
+) -> Result<Vec<u8>, AllocError>
+    ensures { IfOk result (λ text. IsCallsText dot names.now vouched.now text.items) }
+{
     let graph = CallGraph::of(alloc, vouched)?;
     let (image, publics) = (vouched.image(), names.publics());
     if dot {

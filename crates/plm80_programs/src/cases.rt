@@ -1,19 +1,34 @@
 //! `plm80 cases`: the CASE lines that the tables of an image suggest.
 
-ghost use Rattle.std.specs.Prelude.{◌≡◌, IfOk};
+ghost use Rattle.std.specs.Prelude.{◌≡◌, ◌<◌, ◌++◌, [], List, false, IfNone, IfOk, IfSome, OnOk};
+ghost use Rattle.std.specs.Io.KnownBytes.{Appends};
+ghost use Rattle.std.specs.List.{cons_option, list_any};
+ghost use Rattle.image80.specs.Case.{DeclaredCase};
+ghost use Rattle.image80.specs.RegionsText.{cases_text};
+ghost use Rattle.verify80_cases.specs.Suggested.{case_of, is_open};
+ghost use Rattle.plm80_programs.specs.Arguments.{AreCasesArguments};
+ghost use Rattle.plm80_programs.specs.Cases.{FindsCases, IsCasesStatus, IsFoundAt, WritesCases};
+ghost use Rattle.plm80_programs.specs.Status.{lacks_table, notes_status};
 
+use crate::helpers::endings::report_lines;
 use clap::ArgMatches;
 use image80::{Case, Image, RegionsFault, case_lines};
 use loader80::TEXT_LIMIT;
-use plm80_console::{Argument, Console, IMAGE, Kind, ProgramFiles, REGIONS, Reported, Syntax};
-use std::alloc::Global;
+use loader80_streams::{Sink, Writing, write_all};
+use loader80_trace::TraceFault;
+use plm80_console::{
+    Answer, Argument, Console, IMAGE, Kind, NotedWriter, REGIONS, Reported, Syntax, argument_text,
+};
+use plm80_names::ProgramTexts;
+use std::alloc::{AllocError, Global};
 use verify80::ImageCode;
-use verify80_cases::{Note, Search, regions_with_cases};
+use verify80_cases::{Note, Search, SuggestedCase, regions_with_cases};
 
 /// The arguments of `cases`.
 #[derive(Clone, Copy)]
 pub struct CasesArguments<'a> {
-    files: ProgramFiles<'a>,
+    image: &'a str,
+    regions: &'a str,
     out: Option<&'a str>,
 }
 
@@ -54,11 +69,22 @@ pub const CASES: Syntax<'static> = Syntax {
 
 impl<'a> CasesArguments<'a> {
     /// The arguments as clap has read them.
-    pub fn of(matches: &ArgMatches<'a>) -> CasesArguments<'a> {
+    pub fn of(matches: &ArgMatches<'a>) -> CasesArguments<'a>
+        ensures { AreCasesArguments matches.now result }
+    {
         CasesArguments {
-            files: ProgramFiles::of(matches),
+            image: argument_text(matches, "IMAGE"),
+            regions: argument_text(matches, "REGIONS"),
             out: matches.get_str("out"),
         }
+    }
+
+    /// Both files.
+    fn texts(self, console: Console<'_>) -> Result<ProgramTexts<'a>, Reported>
+        ensures image { IfOk result (λ texts. texts.image.path.now ≡ self.entry.image.now) }
+        ensures regions { IfOk result (λ texts. texts.regions.path.now ≡ self.entry.regions.now) }
+    {
+        ProgramTexts::read(console, self.image, self.regions)
     }
 }
 
@@ -67,176 +93,311 @@ impl<'a> CasesArguments<'a> {
 pub fn suggest_for_files(
     console: Console<'_>,
     arguments: CasesArguments<'_>,
-) -> Result<u8, Reported> {
-    let image = arguments.files.read(console)?;
-    let notes = match arguments.out {
-        Some(path) => add_cases(console, path, &image)?,
-        None => print_cases(console, &image)?,
-    };
-    Ok(report_notes(console, &notes))
+) -> Result<u8, Reported>
+    ensures { IfOk result IsCasesStatus }
+{
+    let texts = arguments.texts(console)?;
+    let (image, _) = texts.program(console, false)?;
+    let notes = found_cases(console, arguments.out, &image)?;
+    report_notes(console, &notes);
+    Ok(notes_status(&notes))
 }
 
-/// Prints the line of each case as it is found, and gives what there is to say of the PCHLs. No case is kept: together they may have
+/// Prints the CASE lines, and writes the regions with them if a file is named; gives what there is to say of the PCHLs.
+fn found_cases(
+    console: Console<'_>,
+    out: Option<&str>,
+    image: &Image,
+) -> Result<Vec<Note>, Reported>
+    ensures { IfOk result (λ notes. (cases : List DeclaredCase) × FindsCases image.now cases notes.items) }
+{
+    match out {
+        Some(path) => add_cases(console, path, image),
+        None => print_cases(console, image),
+    }
+}
+
+/// Prints the line of each case as it is found, and gives what there is to say of the PCHLs.
+fn print_cases(console: Console<'_>, image: &Image) -> Result<Vec<Note>, Reported>
+    ensures { IfOk result (λ notes. (cases : List DeclaredCase) × FindsCases image.now cases notes.items) }
+{
+    let mut output = NotedWriter::new(console.runtime().stdout());
+    let mut out = Writing::new(&mut output);
+    match write_cases(console.alloc(), image, &mut out) {
+        Ok(notes) => Ok(notes),
+        Err(fault) => Err(report_lines(console, fault, output.failure())),
+    }
+}
+
+/// Writes the line of each case as it is found, and gives what there is to say of the PCHLs. No case is kept: together they may have
 /// thousands of times as many targets as the image has bytes.
-fn print_cases(console: Console<'_>, image: &Image) -> Result<Vec<Note>, Reported> {
-    let code = code_of(console, image)?;
-    let search = search_of(console, &code)?;
-    let mut notes = Vec::new(console.alloc());
+fn write_cases<K: Sink>(alloc: Global, image: &Image, out: &mut K) -> Result<Vec<Note>, TraceFault>
+    requires { K.failed out.old < u64.MAX }
+    ensures { IfOk result (λ notes. (cases : List DeclaredCase) × FindsCases image.now cases notes.items
+        × Appends (K.written out.old) (K.written out.new) (cases_text cases)) }
+{
+    let code = ImageCode::new(alloc, image)?;
+    let search = Search::of(alloc, &code)?;
+    let mut notes = Vec::new(alloc);
     for address in 0..65_536_u32 {
-        let at = address as u16;
-        if let Some(case) = case_at(console, image, &code, &search, at, &mut notes)? {
-            console.print(&line_of(console, &case)?)?;
+        if let Some(found) = found_at(alloc, image, &code, &search, address as u16)? {
+            write_found(alloc, found, &mut notes, out)?;
         }
     }
     Ok(notes)
+}
+
+/// Writes the line of a case, if there is one, and appends the note of its PCHL, if there is one.
+fn write_found<K: Sink>(
+    alloc: Global,
+    found: FoundCase,
+    notes: &mut Vec<Note>,
+    out: &mut K,
+) -> Result<(), TraceFault>
+    requires { K.failed out.old < u64.MAX }
+    ensures written { OnOk result (Appends (K.written out.old) (K.written out.new) (cases_text (cons_option found.case []))) }
+    ensures notes { OnOk result (notes.new.items ≡ notes.old.items ++ cons_option found.note []) }
+    ensures failures { OnOk result (K.failed out.new ≡ K.failed out.old) }
+{
+    push_given(notes, found.note)?;
+    if let Some(case) = found.case {
+        let line = case_lines(alloc, std::slice::from_ref(&case))?;
+        write_all(out, &line)?;
+    }
+    Ok(())
 }
 
 /// Prints the line of each case, and writes the regions with them to the file of this path; gives what there is to say of the PCHLs.
-fn add_cases(console: Console<'_>, path: &str, image: &Image) -> Result<Vec<Note>, Reported> {
-    let code = code_of(console, image)?;
-    let search = search_of(console, &code)?;
-    let mut notes = Vec::new(console.alloc());
-    let mut added = AddedCases::new(console.alloc());
-    for address in 0..65_536_u32 {
-        let at = address as u16;
-        if let Some(case) = case_at(console, image, &code, &search, at, &mut notes)? {
-            added.add(console, path, case)?;
-        }
-    }
-    let regions = with_cases(console, path, image, &added.cases)?;
-    console.print(&added.lines)?;
-    console.replace(path, &regions)?;
-    Ok(notes)
-}
-
-/// The image as it is gone through.
-fn code_of<'a>(console: Console<'_>, image: &'a Image) -> Result<ImageCode<'a>, Reported>
-    ensures { IfOk result (λ code. code ≡ image.now) }
+fn add_cases(console: Console<'_>, path: &str, image: &Image) -> Result<Vec<Note>, Reported>
+    ensures { IfOk result (λ notes. (cases : List DeclaredCase) × FindsCases image.now cases notes.items) }
 {
-    match ImageCode::new(console.alloc(), image) {
-        Ok(code) => Ok(code),
-        Err(_) => Err(console.report_memory()),
-    }
-}
-
-/// What is found as the image is gone through.
-fn search_of(console: Console<'_>, code: &ImageCode<'_>) -> Result<Search, Reported> {
-    match Search::of(console.alloc(), code) {
-        Ok(search) => Ok(search),
-        Err(_) => Err(console.report_memory()),
-    }
-}
-
-/// The case that is suggested for the PCHL at an address, if one stands there that is reached and has no declared targets; appends what
-/// there is to say of it.
-fn case_at(
-    console: Console<'_>,
-    image: &Image,
-    code: &ImageCode<'_>,
-    search: &Search,
-    at: u16,
-    notes: &mut Vec<Note>,
-) -> Result<Option<Case>, Reported>
-    requires { code.now ≡ image.now }
-{
-    if !search.is_open(image, code, at) {
-        return Ok(None);
-    }
-    let Ok(found) = search.suggest(console.alloc(), image, code, at) else {
-        return Err(console.report_memory());
-    };
-    if let Some(note) = search.note(code, at, &found) {
-        if notes.push(note).is_err() {
-            return Err(console.report_memory());
+    match added_cases(console.alloc(), path, image) {
+        Ok(AddedCases { lines, file, notes }) => {
+            console.give(lines)?;
+            console.give(file)?;
+            Ok(notes)
         }
-    }
-    match found {
-        Some(found) => Ok(Some(found.case)),
-        None => Ok(None),
+        Err(fault) => Err(report_regions_fault(console, path, fault)),
     }
 }
 
-/// The line of a case.
-fn line_of(console: Console<'_>, case: &Case) -> Result<Vec<u8>, Reported> {
-    match case_lines(console.alloc(), std::slice::from_ref(case)) {
-        Ok(line) => Ok(line),
-        Err(_) => Err(console.report_memory()),
-    }
-}
-
-/// Cases that are added to regions, and their lines: no more than a text of regions can have.
+/// Cases that are added to regions: their lines, the file of the regions with them, and what there is to say of the PCHLs.
 #[derive(Drop)]
-struct AddedCases {
+struct AddedCases<'a> {
+    lines: Answer<'static>,
+    file: Answer<'a>,
+    notes: Vec<Note>,
+}
+
+/// The cases of an image that are added to its regions, whose text goes to the file of this path.
+fn added_cases<'a>(
+    alloc: Global,
+    path: &'a str,
+    image: &Image,
+) -> Result<AddedCases<'a>, AddingFault>
+    ensures { IfOk result (λ added. WritesCases path.now image.now added.notes.items added.lines added.file) }
+{
+    let kept = kept_cases(alloc, image)?;
+    let text = regions_with_cases(alloc, &image.regions, &kept.cases)?;
+    if text.len() > TEXT_LIMIT {
+        return Err(AddingFault::TooLong);
+    }
+    Ok(AddedCases {
+        lines: Answer::prints(kept.lines, 0),
+        file: Answer::writes(path, text, Vec::new(alloc)),
+        notes: kept.notes,
+    })
+}
+
+/// Why cases aren't added to regions.
+#[derive(Clone, Copy)]
+enum AddingFault {
+    /// The text would have more bytes than a text of regions may have.
+    TooLong,
+    /// The text with the lines is no text of regions; or out of memory.
+    Regions(RegionsFault),
+}
+
+impl From<RegionsFault> for AddingFault {
+    ghost use Rattle.plm80_programs.specs.declared.cases.AddingFault.TheVariants.{Regions};
+
+    ghost from_gives = { λ given fault. fault ≡ Regions given };
+
+    fn from(fault: RegionsFault) -> AddingFault
+        ensures { result ≡ Regions fault }
+    {
+        AddingFault::Regions(fault)
+    }
+}
+
+impl From<AllocError> for AddingFault {
+    ghost use Rattle.image80.specs.declared.fault.RegionsFault.TheVariants.{Memory};
+    ghost use Rattle.plm80_programs.specs.declared.cases.AddingFault.TheVariants.{Regions};
+
+    ghost from_gives = { λ _ fault. fault ≡ Regions Memory };
+
+    fn from(_: AllocError) -> AddingFault
+        ensures { result ≡ Regions Memory }
+    {
+        AddingFault::Regions(RegionsFault::Memory)
+    }
+}
+
+/// Reports why cases aren't added to the regions that are to be written to the file of this path.
+fn report_regions_fault(console: Console<'_>, path: &str, fault: AddingFault) -> Reported {
+    match fault {
+        AddingFault::TooLong => console.report_file(path, "TooLong"),
+        AddingFault::Regions(RegionsFault::Memory) => console.report_memory(),
+        AddingFault::Regions(fault) => console.report_file(path, fault),
+    }
+}
+
+/// Cases with their lines, no more than a text of regions can have, and what there is to say of the PCHLs.
+#[derive(Drop)]
+struct KeptCases {
     cases: Vec<Case>,
     lines: Vec<u8>,
+    notes: Vec<Note>,
 }
 
-impl AddedCases {
-    /// No case.
-    fn new(alloc: Global) -> AddedCases {
-        AddedCases {
-            cases: Vec::new(alloc),
-            lines: Vec::new(alloc),
+/// The cases that an image suggests.
+fn kept_cases(alloc: Global, image: &Image) -> Result<KeptCases, AddingFault>
+    ensures found { IfOk result (λ kept. FindsCases image.now kept.cases.items kept.notes.items) }
+    ensures lines { IfOk result (λ kept. kept.lines.items ≡ cases_text kept.cases.items) }
+{
+    let code = ImageCode::new(alloc, image)?;
+    let search = Search::of(alloc, &code)?;
+    let mut kept = KeptCases {
+        cases: Vec::new(alloc),
+        lines: Vec::new(alloc),
+        notes: Vec::new(alloc),
+    };
+    for address in 0..65_536_u32 {
+        if let Some(found) = found_at(alloc, image, &code, &search, address as u16)? {
+            kept.add(alloc, found)?;
         }
     }
+    Ok(kept)
+}
 
-    /// Adds a case of the regions that are to be written to the file of this path, unless the lines alone are then too long for it.
-    fn add(&mut self, console: Console<'_>, path: &str, case: Case) -> Result<(), Reported> {
-        let line = line_of(console, &case)?;
-        if line.len() > TEXT_LIMIT.saturating_sub(self.lines.len()) {
-            return Err(console.report_file(path, "TooLong"));
-        }
-        if self.lines.extend_from_slice(&line).is_err() || self.cases.push(case).is_err() {
-            return Err(console.report_memory());
+impl KeptCases {
+    /// Adds what is found of a PCHL, unless the lines are then too long for a text of regions.
+    fn add(&mut self, alloc: Global, found: FoundCase) -> Result<(), AddingFault>
+        ensures cases { OnOk result (self.new.cases.items ≡ self.old.cases.items ++ cons_option found.case []) }
+        ensures lines { OnOk result (self.new.lines.items ≡ self.old.lines.items ++ cases_text (cons_option found.case [])) }
+        ensures notes { OnOk result (self.new.notes.items ≡ self.old.notes.items ++ cons_option found.note []) }
+    {
+        push_given(&mut self.notes, found.note)?;
+        if let Some(case) = found.case {
+            let line = case_lines(alloc, std::slice::from_ref(&case))?;
+            if line.len() > TEXT_LIMIT.saturating_sub(self.lines.len()) {
+                return Err(AddingFault::TooLong);
+            }
+            self.lines.extend_from_slice(&line)?;
+            if self.cases.push(case).is_err() {
+                return Err(AddingFault::from(AllocError));
+            }
         }
         Ok(())
     }
 }
 
-/// Reports what there is to say of PCHLs, and gives the status: 1 if there is one without a table.
-pub(crate) fn report_notes(console: Console<'_>, notes: &[Note]) -> u8 {
-    let mut status = 0;
-    for note in notes {
-        if report_note(console, *note) {
-            status = 1;
-        }
-    }
-    status
+/// What is found of a PCHL that is reached and has no declared targets: its case, if a table is seen, and what there is to say of it.
+#[derive(Drop)]
+struct FoundCase {
+    case: Option<Case>,
+    note: Option<Note>,
 }
 
-/// Reports a note; whether it is that of a PCHL without a table.
-fn report_note(console: Console<'_>, note: Note) -> bool {
+/// What is found of the PCHL at an address, if one stands there that is reached and has no declared targets.
+fn found_at(
+    alloc: Global,
+    image: &Image,
+    code: &ImageCode<'_>,
+    search: &Search,
+    at: u16,
+) -> Result<Option<FoundCase>, AllocError>
+    requires { code.now ≡ image.now }
+    ensures none { IfOk result (λ found. IfNone found (is_open image.now search.now.reached at ≡ false)) }
+    ensures some { IfOk result (λ found. IfSome found (IsFoundAt image.now search.now.reached search.now.taken at)) }
+{
+    if !search.is_open(image, code, at) {
+        return Ok(None);
+    }
+    let found = search.suggest(alloc, image, code, at)?;
+    let note = search.note(code, at, &found);
+    Ok(Some(FoundCase {
+        case: case_of(found),
+        note,
+    }))
+}
+
+/// The case of what is suggested, if something is.
+fn case_of(found: Option<SuggestedCase>) -> Option<Case>
+    ensures { result ≡ case_of found }
+{
+    match found {
+        Some(found) => Some(found.case),
+        None => None,
+    }
+}
+
+/// Appends a note, if there is one.
+fn push_given(notes: &mut Vec<Note>, note: Option<Note>) -> Result<(), AllocError>
+    ensures { OnOk result (notes.new.items ≡ notes.old.items ++ cons_option note []) }
+{
+    if let Some(note) = note {
+        notes.push(note)?;
+    }
+    Ok(())
+}
+
+/// The exit status: 1 if there is a note of a PCHL without a table.
+pub(crate) fn notes_status(notes: &[Note]) -> u8
+    ensures { result ≡ notes_status notes.now }
+{
+    if some_lacks_table(notes) { 1 } else { 0 }
+}
+
+/// Whether there is a note of a PCHL without a table.
+fn some_lacks_table(notes: &[Note]) -> bool
+    ensures { result ≡ list_any lacks_table notes.now }
+{
+    notes.iter().any(|note| lacks_table(note))
+}
+
+/// Whether a note is that of a PCHL without a table.
+fn lacks_table(note: &Note) -> bool
+    ensures { result ≡ lacks_table note.now }
+{
+    match note {
+        Note::MayEnd { .. } => false,
+        Note::Tableless(_) | Note::Returns(_) => true,
+    }
+}
+
+/// Reports what there is to say of PCHLs.
+pub(crate) fn report_notes(console: Console<'_>, notes: &[Note]) {
+    for note in notes {
+        report_note(console, *note);
+    }
+}
+
+/// Reports a note.
+fn report_note(console: Console<'_>, note: Note) {
     match note {
         Note::MayEnd { table, end } => {
             let _ = eprintln!(console.runtime();
                 "plm80: the table at {table:04X} may end at {end:04X}"
             );
-            false
         }
         Note::Tableless(at) => {
             let _ = eprintln!(console.runtime();
                 "plm80: no table is seen for the PCHL at {at:04X}"
             );
-            true
         }
         Note::Returns(at) => {
             let _ = eprintln!(console.runtime(); "plm80: the PCHL at {at:04X} returns");
-            true
         }
-    }
-}
-
-/// The text of the image's regions with these cases, which is to be that of the file of this path.
-fn with_cases(
-    console: Console<'_>,
-    path: &str,
-    image: &Image,
-    cases: &[Case],
-) -> Result<Vec<u8>, Reported> {
-    match regions_with_cases(console.alloc(), &image.regions, cases) {
-        Ok(text) if text.len() > TEXT_LIMIT => Err(console.report_file(path, "TooLong")),
-        Ok(text) => Ok(text),
-        Err(RegionsFault::Memory) => Err(console.report_memory()),
-        Err(fault) => Err(console.report_file(path, fault)),
     }
 }

@@ -1,8 +1,14 @@
 //! `plm80 check`: the verifier's report on a located program, or its refusal.
 
-use loader80::Vouched;
-use plm80_console::{Console, Reported, Syntax};
-use plm80_names::{NAMED_FILES, NamedFiles, Names, named_report, vouch_with_names};
+ghost use Rattle.std.specs.Prelude.{IfOk};
+ghost use Rattle.plm80_names.specs.Arguments.{asks_names};
+ghost use Rattle.plm80_names.specs.Verdict.{IsStatusFor};
+ghost use Rattle.plm80_programs.specs.Printed.{PrintsReport};
+
+use image80::Image;
+use plm80_console::{Answer, Console, Reported, Syntax};
+use plm80_names::{NAMED_FILES, NamedFiles, Names, Verdict, judge, named_report};
+use std::alloc::{AllocError, Global};
 
 const ABOUT: &str = "Verifies an image: prints a report, or the refusal";
 
@@ -30,18 +36,25 @@ pub const CHECK: Syntax<'static> = Syntax {
 };
 
 /// Prints the report on the image, or its refusal, and gives the exit status.
-pub fn check_files(console: Console<'_>, files: NamedFiles<'_>) -> Result<u8, Reported> {
+pub fn check_files(console: Console<'_>, files: NamedFiles<'_>) -> Result<u8, Reported>
+    ensures { IfOk result (IsStatusFor PrintsReport (asks_names files.entry)) }
+{
     let (image, names) = files.read(console)?;
-    match vouch_with_names(console, image, &names)? {
-        Ok(vouched) => print_report(console, &vouched, &names),
-        Err(status) => Ok(status),
+    match checked(console.alloc(), image, &names) {
+        Ok(answer) => console.give(answer),
+        Err(_) => Err(console.report_memory()),
     }
 }
 
-fn print_report(console: Console<'_>, vouched: &Vouched, names: &Names) -> Result<u8, Reported> {
-    let Ok(text) = named_report(console.alloc(), vouched, names) else {
-        return Err(console.report_memory());
-    };
-    console.print(&text)?;
-    Ok(0)
+/// The report on an image, or its refusal.
+fn checked(alloc: Global, image: Image, names: &Names) -> Result<Answer<'static>, AllocError>
+    ensures { IfOk result (PrintsReport image names.now) }
+{
+    match judge(alloc, image, names)? {
+        Verdict::Accepted(vouched) => {
+            let text = named_report(alloc, &vouched, names)?;
+            Ok(Answer::prints(text, 0))
+        }
+        Verdict::Refused(line) => Ok(Answer::prints(line, 1)),
+    }
 }

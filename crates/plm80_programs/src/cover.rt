@@ -1,12 +1,18 @@
 //! `plm80 cover`: the code of a located program, with how often a run began each instruction.
 
+ghost use Rattle.std.specs.Prelude.{IfOk};
+ghost use Rattle.plm80_programs.specs.Arguments.{AreCoverArguments};
+ghost use Rattle.plm80_programs.specs.Printed.{CountsRun, PrintsCover};
+ghost use Rattle.plm80_programs.specs.Running.{IsCoverStatus, IsStatusOfRun};
+
 use crate::helpers::run_arguments::{INPUTS, LimitTexts, OUTPUTS, RunFiles, STEPS};
 use clap::ArgMatches;
+use image80::Image;
 use loader80::Vouched;
 use loader80_trace::{Limits, count_steps, cover};
 use machine80::Inputs;
-use plm80_console::{Console, IMAGE, REGIONS, Reported, Syntax};
-use plm80_names::{NAMES, Names, vouch_with_names};
+use plm80_console::{Answer, Console, IMAGE, REGIONS, Reported, Syntax};
+use plm80_names::{NAMES, Names, Verdict, judge};
 use std::alloc::{AllocError, Global};
 
 /// The arguments of `cover`.
@@ -40,51 +46,76 @@ pub const COVER: Syntax<'static> = Syntax {
 
 impl<'a> CoverArguments<'a> {
     /// The arguments as clap has read them.
-    pub fn of(matches: &ArgMatches<'a>) -> CoverArguments<'a> {
+    pub fn of(matches: &ArgMatches<'a>) -> CoverArguments<'a>
+        ensures { AreCoverArguments matches.now result }
+    {
         CoverArguments {
             files: RunFiles::of(matches),
             limits: LimitTexts::of(matches),
-            names: matches.get_flag(NAMES.name),
+            names: matches.get_flag("names"),
         }
     }
 }
 
 /// Prints the code with the counts of the run, and gives the exit status.
-pub fn cover_files(console: Console<'_>, arguments: CoverArguments<'_>) -> Result<u8, Reported> {
+pub fn cover_files(console: Console<'_>, arguments: CoverArguments<'_>) -> Result<u8, Reported>
+    ensures { IfOk result (IsCoverStatus arguments.entry) }
+{
     let limits = arguments.limits.numbers(console)?;
-    let texts = arguments.files.read(console, arguments.names)?;
-    let inputs = arguments.files.inputs_of(console, &texts.inputs)?;
-    let names = texts.names;
-    match vouch_with_names(console, texts.image, &names)? {
-        Ok(vouched) => print_cover(console, &vouched, inputs, limits, &names),
-        Err(status) => Ok(status),
+    cover_within(console, arguments.files, limits, arguments.names)
+}
+
+/// Prints the code with the counts of the run within these limits, and gives the exit status.
+fn cover_within(
+    console: Console<'_>,
+    files: RunFiles<'_>,
+    limits: Limits,
+    names: bool,
+) -> Result<u8, Reported>
+    ensures { IfOk result (IsStatusOfRun (λ inputs. CountsRun inputs limits) names) }
+{
+    let program = files.read(console, names)?;
+    let inputs = files.inputs_of(console, &program.inputs)?;
+    match covered(
+        console.alloc(),
+        program.image,
+        &program.names,
+        inputs,
+        limits,
+    ) {
+        Ok(answer) => console.give(answer),
+        Err(_) => Err(console.report_memory()),
     }
 }
 
-/// Prints the code with the counts of the run.
-fn print_cover(
-    console: Console<'_>,
-    vouched: &Vouched,
-    inputs: Inputs,
-    limits: Limits,
-    names: &Names,
-) -> Result<u8, Reported> {
-    let Ok(text) = covered(console.alloc(), vouched, inputs, limits, names) else {
-        return Err(console.report_memory());
-    };
-    console.print(&text)?;
-    Ok(0)
-}
-
-/// The text of the code with the counts of the run.
+/// The code of an image with the counts of its run, or its refusal.
 fn covered(
     alloc: Global,
-    vouched: &Vouched,
+    image: Image,
+    names: &Names,
     inputs: Inputs,
     limits: Limits,
+) -> Result<Answer<'static>, AllocError>
+    ensures { IfOk result (PrintsCover inputs.pairs.items limits image names.now) }
+{
+    match judge(alloc, image, names)? {
+        Verdict::Accepted(vouched) => counted(alloc, &vouched, names, inputs, limits),
+        Verdict::Refused(line) => Ok(Answer::prints(line, 1)),
+    }
+}
+
+/// The code of a program with the counts of its run.
+fn counted(
+    alloc: Global,
+    vouched: &Vouched,
     names: &Names,
-) -> Result<Vec<u8>, AllocError> {
+    inputs: Inputs,
+    limits: Limits,
+) -> Result<Answer<'static>, AllocError>
+    ensures { IfOk result (CountsRun inputs.pairs.items limits names.now vouched.now) }
+{
     let counts = count_steps(alloc, vouched, inputs, limits)?;
     let text = cover(alloc, vouched, &counts.steps)?;
-    names.label(alloc, false, text)
+    let text = names.label(alloc, false, text)?;
+    Ok(Answer::prints(text, 0))
 }

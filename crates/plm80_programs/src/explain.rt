@@ -1,8 +1,16 @@
 //! `plm80 explain`: why the verifier refuses a located program, shown by ways through its procedures.
 
+ghost use Rattle.std.specs.Prelude.{◌≡◌, ◌≢◌, IfOk, OnOk};
+ghost use Rattle.verify80_flow.specs.declared.refusal.Refusal.TheVariants.{Memory};
+ghost use Rattle.verify80_explain.specs.Printed.{GoesOnWithChain, GoesOnWithWays};
+ghost use Rattle.plm80_names.specs.Arguments.{asks_names};
+ghost use Rattle.plm80_names.specs.Printed.{named_refusal_line, named_report};
+ghost use Rattle.plm80_names.specs.Verdict.{IsStatusFor};
+ghost use Rattle.plm80_programs.specs.Printed.{PrintsExplanation, ShowsOverrun, ShowsRefusal, needed_stack};
+
 use image80::Image;
-use loader80::{Refusal, vouch};
-use plm80_console::{Console, Reported, Syntax};
+use loader80::{Refusal, Vouched, vouch};
+use plm80_console::{Answer, Console, Reported, Syntax};
 use plm80_names::{
     NAMED_FILES, NamedFiles, Names, named_refusal, named_refusal_report, named_report,
 };
@@ -44,39 +52,80 @@ pub const EXPLAIN: Syntax<'static> = Syntax {
 };
 
 /// Prints the report on the image, or its refusal and what shows it, and gives the exit status.
-pub fn explain_files(console: Console<'_>, files: NamedFiles<'_>) -> Result<u8, Reported> {
+pub fn explain_files(console: Console<'_>, files: NamedFiles<'_>) -> Result<u8, Reported>
+    ensures { IfOk result (IsStatusFor PrintsExplanation (asks_names files.entry)) }
+{
     let (image, names) = files.read(console)?;
-    let Ok((text, status)) = explained(console.alloc(), image, &names) else {
-        return Err(console.report_memory());
-    };
-    console.print(text.as_slice())?;
-    Ok(status)
-}
-
-/// What is printed of an image, and the exit status.
-fn explained(alloc: Global, image: Image, names: &Names) -> Result<(Vec<u8>, u8), AllocError> {
-    match vouch(alloc, image) {
-        Ok(vouched) => {
-            let mut text = named_report(alloc, &vouched, names)?;
-            let (image, bytes) = (vouched.image(), vouched.stack_bytes());
-            append_chain(alloc, &mut text, image, names.publics(), bytes, LIMIT)?;
-            Ok((text, 0))
-        }
-        Err((_, Refusal::Memory)) => Err(AllocError),
-        Err((image, refusal)) => Ok((refused(alloc, &image, refusal, names)?, 1)),
+    match explained(console.alloc(), image, &names) {
+        Ok(answer) => console.give(answer),
+        Err(_) => Err(console.report_memory()),
     }
 }
 
-/// The refusal of an image, and what shows it.
+/// The report on an image and its chain of calls, or its refusal and what shows it.
+fn explained(alloc: Global, image: Image, names: &Names) -> Result<Answer<'static>, AllocError>
+    ensures { IfOk result (PrintsExplanation image names.now) }
+{
+    match vouch(alloc, image) {
+        Ok(vouched) => {
+            let text = with_chain(alloc, &vouched, names)?;
+            Ok(Answer::prints(text, 0))
+        }
+        Err((image, refusal)) => {
+            let text = refused(alloc, &image, refusal, names)?;
+            Ok(Answer::prints(text, 1))
+        }
+    }
+}
+
+/// The report on a program, and the chain of calls that needs most.
+fn with_chain(alloc: Global, vouched: &Vouched, names: &Names) -> Result<Vec<u8>, AllocError>
+    ensures { let program = vouched.now in IfOk result (λ text.
+        GoesOnWithChain program.image names.now program.stack_bytes (named_report program names.now) text.items) }
+{
+    let mut text = named_report(alloc, vouched, names)?;
+    let (image, bytes) = (vouched.image(), vouched.stack_bytes());
+    append_chain(alloc, &mut text, image, names.publics(), bytes, LIMIT)?;
+    Ok(text)
+}
+
+/// The refusal of an image, and what shows it; out of memory is no answer about the image.
 fn refused(
     alloc: Global,
     image: &Image,
     refusal: Refusal,
     names: &Names,
-) -> Result<Vec<u8>, AllocError> {
-    if let Refusal::StackTooSmall(need, _) = refusal {
-        return overrun(alloc, image, refusal, need, names);
+) -> Result<Vec<u8>, AllocError>
+    ensures shows { IfOk result (λ text. ShowsRefusal image.now names.now refusal text.items) }
+    ensures no_memory { OnOk result (refusal ≢ Memory) }
+{
+    match needed_stack(refusal) {
+        Some(need) => overrun(alloc, image, refusal, need, names),
+        None => with_ways(alloc, image, refusal, names),
     }
+}
+
+/// The bytes of stack that an image needs whose stack is too small; `None` for every other refusal.
+fn needed_stack(refusal: Refusal) -> Option<u64>
+    ensures { result ≡ needed_stack refusal }
+{
+    match refusal {
+        Refusal::StackTooSmall(need, _) => Some(need),
+        _ => None,
+    }
+}
+
+/// The refusal of an image, and the ways that show it.
+fn with_ways(
+    alloc: Global,
+    image: &Image,
+    refusal: Refusal,
+    names: &Names,
+) -> Result<Vec<u8>, AllocError>
+    ensures shows { IfOk result (λ text.
+        GoesOnWithWays image.now names.now refusal (named_refusal_line image.now.regions.code names.now refusal) text.items) }
+    ensures no_memory { OnOk result (refusal ≢ Memory) }
+{
     let mut text = named_refusal(alloc, image, refusal, names)?;
     append_explanation(alloc, &mut text, image, names.publics(), refusal, LIMIT)?;
     Ok(text)
@@ -89,7 +138,9 @@ fn overrun(
     refusal: Refusal,
     need: u64,
     names: &Names,
-) -> Result<Vec<u8>, AllocError> {
+) -> Result<Vec<u8>, AllocError>
+    ensures { IfOk result (λ text. ShowsOverrun image.now names.now refusal need text.items) }
+{
     // Nothing but its stack is wrong: if it can't be measured now, memory has run out.
     let Ok(report) = measure(alloc, image) else {
         return Err(AllocError);

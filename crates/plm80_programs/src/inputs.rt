@@ -1,8 +1,16 @@
 //! `plm80 inputs`: the text of a run's inputs, from words.
 
+ghost use Rattle.std.specs.Prelude.{◌≡◌, ◌≤◌, [], All, length, map, IfOk, IfErr, OnOk};
+ghost use Rattle.loader80_streams.specs.WholeText.{text_limit};
+ghost use Rattle.loader80_text.specs.Text.{text_of};
+ghost use Rattle.plm80_console.specs.Answer.{writes};
+ghost use Rattle.plm80_programs.specs.InputWords.{AreInputsArguments, FaultsFile, FaultsWords, IsGoodWord, inputs_named};
+
 use clap::ArgMatches;
 use loader80_text::{LengthFault, WordFault, WordInputs};
-use plm80_console::{Argument, Console, Kind, Reported, Syntax, path_of};
+use plm80_console::{
+    Answer, Argument, Console, Kind, Reported, Syntax, argument_text, argument_values,
+};
 use std::alloc::{AllocError, Global};
 
 /// The arguments of `inputs`.
@@ -45,10 +53,12 @@ pub const INPUTS: Syntax<'static> = Syntax {
 
 impl<'a> InputsArguments<'a> {
     /// The arguments as clap has read them.
-    pub fn of(alloc: Global, matches: &ArgMatches<'a>) -> Result<InputsArguments<'a>, AllocError> {
+    pub fn of(alloc: Global, matches: &ArgMatches<'a>) -> Result<InputsArguments<'a>, AllocError>
+        ensures { IfOk result (AreInputsArguments matches.now) }
+    {
         Ok(InputsArguments {
-            out: path_of(matches, "OUT"),
-            words: Vec::from_slice(alloc, matches.get_strs("WORD").unwrap_or(&[]))?,
+            out: argument_text(matches, "OUT"),
+            words: argument_values(alloc, matches, "WORD")?,
         })
     }
 }
@@ -57,22 +67,71 @@ impl<'a> InputsArguments<'a> {
 pub fn write_inputs_file(
     console: Console<'_>,
     arguments: &InputsArguments<'_>,
-) -> Result<u8, Reported> {
-    let inputs = inputs_of(console, &arguments.words)?;
-    write_text(console, arguments.out, &inputs)
+) -> Result<u8, Reported>
+    ensures { IfOk result (λ status. status ≡ 0) }
+{
+    match inputs_file(console.alloc(), arguments.out, &arguments.words) {
+        Ok(answer) => console.give(answer),
+        Err(fault) => Err(report_inputs(console, arguments.out, fault)),
+    }
+}
+
+/// Why words give no file of inputs.
+#[derive(Clone, Copy)]
+enum InputsFileFault<'a> {
+    /// This word names no inputs.
+    BadInput(&'a str),
+    /// The text would have more bytes than a loader reads.
+    TooLong,
+    /// Out of memory.
+    Memory,
+}
+
+/// The file of the inputs that words name.
+fn inputs_file<'a, 'b>(
+    alloc: Global,
+    out: &'b str,
+    words: &[&'a str],
+) -> Result<Answer<'b>, InputsFileFault<'a>>
+    ensures text { let named = inputs_named (map (λ word. word.now) words.now) in
+        IfOk result (λ answer. answer ≡ writes out.now (text_of named) []) }
+    ensures within { let named = inputs_named (map (λ word. word.now) words.now) in
+        OnOk result (length (text_of named) ≤ text_limit) }
+    ensures good { OnOk result (All IsGoodWord (map (λ word. word.now) words.now)) }
+    ensures fault { IfErr result (FaultsFile (map (λ word. word.now) words.now)) }
+{
+    let inputs = inputs_of(alloc, words)?;
+    match inputs.text(alloc) {
+        Ok(text) => Ok(Answer::writes(out, text.into_bytes(), Vec::new(alloc))),
+        Err(LengthFault::TooLong) => Err(InputsFileFault::TooLong),
+        Err(LengthFault::Memory) => Err(InputsFileFault::Memory),
+    }
 }
 
 /// The bytes that the words name.
-fn inputs_of(console: Console<'_>, words: &[&str]) -> Result<WordInputs, Reported> {
-    let mut inputs = WordInputs::new(console.alloc());
+fn inputs_of<'a>(alloc: Global, words: &[&'a str]) -> Result<WordInputs, InputsFileFault<'a>>
+    ensures inputs { IfOk result (λ inputs. inputs ≡ inputs_named (map (λ word. word.now) words.now)) }
+    ensures good { OnOk result (All IsGoodWord (map (λ word. word.now) words.now)) }
+    ensures fault { IfErr result (FaultsWords (map (λ word. word.now) words.now)) }
+{
+    let mut inputs = WordInputs::new(alloc);
     for word in words {
-        match inputs.add(console.alloc(), word.as_bytes()) {
+        match inputs.add(alloc, word.as_bytes()) {
             Ok(()) => {}
-            Err(WordFault::BadInput) => return Err(report_bad_input(console, word)),
-            Err(WordFault::Memory) => return Err(console.report_memory()),
+            Err(WordFault::BadInput) => return Err(InputsFileFault::BadInput(*word)),
+            Err(WordFault::Memory) => return Err(InputsFileFault::Memory),
         }
     }
     Ok(inputs)
+}
+
+/// Reports why words give no file of this path.
+fn report_inputs(console: Console<'_>, path: &str, fault: InputsFileFault<'_>) -> Reported {
+    match fault {
+        InputsFileFault::BadInput(word) => report_bad_input(console, word),
+        InputsFileFault::TooLong => console.report_file(path, LengthFault::TooLong),
+        InputsFileFault::Memory => console.report_memory(),
+    }
 }
 
 /// Reports the word that names no inputs.
@@ -96,15 +155,4 @@ fn is_cut(word: &str) -> bool {
 /// Whether a byte stands between parts of a word.
 fn is_mark(byte: Option<&u8>) -> bool {
     matches!(byte, Some(b'*' | b'=' | b','))
-}
-
-/// Writes the text of these inputs to the file of this path.
-fn write_text(console: Console<'_>, path: &str, inputs: &WordInputs) -> Result<u8, Reported> {
-    let text = match inputs.text(console.alloc()) {
-        Ok(text) => text,
-        Err(LengthFault::TooLong) => return Err(console.report_file(path, LengthFault::TooLong)),
-        Err(LengthFault::Memory) => return Err(console.report_memory()),
-    };
-    console.replace(path, text.as_bytes())?;
-    Ok(0)
 }

@@ -1,12 +1,18 @@
 //! `plm80 list`: the instructions of a located program.
 
+ghost use Rattle.std.specs.Prelude.{IfOk, true};
+ghost use Rattle.plm80_names.specs.Arguments.{asks_names};
+ghost use Rattle.plm80_names.specs.Verdict.{IsStatusFor};
+ghost use Rattle.plm80_programs.specs.Arguments.{AreListArguments};
+ghost use Rattle.plm80_programs.specs.Printed.{ListsCode, PrintsListing};
+
 use clap::ArgMatches;
 use image80::Image;
 use image80_text::listing;
 use loader80::Vouched;
 use loader80_trace::list_reached;
-use plm80_console::{Argument, Console, IMAGE, Kind, REGIONS, Reported, Syntax};
-use plm80_names::{NAMES, NamedFiles, Names, vouch_with_names};
+use plm80_console::{Answer, Argument, Console, IMAGE, Kind, REGIONS, Reported, Syntax};
+use plm80_names::{NAMES, NamedFiles, Names, Verdict, judge};
 use std::alloc::{AllocError, Global};
 
 /// The arguments of `list`.
@@ -54,7 +60,9 @@ pub const LIST: Syntax<'static> = Syntax {
 
 impl<'a> ListArguments<'a> {
     /// The arguments as clap has read them.
-    pub fn of(matches: &ArgMatches<'a>) -> ListArguments<'a> {
+    pub fn of(matches: &ArgMatches<'a>) -> ListArguments<'a>
+        ensures { AreListArguments matches.now result }
+    {
         ListArguments {
             files: NamedFiles::of(matches),
             reached: matches.get_flag("reached"),
@@ -63,34 +71,56 @@ impl<'a> ListArguments<'a> {
 }
 
 /// Prints the listing of the image, and gives the exit status.
-pub fn list_files(console: Console<'_>, arguments: ListArguments<'_>) -> Result<u8, Reported> {
+pub fn list_files(console: Console<'_>, arguments: ListArguments<'_>) -> Result<u8, Reported>
+    ensures { let asked = arguments.entry in IfOk result (IsStatusFor (PrintsListing asked.reached) (asks_names asked.files)) }
+{
     let (image, names) = arguments.files.read(console)?;
-    if !arguments.reached {
-        return print_lines(console, named_listing(console.alloc(), &image, &names));
-    }
-    match vouch_with_names(console, image, &names)? {
-        Ok(vouched) => print_lines(console, named_reached(console.alloc(), &vouched, &names)),
-        Err(status) => Ok(status),
+    match listed(console.alloc(), image, arguments.reached, &names) {
+        Ok(answer) => console.give(answer),
+        Err(_) => Err(console.report_memory()),
     }
 }
 
-/// Prints the lines, unless memory ran out for them.
-fn print_lines(console: Console<'_>, lines: Result<Vec<u8>, AllocError>) -> Result<u8, Reported> {
-    let Ok(text) = lines else {
-        return Err(console.report_memory());
-    };
-    console.print(&text)?;
-    Ok(0)
+/// The listing of an image: of all its code, or of that to which the program may come if the verifier accepts it.
+fn listed(
+    alloc: Global,
+    image: Image,
+    reached: bool,
+    names: &Names,
+) -> Result<Answer<'static>, AllocError>
+    ensures { IfOk result (PrintsListing reached image names.now) }
+{
+    if reached {
+        return listed_as_reached(alloc, image, names);
+    }
+    let text = listing(alloc, &image)?;
+    let text = names.label(alloc, false, text)?;
+    Ok(Answer::prints(text, 0))
 }
 
-/// The listing of the image with its names.
-fn named_listing(alloc: Global, image: &Image, names: &Names) -> Result<Vec<u8>, AllocError> {
-    let text = listing(alloc, image)?;
-    names.label(alloc, false, text)
+/// The code to which the program of an image may come, or its refusal.
+fn listed_as_reached(
+    alloc: Global,
+    image: Image,
+    names: &Names,
+) -> Result<Answer<'static>, AllocError>
+    ensures { IfOk result (PrintsListing true image names.now) }
+{
+    match judge(alloc, image, names)? {
+        Verdict::Accepted(vouched) => named_reached(alloc, &vouched, names),
+        Verdict::Refused(line) => Ok(Answer::prints(line, 1)),
+    }
 }
 
 /// The code to which the program may come, with its names.
-fn named_reached(alloc: Global, vouched: &Vouched, names: &Names) -> Result<Vec<u8>, AllocError> {
+fn named_reached(
+    alloc: Global,
+    vouched: &Vouched,
+    names: &Names,
+) -> Result<Answer<'static>, AllocError>
+    ensures { IfOk result (ListsCode names.now vouched.now) }
+{
     let text = list_reached(alloc, vouched)?;
-    names.label(alloc, false, text)
+    let text = names.label(alloc, false, text)?;
+    Ok(Answer::prints(text, 0))
 }

@@ -1,8 +1,17 @@
 //! `plm80 regions`: a regions text as one of version 2.
 
+ghost use Rattle.std.specs.Prelude.{◌≡◌, IfOk, IfErr};
+ghost use Rattle.image80.specs.RegionsText.{Refuses};
+ghost use Rattle.plm80_programs.specs.Arguments.{AreRegionsArguments};
+ghost use Rattle.plm80_programs.specs.Written.{WritesMigrated};
+
 use clap::ArgMatches;
-use image80::migrate_regions;
-use plm80_console::{Argument, Console, Kind, Reported, Syntax, path_of, report_regions};
+use image80::{RegionsFault, migrate_regions};
+use plm80_console::{
+    Answer, Argument, Console, FaultOf, Kind, ReadFile, Reported, Syntax, argument_text,
+    report_regions,
+};
+use std::alloc::Global;
 
 /// The arguments of `regions`.
 #[derive(Clone, Copy)]
@@ -44,27 +53,40 @@ pub const REGIONS: Syntax<'static> = Syntax {
 
 impl<'a> RegionsArguments<'a> {
     /// The arguments as clap has read them.
-    pub fn of(matches: &ArgMatches<'a>) -> RegionsArguments<'a> {
+    pub fn of(matches: &ArgMatches<'a>) -> RegionsArguments<'a>
+        ensures { AreRegionsArguments matches.now result }
+    {
         RegionsArguments {
-            old: path_of(matches, "OLD"),
-            new: path_of(matches, "NEW"),
+            old: argument_text(matches, "OLD"),
+            new: argument_text(matches, "NEW"),
         }
     }
 }
 
 /// Writes the text of version 2. No file is created or changed before every other fault is excluded.
-pub fn migrate_file(console: Console<'_>, arguments: RegionsArguments<'_>) -> Result<u8, Reported> {
-    let old = console.read_whole(arguments.old)?;
-    let new = migrated(console, arguments.old, &old)?;
-    console.replace(arguments.new, &new)?;
-    Ok(0)
+pub fn migrate_file(console: Console<'_>, arguments: RegionsArguments<'_>) -> Result<u8, Reported>
+    ensures { IfOk result (λ status. status ≡ 0) }
+{
+    let old = console.read_file(arguments.old)?;
+    match migrated(console.alloc(), &old, arguments.new) {
+        Ok(answer) => console.give(answer),
+        Err(fault) => Err(report_regions(console, fault.path, &old.bytes, fault.fault)),
+    }
 }
 
-/// The text of version 2 of the regions that the file's text spells.
-fn migrated(console: Console<'_>, path: &str, text: &[u8]) -> Result<Vec<u8>, Reported> {
-    let mut migrated = Vec::new(console.alloc());
-    match migrate_regions(console.alloc(), text, &mut migrated) {
-        Ok(()) => Ok(migrated),
-        Err(fault) => Err(report_regions(console, path, text, fault)),
+/// The text of version 2 of the regions that a file's text spells, which goes to another file.
+fn migrated<'a, 'b>(
+    alloc: Global,
+    old: &ReadFile<'a>,
+    new: &'b str,
+) -> Result<Answer<'b>, FaultOf<'a, RegionsFault>>
+    ensures text { IfOk result (WritesMigrated old.now.bytes.items new.now) }
+    ensures path { IfErr result (λ fault. fault.path.now ≡ old.now.path.now) }
+    ensures fault { IfErr result (λ fault. Refuses old.now.bytes.items fault.fault) }
+{
+    let mut text = Vec::new(alloc);
+    match migrate_regions(alloc, &old.bytes, &mut text) {
+        Ok(()) => Ok(Answer::writes(new, text, Vec::new(alloc))),
+        Err(fault) => Err(old.fault(fault)),
     }
 }

@@ -1,5 +1,9 @@
 //! `plm80 run`: the transcript of a located program's run.
 
+ghost use Rattle.std.specs.Prelude.{◌≡◌, ◌==◌, ◌&&◌, not, is_none, IfOk};
+ghost use Rattle.plm80_programs.specs.Arguments.{AreRunArguments};
+ghost use Rattle.plm80_programs.specs.Running.{IsRunStatus};
+
 use crate::helpers::run_arguments::{INPUTS, LimitTexts, OUTPUTS, RunFiles, STEPS};
 use crate::helpers::session_files::run_session;
 use crate::helpers::watching::{Watch, watch_run};
@@ -63,30 +67,39 @@ pub const RUN: Syntax<'static> = Syntax {
 
 impl<'a> RunArguments<'a> {
     /// The arguments as clap has read them.
-    pub fn of(matches: &ArgMatches<'a>) -> RunArguments<'a> {
+    pub fn of(matches: &ArgMatches<'a>) -> RunArguments<'a>
+        ensures { AreRunArguments matches.now result }
+    {
         RunArguments {
             files: RunFiles::of(matches),
             limits: LimitTexts::of(matches),
             last: OptionText::of(matches, "last"),
             dump: matches.get_str("dump"),
-            names: matches.get_flag(NAMES.name),
+            names: matches.get_flag("names"),
         }
+    }
+
+    /// Whether nothing but the transcript is asked for. `last` is how many of the last instructions are.
+    fn is_session(self, last: u64) -> bool
+        ensures { let asked = self.entry in result ≡ ((last == 0 && is_none asked.dump) && not asked.names) }
+    {
+        last == 0 && self.dump.is_none() && !self.names
     }
 }
 
 /// Runs the image of the files, and gives the exit status: a session, if nothing but its transcript is asked for.
-pub fn run_files(console: Console<'_>, arguments: RunArguments<'_>) -> Result<u8, Reported> {
+pub fn run_files(console: Console<'_>, arguments: RunArguments<'_>) -> Result<u8, Reported>
+    ensures { IfOk result (IsRunStatus arguments.entry) }
+{
     let limits = arguments.limits.numbers(console)?;
     let last = console.count(arguments.last)?;
-    if last == 0 && arguments.dump.is_none() && !arguments.names {
+    if arguments.is_session(last) {
         return run_session(console, arguments.files, limits);
     }
     let watch = Watch {
-        files: arguments.files,
         limits,
         last,
         dump: arguments.dump,
-        names: arguments.names,
     };
-    watch_run(console, watch)
+    watch_run(console, arguments.files, arguments.names, watch)
 }

@@ -1,10 +1,15 @@
 //! The exit status of a run, and words on how it ended.
 
+ghost use Rattle.std.specs.Prelude.{◌≡◌};
+ghost use Rattle.plm80_programs.specs.Status.{end_status};
+
 use machine80::End;
 use plm80_console::Console;
 
 /// The exit status of a run that ended so; `None` if its steps were used up.
-pub fn status_of(end: Option<End>) -> u8 {
+pub fn status_of(end: Option<End>) -> u8
+    ensures { result ≡ end_status «end» }
+{
     match end {
         Some(End::Halt) => 0,
         Some(_) => 3,

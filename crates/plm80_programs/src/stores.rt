@@ -1,11 +1,19 @@
 //! `plm80 stores`: the stores of a program that may leave its data, and its jumps by PCHL.
 
+ghost use Rattle.std.specs.Prelude.{◌≡◌, map, IfOk};
+ghost use Rattle.plm80_names.specs.Arguments.{asks_names};
+ghost use Rattle.plm80_programs.specs.Arguments.{AreStoresArguments};
+ghost use Rattle.plm80_programs.specs.Printed.{IsStoresStatus, ListsStores, PrintsStores};
+ghost use Rattle.plm80_programs.specs.Status.{stores_status};
+
 use crate::helpers::ranges::ranges_of;
 use clap::ArgMatches;
 use image80::{Image, Range};
-use loader80::{Vouched, vouch};
-use plm80_console::{Argument, Console, IMAGE, Kind, REGIONS, Reported, Syntax};
-use plm80_names::{NAMES, NamedFiles, Names, named_refusal};
+use loader80::Vouched;
+use plm80_console::{
+    Answer, Argument, Console, IMAGE, Kind, REGIONS, Reported, Syntax, argument_values,
+};
+use plm80_names::{NAMES, NamedFiles, Names, Verdict, judge};
 use std::alloc::{AllocError, Global};
 use verify80_stores::{Stores, find_stores, stores_text};
 
@@ -65,55 +73,64 @@ pub struct StoresArguments<'a> {
 
 impl<'a> StoresArguments<'a> {
     /// The arguments as clap has read them.
-    pub fn of(alloc: Global, matches: &ArgMatches<'a>) -> Result<StoresArguments<'a>, AllocError> {
+    pub fn of(alloc: Global, matches: &ArgMatches<'a>) -> Result<StoresArguments<'a>, AllocError>
+        ensures { IfOk result (AreStoresArguments matches.now) }
+    {
         Ok(StoresArguments {
             files: NamedFiles::of(matches),
-            quiet: Vec::from_slice(alloc, matches.get_strs(QUIET).unwrap_or(&[]))?,
+            quiet: argument_values(alloc, matches, "quiet-ram")?,
         })
     }
 }
 
 /// Prints what is known of the image's stores, or its refusal, and gives the exit status.
-pub fn list_stores(console: Console<'_>, arguments: &StoresArguments<'_>) -> Result<u8, Reported> {
+pub fn list_stores(console: Console<'_>, arguments: &StoresArguments<'_>) -> Result<u8, Reported>
+    ensures { IfOk result (IsStoresStatus (map (λ range. range.now) arguments.now.quiet.items) (asks_names arguments.now.files)) }
+{
     let quiet = ranges_of(console, QUIET, &arguments.quiet)?;
     let (image, names) = arguments.files.read(console)?;
-    let Ok((text, status)) = judged(console.alloc(), image, &names, &quiet) else {
-        return Err(console.report_memory());
-    };
-    console.print(text.as_slice())?;
-    Ok(status)
+    match judged(console.alloc(), image, &names, &quiet) {
+        Ok(answer) => console.give(answer),
+        Err(_) => Err(console.report_memory()),
+    }
 }
 
-/// What is printed of an image, and the exit status.
+/// The stores of an image, or its refusal.
 fn judged(
     alloc: Global,
     image: Image,
     names: &Names,
     quiet: &[Range],
-) -> Result<(Vec<u8>, u8), AllocError> {
-    match vouch(alloc, image) {
-        Ok(vouched) => stores_of(alloc, &vouched, names, quiet),
-        Err((image, refusal)) => Ok((named_refusal(alloc, &image, refusal, names)?, 1)),
+) -> Result<Answer<'static>, AllocError>
+    ensures { IfOk result (PrintsStores quiet.now image names.now) }
+{
+    match judge(alloc, image, names)? {
+        Verdict::Accepted(vouched) => stores_of(alloc, &vouched, names, quiet),
+        Verdict::Refused(line) => Ok(Answer::prints(line, 1)),
     }
 }
 
-/// The lines of an image's stores with their names, and the exit status.
+/// The lines of a program's stores, with their names.
 fn stores_of(
     alloc: Global,
     vouched: &Vouched,
     names: &Names,
     quiet: &[Range],
-) -> Result<(Vec<u8>, u8), AllocError> {
+) -> Result<Answer<'static>, AllocError>
+    ensures { IfOk result (ListsStores quiet.now names.now vouched.now) }
+{
     let code = vouched.image().regions.code();
     let stores = find_stores(alloc, vouched, quiet)?;
     let text = stores_text(alloc, &stores)?;
     let text = names.name(alloc, code, b"STORE ", text)?;
     let text = names.name(alloc, code, b"JUMP ", text)?;
-    Ok((text, status_of(&stores)))
+    Ok(Answer::prints(text, stores_status(&stores)))
 }
 
 /// The exit status: whether something is listed.
-fn status_of(stores: &Stores) -> u8 {
+fn stores_status(stores: &Stores) -> u8
+    ensures { result ≡ stores_status stores.now }
+{
     if stores.open.is_empty() && stores.open_jumps.is_empty() && stores.sets_stack {
         0
     } else {

@@ -1,14 +1,18 @@
 //! `plm80 suggest`: the regions that an image's bytes suggest.
 
-ghost use Rattle.std.specs.Prelude.{◌≡◌};
+ghost use Rattle.std.specs.Prelude.{◌≡◌, map, IfOk};
+ghost use Rattle.image80_file.specs.ImageFile.{SpellsImage, without_regions};
+ghost use Rattle.plm80_programs.specs.Suggest.{AdvisesRegions, AreSuggestArguments, IsAdviceStatus};
 
-use crate::cases::report_notes;
+use crate::cases::{notes_status, report_notes};
 use crate::helpers::ranges::ranges_of;
 use clap::ArgMatches;
 use image80::{Image, Range, write_regions};
 use loader80::TEXT_LIMIT;
+use loader80_text::LengthFault;
 use plm80_console::{
-    Argument, Console, IMAGE, Kind, Reported, Syntax, image_of, path_of, regions_of,
+    Answer, Argument, Console, IMAGE, Kind, ReadFile, Reported, Syntax, argument_text,
+    argument_values, image_of, regions_of,
 };
 use std::alloc::{AllocError, Global};
 use verify80::ImageCode;
@@ -72,72 +76,78 @@ pub const SUGGEST: Syntax<'static> = Syntax {
 
 impl<'a> SuggestArguments<'a> {
     /// The arguments as clap has read them.
-    pub fn of(alloc: Global, matches: &ArgMatches<'a>) -> Result<SuggestArguments<'a>, AllocError> {
+    pub fn of(alloc: Global, matches: &ArgMatches<'a>) -> Result<SuggestArguments<'a>, AllocError>
+        ensures { IfOk result (AreSuggestArguments matches.now) }
+    {
         Ok(SuggestArguments {
-            image: path_of(matches, IMAGE.name),
-            rom: Vec::from_slice(alloc, matches.get_strs(ROM).unwrap_or(&[]))?,
-            ram: Vec::from_slice(alloc, matches.get_strs(RAM).unwrap_or(&[]))?,
+            image: argument_text(matches, "IMAGE"),
+            rom: argument_values(alloc, matches, "rom-range")?,
+            ram: argument_values(alloc, matches, "ram-range")?,
         })
     }
 }
 
 /// Prints the regions that the image suggests, and reports what is uncertain of them; gives status 1 if a PCHL has no table.
-pub fn advise_file(console: Console<'_>, arguments: &SuggestArguments<'_>) -> Result<u8, Reported> {
+pub fn advise_file(console: Console<'_>, arguments: &SuggestArguments<'_>) -> Result<u8, Reported>
+    ensures { IfOk result (IsAdviceStatus (map (λ range. range.now) arguments.now.rom.items) (map (λ range. range.now) arguments.now.ram.items)) }
+{
     let rom = ranges_of(console, ROM, &arguments.rom)?;
     let ram = ranges_of(console, RAM, &arguments.ram)?;
-    let mut image = bare_image(console, arguments.image)?;
-    match advised(console.alloc(), &mut image, &rom, &ram) {
-        Ok((advice, text)) => {
-            console.print(&text)?;
-            report_stack(console, &advice);
-            Ok(report_notes(console, &advice.notes))
+    let file = console.read_file(arguments.image)?;
+    let image = bare_image(console, &file)?;
+    match advised(console.alloc(), image, &rom, &ram) {
+        Ok(printed) => {
+            let status = console.give(printed.answer)?;
+            report_stack(console, &printed.advice);
+            report_notes(console, &printed.advice.notes);
+            Ok(status)
         }
-        Err(AdviceFault::TooLong) => Err(console.report("TooLong")),
-        Err(AdviceFault::Memory) => Err(console.report_memory()),
+        Err(LengthFault::TooLong) => Err(console.report(LengthFault::TooLong)),
+        Err(LengthFault::Memory) => Err(console.report_memory()),
     }
 }
 
-/// Why there are no regions for an image.
-#[derive(Clone, Copy)]
-enum AdviceFault {
-    /// Their text has more bytes than a text of regions may have.
-    TooLong,
-    /// Out of memory.
-    Memory,
-}
-
-impl From<AllocError> for AdviceFault {
-    fn from(_: AllocError) -> AdviceFault {
-        AdviceFault::Memory
-    }
+/// The regions that an image suggests, as they are printed, and what there is to say of them.
+#[derive(Drop)]
+struct PrintedAdvice {
+    advice: Advice,
+    answer: Answer<'static>,
 }
 
 /// The image of a file, without regions.
-fn bare_image(console: Console<'_>, path: &str) -> Result<Image, Reported> {
-    let bytes = console.read_whole(path)?;
-    let none = regions_of(console, path, b"REGIONS 1\nSTACK 0000 0000\n")?;
-    image_of(console, path, &bytes, none)
+fn bare_image(console: Console<'_>, file: &ReadFile<'_>) -> Result<Image, Reported>
+    ensures { IfOk result (λ image. SpellsImage file.now.bytes.items (without_regions image)) }
+{
+    let none = regions_of(console, file.path, b"REGIONS 1\nSTACK 0000 0000\n")?;
+    image_of(console, file.path, &file.bytes, none)
 }
 
-/// Gives the image the regions that it suggests, and their text.
+/// The regions that an image suggests; `TooLong` if their text has more bytes than a text of regions may have.
 fn advised(
     alloc: Global,
-    image: &mut Image,
+    image: Image,
     rom: &[Range],
     ram: &[Range],
-) -> Result<(Advice, Vec<u8>), AdviceFault> {
-    image.regions = base_regions(alloc, image, rom)?;
+) -> Result<PrintedAdvice, LengthFault>
+    ensures { IfOk result (λ advised. AdvisesRegions image rom.now ram.now advised.advice advised.answer) }
+{
+    let mut image = image;
+    image.regions = base_regions(alloc, &image, rom)?;
     // Together its cases may have thousands of times as many targets as it has bytes, so they aren't kept before they are counted.
-    if are_cases_too_long(alloc, image)? {
-        return Err(AdviceFault::TooLong);
+    if are_cases_too_long(alloc, &image)? {
+        return Err(LengthFault::TooLong);
     }
-    let advice = suggest_regions(alloc, image, rom, ram)?;
+    let advice = suggest_regions(alloc, &mut image, rom, ram)?;
     let mut text = Vec::new(alloc);
     write_regions(alloc, &image.regions, &mut text)?;
     if text.len() > TEXT_LIMIT {
-        return Err(AdviceFault::TooLong);
+        return Err(LengthFault::TooLong);
     }
-    Ok((advice, text))
+    let status = notes_status(&advice.notes);
+    Ok(PrintedAdvice {
+        advice,
+        answer: Answer::prints(text, status),
+    })
 }
 
 /// Whether the lines of the cases that an image suggests have more bytes than a text of regions may have.

@@ -1,14 +1,24 @@
 //! `plm80 trace`: the instructions of a located program's run, a line each.
 
-use crate::helpers::run_arguments::{
-    INPUTS, LimitTexts, OUTPUTS, RunFiles, STEPS, Traced, print_ending, print_lines,
-};
+ghost use Rattle.std.specs.Prelude.{◌≡◌, ◌<◌, true, IfOk, OnOk};
+ghost use Rattle.std.specs.Io.KnownBytes.{Appends};
+ghost use Rattle.plm80_console.specs.Answer.{AnswerValue};
+ghost use Rattle.plm80_programs.specs.Arguments.{AreTraceArguments};
+ghost use Rattle.plm80_programs.specs.Running.{EndsTrace, IsSpanOf, IsStatusOfRun, IsTraceOf, IsTraceStatus, trace_ending, trace_lines};
+
+use crate::explain_end;
+use crate::helpers::endings::{Traced, report_lines, trace_ending_of, write_traced};
+use crate::helpers::run_arguments::{INPUTS, LimitTexts, OUTPUTS, RunFiles, STEPS};
 use clap::ArgMatches;
-use loader80::Vouched;
-use loader80_trace::{Limits, Span};
+use loader80::{Ended, Vouched};
+use loader80_streams::{Sink, Writing};
+use loader80_trace::{Limits, Span, TraceFault};
 use machine80::Inputs;
-use plm80_console::{Argument, Console, IMAGE, Kind, OptionText, REGIONS, Reported, Syntax};
-use plm80_names::{NAMES, Names, vouch_with_names};
+use plm80_console::{
+    Answer, Argument, Console, IMAGE, Kind, NotedWriter, OptionText, REGIONS, Reported, Syntax,
+};
+use plm80_names::{NAMES, Names, Verdict, judge};
+use std::alloc::{AllocError, Global};
 
 /// The arguments of `trace`.
 #[derive(Clone, Copy)]
@@ -63,18 +73,22 @@ pub const TRACE: Syntax<'static> = Syntax {
 
 impl<'a> TraceArguments<'a> {
     /// The arguments as clap has read them.
-    pub fn of(matches: &ArgMatches<'a>) -> TraceArguments<'a> {
+    pub fn of(matches: &ArgMatches<'a>) -> TraceArguments<'a>
+        ensures { AreTraceArguments matches.now result }
+    {
         TraceArguments {
             files: RunFiles::of(matches),
             limits: LimitTexts::of(matches),
             from: OptionText::of(matches, "from"),
             count: OptionText::of(matches, "count"),
-            names: matches.get_flag(NAMES.name),
+            names: matches.get_flag("names"),
         }
     }
 
     /// The instructions that are asked for.
-    fn span(self, console: Console<'_>) -> Result<Span, Reported> {
+    fn span(self, console: Console<'_>) -> Result<Span, Reported>
+        ensures { IfOk result (IsSpanOf self.entry) }
+    {
         Ok(Span {
             from: console.count(self.from)?,
             count: console.count(self.count)?,
@@ -83,15 +97,32 @@ impl<'a> TraceArguments<'a> {
 }
 
 /// Prints the instructions of the run, and gives the exit status.
-pub fn trace_files(console: Console<'_>, arguments: TraceArguments<'_>) -> Result<u8, Reported> {
+pub fn trace_files(console: Console<'_>, arguments: TraceArguments<'_>) -> Result<u8, Reported>
+    ensures { IfOk result (IsTraceStatus arguments.entry) }
+{
     let limits = arguments.limits.numbers(console)?;
     let span = arguments.span(console)?;
-    let texts = arguments.files.read(console, arguments.names)?;
-    let inputs = arguments.files.inputs_of(console, &texts.inputs)?;
-    let names = texts.names;
-    match vouch_with_names(console, texts.image, &names)? {
-        Ok(vouched) => print_trace(console, &vouched, inputs, limits, span, &names),
-        Err(status) => Ok(status),
+    trace_within(console, arguments.files, limits, span, arguments.names)
+}
+
+/// Prints some instructions of the run within these limits, and gives the exit status.
+fn trace_within(
+    console: Console<'_>,
+    files: RunFiles<'_>,
+    limits: Limits,
+    span: Span,
+    names: bool,
+) -> Result<u8, Reported>
+    ensures { IfOk result (IsStatusOfRun (λ inputs. EndsTrace inputs limits span) names) }
+{
+    let program = files.read(console, names)?;
+    let inputs = files.inputs_of(console, &program.inputs)?;
+    match judge(console.alloc(), program.image, &program.names) {
+        Ok(Verdict::Accepted(vouched)) => {
+            print_trace(console, &vouched, inputs, limits, span, &program.names)
+        }
+        Ok(Verdict::Refused(line)) => console.give(Answer::prints(line, 1)),
+        Err(AllocError) => Err(console.report_memory()),
     }
 }
 
@@ -103,7 +134,41 @@ fn print_trace(
     limits: Limits,
     span: Span,
     names: &Names,
-) -> Result<u8, Reported> {
+) -> Result<u8, Reported>
+    ensures { IfOk result (λ status. (answer : AnswerValue)
+        × EndsTrace inputs.pairs.items limits span names.now vouched.now answer × (status ≡ answer.status)) }
+{
+    let mut output = NotedWriter::new(console.runtime().stdout());
+    let mut out = Writing::new(&mut output);
+    match write_trace(
+        console.alloc(),
+        vouched,
+        inputs,
+        limits,
+        span,
+        names,
+        &mut out,
+    ) {
+        Ok(ended) => end_trace(console, vouched, &ended, names),
+        Err(fault) => Err(report_lines(console, fault, output.failure())),
+    }
+}
+
+/// Writes the lines of the run, with their numbers, and gives how it ended, if they come so far.
+fn write_trace<K: Sink>(
+    alloc: Global,
+    vouched: &Vouched,
+    inputs: Inputs,
+    limits: Limits,
+    span: Span,
+    names: &Names,
+    out: &mut K,
+) -> Result<Option<Ended>, TraceFault>
+    requires { K.failed out.old < u64.MAX }
+    ensures lines { OnOk result (Appends (K.written out.old) (K.written out.new)
+        (trace_lines inputs.pairs.items limits span true names.now vouched.now)) }
+    ensures traced { IfOk result (IsTraceOf inputs.pairs.items limits span vouched.now) }
+{
     let traced = Traced {
         vouched,
         names,
@@ -111,8 +176,24 @@ fn print_trace(
         span,
         numbered: true,
     };
-    match print_lines(console, traced, inputs)? {
-        None => Ok(0),
-        Some(ended) => print_ending(console, vouched, &ended, names),
+    write_traced(alloc, traced, inputs, out)
+}
+
+/// Prints how a run ended, if it is known, and gives the exit status.
+fn end_trace(
+    console: Console<'_>,
+    vouched: &Vouched,
+    ended: &Option<Ended>,
+    names: &Names,
+) -> Result<u8, Reported>
+    ensures { IfOk result (λ status. status ≡ (trace_ending vouched.now names.now ended.now).status) }
+{
+    let Ok(ending) = trace_ending_of(console.alloc(), vouched, ended, names) else {
+        return Err(console.report_memory());
+    };
+    let status = console.give(ending)?;
+    if let Some(ended) = ended {
+        explain_end(console, ended.end, ended.cpu.pc());
     }
+    Ok(status)
 }

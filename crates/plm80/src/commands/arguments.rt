@@ -1,5 +1,12 @@
 //! The command line, read by clap.
 
+ghost use Rattle.std.specs.Prelude.{◌≡◌, ◌⊎◌, ◌∷◌, [], true, false, None, Some, IfOk, IfErr, IfSome};
+ghost use Rattle.std.specs.Str.{bytes_eq};
+ghost use Rattle.clap.specs.Matches.{has_subcommand, subcommand_name_of};
+ghost use Rattle.clap.specs.Values.{kind_of};
+ghost use Rattle.plm80_console.specs.Refusals.{IsConflict};
+ghost use Rattle.plm80.specs.Requests.{command_name};
+
 use clap::error::ErrorKind;
 use clap::{ArgMatches, Command, Error};
 use plm80_console::{Syntax, WHY};
@@ -64,29 +71,39 @@ Faults and what to do: docs/FAULTS.md (installed: share/doc/plm80), man plm80.";
 
 /// The commands of object files, in the order of the help text. (Several functions make the commands, since one proof of all their
 /// texts is more than the prover takes.)
-fn object_commands() -> [Syntax<'static>; 5] {
+fn object_commands() -> [Syntax<'static>; 5]
+    ensures { result ≡ LIB ∷ LINK ∷ LOCATE ∷ MAP ∷ MODULE ∷ [] }
+{
     [LIB, LINK, LOCATE, MAP, MODULE]
 }
 
 /// The commands that verify a located program, in the order of the help text.
-fn verifier_commands() -> [Syntax<'static>; 4] {
+fn verifier_commands() -> [Syntax<'static>; 4]
+    ensures { result ≡ CHECK ∷ EXPLAIN ∷ CALLS ∷ STORES ∷ [] }
+{
     [CHECK, EXPLAIN, CALLS, STORES]
 }
 
 /// The commands that run one, in the order of the help text.
-fn run_commands() -> [Syntax<'static>; 4] {
+fn run_commands() -> [Syntax<'static>; 4]
+    ensures { result ≡ RUN ∷ TRACE ∷ COVER ∷ INPUTS ∷ [] }
+{
     [RUN, TRACE, COVER, INPUTS]
 }
 
 /// The commands of PROMs, and of programs of which there are no object files, in the order of the help text.
-fn prom_commands() -> [Syntax<'static>; 8] {
+fn prom_commands() -> [Syntax<'static>; 8]
+    ensures { result ≡ ABSOLUTE ∷ EXTRACT ∷ COMPARE ∷ FIND ∷ SUGGEST ∷ CASES ∷ LIST ∷ REGIONS ∷ [] }
+{
     [
         ABSOLUTE, EXTRACT, COMPARE, FIND, SUGGEST, CASES, LIST, REGIONS,
     ]
 }
 
 /// The command of a name.
-fn command_of(name: &str) -> Option<Syntax<'static>> {
+fn command_of(name: &str) -> Option<Syntax<'static>>
+    ensures { IfSome result (λ command. bytes_eq command.name.now name.now ≡ true) }
+{
     for command in object_commands() {
         if command.name == name {
             return Some(command);
@@ -119,7 +136,7 @@ pub fn read_arguments<'a>(
     arguments: &'a [String],
 ) -> Result<(Request<'a>, bool), Error> {
     let alloc = rt.alloc();
-    let matches = matches_of(alloc, arguments)?;
+    let matches = program(alloc)?.try_get_matches_from(arguments)?;
     refuse_shared_paths(rt, &matches)?;
     match asked_for(alloc, &matches)? {
         Some(request) => Ok((request, is_explained(&matches))),
@@ -128,20 +145,19 @@ pub fn read_arguments<'a>(
 }
 
 /// Whether the faults of the command are explained.
-fn is_explained(matches: &ArgMatches<'_>) -> bool {
+fn is_explained(matches: &ArgMatches<'_>) -> bool
+    ensures { has_subcommand matches.now ≡ false → result ≡ false }
+{
     match matches.subcommand() {
         Some((_, arguments)) => arguments.get_flag(WHY.name),
         None => false,
     }
 }
 
-/// The arguments as clap reads them.
-fn matches_of<'a>(alloc: Global, arguments: &'a [String]) -> Result<ArgMatches<'a>, Error> {
-    program(alloc)?.try_get_matches_from(arguments)
-}
-
 /// Refuses the arguments of a command by which it would write over a file that it reads, or write a file twice.
-fn refuse_shared_paths(rt: &HostRuntime, matches: &ArgMatches<'_>) -> Result<(), Error> {
+fn refuse_shared_paths(rt: &HostRuntime, matches: &ArgMatches<'_>) -> Result<(), Error>
+    ensures { IfErr result IsConflict }
+{
     let Some((name, arguments)) = matches.subcommand() else {
         return Ok(());
     };
@@ -152,7 +168,9 @@ fn refuse_shared_paths(rt: &HostRuntime, matches: &ArgMatches<'_>) -> Result<(),
 }
 
 /// The error of arguments that are no text.
-pub fn no_text(alloc: Global) -> Error {
+pub fn no_text(alloc: Global) -> Error
+    ensures { (kind_of result ≡ ErrorKind.InvalidValue) ⊎ (kind_of result ≡ ErrorKind.OutOfMemory) }
+{
     refusal(
         alloc,
         ErrorKind::InvalidValue,
@@ -161,76 +179,75 @@ pub fn no_text(alloc: Global) -> Error {
 }
 
 /// An error of the command line, as clap prints it.
-fn refusal(alloc: Global, kind: ErrorKind, text: &str) -> Error {
+fn refusal(alloc: Global, kind: ErrorKind, text: &str) -> Error
+    ensures { (kind_of result ≡ kind) ⊎ (kind_of result ≡ ErrorKind.OutOfMemory) }
+{
     match refuse(alloc, kind, text) {
         Ok(error) => error,
         Err(refused) => Error::from(refused),
     }
 }
 
-fn refuse(alloc: Global, kind: ErrorKind, text: &str) -> Result<Error, AllocError> {
+/// The same, if memory doesn't run out.
+fn refuse(alloc: Global, kind: ErrorKind, text: &str) -> Result<Error, AllocError>
+    ensures { IfOk result (λ error. kind_of error ≡ kind) }
+{
     program(alloc)?.error(kind, text)
 }
 
 /// The program with its commands, for clap.
 fn program<'a>(alloc: Global) -> Result<Command<'a>, AllocError> {
-    let mut program = bare_program(alloc)?;
-    for command in object_commands() {
-        program = command.add_to(alloc, program)?;
-    }
-    for command in verifier_commands() {
-        program = command.add_to(alloc, program)?;
-    }
-    for command in run_commands() {
-        program = command.add_to(alloc, program)?;
-    }
-    for command in prom_commands() {
-        program = command.add_to(alloc, program)?;
-    }
-    Ok(program)
-}
-
-/// The program before its commands are added.
-fn bare_program<'a>(alloc: Global) -> Result<Command<'a>, AllocError> {
-    Command::new(alloc, "plm80")
+    let mut program = Command::new(alloc, "plm80")
         .version(VERSION)
         .about(ABOUT)
         .after_help(AFTER_HELP)
         .subcommand_required(true)
-        .bin_name("plm80")
+        .bin_name("plm80")?;
+    for command in object_commands() {
+        program = program.subcommand(command.command(alloc)?)?;
+    }
+    for command in verifier_commands() {
+        program = program.subcommand(command.command(alloc)?)?;
+    }
+    for command in run_commands() {
+        program = program.subcommand(command.command(alloc)?)?;
+    }
+    for command in prom_commands() {
+        program = program.subcommand(command.command(alloc)?)?;
+    }
+    Ok(program)
 }
 
 /// The command that clap has read.
-fn asked_for<'a>(
-    alloc: Global,
-    matches: &ArgMatches<'a>,
-) -> Result<Option<Request<'a>>, AllocError> {
+fn asked_for<'a>(alloc: Global, matches: &ArgMatches<'a>) -> Result<Option<Request<'a>>, AllocError>
+    ensures none { IfOk result (λ asked. has_subcommand matches.now ≡ false → asked ≡ None) }
+    ensures name { IfOk result (λ asked. IfSome asked (λ request. subcommand_name_of matches.now ≡ Some (command_name request))) }
+{
     let Some((name, arguments)) = matches.subcommand() else {
         return Ok(None);
     };
-    let request = match name {
-        "link" => Request::Link(LinkArguments::of(alloc, arguments)?),
-        "locate" => Request::Locate(LocateArguments::of(arguments)),
-        "run" => Request::Run(RunArguments::of(arguments)),
-        "list" => Request::List(ListArguments::of(arguments)),
-        "check" => Request::Check(NamedFiles::of(arguments)),
-        "explain" => Request::Explain(NamedFiles::of(arguments)),
-        "lib" => Request::Library(LibraryArguments::of(alloc, arguments)?),
-        "regions" => Request::Regions(RegionsArguments::of(arguments)),
-        "cases" => Request::Cases(CasesArguments::of(arguments)),
-        "map" => Request::Map(MapArguments::of(arguments)),
-        "extract" => Request::Extract(ExtractArguments::of(arguments)),
-        "absolute" => Request::Absolute(AbsoluteArguments::of(alloc, arguments)?),
-        "stores" => Request::Stores(StoresArguments::of(alloc, arguments)?),
-        "compare" => Request::Compare(CompareArguments::of(arguments)),
-        "inputs" => Request::Inputs(InputsArguments::of(alloc, arguments)?),
-        "calls" => Request::Calls(CallsArguments::of(arguments)),
-        "trace" => Request::Trace(TraceArguments::of(arguments)),
-        "cover" => Request::Cover(CoverArguments::of(arguments)),
-        "module" => Request::Module(ModuleArguments::of(arguments)),
-        "find" => Request::Find(FindArguments::of(alloc, arguments)?),
-        "suggest" => Request::Suggest(SuggestArguments::of(alloc, arguments)?),
-        _ => return Ok(None),
-    };
-    Ok(Some(request))
+    match name {
+        "link" => Ok(Some(Request::Link(LinkArguments::of(alloc, arguments)?))),
+        "locate" => Ok(Some(Request::Locate(LocateArguments::of(arguments)))),
+        "run" => Ok(Some(Request::Run(RunArguments::of(arguments)))),
+        "list" => Ok(Some(Request::List(ListArguments::of(arguments)))),
+        "check" => Ok(Some(Request::Check(NamedFiles::of(arguments)))),
+        "explain" => Ok(Some(Request::Explain(NamedFiles::of(arguments)))),
+        "lib" => Ok(Some(Request::Library(LibraryArguments::of(alloc, arguments)?))),
+        "regions" => Ok(Some(Request::Regions(RegionsArguments::of(arguments)))),
+        "cases" => Ok(Some(Request::Cases(CasesArguments::of(arguments)))),
+        "map" => Ok(Some(Request::Map(MapArguments::of(arguments)))),
+        "extract" => Ok(Some(Request::Extract(ExtractArguments::of(arguments)))),
+        "absolute" => Ok(Some(Request::Absolute(AbsoluteArguments::of(alloc, arguments)?))),
+        "stores" => Ok(Some(Request::Stores(StoresArguments::of(alloc, arguments)?))),
+        "compare" => Ok(Some(Request::Compare(CompareArguments::of(arguments)))),
+        "inputs" => Ok(Some(Request::Inputs(InputsArguments::of(alloc, arguments)?))),
+        "calls" => Ok(Some(Request::Calls(CallsArguments::of(arguments)))),
+        "trace" => Ok(Some(Request::Trace(TraceArguments::of(arguments)))),
+        "cover" => Ok(Some(Request::Cover(CoverArguments::of(arguments)))),
+        "module" => Ok(Some(Request::Module(ModuleArguments::of(arguments)))),
+        "find" => Ok(Some(Request::Find(FindArguments::of(alloc, arguments)?))),
+        "suggest" => Ok(Some(Request::Suggest(SuggestArguments::of(alloc, arguments)?))),
+        _ => Ok(None),
+    }
 }

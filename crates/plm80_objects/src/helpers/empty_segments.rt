@@ -1,10 +1,14 @@
 //! Words on bases of segments that are empty.
 
+ghost use Rattle.std.specs.Prelude.{◌≡◌, ◌⊎◌, ◌==◌, ◌||◌, not, []};
+ghost use Rattle.omf_core.specs.SegmentId.{segment_word};
+ghost use Rattle.std.specs.List.{list_all};
+
 use crate::helpers::locate_options::LocateTexts;
 use omf_core::segment_id::word_of;
 use omf_module::Module;
 use place80::{Options, Placed, layout};
-use plm80_console::{Console, OptionText};
+use plm80_console::Console;
 use std::str;
 
 /// Says which bases are those of empty segments, and where the segments are that aren't empty: there is what was to be at these bases. If
@@ -25,7 +29,12 @@ pub(crate) fn explain_empty_segments(
     for (id, option) in texts.bases() {
         if let Some(option) = option {
             if is_empty(&layout.segments, id) {
-                explain_base(console, option, id);
+                let _ = eprintln!(console.runtime();
+                    "  --{} {}: {} is empty",
+                    option.name(),
+                    option.text(),
+                    shown(id)
+                );
                 has_empty = true;
             }
         }
@@ -36,20 +45,12 @@ pub(crate) fn explain_empty_segments(
 }
 
 /// Whether the segment of this id has no bytes.
-fn is_empty(segments: &[Placed], id: u8) -> bool {
+fn is_empty(segments: &[Placed], id: u8) -> bool
+    ensures { result ≡ list_all (λ placed. not (placed.id == id) || placed.length == 0) segments.now }
+{
     segments
         .iter()
         .all(|placed| placed.id != id || placed.length == 0)
-}
-
-/// Says that the segment of this id, whose base is given, is empty.
-fn explain_base(console: Console<'_>, option: OptionText<'_>, id: u8) {
-    let _ = eprintln!(console.runtime();
-        "  --{} {}: {} is empty",
-        option.name(),
-        option.text(),
-        shown(id)
-    );
 }
 
 /// Says where the segments are that have bytes.
@@ -67,6 +68,11 @@ fn explain_segments(console: Console<'_>, segments: &[Placed]) {
 }
 
 /// The word for the segment of this id.
-fn shown(id: u8) -> &'static str {
-    str::from_utf8(word_of(id)).unwrap_or("")
+fn shown(id: u8) -> &'static str
+    ensures { (result.now ≡ segment_word id) ⊎ (result.now ≡ []) }
+{
+    match str::from_utf8(word_of(id)) {
+        Ok(word) => word,
+        Err(_) => "",
+    }
 }

@@ -1,13 +1,17 @@
 //! The lines that `link` prints.
 
+ghost use Rattle.std.specs.Prelude.{◌≡◌, ◌++◌, map, option_copied, IfOk, OnOk};
 ghost use Rattle.link80.specs.Selection.{IsSelection};
-ghost use Rattle.link80_text.specs.Parts.{IsMade};
+ghost use Rattle.link80_select.specs.Selected.{module_at};
+ghost use Rattle.link80_text.specs.Parts.{IsMade, modules_of};
+ghost use Rattle.plm80_objects.specs.Link.{PrintsLink, PrintsTaken, named_line, names_text, rest_text, taken_line, taken_text};
 
 use crate::link::LinkFiles;
 use link80::{Chosen, Linked};
 use link80_text::{append_parts, append_reasons, append_unresolved};
 use omf_core::Name;
 use omf_library::Library;
+use omf_module::Module;
 use std::alloc::{AllocError, Global};
 
 /// Which lines are printed beside those of the modules that were taken and of the unresolved names.
@@ -27,27 +31,63 @@ pub(crate) fn lines_of(
 ) -> Result<Vec<u8>, AllocError>
     requires selection { IsSelection files.now.roots.items files.now.libraries.items linked.now.taken.items }
     requires made { IsMade files.now.roots.items files.now.libraries.items linked.now }
+    ensures { IfOk result (λ lines. PrintsLink wanted files.now.roots.items files.now.libraries.items
+        (map (λ p. p.now) files.now.paths.items) linked.now lines.items) }
+{
+    let mut lines = taken_lines(alloc, wanted.reasons, linked, files)?;
+    append_rest(alloc, &mut lines, wanted.map, linked, files)?;
+    Ok(lines)
+}
+
+/// A line for each module that was taken, with its reason if reasons are wanted.
+fn taken_lines(
+    alloc: Global,
+    reasons: bool,
+    linked: &Linked,
+    files: &LinkFiles<'_>,
+) -> Result<Vec<u8>, AllocError>
+    requires { IsSelection files.now.roots.items files.now.libraries.items linked.now.taken.items }
+    ensures { IfOk result (λ lines. PrintsTaken reasons files.now.roots.items files.now.libraries.items
+        (map (λ p. p.now) files.now.paths.items) linked.now.taken.items lines.items) }
 {
     let mut lines = Vec::new(alloc);
-    if wanted.reasons {
+    if reasons {
+        let (roots, libraries) = (&files.roots, &files.libraries);
         append_reasons(
             alloc,
             &mut lines,
-            &files.roots,
-            &files.libraries,
+            roots,
+            libraries,
             &linked.taken,
             &files.paths,
         )?;
+        Ok(lines)
     } else {
         append_taken(&mut lines, &linked.taken, &files.libraries)?;
+        Ok(lines)
     }
-    if wanted.map {
-        append_unresolved(alloc, &mut lines, &files.roots, &files.libraries, linked)?;
-        append_parts(alloc, &mut lines, &files.roots, &files.libraries, linked)?;
+}
+
+/// Appends a line for each unresolved name; with the map one for each module that needs it, and one for each part.
+fn append_rest(
+    alloc: Global,
+    lines: &mut Vec<u8>,
+    map: bool,
+    linked: &Linked,
+    files: &LinkFiles<'_>,
+) -> Result<(), AllocError>
+    requires { IsMade files.now.roots.items files.now.libraries.items linked.now }
+    ensures { let modules = modules_of files.now.roots.items files.now.libraries.items linked.now in
+        OnOk result (lines.new.items ≡ lines.old.items ++ rest_text map modules linked.now) }
+{
+    if map {
+        append_unresolved(alloc, lines, &files.roots, &files.libraries, linked)?;
+        append_parts(alloc, lines, &files.roots, &files.libraries, linked)?;
+        Ok(())
     } else {
-        append_names(&mut lines, &linked.unresolved)?;
+        append_names(lines, &linked.unresolved)?;
+        Ok(())
     }
-    Ok(lines)
 }
 
 /// Appends a line for each module that was taken.
@@ -55,23 +95,41 @@ fn append_taken(
     lines: &mut Vec<u8>,
     taken: &[Chosen],
     libraries: &[Library],
-) -> Result<(), AllocError> {
+) -> Result<(), AllocError>
+    ensures { OnOk result (lines.new.items ≡ lines.old.items ++ taken_text libraries.now taken.now) }
+{
     for chosen in taken {
-        if let Some(name) = name_at(libraries, *chosen) {
-            append_line(lines, b"TAKEN ".as_slice(), name)?;
-        }
+        append_chosen(lines, libraries, *chosen)?;
     }
     Ok(())
 }
 
-/// The name of the module at a place in the libraries.
-fn name_at(libraries: &[Library], place: Chosen) -> Option<&Name> {
+/// Appends the line of the module at a place.
+fn append_chosen(
+    lines: &mut Vec<u8>,
+    libraries: &[Library],
+    place: Chosen,
+) -> Result<(), AllocError>
+    ensures { OnOk result (lines.new.items ≡ lines.old.items ++ taken_line libraries.now place) }
+{
+    match module_at(libraries, place) {
+        Some(member) => append_line(lines, b"TAKEN ".as_slice(), member.name()),
+        None => Ok(()),
+    }
+}
+
+/// The module at a place in the libraries.
+fn module_at(libraries: &[Library], place: Chosen) -> Option<&Module>
+    ensures { option_copied result ≡ module_at libraries.now place }
+{
     let library = libraries.get(place.library)?;
-    Some(library.modules.get(place.module)?.name())
+    library.modules.get(place.module)
 }
 
 /// Appends a line for each name that no module declares.
-fn append_names(lines: &mut Vec<u8>, names: &[Name]) -> Result<(), AllocError> {
+fn append_names(lines: &mut Vec<u8>, names: &[Name]) -> Result<(), AllocError>
+    ensures { OnOk result (lines.new.items ≡ lines.old.items ++ names_text names.now) }
+{
     for name in names {
         append_line(lines, b"UNRESOLVED ".as_slice(), name)?;
     }
@@ -79,7 +137,9 @@ fn append_names(lines: &mut Vec<u8>, names: &[Name]) -> Result<(), AllocError> {
 }
 
 /// Appends a line of a word and a name.
-fn append_line(lines: &mut Vec<u8>, word: &[u8], name: &Name) -> Result<(), AllocError> {
+fn append_line(lines: &mut Vec<u8>, word: &[u8], name: &Name) -> Result<(), AllocError>
+    ensures { OnOk result (lines.new.items ≡ lines.old.items ++ named_line word.now name.now) }
+{
     lines.extend_from_slice(word)?;
     lines.extend_from_slice(name.bytes())?;
     lines.push(b'\n')?;

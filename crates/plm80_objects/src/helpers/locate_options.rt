@@ -1,5 +1,8 @@
 //! The options of LOCATE, which `locate` and `map` take.
 
+ghost use Rattle.std.specs.Prelude.{◌≡◌, ◌∷◌, [], IfOk};
+ghost use Rattle.plm80_objects.specs.Arguments.{AreLocateTexts, AreNumbersOf};
+
 use clap::ArgMatches;
 use omf_core::segment_id::{CODE, DATA, MEMORY, STACK, UNNAMED_COMMON};
 use place80::Options;
@@ -68,7 +71,9 @@ pub struct LocateTexts<'a> {
 
 impl<'a> LocateTexts<'a> {
     /// The options as clap has read them.
-    pub fn of(matches: &ArgMatches<'a>) -> LocateTexts<'a> {
+    pub fn of(matches: &ArgMatches<'a>) -> LocateTexts<'a>
+        ensures { AreLocateTexts matches.now result }
+    {
         LocateTexts {
             code: OptionText::given(matches, CODE_BASE.name),
             stack: OptionText::given(matches, STACK_BASE.name),
@@ -81,7 +86,10 @@ impl<'a> LocateTexts<'a> {
     }
 
     /// The bases that are given, each with the id of its segment.
-    pub fn bases(self) -> [(u8, Option<OptionText<'a>>); 5] {
+    pub fn bases(self) -> [(u8, Option<OptionText<'a>>); 5]
+        ensures { let texts = self.entry in result ≡ (CODE, texts.code) ∷ (STACK, texts.stack) ∷ (UNNAMED_COMMON, texts.common)
+            ∷ (DATA, texts.data_base) ∷ (MEMORY, texts.memory) ∷ [] }
+    {
         [
             (CODE, self.code),
             (STACK, self.stack),
@@ -92,7 +100,9 @@ impl<'a> LocateTexts<'a> {
     }
 
     /// The numbers of the options.
-    pub fn numbers(self, console: Console<'_>) -> Result<Options, Reported> {
+    pub fn numbers(self, console: Console<'_>) -> Result<Options, Reported>
+        ensures { IfOk result (AreNumbersOf self.entry) }
+    {
         Ok(Options {
             code: console.word_if_given(self.code)?,
             stack: console.word_if_given(self.stack)?,

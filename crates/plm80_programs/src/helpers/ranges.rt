@@ -1,5 +1,8 @@
 //! Ranges of addresses that options name.
 
+ghost use Rattle.std.specs.Prelude.{map, IfOk, IfSome};
+ghost use Rattle.plm80_programs.specs.Ranges.{AreRangesOf, IsRangeText};
+
 use image80::Range;
 use plm80_console::{Console, OptionText, Reported, word_of_digits};
 
@@ -8,7 +11,9 @@ pub(crate) fn ranges_of(
     console: Console<'_>,
     name: &str,
     values: &[&str],
-) -> Result<Vec<Range>, Reported> {
+) -> Result<Vec<Range>, Reported>
+    ensures { IfOk result (λ ranges. AreRangesOf (map (λ value. value.now) values.now) ranges.items) }
+{
     let mut ranges = Vec::new(console.alloc());
     for value in values {
         let Some(range) = range_of(value) else {
@@ -24,7 +29,9 @@ pub(crate) fn ranges_of(
 }
 
 /// The range of a first address, a colon and a length, if it ends in memory.
-fn range_of(text: &str) -> Option<Range> {
+fn range_of(text: &str) -> Option<Range>
+    ensures { IfSome result (IsRangeText text.now) }
+{
     let (first, length) = text.split_once(':')?;
     let first = word_of_digits(first)?;
     let length = word_of_digits(length)?;

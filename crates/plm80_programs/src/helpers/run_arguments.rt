@@ -1,19 +1,21 @@
 //! The image, its regions and the inputs of its run, and how far it runs: what several commands that run it take.
 
-use crate::{explain_end, status_of};
+ghost use Rattle.std.specs.Prelude.{◌≡◌, None, IfOk, OnOk};
+ghost use Rattle.image80.specs.RegionsText.{Spells};
+ghost use Rattle.image80_file.specs.ImageFile.{SpellsImage, without_regions};
+ghost use Rattle.loader80.specs.InputsText.{bad_line, inputs_of};
+ghost use Rattle.plm80_names.specs.Printed.{AreNamesOf};
+ghost use Rattle.plm80_names.specs.Verdict.{AreOfFiles};
+ghost use Rattle.plm80_programs.specs.Arguments.{AreLimitTexts, AreRunFiles};
+ghost use Rattle.plm80_programs.specs.Running.{AreLimitsOf};
+
 use clap::ArgMatches;
 use image80::Image;
-use loader80::{Ended, InputsFault, SessionFault, Vouched, ending_text, read_inputs};
-use loader80_streams::Writing;
-use loader80_trace::{Limits, LineForm, Span, TraceFault, write_lines};
+use loader80::{InputsFault, SessionFault, read_inputs};
+use loader80_trace::Limits;
 use machine80::Inputs;
-use plm80_console::{
-    Argument, Console, IMAGE, Kind, NotedWriter, OptionText, REGIONS, Reported, image_of, path_of,
-    regions_of,
-};
-use plm80_names::Names;
-use std::alloc::{AllocError, Global};
-use std::io::ErrorKind;
+use plm80_console::{Argument, Console, Kind, OptionText, ReadFile, Reported, argument_text};
+use plm80_names::{Names, ProgramTexts};
 
 /// The paths of an image, of its regions and of the inputs of its run.
 #[derive(Clone, Copy)]
@@ -44,58 +46,79 @@ pub const OUTPUTS: Argument<'static> = Argument {
     help: "Outputs at most; the next one is refused",
 };
 
-/// An image that was read, and the text of its inputs, which spells some.
+/// The bytes of an image's file, the text of its regions and that of the inputs of its run, each with its path.
 #[derive(Drop)]
-pub struct RunTexts {
+pub struct RunTexts<'a> {
+    pub program: ProgramTexts<'a>,
+    pub inputs: ReadFile<'a>,
+}
+
+/// An image that was read, the names of its addresses if they are asked for, and the text of its inputs.
+#[derive(Drop)]
+pub struct RunProgram {
     pub image: Image,
-    pub inputs: Vec<u8>,
-    /// The names of its addresses, if they are asked for.
     pub names: Names,
+    pub inputs: Vec<u8>,
 }
 
 impl<'a> RunFiles<'a> {
     /// The arguments as clap has read them.
-    pub fn of(matches: &ArgMatches<'a>) -> RunFiles<'a> {
+    pub fn of(matches: &ArgMatches<'a>) -> RunFiles<'a>
+        ensures { AreRunFiles matches.now result }
+    {
         RunFiles {
-            image: path_of(matches, IMAGE.name),
-            regions: path_of(matches, REGIONS.name),
-            inputs: path_of(matches, INPUTS.name),
+            image: argument_text(matches, "IMAGE"),
+            regions: argument_text(matches, "REGIONS"),
+            inputs: argument_text(matches, "INPUTS"),
         }
     }
 
     /// The path of the image.
-    pub fn image_path(self) -> &'a str {
+    pub fn image_path(self) -> &'a str
+        ensures { result.now ≡ self.entry.image.now }
+    {
         self.image
     }
 
     /// The path of the regions.
-    pub fn regions_path(self) -> &'a str {
+    pub fn regions_path(self) -> &'a str
+        ensures { result.now ≡ self.entry.regions.now }
+    {
         self.regions
     }
 
     /// The path of the inputs.
-    pub fn inputs_path(self) -> &'a str {
+    pub fn inputs_path(self) -> &'a str
+        ensures { result.now ≡ self.entry.inputs.now }
+    {
         self.inputs
     }
 
-    /// The image with its regions, the text of its inputs, and its names if they are asked for, as the files have them. All three
+    /// The image with its regions, as the files have them, its names if they are asked for, and the text of its inputs. All three
     /// files are read before one is checked, and they are checked in the order of `run`.
-    pub fn read(self, console: Console<'_>, names: bool) -> Result<RunTexts, Reported> {
-        let bytes = console.read_whole(self.image)?;
-        let text = console.read_whole(self.regions)?;
-        let inputs = console.read_whole(self.inputs)?;
-        let regions = regions_of(console, self.regions, &text)?;
-        let image = image_of(console, self.image, &bytes, regions)?;
-        let names = Names::of(console, names, self.image, &bytes)?;
-        Ok(RunTexts {
-            image,
-            inputs,
-            names,
-        })
+    pub fn read(self, console: Console<'_>, names: bool) -> Result<RunProgram, Reported>
+        ensures { IfOk result (λ read. AreOfFiles names read.image read.names) }
+    {
+        let texts = self.texts(console)?;
+        texts.program(console, names)
+    }
+
+    /// All three files, in this order.
+    fn texts(self, console: Console<'_>) -> Result<RunTexts<'a>, Reported>
+        ensures image { IfOk result (λ texts. texts.program.image.path.now ≡ self.entry.image.now) }
+        ensures regions { IfOk result (λ texts. texts.program.regions.path.now ≡ self.entry.regions.now) }
+        ensures inputs { IfOk result (λ texts. texts.inputs.path.now ≡ self.entry.inputs.now) }
+    {
+        let program = ProgramTexts::read(console, self.image, self.regions)?;
+        let inputs = console.read_file(self.inputs)?;
+        Ok(RunTexts { program, inputs })
     }
 
     /// The inputs that the text of their file spells.
-    pub fn inputs_of(self, console: Console<'_>, text: &[u8]) -> Result<Inputs, Reported> {
+    pub fn inputs_of(self, console: Console<'_>, text: &[u8]) -> Result<Inputs, Reported>
+        ensures good { OnOk result (bad_line text.now ≡ None) }
+        ensures inputs { IfOk result (λ inputs. inputs.pairs.items ≡ inputs_of text.now) }
+    {
         match read_inputs(console.alloc(), text) {
             Ok(inputs) => Ok(inputs),
             Err(InputsFault::BadLine(number)) => {
@@ -108,6 +131,23 @@ impl<'a> RunFiles<'a> {
     }
 }
 
+impl<'a> RunTexts<'a> {
+    /// The image with its regions, its names if they are asked for, and the text of its inputs.
+    fn program(self, console: Console<'_>, asked: bool) -> Result<RunProgram, Reported>
+        ensures contents { IfOk result (λ read. SpellsImage self.entry.program.image.bytes.items (without_regions read.image)) }
+        ensures regions { IfOk result (λ read. Spells self.entry.program.regions.bytes.items read.image.regions) }
+        ensures names { IfOk result (λ read. AreNamesOf asked self.entry.program.image.bytes.items read.names) }
+        ensures inputs { IfOk result (λ read. read.inputs.items ≡ self.entry.inputs.bytes.items) }
+    {
+        let (image, names) = self.program.program(console, asked)?;
+        Ok(RunProgram {
+            image,
+            names,
+            inputs: self.inputs.bytes,
+        })
+    }
+}
+
 /// The texts of the options that say how far an image runs.
 #[derive(Clone, Copy)]
 pub struct LimitTexts<'a> {
@@ -117,91 +157,22 @@ pub struct LimitTexts<'a> {
 
 impl<'a> LimitTexts<'a> {
     /// The options as clap has read them.
-    pub fn of(matches: &ArgMatches<'a>) -> LimitTexts<'a> {
+    pub fn of(matches: &ArgMatches<'a>) -> LimitTexts<'a>
+        ensures { AreLimitTexts matches.now result }
+    {
         LimitTexts {
-            steps: OptionText::of(matches, STEPS.name),
-            outputs: OptionText::of(matches, OUTPUTS.name),
+            steps: OptionText::of(matches, "steps"),
+            outputs: OptionText::of(matches, "outputs"),
         }
     }
 
     /// The numbers of the options.
-    pub fn numbers(self, console: Console<'_>) -> Result<Limits, Reported> {
+    pub fn numbers(self, console: Console<'_>) -> Result<Limits, Reported>
+        ensures { IfOk result (AreLimitsOf self.entry) }
+    {
         Ok(Limits {
             steps: console.count(self.steps)?,
             outputs: console.count(self.outputs)? as usize,
         })
-    }
-}
-
-/// The instructions of a run whose lines are printed.
-#[derive(Clone, Copy)]
-pub struct Traced<'a> {
-    pub vouched: &'a Vouched,
-    pub names: &'a Names,
-    pub limits: Limits,
-    pub span: Span,
-    pub numbered: bool,
-}
-
-/// Prints the lines of instructions, with their names, as they come; and gives how the run ended, if it did among them or before.
-pub fn print_lines(
-    console: Console<'_>,
-    traced: Traced<'_>,
-    inputs: Inputs,
-) -> Result<Option<Ended>, Reported> {
-    let form = LineForm {
-        numbered: traced.numbered,
-        publics: traced.names.publics(),
-    };
-    let mut output = NotedWriter::new(console.runtime().stdout());
-    let mut out = Writing::new(&mut output);
-    match write_lines(
-        console.alloc(),
-        traced.vouched,
-        inputs,
-        traced.limits,
-        traced.span,
-        form,
-        &mut out,
-    ) {
-        Ok(ended) => Ok(ended),
-        Err(fault) => Err(report_lines(console, fault, output.failure())),
-    }
-}
-
-/// Prints the line of how a run ended, with the name of its address, and gives the exit status.
-pub fn print_ending(
-    console: Console<'_>,
-    vouched: &Vouched,
-    ended: &Ended,
-    names: &Names,
-) -> Result<u8, Reported> {
-    let Ok(text) = named_ending(console.alloc(), vouched, ended, names) else {
-        return Err(console.report_memory());
-    };
-    console.print(&text)?;
-    explain_end(console, ended.end, ended.cpu.pc());
-    Ok(status_of(ended.end))
-}
-
-/// The line of how a run ended, with the name of its address.
-fn named_ending(
-    alloc: Global,
-    vouched: &Vouched,
-    ended: &Ended,
-    names: &Names,
-) -> Result<Vec<u8>, AllocError> {
-    let code = vouched.image().regions.code();
-    let text = ending_text(alloc, ended.end, ended.cpu.pc(), ended.steps)?.into_bytes();
-    let text = names.name(alloc, code, b"HALT ", text)?;
-    let text = names.name(alloc, code, b"STORE ", text)?;
-    names.name(alloc, code, b"JUMP ", text)
-}
-
-/// Reports why not all lines of a run were printed.
-fn report_lines(console: Console<'_>, fault: TraceFault, failure: Option<ErrorKind>) -> Reported {
-    match fault {
-        TraceFault::Write => console.report_output(failure),
-        TraceFault::Memory => console.report_memory(),
     }
 }

@@ -1,5 +1,8 @@
 //! A session on files, with its transcript on standard output.
 
+ghost use Rattle.std.specs.Prelude.{◌≡◌, IfOk, option_map};
+ghost use Rattle.plm80_programs.specs.Running.{IsSessionStatus, failure_of_text, fault_path, path_of_text, session_status};
+
 use crate::helpers::run_arguments::RunFiles;
 use crate::{explain_end, status_of};
 use loader80::{Outcome, SessionFault, session};
@@ -17,21 +20,46 @@ struct Failures {
     output: Option<ErrorKind>,
 }
 
+impl Failures {
+    /// That of the text that a session knows by its number.
+    fn of_text(self, number: u8) -> Option<ErrorKind>
+        ensures { result ≡ failure_of_text self number }
+    {
+        match number {
+            1 => self.image,
+            2 => self.regions,
+            _ => self.inputs,
+        }
+    }
+}
+
 /// Does a session on the files, and gives the exit status.
 pub fn run_session(
     console: Console<'_>,
     files: RunFiles<'_>,
     limits: Limits,
-) -> Result<u8, Reported> {
+) -> Result<u8, Reported>
+    ensures { IfOk result IsSessionStatus }
+{
     let (answer, failures) = session_of(console, files, limits);
-    match answer {
-        Ok(outcome) => {
-            console.explain_unread(files.image_path());
-            explain_end(console, outcome.end, outcome.at);
-            Ok(status_of(outcome.end))
-        }
-        Err(SessionFault::Refused(_)) => Ok(1),
+    if let Ok(outcome) = &answer {
+        console.explain_unread(files.image_path());
+        explain_end(console, outcome.end, outcome.at);
+    }
+    match session_status(answer) {
+        Ok(status) => Ok(status),
         Err(fault) => Err(report_session(console, files, fault, failures)),
+    }
+}
+
+/// The exit status of a session's answer: that of the run, or 1 of a refusal.
+fn session_status(answer: Result<Outcome, SessionFault>) -> Result<u8, SessionFault>
+    ensures { result ≡ session_status answer }
+{
+    match answer {
+        Ok(outcome) => Ok(status_of(outcome.end)),
+        Err(SessionFault::Refused(_)) => Ok(1),
+        Err(fault) => Err(fault),
     }
 }
 
@@ -74,30 +102,36 @@ fn report_session(
     fault: SessionFault,
     failures: Failures,
 ) -> Reported {
+    match (path_of_fault(files, fault), fault) {
+        (Some(path), SessionFault::Read(number)) => {
+            console.report_system(path, "Read", failures.of_text(number))
+        }
+        (Some(path), SessionFault::TooLong(_)) => console.report_file(path, "TooLong"),
+        (Some(path), _) => report_text(console, path, fault),
+        (None, SessionFault::Write) => console.report_output(failures.output),
+        (None, _) => console.report(fault),
+    }
+}
+
+/// The path of the file that a fault of a session is of; `None` if it is of no file.
+fn path_of_fault<'a>(files: RunFiles<'a>, fault: SessionFault) -> Option<&'a str>
+    ensures { option_map (λ path. path.now) result ≡ fault_path files.entry fault }
+{
     match fault {
-        SessionFault::Read(1) => console.report_system(files.image_path(), "Read", failures.image),
-        SessionFault::Read(2) => {
-            console.report_system(files.regions_path(), "Read", failures.regions)
+        SessionFault::Read(number) | SessionFault::TooLong(number) => {
+            Some(path_of_text(files, number))
         }
-        SessionFault::Read(_) => {
-            console.report_system(files.inputs_path(), "Read", failures.inputs)
-        }
-        SessionFault::TooLong(number) => {
-            console.report_file(path_of_text(files, number), "TooLong")
-        }
-        SessionFault::Write => console.report_output(failures.output),
-        SessionFault::Image(_) => {
-            let reported = console.report_file(files.image_path(), fault);
-            console.explain_image_file(files.image_path());
-            reported
-        }
-        SessionFault::Regions(_) | SessionFault::Inputs(_) => { report_text(console, files, fault) }
-        SessionFault::Memory | SessionFault::Refused(_) => console.report(fault),
+        SessionFault::Image(_) => Some(files.image_path()),
+        SessionFault::Regions(_) => Some(files.regions_path()),
+        SessionFault::Inputs(_) => Some(files.inputs_path()),
+        SessionFault::Write | SessionFault::Refused(_) | SessionFault::Memory => None,
     }
 }
 
 /// The path of the file that a session knows by its number.
-fn path_of_text<'a>(files: RunFiles<'a>, number: u8) -> &'a str {
+fn path_of_text<'a>(files: RunFiles<'a>, number: u8) -> &'a str
+    ensures { result.now ≡ path_of_text files.entry number }
+{
     match number {
         1 => files.image_path(),
         2 => files.regions_path(),
@@ -105,13 +139,13 @@ fn path_of_text<'a>(files: RunFiles<'a>, number: u8) -> &'a str {
     }
 }
 
-/// Reports the fault of a text, and says what is wrong with its line.
-fn report_text(console: Console<'_>, files: RunFiles<'_>, fault: SessionFault) -> Reported {
-    let path = match fault {
-        SessionFault::Regions(_) => files.regions_path(),
-        _ => files.inputs_path(),
-    };
+/// Reports the fault of the bytes of the file of this path, and says what is wrong with them.
+fn report_text(console: Console<'_>, path: &str, fault: SessionFault) -> Reported {
     let reported = console.report_file(path, fault);
+    if let SessionFault::Image(_) = fault {
+        console.explain_image_file(path);
+        return reported;
+    }
     // The session has read the text and keeps none of it.
     if let Some(text) = console.text_to_explain(path) {
         match fault {

@@ -1,98 +1,176 @@
 //! `plm80 run` with `--last` or `--dump`: a run, its last instructions, and the memory that it leaves.
 
-use crate::helpers::run_arguments::{RunFiles, RunTexts, Traced, print_ending, print_lines};
-use loader80::{Vouched, front_text};
-use loader80_trace::{Finished, Limits, Span, finish, memory_bytes};
-use machine80::Inputs;
-use plm80_console::{Console, Reported};
-use plm80_names::{Names, vouch_with_names};
+ghost use Rattle.std.specs.Prelude.{◌≡◌, ◌<◌, ◌≤◌, ◌++◌, ℕ, List, IfOk, OnOk, option_map};
+ghost use Rattle.std.specs.Io.KnownBytes.{Appends};
+ghost use Rattle.std.specs.List.{flat_map};
+ghost use Rattle.loader80.specs.TranscriptText.{output_line, stack_line};
+ghost use Rattle.plm80_console.specs.Answer.{AnswerValue};
+ghost use Rattle.plm80_programs.specs.Running.{EndsRun, IsStatusOfRun, WatchesRun, dump_answer, last_lines};
+
+use crate::explain_end;
+use crate::helpers::endings::{Traced, ending_of, report_lines, write_traced};
+use crate::helpers::run_arguments::RunFiles;
+use loader80::{Ended, Vouched, front_text};
+use loader80_streams::{Sink, Writing, write_all};
+use loader80_trace::{Finished, Limits, Span, TraceFault, finish, memory_bytes};
+use machine80::{Inputs, PagedBus};
+use plm80_console::{Answer, Console, NotedWriter, Reported};
+use plm80_names::{Names, Verdict, judge};
+use std::alloc::{AllocError, Global};
 
 /// What is seen of a run beside its transcript.
 #[derive(Clone, Copy)]
 pub struct Watch<'a> {
-    pub files: RunFiles<'a>,
     pub limits: Limits,
     /// How many of its last instructions are shown at most.
     pub last: u64,
     /// The file that its memory is written to, if one is given.
     pub dump: Option<&'a str>,
-    /// Whether names are printed.
-    pub names: bool,
+}
+
+/// The inputs of a run, twice: the image runs once more if its last instructions are shown.
+#[derive(Drop)]
+struct InputsTwice {
+    first: Inputs,
+    second: Inputs,
+}
+
+/// What is left to do of a run whose transcript was written but for its last line.
+#[derive(Drop)]
+struct Watched<'a> {
+    /// Its memory is written, if a file is given.
+    dump: Answer<'a>,
+    ended: Ended,
+    /// The last line, and the exit status.
+    ending: Answer<'static>,
 }
 
 /// Runs the image of the files, prints its transcript with its last instructions, writes its memory, and gives the exit status.
-pub fn watch_run(console: Console<'_>, watch: Watch<'_>) -> Result<u8, Reported> {
-    let RunTexts {
-        image,
-        inputs,
-        names,
-    } = watch.files.read(console, watch.names)?;
-    // The image runs twice if its last instructions are shown.
-    let first = watch.files.inputs_of(console, &inputs)?;
-    let second = watch.files.inputs_of(console, &inputs)?;
-    match vouch_with_names(console, image, &names)? {
-        Ok(vouched) => run_watched(console, &vouched, first, second, watch, &names),
-        Err(status) => Ok(status),
+pub fn watch_run(
+    console: Console<'_>,
+    files: RunFiles<'_>,
+    names: bool,
+    watch: Watch<'_>,
+) -> Result<u8, Reported>
+    ensures { let w = watch.entry in
+        IfOk result (IsStatusOfRun (λ inputs. EndsRun inputs w.limits w.last (option_map (λ path. path.now) w.dump)) names) }
+{
+    let program = files.read(console, names)?;
+    let first = files.inputs_of(console, &program.inputs)?;
+    let second = files.inputs_of(console, &program.inputs)?;
+    let inputs = InputsTwice { first, second };
+    match judge(console.alloc(), program.image, &program.names) {
+        Ok(Verdict::Accepted(vouched)) => {
+            print_run(console, &vouched, inputs, watch, &program.names)
+        }
+        Ok(Verdict::Refused(line)) => console.give(Answer::prints(line, 1)),
+        Err(AllocError) => Err(console.report_memory()),
     }
 }
 
-/// Runs the image, and prints its transcript.
-fn run_watched(
-    console: Console<'_>,
-    vouched: &Vouched,
-    first: Inputs,
-    second: Inputs,
-    watch: Watch<'_>,
-    names: &Names,
-) -> Result<u8, Reported> {
-    let Ok(finished) = finish(console.alloc(), vouched, first, watch.limits) else {
-        return Err(console.report_memory());
-    };
-    print_run(console, vouched, &finished, second, watch, names)
-}
-
-/// Prints the transcript of the run; its memory is written before the last line.
+/// Runs the image, and prints its transcript; its memory is written before the last line.
 fn print_run(
     console: Console<'_>,
     vouched: &Vouched,
-    finished: &Finished,
-    inputs: Inputs,
+    inputs: InputsTwice,
     watch: Watch<'_>,
     names: &Names,
-) -> Result<u8, Reported> {
-    print_front(console, vouched, finished)?;
-    print_last(console, vouched, finished, inputs, watch, names)?;
-    if let Some(path) = watch.dump {
-        write_memory(console, finished, path)?;
-    }
-    print_ending(console, vouched, &finished.ended, names)
-}
-
-/// Prints the transcript but for its last line.
-fn print_front(
-    console: Console<'_>,
-    vouched: &Vouched,
-    finished: &Finished,
-) -> Result<(), Reported> {
-    match front_text(
-        console.alloc(),
-        vouched.stack_bytes(),
-        finished.ports.outputs(),
-    ) {
-        Ok(text) => console.print(text.as_bytes()),
-        Err(_) => Err(console.report_memory()),
+) -> Result<u8, Reported>
+    requires { inputs.second.pairs.items ≡ inputs.first.pairs.items }
+    ensures { let w = watch.entry in IfOk result (λ status. (answer : AnswerValue)
+        × EndsRun inputs.first.pairs.items w.limits w.last (option_map (λ path. path.now) w.dump) names.now vouched.now answer
+        × (status ≡ answer.status)) }
+{
+    let mut output = NotedWriter::new(console.runtime().stdout());
+    let mut out = Writing::new(&mut output);
+    match write_run(console.alloc(), vouched, inputs, watch, names, &mut out) {
+        Ok(watched) => end_run(console, watched),
+        Err(fault) => Err(report_lines(console, fault, output.failure())),
     }
 }
 
-/// Prints the last instructions of the run.
-fn print_last(
-    console: Console<'_>,
+/// Writes the memory, and then prints the last line, and gives the exit status.
+fn end_run(console: Console<'_>, watched: Watched<'_>) -> Result<u8, Reported>
+    ensures { IfOk result (λ status. status ≡ watched.entry.ending.status) }
+{
+    let Watched {
+        dump,
+        ended,
+        ending,
+    } = watched;
+    console.give(dump)?;
+    let status = console.give(ending)?;
+    explain_end(console, ended.end, ended.cpu.pc());
+    Ok(status)
+}
+
+/// Runs the image; writes its transcript but for the last line, and its last instructions behind it.
+fn write_run<'a, K: Sink>(
+    alloc: Global,
+    vouched: &Vouched,
+    inputs: InputsTwice,
+    watch: Watch<'a>,
+    names: &Names,
+    out: &mut K,
+) -> Result<Watched<'a>, TraceFault>
+    requires countable { K.failed out.old < u64.MAX }
+    requires twice { inputs.second.pairs.items ≡ inputs.first.pairs.items }
+    ensures { let w = watch.entry in IfOk result (λ watched. (text : List ℕ) × Appends (K.written out.old) (K.written out.new) text
+        × WatchesRun inputs.first.pairs.items w.limits w.last (option_map (λ path. path.now) w.dump) names.now vouched.now text
+        watched.dump watched.ended watched.ending) }
+{
+    let finished = finish(alloc, vouched, inputs.first, watch.limits)?;
+    write_front(alloc, vouched, &finished, out)?;
+    write_last(
+        alloc,
+        vouched,
+        &finished.ended,
+        inputs.second,
+        watch,
+        names,
+        out,
+    )?;
+    let dump = dump_of(alloc, &finished.bus, watch.dump)?;
+    let ending = ending_of(alloc, vouched, &finished.ended, names)?;
+    Ok(Watched {
+        dump,
+        ended: finished.ended,
+        ending,
+    })
+}
+
+/// Writes the transcript of a run but for its last line.
+fn write_front<K: Sink>(
+    alloc: Global,
     vouched: &Vouched,
     finished: &Finished,
+    out: &mut K,
+) -> Result<(), TraceFault>
+    requires { K.failed out.old < u64.MAX }
+    ensures written { OnOk result (Appends (K.written out.old) (K.written out.new)
+        (stack_line vouched.now.stack_bytes ++ flat_map output_line finished.now.ports.outputs)) }
+    ensures failures { OnOk result (K.failed out.new ≡ K.failed out.old) }
+{
+    let text = front_text(alloc, vouched.stack_bytes(), finished.ports.outputs())?;
+    write_all(out, text.as_bytes())?;
+    Ok(())
+}
+
+/// Writes the last instructions of a run that ended so.
+fn write_last<K: Sink>(
+    alloc: Global,
+    vouched: &Vouched,
+    ended: &Ended,
     inputs: Inputs,
     watch: Watch<'_>,
     names: &Names,
-) -> Result<(), Reported> {
+    out: &mut K,
+) -> Result<(), TraceFault>
+    requires countable { K.failed out.old < u64.MAX }
+    requires within { ended.now.steps ≤ watch.limits.steps }
+    ensures { OnOk result (Appends (K.written out.old) (K.written out.new)
+        (last_lines inputs.pairs.items watch.entry.limits watch.entry.last names.now vouched.now ended.now)) }
+{
     if watch.last == 0 {
         return Ok(());
     }
@@ -100,17 +178,26 @@ fn print_last(
         vouched,
         names,
         limits: watch.limits,
-        span: Span::last_of(&finished.ended, watch.last),
+        span: Span::last_of(ended, watch.last),
         numbered: false,
     };
-    print_lines(console, traced, inputs)?;
+    write_traced(alloc, traced, inputs, out)?;
     Ok(())
 }
 
-/// Writes the memory that the run leaves to the file of this path.
-fn write_memory(console: Console<'_>, finished: &Finished, path: &str) -> Result<(), Reported> {
-    match memory_bytes(console.alloc(), &finished.bus) {
-        Ok(bytes) => console.replace(path, &bytes),
-        Err(_) => Err(console.report_memory()),
+/// The file of the memory that a run leaves, if one is given.
+fn dump_of<'a>(
+    alloc: Global,
+    bus: &PagedBus,
+    path: Option<&'a str>,
+) -> Result<Answer<'a>, AllocError>
+    ensures { IfOk result (λ answer. answer ≡ dump_answer (option_map (λ path. path.now) path.entry) bus.now) }
+{
+    match path {
+        Some(path) => {
+            let bytes = memory_bytes(alloc, bus)?;
+            Ok(Answer::writes(path, bytes, Vec::new(alloc)))
+        }
+        None => Ok(Answer::prints(Vec::new(alloc), 0)),
     }
 }

@@ -1,4 +1,4 @@
-use Rattle.std.specs.Prelude.{◌≡◌, List, length, refl}
+use Rattle.std.specs.Prelude.{List, length, refl}
 use Rattle.std.proofs.Common.{ap, sym, ◌∙◌}
 use Rattle.omf_parts.specs.declared.symbols.Public.{Public}
 use Rattle.image80_text.specs.NameText.{named_text}

@@ -1,0 +1,129 @@
+-- Paths that two arguments share, and arguments that share none.
+use Rattle.std.specs.Prelude.{◌≡◌, ◌≢◌, ℕ, zero, suc, ◌<◌, ◌≤◌, Bool, true, false, ◌||◌, ◌&&◌, not, Option, Some, None, option_map, unwrap_or, List, [], ◌∷◌, length, map, slice_get}
+use Rattle.std.specs.Borrow.{Bor}
+use Rattle.std.specs.List.{list_any}
+use Rattle.std.specs.Str.{bytes_eq}
+use Rattle.std.proofs.Common.{◌∙◌, ap, sym, refl, subst, get_or, arith}
+use Rattle.clap.specs.declared.parser.matches.ArgMatches.{ArgMatches}
+use Rattle.plm80_console.specs.ApartPaths.{AreApart, IsApart, IsApartFrom, has_path, path_to_write, stands_behind}
+use Rattle.plm80_console.specs.Arguments.{argument_values}
+use Rattle.plm80_console.specs.Kinds.{may_replace}
+use Rattle.plm80_console.specs.SharedPaths.{IsWrittenBy}
+use Rattle.plm80_console.specs.declared.shared_paths.SharedPath.{SharedPath}
+use Rattle.plm80_console.specs.declared.syntax.Argument.{Argument}
+use Rattle.plm80_console.specs.declared.syntax.Kind.{Kind}
+use Rattle.plm80_console.specs.declared.syntax.Kind.TheVariants.{Paths, PathsAt}
+
+pub is_written_by : (matches : ArgMatches) (shared : SharedPath) → Some shared.path.now ≡ path_to_write matches shared.written
+    → may_replace shared.written.kind shared.other.name.now ≡ false → IsWrittenBy matches shared
+is_written_by matches shared is apart = record { written = sym is; apart = apart }
+
+-- an item of a list, by its index
+pub get_there : {X : Type 0} (xs : List X) (i : ℕ) (x : X) → i < length xs → x ≡ get_or xs i x → slice_get xs i ≡ Some x
+get_there [] i x lt at = absurd (omega arith)
+get_there (y ∷ ys) zero x lt at = ap (λ z. Some z) (sym at)
+get_there (y ∷ ys) (suc i) x lt at = get_there ys i x (omega arith) at
+
+get_is : {X : Type 0} (xs : List X) (i : ℕ) (d x : X) → slice_get xs i ≡ Some x → get_or xs i d ≡ x
+get_is [] i d x is = absurd cc
+get_is (y ∷ ys) zero d x is = cc
+get_is (y ∷ ys) (suc i) d x is = get_is ys i d x is
+
+get_below : {X : Type 0} (xs : List X) (i : ℕ) (x : X) → slice_get xs i ≡ Some x → i < length xs
+get_below [] i x is = absurd cc
+get_below (y ∷ ys) zero x is = omega arith
+get_below (y ∷ ys) (suc i) x is = let below : i < length ys = get_below ys i x is in omega arith
+
+-- one item that passes
+or_true : (b : Bool) → (b || true) ≡ true
+or_true true = refl
+or_true false = refl
+
+pub any_there : {X : Type 0} (test : X → Bool) (xs : List X) (i : ℕ) (x : X) → i < length xs → x ≡ get_or xs i x → test x ≡ true
+    → list_any test xs ≡ true
+any_there test [] i x lt at passes = absurd (omega arith)
+any_there test (y ∷ ys) zero x lt at passes = ap (λ (b : Bool). b || list_any test ys) (ap test (sym at) ∙ passes)
+any_there test (y ∷ ys) (suc i) x lt at passes =
+    ap (λ (b : Bool). test y || b) (any_there test ys i x (omega arith) at passes) ∙ or_true (test y)
+
+-- what isn't shared is apart
+shared_none : (replaces has : Bool) → (not replaces && has) ≡ false → replaces ≡ false → has ≡ false
+shared_none true has none stays = absurd cc
+shared_none false has none stays = none
+
+pub apart_from : (matches : ArgMatches) (written : Argument) (path : List ℕ) (other : Argument) (replaces has : Bool)
+    → (not replaces && has) ≡ false → replaces ≡ may_replace written.kind other.name.now
+    → has ≡ has_path other.kind matches other.name.now path → IsApartFrom matches written path other
+apart_from matches written path other replaces has none replaces_is has_is = λ stays.
+    sym has_is ∙ shared_none replaces has none (replaces_is ∙ stays)
+
+pub apart_there : (matches : ArgMatches) (written : Argument) (path : List ℕ) (arguments : List Argument) (place : ℕ) (d other : Argument)
+    → slice_get arguments place ≡ Some other → IsApartFrom matches written path (get_or arguments place d)
+    → IsApartFrom matches written path other
+apart_there matches written path arguments place d other stands apart =
+    subst (λ (a : Argument). IsApartFrom matches written path a) (get_is arguments place d other stands) apart
+
+-- an index behind the last argument, and an argument that writes no file
+pub none_there : (matches : ArgMatches) (arguments : List Argument) (index : ℕ) → slice_get arguments index ≡ None
+    → IsApart matches arguments index
+none_there matches arguments index none = λ written path there. absurd cc
+
+pub none_written : (matches : ArgMatches) (arguments : List Argument) (index : ℕ) (written : Argument)
+    → slice_get arguments index ≡ Some written → path_to_write matches written ≡ None → IsApart matches arguments index
+none_written matches arguments index written is none = λ found path there writes.
+    let same : Some found ≡ Some written = sym there ∙ is in
+    let one : found ≡ written = cc in
+    absurd (let clash : Some path ≡ None = sym writes ∙ (ap (path_to_write matches) one ∙ none) in cc)
+
+-- all others are apart from the one with this index
+pub all_apart : (matches : ArgMatches) (arguments : List Argument) (index : ℕ) (written : Argument) (path : List ℕ) (count : ℕ)
+    → slice_get arguments index ≡ Some written → path_to_write matches written ≡ Some path → length arguments ≤ count
+    → ((place : ℕ) → place < count → (other : Argument) → slice_get arguments place ≡ Some other → place ≢ index
+    → IsApartFrom matches written path other)
+    → IsApart matches arguments index
+all_apart matches arguments index written path count is writes ends each = λ found its there its_path place other stands differs.
+    let same : found ≡ written = (let both : Some found ≡ Some written = sym there ∙ is in cc) in
+    let paths : its ≡ path = (let both : Some its ≡ Some path = sym its_path ∙ (ap (path_to_write matches) same ∙ writes) in cc) in
+    let below : place < length arguments = get_below arguments place other stands in
+    let apart : IsApartFrom matches written path other = each place (omega (arith, ends)) other stands differs in
+    λ stays. ap (λ (p : List ℕ). has_path other.kind matches other.name.now p) paths
+    ∙ apart (ap (λ (w : Argument). may_replace w.kind other.name.now) (sym same) ∙ stays)
+
+-- each argument is apart from all others
+pub each_apart : (matches : ArgMatches) (arguments : List Argument) (count : ℕ) → length arguments ≤ count
+    → ((index : ℕ) → index < count → IsApart matches arguments index) → AreApart matches arguments
+each_apart matches arguments count ends each = λ index written path there.
+    let below : index < length arguments = get_below arguments index written there in
+    each index (omega (arith, ends)) written path there
+
+-- the values of an argument, lent or not
+any_texts : (test : List ℕ → Bool) (xs : List (Bor (List ℕ))) → list_any (λ x. test x.now) xs ≡ list_any test (map (λ x. x.now) xs)
+any_texts test [] = refl
+any_texts test (x ∷ xs) = ap (λ (b : Bool). test x.now || b) (any_texts test xs)
+
+pub values_given : (given : Option (Bor (List (Bor (List ℕ))))) (found : Option (List (List ℕ))) (nothing values : Bor (List (Bor (List ℕ))))
+    → option_map (λ s. map (λ v. v.now) s.now) given ≡ found → values ≡ unwrap_or given nothing → nothing.now ≡ []
+    → map (λ v. v.now) values.now ≡ unwrap_or found []
+values_given (Some s) found nothing values is same empty =
+    ap (λ (v : Bor (List (Bor (List ℕ)))). map (λ t. t.now) v.now) same ∙ ap (λ (f : Option (List (List ℕ))). unwrap_or f []) is
+values_given None found nothing values is same empty =
+    ap (λ (v : Bor (List (Bor (List ℕ)))). map (λ t. t.now) v.now) same
+    ∙ (ap (λ (ts : List (Bor (List ℕ))). map (λ t. t.now) ts) empty ∙ ap (λ (f : Option (List (List ℕ))). unwrap_or f []) is)
+
+-- an argument with paths, and one with numbers and paths
+pub has_among : (matches : ArgMatches) (kind : Kind) (name path : List ℕ) (values : List (Bor (List ℕ))) (result : Bool)
+    → kind ≡ Paths → map (λ v. v.now) values ≡ argument_values matches name
+    → result ≡ list_any (λ own. bytes_eq own.now path) values → result ≡ has_path kind matches name path
+has_among matches kind name path values result is values_are any =
+    let all : result ≡ has_path Paths matches name path =
+    any ∙ (any_texts (λ own. bytes_eq own path) values ∙ ap (λ (ts : List (List ℕ)). list_any (λ own. bytes_eq own path) ts) values_are) in
+    subst (λ (k : Kind). result ≡ has_path k matches name path) (sym is) all
+
+pub has_behind : (matches : ArgMatches) (kind : Kind) (word : Bor (List ℕ)) (name path : List ℕ) (values : List (Bor (List ℕ))) (result : Bool)
+    → kind ≡ PathsAt word → map (λ v. v.now) values ≡ argument_values matches name
+    → result ≡ list_any (λ value. stands_behind value.now path) values → result ≡ has_path kind matches name path
+has_behind matches kind word name path values result is values_are any =
+    let all : result ≡ has_path (PathsAt word) matches name path =
+    any ∙ (any_texts (λ value. stands_behind value path) values
+    ∙ ap (λ (ts : List (List ℕ)). list_any (λ value. stands_behind value path) ts) values_are) in
+    subst (λ (k : Kind). result ≡ has_path k matches name path) (sym is) all

@@ -1,0 +1,9 @@
+use Rattle.std.proofs.Common.{◌≡◌, false, take}
+use Rattle.std.specs.List.{list_any}
+use Rattle.std.specs.Str.{bytes_eq}
+use Rattle.plm80_console.specs.declared.same_file.Comparison.TheVariants.{Letters}
+use Rattle.plm80_console.proofs.shared_paths.is_among.Given as goal
+
+-- the path is none of those so far
+abbrev pub invariant-loop-own : goal.invariant-loop-own
+invariant-loop-own l = l.comparison ≡ Letters → list_any (λ own. bytes_eq own.now l.path) (take l.own-index l.paths) ≡ false

@@ -1,0 +1,83 @@
+-- What the kinds of arguments are: which are required, which name a file, and which name one that is written.
+use Rattle.std.specs.Prelude.{ℕ, Bool, true, false, List, ◌++◌, codes}
+use Rattle.std.specs.Str.{bytes_eq}
+use Rattle.plm80_console.specs.declared.syntax.Kind.{Kind}
+use Rattle.plm80_console.specs.declared.syntax.Kind.TheVariants.{Path, Paths, Words, Written, WrittenOption, WrittenIfGiven, Replaced, Required, Number, Count, Flag, PathsAt}
+
+-- no command line is taken without it
+abbrev pub is_required : Kind → Bool
+is_required Path = true
+is_required Paths = true
+is_required Words = true
+is_required Written = true
+is_required (WrittenOption word) = true
+is_required (Required word) = true
+is_required (WrittenIfGiven word) = false
+is_required (Replaced word old) = false
+is_required (Number word) = false
+is_required (Count default) = false
+is_required Flag = false
+is_required (PathsAt word) = false
+
+-- its value is the path of a file that is written
+abbrev pub is_written : Kind → Bool
+is_written Written = true
+is_written (WrittenOption word) = true
+is_written (WrittenIfGiven word) = true
+is_written (Replaced word old) = true
+is_written Path = false
+is_written Paths = false
+is_written Words = false
+is_written (Required word) = false
+is_written (Number word) = false
+is_written (Count default) = false
+is_written Flag = false
+is_written (PathsAt word) = false
+
+-- its values name no file
+abbrev pub names_no_file : Kind → Bool
+names_no_file Words = true
+names_no_file (Required word) = true
+names_no_file (Number word) = true
+names_no_file (Count default) = true
+names_no_file Flag = true
+names_no_file Path = false
+names_no_file Paths = false
+names_no_file Written = false
+names_no_file (WrittenOption word) = false
+names_no_file (WrittenIfGiven word) = false
+names_no_file (Replaced word old) = false
+names_no_file (PathsAt word) = false
+
+-- the file that it writes may be the one that the argument of this name reads
+abbrev pub may_replace : Kind → (name : List ℕ) → Bool
+may_replace (Replaced word old) name = bytes_eq name old.now
+may_replace Path name = false
+may_replace Paths name = false
+may_replace Words name = false
+may_replace Written name = false
+may_replace (WrittenOption word) name = false
+may_replace (WrittenIfGiven word) name = false
+may_replace (Required word) name = false
+may_replace (Number word) name = false
+may_replace (Count default) name = false
+may_replace Flag name = false
+may_replace (PathsAt word) name = false
+
+-- how clap's errors show an argument: a position by its name, an option with the word for its value
+abbrev pub value_shown : (name word : List ℕ) → List ℕ
+value_shown name word = codes "--" ++ (name ++ (codes " <" ++ (word ++ codes ">")))
+
+abbrev pub shown_text : Kind → (name : List ℕ) → List ℕ
+shown_text Path name = codes "<" ++ (name ++ codes ">")
+shown_text Written name = codes "<" ++ (name ++ codes ">")
+shown_text Paths name = codes "<" ++ (name ++ codes ">...")
+shown_text Words name = codes "<" ++ (name ++ codes ">...")
+shown_text (Required word) name = value_shown name word.now
+shown_text (WrittenOption word) name = value_shown name word.now
+shown_text (WrittenIfGiven word) name = value_shown name word.now
+shown_text (Replaced word old) name = value_shown name word.now
+shown_text (Number word) name = value_shown name word.now
+shown_text (PathsAt word) name = value_shown name word.now
+shown_text Flag name = codes "--" ++ name
+shown_text (Count default) name = value_shown name (codes "N")

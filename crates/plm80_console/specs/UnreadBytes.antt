@@ -1,0 +1,14 @@
+-- The bytes of an object file that aren't read: those behind its end record.
+-- (8080 Object Module Formats: each record says its length; the last one is an end-of-file record, of type 0E.)
+use Rattle.std.specs.Prelude.{◌≡◌, ℕ, List, [], drop, slice_get, Some}
+use Rattle.omf_core.specs.Record.{record_size}
+
+-- the bytes behind the first record
+abbrev pub after_record : List ℕ → List ℕ
+after_record bytes = drop (record_size bytes) bytes
+
+-- what stands behind an end record, to which one comes record by record; nothing, if there is none
+pub data IsBehindEnd : (bytes rest : List ℕ) → Type 0 where
+  none : (bytes : List ℕ) → IsBehindEnd bytes []
+  here : (bytes : List ℕ) → slice_get bytes 0 ≡ Some 0x0E → IsBehindEnd bytes (after_record bytes)
+  later : (bytes rest : List ℕ) → IsBehindEnd (after_record bytes) rest → IsBehindEnd bytes rest

@@ -1,0 +1,78 @@
+-- The paths of the files that were read.
+use Rattle.std.specs.Prelude.{◌≡◌, ℕ, zero, suc, ◌+◌, List, [], ◌∷◌, ◌++◌, length, map}
+use Rattle.std.specs.Borrow.{Bor}
+use Rattle.std.specs.List.{repeat}
+use Rattle.std.proofs.Common.{◌∙◌, ap, sym, refl, add-one, append_assoc, length-append, arith}
+use Rattle.plm80_console.specs.declared.link_feed.LinkFile.{LinkFile}
+use Rattle.plm80_console.specs.declared.link_feed.LinkFile.TheVariants.{Modules, Library}
+use Rattle.plm80_objects.specs.Link.{AddsFile, HavePaths}
+use Rattle.plm80_objects.specs.declared.link.LinkFiles.{LinkFiles}
+
+-- one more lent text behind the others
+map_behind : (ps : List (Bor (List ℕ))) (p : Bor (List ℕ)) → map (λ q. q.now) (ps ++ p ∷ []) ≡ map (λ q. q.now) ps ++ p.now ∷ []
+map_behind [] p = refl
+map_behind (q ∷ ps) p = ap (λ (ts : List (List ℕ)). q.now ∷ ts) (map_behind ps p)
+
+pub path_behind : (before after : List (Bor (List ℕ))) (p : Bor (List ℕ)) (path : List ℕ) → after ≡ before ++ p ∷ [] → p.now ≡ path
+    → map (λ q. q.now) after ≡ map (λ q. q.now) before ++ path ∷ []
+path_behind before after p path is same =
+    ap (λ (ps : List (Bor (List ℕ))). map (λ q. q.now) ps) is
+    ∙ (map_behind before p ∙ ap (λ (t : List ℕ). map (λ q. q.now) before ++ t ∷ []) same)
+
+-- one more time behind the others
+repeat_behind : (path : List ℕ) (n : ℕ) → repeat n (path ∷ []) ++ path ∷ [] ≡ repeat (suc n) (path ∷ [])
+repeat_behind path zero = refl
+repeat_behind path (suc n) = ap (λ (ps : List (List ℕ)). path ∷ ps) (repeat_behind path n)
+
+repeat_more : (path : List ℕ) (n : ℕ) (before so_far after : List (List ℕ)) → so_far ≡ before ++ repeat n (path ∷ [])
+    → after ≡ so_far ++ path ∷ [] → after ≡ before ++ repeat (n + 1) (path ∷ [])
+repeat_more path n before so_far after is more =
+    more ∙ (ap (λ (ps : List (List ℕ)). ps ++ path ∷ []) is
+    ∙ (append_assoc before (repeat n (path ∷ [])) (path ∷ [])
+    ∙ (ap (λ (ps : List (List ℕ)). before ++ ps) (repeat_behind path n)
+    ∙ ap (λ (m : ℕ). before ++ repeat m (path ∷ [])) (sym (add-one n)))))
+
+pub paths_more : (path : List ℕ) (n : ℕ) (before : List (List ℕ)) (so_far after : List (Bor (List ℕ))) (p : Bor (List ℕ))
+    → map (λ q. q.now) so_far ≡ before ++ repeat n (path ∷ []) → after ≡ so_far ++ p ∷ [] → p.now ≡ path
+    → map (λ q. q.now) after ≡ before ++ repeat (n + 1) (path ∷ [])
+paths_more path n before so_far after p is more same =
+    repeat_more path n before (map (λ q. q.now) so_far) (map (λ q. q.now) after) is (path_behind so_far after p path more same)
+
+length_repeat : (path : List ℕ) (n : ℕ) → length (repeat n (path ∷ [])) ≡ n
+length_repeat path zero = refl
+length_repeat path (suc n) = ap (λ (m : ℕ). suc m) (length_repeat path n)
+
+-- a list of lent texts is as long as that of the texts
+length_texts : (ps : List (Bor (List ℕ))) → length (map (λ p. p.now) ps) ≡ length ps
+length_texts [] = refl
+length_texts (p ∷ ps) = ap (λ (m : ℕ). suc m) (length_texts ps)
+
+pub paths_kept : (file : LinkFile) (path : List ℕ) (before after : LinkFiles) → AddsFile file path before after
+    → HavePaths before → HavePaths after
+paths_kept (Modules ms) path before after adds have = record {
+  roots =
+      sym (length_texts after.root_paths.items) ∙ (ap length adds.root_paths
+      ∙ (length-append (map (λ p. p.now) before.root_paths.items) (repeat (length ms.items) (path ∷ []))
+      ∙ omega (
+        arith,
+        length_texts before.root_paths.items,
+        length_repeat path (length ms.items),
+        have.roots,
+        ap length adds.roots,
+        length-append before.roots.items ms.items,
+      )));
+  libraries = cc (adds.paths, adds.libraries, have.libraries);
+}
+paths_kept (Library library) path before after adds have = record {
+  roots = cc (adds.root_paths, adds.roots, have.roots);
+  libraries =
+      sym (length_texts after.paths.items) ∙ (ap length adds.paths
+      ∙ (length-append (map (λ p. p.now) before.paths.items) (path ∷ [])
+      ∙ omega (
+        arith,
+        length_texts before.paths.items,
+        have.libraries,
+        ap length adds.libraries,
+        length-append before.libraries.items (library ∷ []),
+      )));
+}

@@ -1,0 +1,41 @@
+-- The files of dumps, one after another.
+use Rattle.std.specs.Prelude.{◌≡◌, ℕ, ◌+◌, ◌<◌, List, [], ◌∷◌, ◌++◌, length, take}
+use Rattle.std.specs.Borrow.{Bor}
+use Rattle.std.specs.List.{AllZip}
+use Rattle.std.proofs.Common.{sym, subst, get_or}
+use Rattle.std.proofs.lemmas.List.{take_more}
+use Rattle.plm80_console.specs.NumberText.{word_value}
+use Rattle.plm80_objects.specs.Absolute.{AreRomFiles, IsRomFile}
+use Rattle.plm80_objects.specs.declared.absolute.RomFile.{RomFile}
+
+zip_pushed : {A B : Type 0} (R : A → B → Type 0) (xs : List A) (ys : List B) (x : A) (y : B) → AllZip R xs ys → R x y
+    → AllZip R (xs ++ x ∷ []) (ys ++ y ∷ [])
+zip_pushed R [] [] x y zip one = (one, tt)
+zip_pushed R [] (z ∷ ys) x y zip one = absurd zip
+zip_pushed R (w ∷ xs) [] x y zip one = absurd zip
+zip_pushed R (w ∷ xs) (z ∷ ys) x y zip one = (zip.0, zip_pushed R xs ys x y zip.1 one)
+
+-- the first file alone
+pub rom_none : (path first : List ℕ) (xs : List (Bor (List ℕ))) (file : RomFile) (files : List RomFile) → files ≡ file ∷ []
+    → file.path.now ≡ path → file.first ≡ word_value first → AreRomFiles path first (take 0 xs) files
+rom_none path first [] file files is path_is first_is =
+    subst (λ (fs : List RomFile). AreRomFiles path first [] fs) (sym is) (path_is, first_is, tt)
+rom_none path first (x ∷ xs) file files is path_is first_is =
+    subst (λ (fs : List RomFile). AreRomFiles path first [] fs) (sym is) (path_is, first_is, tt)
+
+-- one more file behind the first
+pushed : (path first : List ℕ) (xs : List (Bor (List ℕ))) (files : List RomFile) (text : Bor (List ℕ)) (file : RomFile)
+    → AreRomFiles path first xs files → IsRomFile text.now file → AreRomFiles path first (xs ++ text ∷ []) (files ++ file ∷ [])
+pushed path first xs [] text file are is = absurd are
+pushed path first xs (f ∷ files) text file are is =
+    (are.0, are.1, zip_pushed (λ (t : Bor (List ℕ)) (rom : RomFile). IsRomFile t.now rom) xs files text file are.2 is)
+
+pub rom_more : (path first : List ℕ) (xs ys : List (Bor (List ℕ))) (i : ℕ) (d : Bor (List ℕ)) (file : RomFile)
+    (files after : List RomFile) → ys ≡ xs → i < length ys → AreRomFiles path first (take i xs) files
+    → IsRomFile (get_or ys i d).now file → after ≡ files ++ file ∷ [] → AreRomFiles path first (take (i + 1) xs) after
+rom_more path first xs ys i d file files after same below so_far named is =
+    let lt : i < length xs = subst (λ (zs : List (Bor (List ℕ))). i < length zs) same below in
+    let one : IsRomFile (get_or xs i d).now file = subst (λ (zs : List (Bor (List ℕ))). IsRomFile (get_or zs i d).now file) same named in
+    subst (λ (fs : List RomFile). AreRomFiles path first (take (i + 1) xs) fs) (sym is)
+    (subst (λ (ts : List (Bor (List ℕ))). AreRomFiles path first ts (files ++ file ∷ [])) (sym (take_more xs i d lt))
+    (pushed path first (take i xs) files (get_or xs i d) file so_far one))

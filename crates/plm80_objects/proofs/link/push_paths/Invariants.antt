@@ -1,0 +1,8 @@
+use Rattle.std.proofs.Common.{◌≡◌, ◌++◌, ◌∷◌, [], map}
+use Rattle.std.specs.List.{repeat}
+use Rattle.plm80_objects.proofs.link.push_paths.Given as goal
+
+-- the path once for each round so far
+abbrev pub invariant-loop : goal.invariant-loop
+invariant-loop l =
+    map (λ p. p.now) l.paths.items ≡ map (λ p. p.now) l.initial.paths.items ++ repeat l.counter (l.path ∷ [])

@@ -1,0 +1,89 @@
+-- What `link` writes and prints, and what `lib` writes.
+-- (ISIS-II User's Guide, LINK and LIB. The form of the lines is this project's own.)
+use Rattle.std.specs.Prelude.{◌≡◌, ℕ, Bool, true, false, Option, Some, None, List, [], ◌∷◌, ◌++◌, length, map, codes}
+use Rattle.std.specs.List.{flat_map, repeat}
+use Rattle.omf_parts.specs.Modules.{ModuleValue}
+use Rattle.omf_module.specs.Writing.{file_bytes}
+use Rattle.link80_select.specs.declared.chosen.Chosen.{Chosen}
+use Rattle.link80_select.specs.Selected.{module_at}
+use Rattle.link80.specs.declared.linking.Linked.{Linked}
+use Rattle.link80_text.specs.Parts.{modules_of, parts_text, unresolved_text}
+use Rattle.link80_text.specs.Reasons.{PrintsReasons}
+use Rattle.plm80_console.specs.Answer.{AnswerValue, writes}
+use Rattle.plm80_console.specs.declared.link_feed.LinkFile.{LinkFile}
+use Rattle.plm80_console.specs.declared.link_feed.LinkFile.TheVariants.{Modules, Library}
+use Rattle.plm80_objects.specs.declared.link.LinkFiles.{LinkFiles}
+use Rattle.plm80_objects.specs.declared.helpers.link_lines.LinkLines.{LinkLines}
+
+-- each module has the path of its file, and so has each library
+pub record HavePaths (files : LinkFiles) : Type 0 where
+  pub roots : length files.root_paths.items ≡ length files.roots.items
+  pub libraries : length files.paths.items ≡ length files.libraries.items
+
+-- the modules of an object file come behind the others, each with its path
+pub record AddsModules (modules : List ModuleValue) (path : List ℕ) (before after : LinkFiles) : Type 0 where
+  pub roots : after.roots.items ≡ before.roots.items ++ modules
+  pub root_paths : map (λ p. p.now) after.root_paths.items
+      ≡ map (λ p. p.now) before.root_paths.items ++ repeat (length modules) (path ∷ [])
+  pub libraries : after.libraries ≡ before.libraries
+  pub paths : after.paths ≡ before.paths
+
+-- a library comes behind the others with its path
+pub record AddsLibrary (library : List ModuleValue) (path : List ℕ) (before after : LinkFiles) : Type 0 where
+  pub roots : after.roots ≡ before.roots
+  pub root_paths : after.root_paths ≡ before.root_paths
+  pub libraries : after.libraries.items ≡ before.libraries.items ++ library ∷ []
+  pub paths : map (λ p. p.now) after.paths.items ≡ map (λ p. p.now) before.paths.items ++ path ∷ []
+
+abbrev pub AddsFile : LinkFile → (path : List ℕ) → (before after : LinkFiles) → Type 0
+AddsFile (Modules ms) path before after = AddsModules ms.items path before after
+AddsFile (Library library) path before after = AddsLibrary library path before after
+
+-- a word, a name, and a line feed
+abbrev pub named_line : (word name : List ℕ) → List ℕ
+named_line word name = word ++ name ++ 10 ∷ []
+
+-- the line of a module that was taken
+abbrev pub line_of_taken : Option ModuleValue → List ℕ
+line_of_taken None = []
+line_of_taken (Some m) = named_line (codes "TAKEN ") m.name
+
+-- the line of the one at a place
+abbrev pub taken_line : List (List ModuleValue) → Chosen → List ℕ
+taken_line libraries place = line_of_taken (module_at libraries place)
+
+-- the lines of the modules that were taken, in their order
+abbrev pub taken_text : List (List ModuleValue) → List Chosen → List ℕ
+taken_text libraries taken = flat_map (taken_line libraries) taken
+
+-- the lines of names that no module declares
+abbrev pub names_text : List (List ℕ) → List ℕ
+names_text names = flat_map (named_line (codes "UNRESOLVED ")) names
+
+-- with the map: a line for each module that needs a name that no module declares, and one for each part
+abbrev pub map_text : List ModuleValue → List ℕ
+map_text modules = unresolved_text modules ++ parts_text modules
+
+abbrev pub rest_text : (map : Bool) → List ModuleValue → Linked → List ℕ
+rest_text true modules made = map_text modules
+rest_text false modules made = names_text made.unresolved.items
+
+-- the lines of the modules that were taken, each with its reason if reasons are asked for
+abbrev pub PrintsTaken : (reasons : Bool) → (roots : List ModuleValue) → (libraries : List (List ModuleValue))
+    → (paths : List (List ℕ)) → (taken : List Chosen) → (text : List ℕ) → Type 0
+PrintsTaken true roots libraries paths taken text = PrintsReasons roots libraries taken paths taken [] text
+PrintsTaken false roots libraries paths taken text = text ≡ taken_text libraries taken
+
+-- the lines of a link: of the modules that were taken; and of what is unresolved, with the parts if the map is asked for
+pub record PrintsLink (wanted : LinkLines) (roots : List ModuleValue) (libraries : List (List ModuleValue))
+    (paths : List (List ℕ)) (made : Linked) (lines : List ℕ) : Type 0 where
+  pub taken : List ℕ
+  pub printed : PrintsTaken wanted.reasons roots libraries paths made.taken.items taken
+  pub lines_are : lines ≡ taken ++ rest_text wanted.map (modules_of roots libraries made) made
+
+-- the object file of the linked module goes to its path, and the lines are printed
+pub record WritesLinked (path : List ℕ) (wanted : LinkLines) (roots : List ModuleValue) (libraries : List (List ModuleValue))
+    (paths : List (List ℕ)) (made : Linked) (answer : AnswerValue) : Type 0 where
+  pub lines : List ℕ
+  pub printed : PrintsLink wanted roots libraries paths made lines
+  pub answer_is : answer ≡ writes path (file_bytes (made.module ∷ [])) lines

@@ -1,0 +1,161 @@
+-- The cases and the notes of the addresses below one.
+use Rattle.std.specs.Prelude.{◌≡◌, ℕ, zero, suc, ◌+◌, Bool, true, false, if◌then◌else◌, List, [], ◌∷◌, ◌++◌, IfSome, Option, None, Some, filter, filter_map, codes, refl}
+use Rattle.std.specs.List.{cons_option, range_with_len}
+use Rattle.std.proofs.Common.{◌∙◌, ap, append-nil, arith, subst, sym}
+use Rattle.std.specs.Io.KnownBytes.{Appends}
+use Rattle.std.proofs.KnownBytes.{Appends-nil, Appends-trans}
+use Rattle.std.proofs.lemmas.Grind.{flat_map-append}
+use Rattle.std.proofs.lemmas.List.{map-append}
+use Rattle.std.proofs.lemmas.List.Elements.{All-nil, All-push, filter-append, filter_map-append}
+use Rattle.image80.specs.Case.{DeclaredCase}
+use Rattle.image80.specs.Image.{Located}
+use Rattle.image80.specs.RegionsText.{case_text, cases_text}
+use Rattle.verify80_cases.specs.declared.search.Note.{Note}
+use Rattle.verify80_cases.specs.declared.search.SuggestedCase.{SuggestedCase}
+use Rattle.verify80_cases.specs.Suggested.{Finding, IsFinding, IsNote, IsSearched, IsSuggestedCase, case_of, is_open}
+use Rattle.plm80_programs.specs.declared.cases.FoundCase.{FoundCase}
+use Rattle.plm80_programs.specs.Cases.{AreFoundBelow, FindsCases, IsFoundAt}
+
+range_more : (a n j : ℕ) → a + n ≡ j → range_with_len a (suc n) ≡ range_with_len a n ++ j ∷ []
+range_more a zero j e = ap (λ (k : ℕ). k ∷ []) (let is : a ≡ j = omega (arith, e) in is)
+range_more a (suc n) j e = ap (λ (l : List ℕ). a ∷ l) (range_more (a + 1) n j (omega (arith, e)))
+
+range_next : (n : ℕ) → range_with_len 0 (n + 1) ≡ range_with_len 0 n ++ n ∷ []
+range_next n = let on : n + 1 ≡ suc n = omega arith in ap (range_with_len 0) on ∙ range_more 0 n n (omega arith)
+
+abbrev at_of : Finding → ℕ
+at_of finding = finding.at
+
+module _ (image : Located) (reached taken : List Bool) where
+  -- no address
+  pub nothing : AreFoundBelow image reached taken 0 [] []
+  nothing = record { findings = []; each = All-nil (IsFinding image reached taken); of_all = refl; cases_are = refl; notes_are = refl }
+
+  filtered : (at : ℕ) (b : Bool) → is_open image reached at ≡ b
+      → filter (is_open image reached) (range_with_len 0 (at + 1)) ≡ filter (is_open image reached) (range_with_len 0 at) ++ (if b then at ∷ [] else [])
+  filtered at b e =
+      ap (filter (is_open image reached)) (range_next at)
+      ∙ filter-append (is_open image reached) (range_with_len 0 at) (at ∷ [])
+      ∙ ap (λ (c : Bool). filter (is_open image reached) (range_with_len 0 at) ++ (if c then at ∷ [] else [])) e
+
+  module _ (at : ℕ) (cases : List DeclaredCase) (notes : List Note) (so_far : AreFoundBelow image reached taken at cases notes) where
+    -- nothing is found at an address
+    pub passed : is_open image reached at ≡ false → AreFoundBelow image reached taken (at + 1) cases notes
+    passed closed = record {
+      findings = so_far.findings;
+      each = so_far.each;
+      of_all = so_far.of_all ∙ sym (append-nil (filter (is_open image reached) (range_with_len 0 at))) ∙ sym (filtered at false closed);
+      cases_are = so_far.cases_are;
+      notes_are = so_far.notes_are;
+    }
+
+    -- something is
+    pub one_more : (found : FoundCase) → IsFoundAt image reached taken at found
+        → AreFoundBelow image reached taken (at + 1) (cases ++ cons_option found.case []) (notes ++ cons_option found.note [])
+    one_more found here =
+        let finding : Finding = record { at = at; found = here.suggested; note = found.note } in
+        record {
+          findings = so_far.findings ++ finding ∷ [];
+          each = All-push (IsFinding image reached taken) so_far.findings finding so_far.each here.finding;
+          of_all = map-append at_of so_far.findings (finding ∷ []) ∙ ap (λ (l : List ℕ). l ++ at ∷ []) so_far.of_all ∙ sym (filtered at true here.here);
+          cases_are = ap (λ (cs : List DeclaredCase). cs ++ cons_option found.case []) so_far.cases_are
+              ∙ ap (λ (o : Option DeclaredCase). filter_map (λ (f : Finding). case_of f.found) so_far.findings ++ cons_option o []) here.case_is
+              ∙ sym (filter_map-append (λ (f : Finding). case_of f.found) so_far.findings (finding ∷ []));
+          notes_are = ap (λ (ns : List Note). ns ++ cons_option found.note []) so_far.notes_are
+              ∙ sym (filter_map-append (λ (f : Finding). f.note) so_far.findings (finding ∷ []));
+        }
+
+    -- these are kept
+    pub kept_more : (found : FoundCase) (after_cases : List DeclaredCase) (after_notes : List Note) → IsFoundAt image reached taken at found
+        → after_cases ≡ cases ++ cons_option found.case [] → after_notes ≡ notes ++ cons_option found.note []
+        → AreFoundBelow image reached taken (at + 1) after_cases after_notes
+    kept_more found after_cases after_notes here cases_are notes_are =
+        subst (λ (cs : List DeclaredCase). AreFoundBelow image reached taken (at + 1) cs after_notes) (sym cases_are)
+        (subst (λ (ns : List Note). AreFoundBelow image reached taken (at + 1) (cases ++ cons_option found.case []) ns) (sym notes_are)
+        (one_more found here))
+
+-- ---- lines
+
+cases_more : (cases one : List DeclaredCase) → cases_text (cases ++ one) ≡ cases_text cases ++ cases_text one
+cases_more cases one = flat_map-append (λ (case : DeclaredCase). (codes "CASE " ++ case_text case) ++ 10 ∷ []) cases one
+
+pub lines_more : (cases one after : List DeclaredCase) (lines new : List ℕ) → lines ≡ cases_text cases → new ≡ lines ++ cases_text one
+    → after ≡ cases ++ one → new ≡ cases_text after
+lines_more cases one after lines new so_far added after_is =
+    added ∙ ap (λ (l : List ℕ). l ++ cases_text one) so_far ∙ sym (cases_more cases one) ∙ ap cases_text (sym after_is)
+
+-- what is found of a PCHL
+pub finding_of : (image : Located) (reached taken : List Bool) (at : ℕ) (found : Option SuggestedCase) (said : Option Note)
+    → IfSome found (λ found. IsSuggestedCase image reached taken found × (found.case.at ≡ at)) → IsNote at found said
+    → IsFinding image reached taken (record { at = at; found = found; note = said })
+finding_of image reached taken at None said suggested noted = record { found = tt; at = tt; note = noted }
+finding_of image reached taken at (Some found) said suggested noted = record { found = suggested.0; at = suggested.1; note = noted }
+
+-- what is found of the PCHLs below 65536
+pub finds_cases : (image : Located) (reached taken : List Bool) (limit : ℕ) (cases : List DeclaredCase) (notes : List Note)
+    → IsSearched image reached taken → limit ≡ 65536 → AreFoundBelow image reached taken limit cases notes → FindsCases image cases notes
+finds_cases image reached taken limit cases notes searched all found = record {
+  reached = reached;
+  taken = taken;
+  searched = searched;
+  found = subst (λ (n : ℕ). AreFoundBelow image reached taken n cases notes) all found;
+}
+
+-- ---- cases that are kept with their lines
+
+pub record Kept (image : Located) (reached taken : List Bool) (limit : ℕ) (cases : List DeclaredCase) (notes : List Note) (lines : List ℕ) : Type 0 where
+  pub found : AreFoundBelow image reached taken limit cases notes
+  pub lines_are : lines ≡ cases_text cases
+
+module _ (image : Located) (reached taken : List Bool) where
+  pub kept_nothing : (cases : List DeclaredCase) (notes : List Note) (lines : List ℕ) → cases ≡ [] → notes ≡ [] → lines ≡ []
+      → Kept image reached taken 0 cases notes lines
+  kept_nothing cases notes lines no_cases no_notes no_lines = record {
+    found = subst (λ (cs : List DeclaredCase). AreFoundBelow image reached taken 0 cs notes) (sym no_cases)
+        (subst (λ (ns : List Note). AreFoundBelow image reached taken 0 [] ns) (sym no_notes) (nothing image reached taken));
+    lines_are = no_lines ∙ sym (ap cases_text no_cases);
+  }
+
+  module _ (at : ℕ) (cases : List DeclaredCase) (notes : List Note) (lines : List ℕ) (kept : Kept image reached taken at cases notes lines) where
+    pub kept_passed : is_open image reached at ≡ false → Kept image reached taken (at + 1) cases notes lines
+    kept_passed closed = record { found = passed image reached taken at cases notes kept.found closed; lines_are = kept.lines_are }
+
+    pub kept_next : (found : FoundCase) (after_cases : List DeclaredCase) (after_notes : List Note) (after_lines : List ℕ)
+        → IsFoundAt image reached taken at found → after_cases ≡ cases ++ cons_option found.case []
+        → after_lines ≡ lines ++ cases_text (cons_option found.case []) → after_notes ≡ notes ++ cons_option found.note []
+        → Kept image reached taken (at + 1) after_cases after_notes after_lines
+    kept_next found after_cases after_notes after_lines here cases_are lines_are notes_are = record {
+      found = kept_more image reached taken at cases notes kept.found found after_cases after_notes here cases_are notes_are;
+      lines_are = lines_more cases (cons_option found.case []) after_cases lines after_lines kept.lines_are lines_are cases_are;
+    }
+
+-- ---- lines that are written as they are found
+
+pub record Shown (image : Located) (reached taken : List Bool) (limit : ℕ) (notes : List Note) (old now : Option (List ℕ)) : Type 0 where
+  pub cases : List DeclaredCase
+  pub found : AreFoundBelow image reached taken limit cases notes
+  pub written : Appends old now (cases_text cases)
+
+module _ (image : Located) (reached taken : List Bool) where
+  pub shown_nothing : (notes : List Note) (old : Option (List ℕ)) → notes ≡ [] → Shown image reached taken 0 notes old old
+  shown_nothing notes old none = record {
+    cases = [];
+    found = subst (λ (ns : List Note). AreFoundBelow image reached taken 0 [] ns) (sym none) (nothing image reached taken);
+    written = Appends-nil old;
+  }
+
+  module _ (at : ℕ) (notes : List Note) (old now : Option (List ℕ)) (shown : Shown image reached taken at notes old now) where
+    pub shown_passed : is_open image reached at ≡ false → Shown image reached taken (at + 1) notes old now
+    shown_passed closed = record { cases = shown.cases; found = passed image reached taken at shown.cases notes shown.found closed; written = shown.written }
+
+    pub shown_more : (found : FoundCase) (after : List Note) (new : Option (List ℕ)) → IsFoundAt image reached taken at found
+        → Appends now new (cases_text (cons_option found.case [])) → after ≡ notes ++ cons_option found.note []
+        → Shown image reached taken (at + 1) after old new
+    shown_more found after new here written noted = record {
+      cases = shown.cases ++ cons_option found.case [];
+      found = subst (λ (ns : List Note). AreFoundBelow image reached taken (at + 1) (shown.cases ++ cons_option found.case []) ns) (sym noted)
+          (one_more image reached taken at shown.cases notes shown.found found here);
+      written = subst (λ (l : List ℕ). Appends old new l)
+          (sym (cases_more shown.cases (cons_option found.case [])))
+          (Appends-trans old now new (cases_text shown.cases) (cases_text (cons_option found.case [])) shown.written written);
+    }

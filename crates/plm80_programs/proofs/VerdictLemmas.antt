@@ -1,0 +1,15 @@
+-- Answers to what the verifier says.
+use Rattle.std.specs.Prelude.{List, Result, IfOk}
+use Rattle.std.proofs.lemmas.Result.{IfOk-weaker}
+use Rattle.omf_parts.specs.declared.symbols.Public.{Public}
+use Rattle.image80.specs.Image.{Located}
+use Rattle.loader80.specs.Vouched.{Voucher}
+use Rattle.plm80_console.specs.Answer.{AnswerValue}
+use Rattle.plm80_names.specs.Verdict.{AnswersVerdict, IsAccepted}
+use Rattle.plm80_names.specs.Verdict.AnswersVerdict.{accepted}
+
+-- what is answered of a program that is accepted
+pub of_accepted : {E : Type 0} (Answers : Voucher → AnswerValue → Type 0) (image : Located) (publics : List Public) (program : Voucher)
+    (r : Result AnswerValue E) → IsAccepted image program → IfOk r (Answers program) → IfOk r (AnswersVerdict Answers image publics)
+of_accepted Answers image publics program r is answers =
+    IfOk-weaker r (Answers program) (AnswersVerdict Answers image publics) (λ answer answered. accepted program is answered) answers

@@ -1,0 +1,83 @@
+-- Words and ranges of the command line, one after another.
+use Rattle.std.specs.Prelude.{◌≡◌, ◌≢◌, ℕ, ◌+◌, ◌<◌, List, [], ◌∷◌, ◌++◌, All, None, Option, Some, IfSome, unwrap_or, length, map, take, drop}
+use Rattle.std.specs.Borrow.{Bor}
+use Rattle.std.proofs.Common.{◌∙◌, ap, append-nil, get_or, refl, subst, sym}
+use Rattle.std.proofs.lemmas.Grind.{flat_map-append}
+use Rattle.std.proofs.lemmas.List.{drop_more, map-append, take-append-drop, take_more}
+use Rattle.std.proofs.lemmas.List.Elements.{All-push}
+use Rattle.image80.specs.declared.range.Range.{Range}
+use Rattle.loader80_text.specs.declared.inputs.repeated.Repeated.{Repeated}
+use Rattle.loader80_text.specs.Words.{word_of}
+use Rattle.plm80_programs.specs.InputWords.{FaultsFile, FaultsWords, IsFirstBadWord, IsGoodWord, inputs_named}
+use Rattle.plm80_programs.specs.declared.inputs.InputsFileFault.{InputsFileFault}
+use Rattle.plm80_programs.specs.declared.inputs.InputsFileFault.TheVariants.{BadInput, TooLong, Memory}
+use Rattle.plm80_programs.specs.Ranges.{AreRangesOf, IsRangeText}
+use Rattle.plm80_programs.specs.Ranges.AreRangesOf.{more}
+
+abbrev text_of : Bor (List ℕ) → List ℕ
+text_of text = text.now
+
+pub texts_more : (texts : List (Bor (List ℕ))) (i : ℕ) (d : Bor (List ℕ)) → i < length texts
+    → map (λ t. t.now) (take (i + 1) texts) ≡ map (λ t. t.now) (take i texts) ++ (get_or texts i d).now ∷ []
+texts_more texts i d lt =
+    ap (map text_of) (take_more texts i d lt) ∙ map-append text_of (take i texts) (get_or texts i d ∷ [])
+
+pub named_more : (words : List (List ℕ)) (word : List ℕ) (before after : List Repeated) → before ≡ inputs_named words
+    → after ≡ before ++ unwrap_or (word_of word) [] → after ≡ inputs_named (words ++ word ∷ [])
+named_more words word before after so_far one =
+    one ∙ ap (λ (l : List Repeated). l ++ unwrap_or (word_of word) []) so_far
+    ∙ ap (λ (l : List Repeated). inputs_named words ++ l) (sym (append-nil (unwrap_or (word_of word) [])))
+    ∙ sym (flat_map-append (λ (w : List ℕ). unwrap_or (word_of w) []) words (word ∷ []))
+
+pub texts_split : (texts : List (Bor (List ℕ))) (i : ℕ) (d : Bor (List ℕ)) → i < length texts
+    → map (λ t. t.now) texts ≡ map (λ t. t.now) (take i texts) ++ (get_or texts i d).now ∷ map (λ t. t.now) (drop (i + 1) texts)
+texts_split texts i d lt =
+    ap (map text_of) (sym (take-append-drop i texts))
+    ∙ map-append text_of (take i texts) (drop i texts)
+    ∙ ap (λ (l : List (Bor (List ℕ))). map text_of (take i texts) ++ map text_of l)
+    (drop_more texts i d lt)
+
+-- the first word that names no inputs
+pub first_bad : (texts : List (Bor (List ℕ))) (i : ℕ) (d : Bor (List ℕ)) → i < length texts
+    → All IsGoodWord (map (λ t. t.now) (take i texts)) → word_of (get_or texts i d).now ≡ None → IsFirstBadWord (map (λ t. t.now) texts) (get_or texts i d).now
+first_bad texts i d lt good bad = record {
+  before = map text_of (take i texts);
+  after = map text_of (drop (i + 1) texts);
+  are_words = texts_split texts i d lt;
+  good = good;
+  bad = bad;
+}
+
+-- one word more that names inputs
+pub good_more : (texts : List (Bor (List ℕ))) (i : ℕ) (d : Bor (List ℕ)) → i < length texts
+    → All IsGoodWord (map (λ t. t.now) (take i texts)) → word_of (get_or texts i d).now ≢ None → All IsGoodWord (map (λ t. t.now) (take (i + 1) texts))
+good_more texts i d lt good one =
+    subst (λ (l : List (List ℕ)). All IsGoodWord l) (sym (texts_more texts i d lt))
+    (All-push IsGoodWord (map text_of (take i texts)) (get_or texts i d).now good one)
+
+pub inputs_more : (texts : List (Bor (List ℕ))) (i : ℕ) (d : Bor (List ℕ)) (before after : List Repeated) → i < length texts
+    → before ≡ inputs_named (map (λ t. t.now) (take i texts)) → after ≡ before ++ unwrap_or (word_of (get_or texts i d).now) []
+    → after ≡ inputs_named (map (λ t. t.now) (take (i + 1) texts))
+inputs_more texts i d before after lt so_far one =
+    subst (λ (l : List (List ℕ)). after ≡ inputs_named l) (sym (texts_more texts i d lt))
+    (named_more (map text_of (take i texts)) (get_or texts i d).now before after so_far one)
+
+-- what a word added, if it names inputs
+pub added : (o : Option (List Repeated)) (before after : List Repeated) → o ≢ None → IfSome o (λ inputs. after ≡ before ++ inputs)
+    → after ≡ before ++ unwrap_or o []
+added None before after some one = absurd (some refl)
+added (Some inputs) before after some one = one
+
+-- why words give no file
+pub of_words : (words : List (List ℕ)) (fault : InputsFileFault) → FaultsWords words fault → FaultsFile words fault
+of_words words (BadInput word) first = first
+of_words words TooLong none = absurd none
+of_words words Memory any = tt
+
+-- one range more
+pub ranges_more : (texts : List (Bor (List ℕ))) (i : ℕ) (d : Bor (List ℕ)) (ranges : List Range) (range : Range) → i < length texts
+    → AreRangesOf (map (λ t. t.now) (take i texts)) ranges → IsRangeText (get_or texts i d).now range
+    → AreRangesOf (map (λ t. t.now) (take (i + 1) texts)) (ranges ++ range ∷ [])
+ranges_more texts i d ranges range lt so_far one =
+    subst (λ (l : List (List ℕ)). AreRangesOf l (ranges ++ range ∷ [])) (sym (texts_more texts i d lt))
+    (more (map text_of (take i texts)) (get_or texts i d).now ranges range so_far one)

@@ -1,0 +1,7 @@
+-- the cases so far, and their lines
+use Rattle.plm80_programs.proofs.CaseLemmas.{Kept}
+use Rattle.plm80_programs.proofs.cases.kept_cases.Given as goal
+
+abbrev pub invariant-loop-address : goal.invariant-loop-address
+invariant-loop-address l =
+    Kept l.image l.search-inside.reached.items l.search-inside.taken.items l.address l.kept.cases.items l.kept.notes.items l.kept.lines.items

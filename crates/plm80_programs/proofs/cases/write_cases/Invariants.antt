@@ -1,0 +1,10 @@
+-- the lines so far
+use Rattle.std.specs.Prelude.{◌≡◌}
+use Rattle.plm80_programs.proofs.CaseLemmas.{Shown}
+use Rattle.plm80_programs.proofs.cases.write_cases.Given as goal
+
+abbrev pub invariant-loop-address : goal.invariant-loop-address
+invariant-loop-address g l = record {
+  unfailed : g.K.Sink.failed l.out ≡ g.K.Sink.failed l.fn.out;
+  shown : Shown l.image l.search-inside.reached.items l.search-inside.taken.items l.address l.notes.items (g.K.Sink.written l.fn.out) (g.K.Sink.written l.out);
+}

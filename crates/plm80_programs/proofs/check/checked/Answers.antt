@@ -1,0 +1,16 @@
+use Rattle.std.specs.Prelude.{ℕ, List}
+use Rattle.std.proofs.Common.{◌∙◌, ap, subst}
+use Rattle.plm80_console.specs.Answer.{prints}
+use Rattle.plm80_names.specs.Verdict.{IsVerdict}
+use Rattle.plm80_names.specs.Verdict.AnswersVerdict.{accepted, refused}
+use Rattle.plm80_programs.proofs.check.checked.Goals as goal
+
+pub returns-in_ok-text-in-Accepted : goal.returns-in_ok-text-in-Accepted
+returns-in_ok-text-in-Accepted c =
+    accepted c.in-Accepted.vouched (subst (IsVerdict c.args.image c.args.names.now) c.in-Accepted.is c.in_ok-vouched.ensures)
+    (c.prints.ensures ∙ ap (λ (text : List ℕ). prints text 0) c.in_ok-text-in-Accepted.ensures)
+
+pub returns-in-Refused : goal.returns-in-Refused
+returns-in-Refused c =
+    refused c.in-Refused.line.items (subst (IsVerdict c.args.image c.args.names.now) c.in-Refused.is c.in_ok-vouched.ensures)
+    c.prints-in-Refused.ensures

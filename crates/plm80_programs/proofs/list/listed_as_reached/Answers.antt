@@ -1,0 +1,16 @@
+use Rattle.std.proofs.Common.{subst}
+use Rattle.plm80_names.specs.Verdict.{IsVerdict}
+use Rattle.plm80_names.specs.Verdict.AnswersVerdict.{refused}
+use Rattle.plm80_programs.proofs.VerdictLemmas.{of_accepted}
+use Rattle.plm80_programs.specs.Printed.{ListsCode}
+use Rattle.plm80_programs.proofs.list.listed_as_reached.Goals as goal
+
+pub returns-in-Accepted : goal.returns-in-Accepted
+returns-in-Accepted c =
+    of_accepted (ListsCode c.args.names.now) c.args.image c.args.names.now c.in-Accepted.vouched c.named_reached.result
+    (subst (IsVerdict c.args.image c.args.names.now) c.in-Accepted.is c.in_ok-vouched.ensures) c.named_reached.ensures
+
+pub returns-in-Refused : goal.returns-in-Refused
+returns-in-Refused c =
+    refused c.in-Refused.line.items (subst (IsVerdict c.args.image c.args.names.now) c.in-Refused.is c.in_ok-vouched.ensures)
+    c.prints.ensures

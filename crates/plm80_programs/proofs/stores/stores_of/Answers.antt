@@ -1,0 +1,20 @@
+use Rattle.std.proofs.Common.{◌∙◌, ap}
+use Rattle.image80.specs.Image.{Located}
+use Rattle.plm80_programs.proofs.StoresLemmas.{stores_answered}
+use Rattle.plm80_programs.proofs.stores.stores_of.Goals as goal
+
+pub returns : goal.returns
+returns c =
+    let program = c.args.vouched.now in
+    let stores = c.in_ok-stores.stores in
+    record {
+      stores = stores;
+      listed = c.in_ok-stores.ensures.listed;
+      boards = c.in_ok-stores.ensures.boards;
+      quiet_boards = c.in_ok-stores.ensures.quiet_boards;
+      stack = c.in_ok-stores.ensures.stack;
+      answer_is = stores_answered program.image c.args.names.now stores c.code-code.result.now c.in_ok-text.text.items c.in_ok-text-2.text.items
+          c.in_ok-text-3.text.items c.stores_status.result c.prints.result
+          (c.code-code.ensures.ranges ∙ ap (λ (i : Located). i.regions.code) (c.behind-vouched.view_is ∙ c.image.ensures.image))
+          c.in_ok-text.ensures c.in_ok-text-2.ensures.named c.in_ok-text-3.ensures.named c.stores_status.ensures c.prints.ensures;
+    }

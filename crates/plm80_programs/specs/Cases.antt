@@ -1,0 +1,59 @@
+-- What `cases` prints, writes and reports of an image.
+-- (That each PCHL has its line, its note or both, is this project's own.)
+use Rattle.std.specs.Prelude.{◌≡◌, ◌≤◌, ℕ, Bool, true, false, List, [], All, Option, length, map, filter, filter_map}
+use Rattle.std.specs.List.{range_with_len}
+use Rattle.omf_parts.specs.declared.symbols.Public.{Public}
+use Rattle.image80.specs.Case.{DeclaredCase}
+use Rattle.image80.specs.Image.{Located}
+use Rattle.image80.specs.RegionsText.{cases_text}
+use Rattle.loader80_streams.specs.WholeText.{text_limit}
+use Rattle.verify80_cases.specs.declared.search.Note.{Note}
+use Rattle.verify80_cases.specs.declared.search.SuggestedCase.{SuggestedCase}
+use Rattle.verify80_cases.specs.Added.{AddsCases}
+use Rattle.verify80_cases.specs.Suggested.{Finding, IsFinding, IsSearched, case_of, is_open}
+use Rattle.plm80_console.specs.Answer.{AnswerValue, prints, writes}
+use Rattle.plm80_names.specs.Verdict.{AreOfFiles}
+use Rattle.plm80_programs.specs.declared.cases.FoundCase.{FoundCase}
+use Rattle.plm80_programs.specs.Status.{notes_status}
+
+-- what is found of the PCHL at an address, which is reached and not declared: its case, if a table is seen for it, and its note
+pub record IsFoundAt (image : Located) (reached taken : List Bool) (at : ℕ) (found : FoundCase) : Type 0 where
+  pub here : is_open image reached at ≡ true
+  pub suggested : Option SuggestedCase
+  pub finding : IsFinding image reached taken (record { at = at; found = suggested; note = found.note })
+  pub case_is : found.case ≡ case_of suggested
+
+-- the cases and the notes of the PCHLs below an address: of exactly those that are reached and not declared, by address
+pub record AreFoundBelow (image : Located) (reached taken : List Bool) (limit : ℕ) (cases : List DeclaredCase) (notes : List Note) : Type 0 where
+  pub findings : List Finding
+  pub each : All (IsFinding image reached taken) findings
+  pub of_all : map (λ (finding : Finding). finding.at) findings ≡ filter (is_open image reached) (range_with_len 0 limit)
+  pub cases_are : cases ≡ filter_map (λ (finding : Finding). case_of finding.found) findings
+  pub notes_are : notes ≡ filter_map (λ (finding : Finding). finding.note) findings
+
+-- the cases that the tables of an image suggest, and what there is to say of its PCHLs
+pub record FindsCases (image : Located) (cases : List DeclaredCase) (notes : List Note) : Type 0 where
+  pub reached : List Bool
+  pub taken : List Bool
+  pub searched : IsSearched image reached taken
+  pub found : AreFoundBelow image reached taken 65536 cases notes
+
+-- the lines of these cases are printed, and then the regions with them go to a file
+pub record WritesCases (path : List ℕ) (image : Located) (notes : List Note) (lines file : AnswerValue) : Type 0 where
+  pub cases : List DeclaredCase
+  pub found : FindsCases image cases notes
+  pub lines_are : lines ≡ prints (cases_text cases) 0
+  pub text : List ℕ
+  pub added : AddsCases image.regions cases text
+  pub within : length text ≤ text_limit
+  pub file_is : file ≡ writes path text []
+
+-- the exit status for the notes of an image and its regions, as two files have them
+pub record IsCasesStatus (status : ℕ) : Type 0 where
+  pub image : Located
+  pub publics : List Public
+  pub are_read : AreOfFiles false image publics
+  pub cases : List DeclaredCase
+  pub notes : List Note
+  pub found : FindsCases image cases notes
+  pub status_is : status ≡ notes_status notes

@@ -1,0 +1,156 @@
+-- What commands print of an image, and their exit statuses. (The texts are those of the crates below; that a refusal is printed alone,
+-- with status 1, is this project's own.)
+use Rattle.std.specs.Prelude.{◌≡◌, ◌≢◌, ℕ, Bool, true, false, List, [], Option, None, Some, All, codes, map}
+use Rattle.omf_parts.specs.declared.symbols.Public.{Public}
+use Rattle.image80.specs.declared.range.Range.{Range}
+use Rattle.image80.specs.Image.{Located}
+use Rattle.image80_text.specs.Listing.{listing_of}
+use Rattle.image80_text.specs.NameText.{labelled_text, named_text}
+use Rattle.machine80.specs.Ports.{lists_of}
+use Rattle.machine80.specs.World.{world_at_start}
+use Rattle.verify80_flow.specs.declared.refusal.Refusal.{Refusal}
+use Rattle.verify80_flow.specs.declared.refusal.Refusal.TheVariants.{Memory, StackTooSmall}
+use Rattle.verify80_flow.specs.declared.report.ProcRow.{ProcRow}
+use Rattle.verify80_flow.specs.Accepted.{IsMeasured}
+use Rattle.verify80_flow.specs.Faults.{Holds}
+use Rattle.verify80.specs.Looking.{code_of}
+use Rattle.verify80.specs.Boards.{SetsStack}
+use Rattle.verify80_explain.specs.Printed.{GoesOnWithChain, GoesOnWithWays}
+use Rattle.verify80_calls.specs.declared.graph.call_graph.Node.{Node}
+use Rattle.verify80_calls.specs.GraphText.{graph_text}
+use Rattle.verify80_calls.specs.ListText.{list_text}
+use Rattle.verify80_calls.specs.Nodes.{HasItsCalls, heading_of, headings}
+use Rattle.verify80_stores.specs.declared.stores.Stores.{Stores}
+use Rattle.verify80_stores.specs.Boards.{PromiseHoldsOnBoards, PromiseHoldsOnQuietBoards, is_quiet}
+use Rattle.verify80_stores.specs.Stores.{AreStoresOf}
+use Rattle.verify80_stores.specs.StoresText.{stores_text_of}
+use Rattle.loader80.specs.declared.running.Ended.{Ended}
+use Rattle.loader80.specs.Vouched.{Voucher}
+use Rattle.loader80_trace.specs.declared.limits.Limits.{Limits}
+use Rattle.loader80_trace.specs.Counts.{CountsSteps}
+use Rattle.loader80_trace.specs.Cover.{CoversReached, ListsReached}
+use Rattle.loader80_trace.specs.Traces.{EndsSo}
+use Rattle.plm80_console.specs.Answer.{AnswerValue, prints}
+use Rattle.plm80_names.specs.Printed.{named_refusal_line, named_refusal_report, named_report}
+use Rattle.plm80_names.specs.Verdict.{AnswersVerdict, IsAccepted, IsStatusFor}
+use Rattle.plm80_programs.specs.Ranges.{AreRangesOf}
+use Rattle.plm80_programs.specs.Status.{stores_status}
+
+-- ---- check
+
+-- the report, with the names of procedures
+abbrev pub Reports : List Public → Voucher → AnswerValue → Type 0
+Reports publics program answer = answer ≡ prints (named_report program publics) 0
+
+abbrev pub PrintsReport : Located → List Public → AnswerValue → Type 0
+PrintsReport image publics answer = AnswersVerdict (Reports publics) image publics answer
+
+-- ---- list
+
+-- the instructions to which the program may come, each with the line of its name
+pub record ListsCode (publics : List Public) (program : Voucher) (answer : AnswerValue) : Type 0 where
+  pub listed : List ℕ
+  pub reached : ListsReached program.image listed
+  pub answer_is : answer ≡ prints (labelled_text publics false listed) 0
+
+-- these, or all instructions of the code, whether the verifier accepts them or not
+abbrev pub PrintsListing : (reached : Bool) → Located → List Public → AnswerValue → Type 0
+PrintsListing true image publics answer = AnswersVerdict (ListsCode publics) image publics answer
+PrintsListing false image publics answer = answer ≡ prints (labelled_text publics false (listing_of image)) 0
+
+-- ---- calls
+
+-- the text of a program's calls: a graph, or lines
+abbrev pub calls_text : (dot : Bool) → Located → List Public → List Node → List ℕ
+calls_text true image publics nodes = graph_text image publics nodes
+calls_text false image publics nodes = list_text image publics nodes
+
+-- the procedures of a program, each with its bound and exactly its calls
+pub record IsCallsText (dot : Bool) (publics : List Public) (program : Voucher) (text : List ℕ) : Type 0 where
+  pub nodes : List Node
+  pub procedures : map heading_of nodes ≡ headings program
+  pub calls : All (HasItsCalls (code_of program.image)) nodes
+  pub text_is : text ≡ calls_text dot program.image publics nodes
+
+pub record ShowsCalls (dot : Bool) (publics : List Public) (program : Voucher) (answer : AnswerValue) : Type 0 where
+  pub text : List ℕ
+  pub is : IsCallsText dot publics program text
+  pub answer_is : answer ≡ prints text 0
+
+abbrev pub PrintsCalls : (dot : Bool) → Located → List Public → AnswerValue → Type 0
+PrintsCalls dot image publics answer = AnswersVerdict (ShowsCalls dot publics) image publics answer
+
+-- ---- stores
+
+-- the lines of a program's stores, with the names of their addresses
+abbrev pub stores_lines : Located → List Public → Stores → List ℕ
+stores_lines image publics stores =
+    named_text image.regions.code publics (codes "JUMP ") (named_text image.regions.code publics (codes "STORE ")
+    (stores_text_of stores.sets_stack stores.addresses.items stores.open.items stores.jumps.items stores.open_jumps.items))
+
+-- What is listed of a program is so in all of its runs, and on every board whose devices leave the quiet addresses as they are; on every
+-- board if there are none.
+pub record ListsStores (quiet : List Range) (publics : List Public) (program : Voucher) (answer : AnswerValue) : Type 0 where
+  pub stores : Stores
+  pub listed : AreStoresOf program.image stores.addresses.items stores.open.items stores.jumps.items stores.open_jumps.items
+  pub boards : quiet ≡ [] → PromiseHoldsOnBoards program.image program.stack_bytes stores.open.items stores.open_jumps.items
+  pub quiet_boards : PromiseHoldsOnQuietBoards program.image (is_quiet program.image.regions quiet) program.stack_bytes
+      stores.open.items stores.open_jumps.items
+  pub stack : stores.sets_stack ≡ true → SetsStack program.image
+  pub answer_is : answer ≡ prints (stores_lines program.image publics stores) (stores_status stores)
+
+abbrev pub PrintsStores : (quiet : List Range) → Located → List Public → AnswerValue → Type 0
+PrintsStores quiet image publics answer = AnswersVerdict (ListsStores quiet publics) image publics answer
+
+-- the exit status of that answer, of the ranges that the options write
+pub record IsStoresStatus (texts : List (List ℕ)) (asked : Bool) (status : ℕ) : Type 0 where
+  pub quiet : List Range
+  pub written : AreRangesOf texts quiet
+  pub is : IsStatusFor (PrintsStores quiet) asked status
+
+-- ---- explain
+
+-- the refusal of an image whose stack is too small: the line of each procedure, and the chain of calls that needs most
+pub record ShowsOverrun (image : Located) (publics : List Public) (refusal : Refusal) (need : ℕ) (text : List ℕ) : Type 0 where
+  pub rows : List ProcRow
+  pub bytes : ℕ
+  pub measured : IsMeasured (code_of image) rows bytes
+  pub goes_on : GoesOnWithChain image publics need (named_refusal_report image.regions.code publics refusal rows) text
+
+-- the bytes of stack that an image needs whose stack is too small
+abbrev pub needed_stack : Refusal → Option ℕ
+needed_stack (StackTooSmall need has) = Some need
+needed_stack _ = None
+
+-- the line of a refusal, and what shows it: that depends on whether its stack is too small
+abbrev pub ShowsWith : Located → List Public → Refusal → (need : Option ℕ) → (text : List ℕ) → Type 0
+ShowsWith image publics refusal (Some need) text = ShowsOverrun image publics refusal need text
+ShowsWith image publics refusal None text =
+    GoesOnWithWays image publics refusal (named_refusal_line image.regions.code publics refusal) text
+
+abbrev pub ShowsRefusal : Located → List Public → Refusal → (text : List ℕ) → Type 0
+ShowsRefusal image publics refusal text = ShowsWith image publics refusal (needed_stack refusal) text
+
+-- of a program that is accepted the report, and the chain of calls that needs most; of another one its refusal, and what shows it
+pub data PrintsExplanation (image : Located) (publics : List Public) (answer : AnswerValue) : Type 0 where
+  accepted : (program : Voucher) (text : List ℕ) → IsAccepted image program
+      → GoesOnWithChain image publics program.stack_bytes (named_report program publics) text
+      → answer ≡ prints text 0 → PrintsExplanation image publics answer
+  refused : (refusal : Refusal) (text : List ℕ) → Holds (code_of image) refusal → refusal ≢ Memory
+      → ShowsRefusal image publics refusal text
+      → answer ≡ prints text 1 → PrintsExplanation image publics answer
+
+-- ---- cover
+
+-- the instructions to which the program may come, with how often its run on these inputs began each
+pub record CountsRun (inputs : List (ℕ × ℕ)) (limits : Limits) (publics : List Public) (program : Voucher) (answer : AnswerValue) : Type 0 where
+  pub ended : Ended
+  pub run : EndsSo program.image.regions (Some limits.outputs) (world_at_start program.image (lists_of inputs) []) limits.steps ended
+  pub counts : List ℕ
+  pub counted : CountsSteps program.image.regions (Some limits.outputs) (world_at_start program.image (lists_of inputs) []) ended.steps counts
+  pub listed : List ℕ
+  pub covers : CoversReached program.image counts listed
+  pub answer_is : answer ≡ prints (labelled_text publics false listed) 0
+
+abbrev pub PrintsCover : (inputs : List (ℕ × ℕ)) → Limits → Located → List Public → AnswerValue → Type 0
+PrintsCover inputs limits image publics answer = AnswersVerdict (CountsRun inputs limits publics) image publics answer

@@ -1,0 +1,191 @@
+-- What commands print of a run, and how it is left. (That a run's transcript goes on with its last instructions, and the exit statuses,
+-- are this project's own.)
+use Rattle.std.specs.Prelude.{◌≡◌, ℕ, ◌+◌, ◌-◌, ◌==◌, ◌&&◌, not, is_none, min, if◌then◌else◌, Bool, false, List, [], ◌++◌, Option, None, Some, Result, Ok, Err, codes}
+use Rattle.std.specs.Bool.{MatchBool}
+use Rattle.std.specs.declared.io.ErrorKind.{ErrorKind}
+use Rattle.omf_parts.specs.declared.symbols.Public.{Public}
+use Rattle.image80.specs.declared.range.Range.{Range}
+use Rattle.image80.specs.Image.{Located}
+use Rattle.image80_text.specs.NameText.{named_text}
+use Rattle.machine80.specs.Ports.{lists_of}
+use Rattle.machine80.specs.World.{World, world_at_start}
+use Rattle.loader80.specs.declared.replies.Outcome.{Outcome}
+use Rattle.loader80.specs.declared.running.Ended.{Ended}
+use Rattle.loader80.specs.declared.fault.SessionFault.{SessionFault}
+use Rattle.loader80.specs.declared.fault.SessionFault.TheVariants.{Read, Write, Image, Regions, Inputs, Refused, Memory, TooLong}
+use Rattle.loader80.specs.InputsText.{bad_line, inputs_of}
+use Rattle.loader80.specs.Session.{IsTranscript}
+use Rattle.loader80.specs.TranscriptText.{end_line}
+use Rattle.loader80.specs.Vouched.{Voucher}
+use Rattle.loader80_trace.specs.declared.limits.Limits.{Limits}
+use Rattle.loader80_trace.specs.declared.limits.Span.{Span}
+use Rattle.loader80_trace.specs.Traces.{IsTraced, count_within, last_number, run_lines}
+use Rattle.plm80_console.specs.Answer.{AnswerValue, prints, writes}
+use Rattle.plm80_console.specs.NumberText.{count_value}
+use Rattle.plm80_names.specs.Verdict.{AnswersVerdict, AreOfFiles}
+use Rattle.plm80_programs.specs.declared.cover.CoverArguments.{CoverArguments}
+use Rattle.plm80_programs.specs.declared.helpers.run_arguments.LimitTexts.{LimitTexts}
+use Rattle.plm80_programs.specs.declared.helpers.run_arguments.RunFiles.{RunFiles}
+use Rattle.plm80_programs.specs.declared.run.RunArguments.{RunArguments}
+use Rattle.plm80_programs.specs.declared.trace.TraceArguments.{TraceArguments}
+use Rattle.plm80_programs.specs.declared.helpers.session_files.Failures.{Failures}
+use Rattle.plm80_programs.specs.Arguments.{dump_of}
+use Rattle.plm80_programs.specs.Printed.{CountsRun}
+use Rattle.plm80_programs.specs.Status.{end_status}
+
+-- where a program's run on some inputs begins
+abbrev pub start_of : Voucher → List (ℕ × ℕ) → World
+start_of program inputs = world_at_start program.image (lists_of inputs) []
+
+-- ---- the last line
+
+-- the line of an end, with the name of the address that it has
+abbrev pub named_ending : List Range → List Public → List ℕ → List ℕ
+named_ending code publics line =
+    named_text code publics (codes "JUMP ") (named_text code publics (codes "STORE ") (named_text code publics (codes "HALT ") line))
+
+-- how a run ended: its last line with a name, and its exit status
+abbrev pub ending : Voucher → List Public → Ended → AnswerValue
+ending program publics ended =
+    prints (named_ending program.image.regions.code publics (end_line ended.end ended.cpu.pc ended.steps)) (end_status ended.end)
+
+-- ---- trace
+
+-- what is printed behind the lines of a run: its last line, if they reached it; else nothing, and the status is 0
+abbrev pub trace_ending : Voucher → List Public → Option Ended → AnswerValue
+trace_ending program publics None = prints [] 0
+trace_ending program publics (Some ended) = ending program publics ended
+
+-- the lines of a span of a run's instructions
+abbrev pub trace_lines : List (ℕ × ℕ) → Limits → Span → (numbered : Bool) → List Public → Voucher → List ℕ
+trace_lines inputs limits span numbered publics program =
+    run_lines program.image.regions (Some limits.outputs) (start_of program inputs) publics numbered span.from
+    (count_within limits.steps span.from span.count)
+
+-- these lines reached the end of the run, which is this, or ran out first
+abbrev pub IsTraceOf : List (ℕ × ℕ) → Limits → Span → Voucher → Option Ended → Type 0
+IsTraceOf inputs limits span program ended =
+    IsTraced program.image.regions (Some limits.outputs) (start_of program inputs) limits.steps span.from span.count ended
+
+-- what is printed behind them
+pub record EndsTrace (inputs : List (ℕ × ℕ)) (limits : Limits) (span : Span) (publics : List Public) (program : Voucher) (answer : AnswerValue) : Type 0 where
+  pub ended : Option Ended
+  pub traced : IsTraceOf inputs limits span program ended
+  pub answer_is : answer ≡ trace_ending program publics ended
+
+-- ---- run
+
+-- the last instructions of a run that ended so, a given number of them at most
+abbrev pub last_lines : List (ℕ × ℕ) → Limits → (last : ℕ) → List Public → Voucher → Ended → List ℕ
+last_lines inputs limits last publics program ended =
+    let count = min last (last_number ended.end ended.steps + 1) in
+    run_lines program.image.regions (Some limits.outputs) (start_of program inputs) publics false
+    (last_number ended.end ended.steps + 1 - count) count
+
+-- the file of a memory, if one is asked for
+abbrev pub dump_answer : Option (List ℕ) → (memory : List ℕ) → AnswerValue
+dump_answer None memory = prints [] 0
+dump_answer (Some path) memory = writes path memory []
+
+-- The transcript of a program's run is a front part and its last line. The front part is written, and the last instructions behind it;
+-- then the memory that the run leaves is written to its file, and then the last line is printed, with a name.
+pub record WatchesRun (inputs : List (ℕ × ℕ)) (limits : Limits) (last : ℕ) (dump : Option (List ℕ)) (publics : List Public)
+    (program : Voucher) (text : List ℕ) (file : AnswerValue) (ended : Ended) (answer : AnswerValue) : Type 0 where
+  pub front : List ℕ
+  pub transcript : IsTranscript program.image (lists_of inputs) limits.outputs limits.steps
+      (record { stack_bytes = program.stack_bytes; end = ended.end; steps = ended.steps; at = ended.cpu.pc })
+      (front ++ end_line ended.end ended.cpu.pc ended.steps)
+  pub text_is : text ≡ front ++ last_lines inputs limits last publics program ended
+  pub file_is : file ≡ dump_answer dump transcript.last.memory
+  pub answer_is : answer ≡ ending program publics ended
+
+-- ---- exit statuses
+
+-- what is answered of a run that was watched
+pub record EndsRun (inputs : List (ℕ × ℕ)) (limits : Limits) (last : ℕ) (dump : Option (List ℕ)) (publics : List Public)
+    (program : Voucher) (answer : AnswerValue) : Type 0 where
+  pub text : List ℕ
+  pub file : AnswerValue
+  pub ended : Ended
+  pub watched : WatchesRun inputs limits last dump publics program text file ended answer
+
+-- the exit status of the answer to files: an image, its regions and its names, and the inputs of its run
+pub record IsStatusOfRun (Answers : List (ℕ × ℕ) → List Public → Voucher → AnswerValue → Type 0) (asked : Bool) (status : ℕ) : Type 0 where
+  pub image : Located
+  pub publics : List Public
+  pub are_read : AreOfFiles asked image publics
+  pub text : List ℕ
+  pub good : bad_line text ≡ None
+  pub answer : AnswerValue
+  pub answers : AnswersVerdict (Answers (inputs_of text) publics) image publics answer
+  pub status_is : status ≡ answer.status
+
+-- of a session: that of the run's end, or 1 of a refusal; every other fault has none
+abbrev pub session_status : Result Outcome SessionFault → Result ℕ SessionFault
+session_status (Ok outcome) = Ok (end_status outcome.end)
+session_status (Err (Refused refusal)) = Ok 1
+session_status (Err fault) = Err fault
+
+pub record IsSessionStatus (status : ℕ) : Type 0 where
+  pub answer : Result Outcome SessionFault
+  pub status_is : session_status answer ≡ Ok status
+
+-- ---- limits
+
+-- how long a run may last, as the options write it
+pub record AreLimitsOf (texts : LimitTexts) (limits : Limits) : Type 0 where
+  pub steps : limits.steps ≡ count_value texts.steps.text.now
+  pub outputs : limits.outputs ≡ count_value texts.outputs.text.now
+
+-- which of its instructions are shown
+pub record IsSpanOf (arguments : TraceArguments) (span : Span) : Type 0 where
+  pub from : span.from ≡ count_value arguments.from.text.now
+  pub count : span.count ≡ count_value arguments.count.text.now
+
+-- ---- the exit statuses of commands, by their arguments
+
+pub record IsCoverStatus (arguments : CoverArguments) (status : ℕ) : Type 0 where
+  pub limits : Limits
+  pub are_limits : AreLimitsOf arguments.limits limits
+  pub is_status : IsStatusOfRun (λ inputs. CountsRun inputs limits) arguments.names status
+
+pub record IsTraceStatus (arguments : TraceArguments) (status : ℕ) : Type 0 where
+  pub limits : Limits
+  pub are_limits : AreLimitsOf arguments.limits limits
+  pub span : Span
+  pub is_span : IsSpanOf arguments span
+  pub is_status : IsStatusOfRun (λ inputs. EndsTrace inputs limits span) arguments.names status
+
+-- a run is watched if its last instructions, its memory or names are asked for
+pub record IsWatchStatus (arguments : RunArguments) (status : ℕ) : Type 0 where
+  pub limits : Limits
+  pub are_limits : AreLimitsOf arguments.limits limits
+  pub is_status : IsStatusOfRun (λ inputs. EndsRun inputs limits (count_value arguments.last.text.now) (dump_of arguments)) arguments.names status
+
+-- nothing but the transcript is asked for
+abbrev pub is_session : RunArguments → Bool
+is_session arguments = (count_value arguments.last.text.now == 0 && is_none (dump_of arguments)) && not arguments.names
+
+abbrev pub IsRunStatus : RunArguments → (status : ℕ) → Type 0
+IsRunStatus arguments status = MatchBool (is_session arguments) (IsSessionStatus status) (IsWatchStatus arguments status)
+
+-- ---- paths of faults
+
+-- the path of the text that a session knows by its number
+abbrev pub path_of_text : RunFiles → ℕ → List ℕ
+path_of_text files number = if number == 1 then files.image.now else (if number == 2 then files.regions.now else files.inputs.now)
+
+-- the path of the file that a fault of a session is of; none if it is of no file
+abbrev pub fault_path : RunFiles → SessionFault → Option (List ℕ)
+fault_path files (Read number) = Some (path_of_text files number)
+fault_path files Write = None
+fault_path files (Image f) = Some files.image.now
+fault_path files (Regions f) = Some files.regions.now
+fault_path files (Inputs n) = Some files.inputs.now
+fault_path files (Refused r) = None
+fault_path files Memory = None
+fault_path files (TooLong number) = Some (path_of_text files number)
+
+-- why reading a text failed, by its number
+abbrev pub failure_of_text : Failures → ℕ → Option ErrorKind
+failure_of_text failures number = if number == 1 then failures.image else (if number == 2 then failures.regions else failures.inputs)

@@ -1,0 +1,42 @@
+-- What `suggest` prints of an image, and reports.
+-- (The status is this project's own.)
+use Rattle.std.specs.Prelude.{◌≡◌, ◌≤◌, ℕ, List, codes, length, map}
+use Rattle.clap.specs.declared.parser.matches.ArgMatches.{ArgMatches}
+use Rattle.image80.specs.declared.range.Range.{Range}
+use Rattle.image80.specs.Image.{Located}
+use Rattle.image80.specs.RegionsText.{regions_text}
+use Rattle.image80_file.specs.ImageFile.{SpellsImage, without_regions}
+use Rattle.loader80_streams.specs.WholeText.{text_limit}
+use Rattle.verify80_suggest.specs.declared.suggesting.Advice.{Advice}
+use Rattle.verify80_suggest.specs.Suggestion.{IsSuggestion}
+use Rattle.plm80_console.specs.Answer.{AnswerValue, prints}
+use Rattle.plm80_console.specs.Arguments.{argument_text, argument_values}
+use Rattle.plm80_programs.specs.declared.suggest.SuggestArguments.{SuggestArguments}
+use Rattle.plm80_programs.specs.Ranges.{AreRangesOf}
+use Rattle.plm80_programs.specs.Status.{notes_status}
+
+-- the regions that an image suggests are printed; the status is that of the notes
+pub record AdvisesRegions (image : Located) (rom ram : List Range) (advice : Advice) (answer : AnswerValue) : Type 0 where
+  pub new : Located
+  pub suggested : IsSuggestion image rom ram advice.first advice.second advice.tableless.items advice.notes.items new
+  pub within : length (regions_text new.regions) ≤ text_limit
+  pub answer_is : answer ≡ prints (regions_text new.regions) (notes_status advice.notes.items)
+
+-- the exit status of the advice on the image of a file, with the ranges that the options write
+pub record IsAdviceStatus (rom_texts ram_texts : List (List ℕ)) (status : ℕ) : Type 0 where
+  pub file : List ℕ
+  pub image : Located
+  pub contents : SpellsImage file (without_regions image)
+  pub rom : List Range
+  pub is_rom : AreRangesOf rom_texts rom
+  pub ram : List Range
+  pub is_ram : AreRangesOf ram_texts ram
+  pub advice : Advice
+  pub answer : AnswerValue
+  pub advises : AdvisesRegions image rom ram advice answer
+  pub status_is : status ≡ answer.status
+
+pub record AreSuggestArguments (matches : ArgMatches) (arguments : SuggestArguments) : Type 0 where
+  pub image : arguments.image.now ≡ argument_text matches (codes "IMAGE")
+  pub rom : map (λ range. range.now) arguments.rom.items ≡ argument_values matches (codes "rom-range")
+  pub ram : map (λ range. range.now) arguments.ram.items ≡ argument_values matches (codes "ram-range")

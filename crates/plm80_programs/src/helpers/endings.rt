@@ -1,0 +1,102 @@
+//! How runs end: the lines of a run's instructions, its last line, and the exit status.
+
+ghost use Rattle.std.specs.Prelude.{◌≡◌, ◌+◌, ◌<◌, IfOk, OnOk};
+ghost use Rattle.std.specs.Io.KnownBytes.{Appends};
+ghost use Rattle.loader80_trace.specs.Traces.{trace_failures};
+ghost use Rattle.plm80_programs.specs.Running.{IsTraceOf, ending, trace_ending, trace_lines};
+
+use crate::status_of;
+use loader80::{Ended, Vouched, ending_text};
+use loader80_streams::Sink;
+use loader80_trace::{Limits, LineForm, Span, TraceFault, write_lines};
+use machine80::Inputs;
+use plm80_console::{Answer, Console, Reported};
+use plm80_names::Names;
+use std::alloc::{AllocError, Global};
+use std::io::ErrorKind;
+
+/// Some instructions of a program's run.
+#[derive(Clone, Copy)]
+pub struct Traced<'a> {
+    pub vouched: &'a Vouched,
+    pub names: &'a Names,
+    pub limits: Limits,
+    pub span: Span,
+    /// Whether the number of the steps before it comes first in a line.
+    pub numbered: bool,
+}
+
+/// Writes the lines of instructions, with their names, as they come; and gives how the run ended, if it did among them or before.
+///
+/// # Errors
+/// `Write` if a write fails, and `Memory` if memory runs out; a front part of the lines is then written.
+pub fn write_traced<K: Sink>(
+    alloc: Global,
+    traced: Traced<'_>,
+    inputs: Inputs,
+    out: &mut K,
+) -> Result<Option<Ended>, TraceFault>
+    requires { K.failed out.old < u64.MAX }
+    ensures lines { let t = traced.entry in OnOk result (Appends (K.written out.old) (K.written out.new)
+        (trace_lines inputs.pairs.items t.limits t.span t.numbered t.names.now t.vouched.now)) }
+    ensures traced { let t = traced.entry in IfOk result (IsTraceOf inputs.pairs.items t.limits t.span t.vouched.now) }
+    ensures failures { K.failed out.new ≡ K.failed out.old + trace_failures result }
+{
+    let form = LineForm {
+        numbered: traced.numbered,
+        publics: traced.names.publics(),
+    };
+    write_lines(
+        alloc,
+        traced.vouched,
+        inputs,
+        traced.limits,
+        traced.span,
+        form,
+        out,
+    )
+}
+
+/// What is printed of how a run ended: its last line, with the name of its address, and the exit status.
+pub fn ending_of(
+    alloc: Global,
+    vouched: &Vouched,
+    ended: &Ended,
+    names: &Names,
+) -> Result<Answer<'static>, AllocError>
+    ensures { IfOk result (λ answer. answer ≡ ending vouched.now names.now ended.now) }
+{
+    let code = vouched.image().regions.code();
+    let text = ending_text(alloc, ended.end, ended.cpu.pc(), ended.steps)?.into_bytes();
+    let text = names.name(alloc, code, b"HALT ", text)?;
+    let text = names.name(alloc, code, b"STORE ", text)?;
+    let text = names.name(alloc, code, b"JUMP ", text)?;
+    Ok(Answer::prints(text, status_of(ended.end)))
+}
+
+/// What is printed behind the lines of a run, which reached this end of it, or none.
+pub fn trace_ending_of(
+    alloc: Global,
+    vouched: &Vouched,
+    ended: &Option<Ended>,
+    names: &Names,
+) -> Result<Answer<'static>, AllocError>
+    ensures { IfOk result (λ answer. answer ≡ trace_ending vouched.now names.now ended.now) }
+{
+    match ended {
+        Some(ended) => ending_of(alloc, vouched, ended, names),
+        None => Ok(Answer::prints(Vec::new(alloc), 0)),
+    }
+}
+
+/// Reports why not all lines of a run were printed.
+pub fn report_lines(
+    console: Console<'_>,
+    fault: TraceFault,
+    failure: Option<ErrorKind>,
+) -> Reported {
+    match fault {
+        TraceFault::Write => console.report_output(failure),
+        TraceFault::Memory => console.report_memory(),
+    }
+}
