@@ -95,7 +95,8 @@ impl<'a> LinkArguments<'a> {
     }
 }
 
-/// The modules of object files, each with the path of its file, and libraries with their paths, in the order of the files.
+/// The modules of object files, and libraries with their paths, in the order of the files. If faults are explained, each module has
+/// the path of its file.
 #[derive(Drop)]
 pub(crate) struct LinkFiles<'a> {
     pub roots: Vec<Module>,
@@ -192,7 +193,8 @@ impl<'a> LinkFiles<'a> {
         mut modules: Vec<Module>,
         path: &'a str,
     ) -> Result<(), Reported> {
-        match self.push_paths(modules.len(), path) {
+        let named = if console.explains() { modules.len() } else { 0 };
+        match self.push_paths(named, path) {
             Ok(()) => append_modules(console, &mut self.roots, &mut modules),
             Err(_) => Err(console.report_memory()),
         }

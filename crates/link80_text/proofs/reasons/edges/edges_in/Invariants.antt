@@ -6,6 +6,6 @@ use Rattle.link80_text.proofs.reasons.edges.edges_in.Given as goal
 -- the edges so far, and those of the modules that are left
 abbrev pub invariant-loop-by : goal.invariant-loop-by
 invariant-loop-by l =
-    l.edges.items ++ flat_map (edges_of (target l.selection.roots l.selection.libraries.items l.selection.taken.now))
+    l.edges.items ++ flat_map (edges_of (target l.roots (map (λ m. m.now) l.modules)))
     (enumerate_from l.by (map (λ m. m.now) (drop l.by l.modules)))
-    ≡ edges_in (target l.selection.roots l.selection.libraries.items l.selection.taken.now) (map (λ m. m.now) l.modules)
+    ≡ edges_in (target l.roots (map (λ m. m.now) l.modules)) (map (λ m. m.now) l.modules)
