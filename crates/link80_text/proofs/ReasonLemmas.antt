@@ -12,7 +12,7 @@ use Rattle.link80.specs.Selection.{IsSelection, modules_with}
 use Rattle.link80_text.specs.declared.reasons.edges.Edge.{Edge}
 use Rattle.link80_text.specs.declared.reasons.search.Found.{Found}
 use Rattle.link80_text.specs.Reasons.{IsReachedIn, from_root, from_member, IsDistance, IsAway, root, member, IsSoughtAt, IsReason}
-use Rattle.link80_text.specs.Edges.{target, edges_in}
+use Rattle.link80_text.specs.Edges.{target, linked_edges}
 use Rattle.link80_text.specs.Search.{found_at, steps_to, LeadInside, AreByModule, IsComplete}
 use Rattle.link80_text.specs.Searched.{IsSearchedFor}
 use Rattle.link80_text.proofs.EdgeLemmas.{comes_from_module, none_missing_of, edges_ascend}
@@ -47,7 +47,7 @@ module _ (roots : List ModuleValue) (libraries : List (List ModuleValue)) (taken
     pub t : ℕ
     pub j : ℕ
     pub is_taken : slice_get taken t ≡ Some p
-    pub there : slice_get (edges_in (target (length roots) (modules_with roots libraries taken)) (modules_with roots libraries taken)) j
+    pub there : slice_get (linked_edges (length roots) (modules_with roots libraries taken)) j
         ≡ Some (record { by = n; name = index; to = t })
 
   edge_of_need : (n : ℕ) (m : ModuleValue) (index : ℕ) (name : List ℕ) (p : Chosen)
@@ -57,8 +57,8 @@ module _ (roots : List ModuleValue) (libraries : List (List ModuleValue)) (taken
       let has = linked_takes roots libraries taken selection n m p at
       (needs_for roots libraries taken selection m index name p external sought) in
       let goes = is_target roots libraries taken selection name p sought has in
-      let edge = none_missing_of (target (length roots) (modules_with roots libraries taken)) 0 (modules_with roots libraries taken) n m index name goes.0 at
-      external goes.1 in
+      let edge = none_missing_of (target (length roots) (modules_with roots libraries taken)) 0 (modules_with roots libraries taken)
+      n m index name goes.0 at external goes.1 in
       record {
         t = goes.0;
         j = edge.0;
@@ -66,13 +66,14 @@ module _ (roots : List ModuleValue) (libraries : List (List ModuleValue)) (taken
         there = edge.1 ∙ ap (λ b. Some (record { by = b; name = index; to = goes.0 })) (let e : 0 + n ≡ n = omega arith in e);
       }
 
-  pub lead_inside : LeadInside (edges_in (target (length roots) (modules_with roots libraries taken)) (modules_with roots libraries taken)) (length taken)
+  pub lead_inside : LeadInside (linked_edges (length roots) (modules_with roots libraries taken)) (length taken)
   lead_inside j e at =
-      let from = comes_from_module (target (length roots) (modules_with roots libraries taken)) 0 (modules_with roots libraries taken) j e at in
+      let from = comes_from_module (target (length roots) (modules_with roots libraries taken)) 0 (modules_with roots libraries taken)
+      j e at in
       let goes = target_is roots libraries taken selection from.at from.m e.name from.name e.to from.there from.external from.to_is in
       slice_get_within taken e.to goes.0 goes.1
 
-  pub by_module : AreByModule (edges_in (target (length roots) (modules_with roots libraries taken)) (modules_with roots libraries taken))
+  pub by_module : AreByModule (linked_edges (length roots) (modules_with roots libraries taken))
   by_module i j e f le at_e at_f = elim (edges_ascend (target (length roots) (modules_with roots libraries taken))
       (modules_with roots libraries taken) i j e f le at_e at_f) [
     | inl less ↦ omega (arith, less)
@@ -83,7 +84,7 @@ module _ (roots : List ModuleValue) (libraries : List (List ModuleValue)) (taken
 
 module _ (roots : List ModuleValue) (libraries : List (List ModuleValue)) (taken : List Chosen)
     (selection : IsSelection roots libraries taken) (found : List (Option Found))
-    (complete : IsComplete (length roots) (edges_in (target (length roots) (modules_with roots libraries taken)) (modules_with roots libraries taken)) found) where
+    (complete : IsComplete (length roots) (linked_edges (length roots) (modules_with roots libraries taken)) found) where
   pub record FoundFor (p : Chosen) (most : ℕ) : Type 0 where
     pub t : ℕ
     pub w : Found
@@ -130,7 +131,7 @@ module _ (roots : List ModuleValue) (libraries : List (List ModuleValue)) (taken
     pub m : ModuleValue
     pub name : List ℕ
     pub distance : ℕ
-    pub there : slice_get (edges_in (target (length roots) (modules_with roots libraries taken)) (modules_with roots libraries taken)) w.edge ≡ Some edge
+    pub there : slice_get (linked_edges (length roots) (modules_with roots libraries taken)) w.edge ≡ Some edge
     pub is_linked : slice_get (modules_with roots libraries taken) edge.by ≡ Some m
     pub external : slice_get m.externals edge.name ≡ Some name
     pub to_is : edge.to ≡ t
@@ -141,7 +142,8 @@ module _ (roots : List ModuleValue) (libraries : List (List ModuleValue)) (taken
   pub behind : (t : ℕ) (w : Found) (p : Chosen) → slice_get taken t ≡ Some p → found_at found t ≡ Some w → Behind t w p
   behind t w p is_taken at =
       let right = complete.right t w at in
-      let from = comes_from_module (target (length roots) (modules_with roots libraries taken)) 0 (modules_with roots libraries taken) w.edge right.edge right.there in
+      let from = comes_from_module (target (length roots) (modules_with roots libraries taken)) 0 (modules_with roots libraries taken)
+      w.edge right.edge right.there in
       let goes = target_is roots libraries taken selection from.at from.m right.edge.name from.name right.edge.to from.there from.external
       from.to_is in
       let same : goes.0 ≡ p = same_Some goes.0 p (sym goes.1 ∙ ap (slice_get taken) right.to_is ∙ is_taken) in
@@ -234,7 +236,7 @@ module _ (roots : List ModuleValue) (libraries : List (List ModuleValue)) (taken
 
   pub reason_is : (t : ℕ) (w : Found) (p : Chosen) (edge : Edge) (by : ModuleValue) (name : List ℕ) → slice_get taken t ≡ Some p
       → found_at found t ≡ Some w
-      → slice_get (edges_in (target (length roots) (modules_with roots libraries taken)) (modules_with roots libraries taken)) w.edge ≡ Some edge
+      → slice_get (linked_edges (length roots) (modules_with roots libraries taken)) w.edge ≡ Some edge
       → slice_get (modules_with roots libraries taken) edge.by ≡ Some by → slice_get by.externals edge.name ≡ Some name
       → IsReason roots libraries taken p name by
   reason_is t w p edge by name is_taken at at_edge at_by at_name =
@@ -279,7 +281,7 @@ module _ (roots : List ModuleValue) (libraries : List (List ModuleValue)) (taken
     where
       -- an edge of another need leads from farther away, or comes later
       first_of : (t : ℕ) (w : Found) (p : Chosen) (edge : Edge) (distance : ℕ) → slice_get taken t ≡ Some p → found_at found t ≡ Some w
-          → slice_get (edges_in (target (length roots) (modules_with roots libraries taken)) (modules_with roots libraries taken)) w.edge ≡ Some edge
+          → slice_get (linked_edges (length roots) (modules_with roots libraries taken)) w.edge ≡ Some edge
           → w.steps ≡ suc distance → (other : ℕ) (m : ModuleValue) (index : ℕ) (its_name : List ℕ) (others : ℕ)
           → slice_get (modules_with roots libraries taken) other ≡ Some m → slice_get m.externals index ≡ Some its_name
           → IsSoughtAt roots libraries its_name p → steps_to (length roots) found other ≡ Some others
@@ -298,7 +300,8 @@ module _ (roots : List ModuleValue) (libraries : List (List ModuleValue)) (taken
                 let le : w.edge ≤ its.j = (let q = equal.1 in omega (arith, q, ap (λ (f : Found). f.edge) one)) in
                 inr (
                   omega (arith, e, its_steps, next),
-                  edges_ascend (target (length roots) (modules_with roots libraries taken)) (modules_with roots libraries taken) w.edge its.j edge its_edge le at_edge its.there,
+                  edges_ascend (target (length roots) (modules_with roots libraries taken)) (modules_with roots libraries taken) w.edge its.j
+                      edge its_edge le at_edge its.there,
                 )
           ]
 

@@ -1,5 +1,5 @@
 -- The search from the roots on: an edge is followed, a module is done, a round ends, the search ends.
-use Rattle.std.specs.Prelude.{◌≡◌, ℕ, zero, suc, ◌+◌, ◌-◌, ◌<◌, ◌≤◌, ◌⊎◌, ◌==◌, ◌&&◌, Bool, true, false, nat_lt, Option, Some, None, option_map, is_none, List, [], ◌∷◌, ◌++◌, length, count_by, slice_get, slice_index_or, slice_set, refl}
+use Rattle.std.specs.Prelude.{◌≡◌, ℕ, zero, suc, ◌+◌, ◌-◌, ◌<◌, ◌≤◌, ◌⊎◌, ◌==◌, ◌&&◌, Bool, true, false, nat_lt, Option, Some, None, option_map, is_none, List, [], ◌∷◌, ◌++◌, length, count_by, replicate, slice_get, slice_index_or, slice_set, refl}
 use Rattle.std.specs.List.Sorted.{IsPartitionedBy, IsPartitionPoint}
 use Rattle.std.proofs.Common.{◌∙◌, ap, sym, subst, arith, inl, inr, cond}
 use Rattle.std.proofs.lemmas.Bool.{cases_eq, cases_lt, eqb-true, and_parts, false≢true}
@@ -395,6 +395,14 @@ module _ (roots : ℕ) (edges : List Edge) (round : ℕ) (reached : List ℕ) (p
       (subst (λ (f : List (Option Found)). IsRound roots edges round reached place number (upto + 1) start
       (joined roots found edge next) f) (sym grown_is) (goes (found_at found edge.to) refl))
 
+pub followed_length : (round j : ℕ) (found : List (Option Found)) (edge : Edge) → length (followed round j found edge) ≡ length found
+followed_length round j found edge =
+    elim (is_better round j (found_at found edge.to))
+    as (λ b. length (cond b (slice_set found edge.to (Some (new_found round j))) found) ≡ length found) [
+      | true ↦ length-set found edge.to (Some (new_found round j))
+      | false ↦ refl
+    ]
+
 -- ---- the edges of a module
 
 module _ (roots : ℕ) (edges : List Edge) (round : ℕ) (reached : List ℕ) (place : ℕ) (start : List (Option Found))
@@ -502,6 +510,24 @@ round_ends roots edges round reached start next found r = record {
     ]
 
 -- ---- the search begins, and ends
+
+-- nothing is found, and nothing copies to something else
+none_at : (count k : ℕ) → found_at (replicate count None) k ≡ None
+none_at zero k = refl
+none_at (suc count) zero = refl
+none_at (suc count) (suc k) = none_at count k
+
+pub none_found : (count : ℕ) (found : List (Option Found)) → found ≡ replicate count None → (k : ℕ) → found_at found k ≡ None
+none_found count found same k = ap (λ (fs : List (Option Found)). found_at fs k) same ∙ none_at count k
+
+pub copies_none : (Is : Option Found → Type 0) → ((w : Found) → Is (Some w) → ⊥) → (o : Option Found) → Is o → o ≡ None
+copies_none Is none None is = refl
+copies_none Is none (Some w) is = absurd (none w is)
+
+-- a Vec of no elements
+pub no_items : (items : List ℕ) (n : ℕ) → n ≡ length items → (n == 0) ≡ true → items ≡ []
+no_items [] n len is = refl
+no_items (x ∷ items) n len is = absurd (omega (arith, eqb-true n 0 is, len))
 
 pub begins : (roots : ℕ) (edges : List Edge) (reached : List ℕ) (found : List (Option Found)) → ((k : ℕ) → found_at found k ≡ None)
     → AreBelow reached roots → IsSearched roots edges 0 reached found

@@ -29,3 +29,7 @@ edges_of to m = filter_map (edge_of to m.0) (enumerate_from 0 m.1.externals)
 -- those of all modules
 abbrev pub edges_in : (List ℕ → Option ℕ) → List ModuleValue → List Edge
 edges_in to modules = flat_map (edges_of to) (enumerate_from 0 modules)
+
+-- those of linked modules, the first of which are roots
+abbrev pub linked_edges : (roots : ℕ) → List ModuleValue → List Edge
+linked_edges roots modules = edges_in (target roots modules) modules

@@ -1,7 +1,7 @@
 //! What the linked modules need, as edges.
 
 ghost use Rattle.std.specs.Prelude.{◌≡◌, ◌++◌, map, IfOk, OnOk};
-ghost use Rattle.link80_text.specs.Edges.{target, edges_of, edges_in};
+ghost use Rattle.link80_text.specs.Edges.{target, edges_of, linked_edges};
 
 use crate::reasons::linked::LinkedModules;
 use omf_parts::Module;
@@ -21,8 +21,7 @@ pub(crate) fn edges_in(
     roots: usize,
     modules: &[&Module],
 ) -> Result<Vec<Edge>, AllocError>
-    ensures { IfOk result (λ edges. edges.items
-        ≡ edges_in (target roots (map (λ m. m.now) modules.now)) (map (λ m. m.now) modules.now)) }
+    ensures { IfOk result (λ edges. edges.items ≡ linked_edges roots (map (λ m. m.now) modules.now)) }
 {
     let linked = LinkedModules::of(alloc, roots, modules)?;
     let mut edges = Vec::new(alloc);

@@ -13,6 +13,9 @@ loop-number-init c = record {
   len = search;
 }
 
+pub follow_all-requires-clause-inside : goal.follow_all-requires-clause-inside
+follow_all-requires-clause-inside c = λ j edge at. omega (arith, c.requires.inside j edge at, c.loop-number.invariant.len)
+
 pub loop-number-preserved : goal.loop-number-preserved
 loop-number-preserved c =
     let reached : List ℕ = c.args.reached.now in
