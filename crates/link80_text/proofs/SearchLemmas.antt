@@ -529,6 +529,10 @@ pub no_items : (items : List ℕ) (n : ℕ) → n ≡ length items → (n == 0) 
 no_items [] n len is = refl
 no_items (x ∷ items) n len is = absurd (omega (arith, eqb-true n 0 is, len))
 
+pub some_items : (items : List ℕ) (n : ℕ) → n ≡ length items → false ≡ (n == 0) → 0 < length items
+some_items [] n len is = absurd (false≢true (is ∙ ap (λ m. m == 0) len))
+some_items (x ∷ items) n len is = omega arith
+
 pub begins : (roots : ℕ) (edges : List Edge) (reached : List ℕ) (found : List (Option Found)) → ((k : ℕ) → found_at found k ≡ None)
     → AreBelow reached roots → IsSearched roots edges 0 reached found
 begins roots edges reached found none are = record {

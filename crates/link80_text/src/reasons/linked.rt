@@ -1,7 +1,7 @@
 //! The linked modules, and which of them declares a name.
 
 ghost use Rattle.std.specs.Prelude.{◌≡◌, map, IfOk};
-ghost use Rattle.link80_text.specs.Edges.{target};
+ghost use Rattle.link80_text.specs.Edges.{number_of, target};
 
 use omf_library::Providers;
 use omf_parts::Module;

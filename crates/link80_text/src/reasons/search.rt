@@ -32,7 +32,7 @@ pub(crate) fn fewest_steps(
 ) -> Result<Vec<Option<Found>>, AllocError>
     requires inside { LeadInside edges.now count }
     requires in_order { AreByModule edges.now }
-    requires countable { roots + count ≤ usize.MAX }
+    requires countable { roots + count < usize.MAX }
     ensures complete { IfOk result (λ found. IsComplete roots edges.now found.items) }
     ensures len { IfOk result (λ found. length found.items ≡ count) }
 {

@@ -5,7 +5,7 @@ use Rattle.link80_text.proofs.SearchLemmas.{none_below, one_more_below}
 use Rattle.link80_text.proofs.reasons.search.numbers_below.Goals as goal
 
 pub loop-number-init : goal.loop-number-init
-loop-number-init c = none_below
+loop-number-init c = subst (λ (ns : List ℕ). AreBelow ns 0) (sym c.new-numbers.ensures.items) none_below
 
 pub loop-number-preserved : goal.loop-number-preserved
 loop-number-preserved c =

@@ -11,10 +11,10 @@ no_edge = record { by = 0; name = 0; to = 0 }
 
 pub loop-at-init : goal.loop-at-init
 loop-at-init c = record {
-  left = λ j edge there more. c.first_edge.ensures.first.behind j edge there more;
+  left = λ j edge there more. c.first_edge-at.ensures.first.behind j edge there more;
   len = search;
   round = λ reached place start present r. module_begins c.args.roots c.args.edges.now c.args.round reached place start
-      c.args.self.now.next.items c.args.self.now.found.items c.args.number c.first_edge.result c.first_edge.ensures.first r;
+      c.args.self.now.next.items c.args.self.now.found.items c.args.number c.first_edge-at.result c.first_edge-at.ensures.first r;
 }
 
 pub follow-requires-clause-inside : goal.follow-requires-clause-inside
@@ -36,19 +36,19 @@ loop-at-preserved c =
       len = ap length c.in_ok-follow.ensures.found ∙ followed_length c.args.round c.loop-at.at c.loop-at.self.found.items edge
           ∙ c.loop-at.invariant.len;
       round = λ reached place start present r. followed_on c.args.roots c.args.edges.now c.args.round reached place c.args.number
-          c.loop-at.at start c.loop-at.self.next.items c.loop-at.self.found.items edge at c.if-edge_by-number.false present inside
+          c.loop-at.at start c.loop-at.self.next.items c.loop-at.self.found.items edge at c.if-edge-number.false present inside
           (c.loop-at.invariant.round reached place start present r) c.follow.new.self.next.items c.follow.new.self.found.items
           c.in_ok-follow.ensures.next c.in_ok-follow.ensures.found;
     }
 
 -- the module's edges end before one of a later module
-pub returns-then-edge_by-number-clause-followed : goal.returns-then-edge_by-number-clause-followed
-returns-then-edge_by-number-clause-followed c =
+pub returns-then-edge-number-clause-followed : goal.returns-then-edge-number-clause-followed
+returns-then-edge-number-clause-followed c =
     let edge : Edge = slice_index_or c.args.edges.now c.loop-at.at no_edge in
     let at : slice_get c.args.edges.now c.loop-at.at ≡ Some edge =
     slice_get-get_or c.args.edges.now c.loop-at.at no_edge c.loop-at-test.true in
     let no_earlier : c.args.number ≤ edge.by = c.loop-at.invariant.left c.loop-at.at edge at (omega arith) in
-    let later : c.args.number < edge.by = omega (arith, no_earlier, c.if-edge_by-number.true) in
+    let later : c.args.number < edge.by = omega (arith, no_earlier, c.if-edge-number.true) in
     λ reached place start present r. module_ends c.args.roots c.args.edges.now c.args.round reached place start
     c.loop-at.self.next.items c.loop-at.self.found.items c.args.number c.loop-at.at present
     (passed_all c.args.edges.now c.args.number c.loop-at.at edge c.requires.in_order at later)

@@ -1,5 +1,5 @@
-use Rattle.std.specs.Prelude.{◌≡◌, ◌+◌, ℕ, [], Some, List, length, slice_get}
-use Rattle.std.proofs.Common.{◌∙◌, ap, sym, subst, arith}
+use Rattle.std.specs.Prelude.{◌≡◌, ◌+◌, ℕ, [], Some, List, length, slice_get, slice_index_or}
+use Rattle.std.proofs.Common.{◌∙◌, sym, subst, arith}
 use Rattle.std.proofs.lemmas.Option.{slice_get-get_or}
 use Rattle.link80_text.specs.Search.{IsRound, IsSearched}
 use Rattle.link80_text.proofs.SearchLemmas.{round_begins, round_ends}
@@ -20,9 +20,7 @@ pub loop-number-preserved : goal.loop-number-preserved
 loop-number-preserved c =
     let reached : List ℕ = c.args.reached.now in
     let index : ℕ = c.loop-number.number-index in
-    let number : ℕ = c.number-item.result in
-    let at : slice_get reached index ≡ Some number =
-    slice_get-get_or reached index number c.loop-number-test.true ∙ ap (λ n. Some n) (sym c.number-item.is) in
+    let at : slice_get reached index ≡ Some (slice_index_or reached index 0) = slice_get-get_or reached index 0 c.loop-number-test.true in
     record {
       round = c.in_ok-follow_all.ensures.followed reached index c.args.self.now.found.items at c.loop-number.invariant.round;
       len = c.in_ok-follow_all.ensures.len ∙ c.loop-number.invariant.len;
