@@ -10,7 +10,7 @@ use Rattle.link80_select.specs.declared.chosen.Chosen.{Chosen}
 use Rattle.link80_select.specs.Selected.{module_at, IsBefore, Needs, IsChosen, by_root, by_member, AreAscending}
 use Rattle.link80.specs.Selection.{IsSelection, modules_with}
 use Rattle.link80_text.specs.Reasons.{IsSoughtAt}
-use Rattle.link80_text.proofs.EdgeLemmas.{all_at}
+use Rattle.link80_text.proofs.EdgeLemmas.{all_at, at_right}
 
 -- ---- lists
 
@@ -21,11 +21,6 @@ at_front : {A : Type 0} (xs ys : List A) (k : ℕ) → k < length xs → slice_g
 at_front [] ys k less = absurd (omega (arith, less))
 at_front (x ∷ xs) ys zero less = refl
 at_front (x ∷ xs) ys (suc k) less = at_front xs ys k (omega arith)
-
-at_right : {A : Type 0} (xs ys : List A) (k : ℕ) → slice_get (xs ++ ys) (length xs + k) ≡ slice_get ys k
-at_right [] ys k = ap (slice_get ys) (omega arith)
-at_right (x ∷ xs) ys k = let e : length (x ∷ xs) + k ≡ suc (length xs + k) = omega arith in ap (slice_get (x ∷ (xs ++ ys))) e
-    ∙ at_right xs ys k
 
 at_back : {A : Type 0} (xs ys : List A) (k : ℕ) → length xs ≤ k
     → (j : ℕ) × (k ≡ length xs + j) × (slice_get (xs ++ ys) k ≡ slice_get ys j)

@@ -11,7 +11,7 @@ use Rattle.std.proofs.lemmas.List.Quantifiers.{position-Some}
 use Rattle.omf_parts.specs.Modules.{ModuleValue}
 use Rattle.omf_library.specs.Providers.{declares, first_provider}
 use Rattle.link80_select.specs.declared.chosen.Chosen.{Chosen}
-use Rattle.link80_select.specs.Selected.{module_at, IsBefore, IsFirstProvider}
+use Rattle.link80_select.specs.Selected.{module_at, IsFirstProvider}
 use Rattle.link80_text.specs.Reasons.{IsSoughtAt}
 use Rattle.link80.specs.Selection.{IsSelection, modules_with}
 use Rattle.link80_text.specs.Edges.{number_of, target}
@@ -253,8 +253,7 @@ module _ (roots : List ModuleValue) (libraries : List (List ModuleValue)) (taken
           let at_q : slice_get taken t ≡ Some other.2.0 = ap (slice_get taken) (sym same) ∙ other.2.1 in
           let in_no_root : list_any (declares name) roots ≡ false =
           none_any (declares name) roots (λ i x at_x. first.before i x (omega (arith, k_is, slice_get_within roots i x at_x))
-          (root_module roots libraries taken selection i x at_x)) in
-          (
+          (root_module roots libraries taken selection i x at_x)) in (
             other.2.0,
             at_q,
             record { in_no_root = in_no_root; first = is_it k_is first other.2.0 at_q other.2.2 in_no_root },

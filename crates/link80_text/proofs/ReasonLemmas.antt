@@ -1,13 +1,10 @@
 -- A search that has reached its end gives reasons: what is found are distances, and the edges are the first of the nearest.
-use Rattle.std.specs.Prelude.{◌≡◌, ℕ, zero, suc, ◌+◌, ◌-◌, ◌<◌, ◌≤◌, ◌⊎◌, nat_lt, true, false, Option, Some, None, option_map, List, [], ◌∷◌, ◌++◌, filter_map, length, slice_get, slice_index_or, Contains, refl}
-use Rattle.std.specs.List.{cons_option}
-use Rattle.std.proofs.Common.{◌∙◌, ap, sym, subst, arith, inl, inr, cond}
-use Rattle.std.proofs.lemmas.Bool.{cases_lt, cases_order}
-use Rattle.std.proofs.lemmas.Bool.Decides.{nat_tests}
-use Rattle.std.proofs.lemmas.Option.{none-some, same_Some, slice_get_within, slice_get-get_or, get_or_from_slice_get}
+use Rattle.std.specs.Prelude.{◌≡◌, ℕ, zero, suc, ◌+◌, ◌-◌, ◌<◌, ◌≤◌, ◌⊎◌, Option, Some, List, length, slice_get, slice_index_or, refl}
+use Rattle.std.proofs.Common.{◌∙◌, ap, sym, subst, arith, inl, inr}
+use Rattle.std.proofs.lemmas.Option.{same_Some, slice_get_within, slice_get-get_or}
 use Rattle.omf_parts.specs.Modules.{ModuleValue}
 use Rattle.link80_select.specs.declared.chosen.Chosen.{Chosen}
-use Rattle.link80_select.specs.Selected.{module_at, IsBefore, Needs, IsChosen, by_root, by_member, AreAscending}
+use Rattle.link80_select.specs.Selected.{Needs, IsChosen, by_root, by_member}
 use Rattle.link80.specs.Selection.{IsSelection, modules_with}
 use Rattle.link80_text.specs.declared.reasons.edges.Edge.{Edge}
 use Rattle.link80_text.specs.declared.reasons.search.Found.{Found}
@@ -17,25 +14,17 @@ use Rattle.link80_text.specs.Search.{found_at, steps_to, LeadInside, AreByModule
 use Rattle.link80_text.specs.Searched.{IsSearchedFor}
 use Rattle.link80_text.proofs.EdgeLemmas.{comes_from_module, none_missing_of, edges_ascend}
 use Rattle.link80_text.proofs.LinkedLemmas.{has_at, one_number, root_module, member_module, linked_is, linked_takes, needs_for}
-use Rattle.link80_text.proofs.SearchLemmas.{root_steps, member_steps}
+use Rattle.link80_text.proofs.SearchLemmas.{root_steps, member_steps, steps_parts}
 use Rattle.link80_text.proofs.ProviderLemmas.{at_has, target_is, is_target}
 
 -- ---- steps
 
-steps_found : (o : Option Found) (d : ℕ) → option_map (λ (f : Found). f.steps) o ≡ Some d → (w : Found) × (o ≡ Some w) × (w.steps ≡ d)
-steps_found None d is = absurd (none-some d is)
-steps_found (Some w) d is = (w, refl, same_Some w.steps d is)
-
 -- steps to a number are those of a root or of what was found
 steps_of : (roots n d : ℕ) (found : List (Option Found)) → steps_to roots found n ≡ Some d →
     ((n < roots) × (d ≡ 0)) ⊎ ((k : ℕ) × (n ≡ roots + k) × ((w : Found) × (found_at found k ≡ Some w) × (w.steps ≡ d)))
-steps_of roots n d found is = elim (cases_lt n roots) [
-  | inl less ↦ inl (less, same_Some d 0 (sym is ∙ root_steps roots n found less))
-  | inr more ↦
-      let not_less : nat_lt n roots ≡ false = grind (arith, nat_tests, more) in
-      let of = steps_found (found_at found (n - roots)) d
-      (sym (ap (λ b. cond b (Some 0) (option_map (λ (f : Found). f.steps) (found_at found (n - roots)))) not_less) ∙ is) in
-      inr (n - roots, omega (arith, more), of)
+steps_of roots n d found is = elim (steps_parts roots n d found is) [
+  | inl one ↦ inl one
+  | inr other ↦ inr (n - roots, omega (arith, other.0), (other.1.0, other.1.1.0, other.1.1.1))
 ]
 
 -- ---- the edges of linked modules
@@ -76,9 +65,9 @@ module _ (roots : List ModuleValue) (libraries : List (List ModuleValue)) (taken
   pub by_module : AreByModule (linked_edges (length roots) (modules_with roots libraries taken))
   by_module i j e f le at_e at_f = elim (edges_ascend (target (length roots) (modules_with roots libraries taken))
       (modules_with roots libraries taken) i j e f le at_e at_f) [
-    | inl less ↦ omega (arith, less)
-    | inr same ↦ let equal = same.0 in omega (arith, equal)
-  ]
+        | inl less ↦ omega (arith, less)
+        | inr same ↦ let equal = same.0 in omega (arith, equal)
+      ]
 
 -- ---- what is found
 

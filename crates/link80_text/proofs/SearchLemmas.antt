@@ -92,10 +92,6 @@ first_edge_is edges number first point = record {
 
 -- ---- what is found at a number
 
-is_nothing : {A : Type 0} (o : Option A) → is_none o ≡ true → o ≡ None
-is_nothing None is = refl
-is_nothing (Some x) is = absurd cc
-
 not_both : {A : Type 0} (o : Option A) (x : A) → o ≡ None → o ≡ Some x → ⊥
 not_both o x none some = none-some x (sym none ∙ some)
 
@@ -119,7 +115,7 @@ member_steps roots k found w at =
     ∙ ap (λ i. option_map (λ (f : Found). f.steps) (found_at found i)) number ∙ ap (option_map (λ (f : Found). f.steps)) at
 
 -- they are those of a root or of what was found
-steps_parts : (roots n d : ℕ) (found : List (Option Found)) → steps_to roots found n ≡ Some d
+pub steps_parts : (roots n d : ℕ) (found : List (Option Found)) → steps_to roots found n ≡ Some d
     → ((n < roots) × (d ≡ 0)) ⊎ ((roots ≤ n) × ((w : Found) × ((found_at found (n - roots) ≡ Some w) × (w.steps ≡ d))))
 steps_parts roots n d found is = elim (cases_lt n roots) [
   | inl less ↦ inl (less, same_Some d 0 (sym is ∙ root_steps roots n found less))

@@ -1,4 +1,4 @@
-use Rattle.std.specs.Prelude.{◌≡◌, ◌+◌, ◌<◌, ◌≤◌, ℕ, [], None, List, Option, length, count_by, is_none, replicate}
+use Rattle.std.specs.Prelude.{◌≡◌, ◌<◌, ℕ, [], None, List, Option, length, is_none, replicate}
 use Rattle.std.proofs.Common.{◌∙◌, ap, sym, subst, add-one, arith, Vec, Global}
 use Rattle.std.proofs.lemmas.List.Sums.{count_by-le-length}
 use Rattle.link80_text.specs.declared.reasons.search.Found.{Found}

@@ -1,7 +1,7 @@
-use Rattle.std.specs.Prelude.{◌≡◌, ◌+◌, ℕ, [], Some, List, length, slice_get, slice_index_or}
+use Rattle.std.specs.Prelude.{◌≡◌, ℕ, Some, List, length, slice_get, slice_index_or}
 use Rattle.std.proofs.Common.{◌∙◌, sym, subst, arith}
 use Rattle.std.proofs.lemmas.Option.{slice_get-get_or}
-use Rattle.link80_text.specs.Search.{IsRound, IsSearched}
+use Rattle.link80_text.specs.Search.{IsRound}
 use Rattle.link80_text.proofs.SearchLemmas.{round_begins, round_ends}
 use Rattle.link80_text.proofs.reasons.search.Search.go_on.Goals as goal
 
