@@ -95,8 +95,7 @@ impl<'a> LinkArguments<'a> {
     }
 }
 
-/// The modules of object files, and libraries with their paths, in the order of the files. If faults are explained, each module has
-/// the path of its file.
+/// The modules of object files, each with the path of its file, and libraries with their paths, in the order of the files.
 #[derive(Drop)]
 pub(crate) struct LinkFiles<'a> {
     pub roots: Vec<Module>,
@@ -193,8 +192,7 @@ impl<'a> LinkFiles<'a> {
         mut modules: Vec<Module>,
         path: &'a str,
     ) -> Result<(), Reported> {
-        let named = if console.explains() { modules.len() } else { 0 };
-        match self.push_paths(named, path) {
+        match self.push_paths(modules.len(), path) {
             Ok(()) => append_modules(console, &mut self.roots, &mut modules),
             Err(_) => Err(console.report_memory()),
         }
