@@ -15,7 +15,7 @@ at_left [] ys i x at = absurd (none-some x at)
 at_left (y ∷ xs) ys zero x at = at
 at_left (y ∷ xs) ys (suc i) x at = at_left xs ys i x at
 
-at_right : {A : Type 0} (xs ys : List A) (k : ℕ) → slice_get (xs ++ ys) (length xs + k) ≡ slice_get ys k
+pub at_right : {A : Type 0} (xs ys : List A) (k : ℕ) → slice_get (xs ++ ys) (length xs + k) ≡ slice_get ys k
 at_right [] ys k = ap (slice_get ys) (omega arith)
 at_right (x ∷ xs) ys k = let e : length (x ∷ xs) + k ≡ suc (length xs + k) = omega arith in ap (slice_get (x ∷ (xs ++ ys))) e
     ∙ at_right xs ys k

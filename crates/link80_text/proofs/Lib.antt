@@ -4,6 +4,7 @@ mod StartLemmas
 mod NeedLemmas
 mod SearchLemmas
 mod EdgeLemmas
+mod LinkedLemmas
 mod ProviderLemmas
 mod ReasonLemmas
 mod ReadLemmas

@@ -1,18 +1,21 @@
--- The first module that declares a name, and the number of its place among those that were taken.
-use Rattle.std.specs.Prelude.{◌≡◌, ℕ, zero, suc, ◌+◌, ◌<◌, ◌==◌, ◌&&◌, ◌||◌, is_some, Bool, true, false, Option, Some, None, option_map, option_and_then, List, [], ◌∷◌, slice_get, Contains, refl}
+-- The first module that declares a name: of libraries, and of linked modules.
+use Rattle.std.specs.Prelude.{◌≡◌, ℕ, zero, suc, ◌+◌, ◌-◌, ◌<◌, ◌⊎◌, ◌||◌, nat_lt, is_some, Bool, true, false, Option, Some, None, option_map, option_and_then, List, [], ◌∷◌, length, slice_get, Contains, refl}
 use Rattle.std.specs.List.{list_any, position_from}
 use Rattle.std.specs.Option.{option_or}
 use Rattle.std.proofs.Common.{◌∙◌, ap, sym, subst, arith, inl, inr, cond, get_or}
-use Rattle.std.proofs.lemmas.Bool.{cases_Bool, cases_order, eqb-true, and_parts, false≢true}
-use Rattle.std.proofs.lemmas.Option.{none-some, same_Some, option_and_then_some, slice_get-get_or}
+use Rattle.std.proofs.lemmas.Bool.{cases_Bool, cases_lt, cases_order, false≢true}
+use Rattle.std.proofs.lemmas.Bool.Decides.{nat_tests}
+use Rattle.std.proofs.lemmas.Option.{none-some, same_Some, option_and_then_some, slice_get-get_or, slice_get_within}
 use Rattle.std.proofs.lemmas.Iterator.Adapters.{position_from-zero}
 use Rattle.std.proofs.lemmas.List.Quantifiers.{position-Some}
 use Rattle.omf_parts.specs.Modules.{ModuleValue}
 use Rattle.omf_library.specs.Providers.{declares, first_provider}
 use Rattle.link80_select.specs.declared.chosen.Chosen.{Chosen}
-use Rattle.link80_select.specs.Selected.{IsBefore, IsFirstProvider}
+use Rattle.link80_select.specs.Selected.{module_at, IsFirstProvider}
 use Rattle.link80_text.specs.Reasons.{IsSoughtAt}
-use Rattle.link80_text.specs.Edges.{place_of, first_place_from, number_of, target}
+use Rattle.link80.specs.Selection.{IsSelection, modules_with}
+use Rattle.link80_text.specs.Edges.{number_of, target}
+use Rattle.link80_text.proofs.LinkedLemmas.{ascending_order, root_module, member_module, linked_is, linked_takes, needs_for}
 
 -- ---- the first that passes
 
@@ -62,6 +65,14 @@ passes_first test from (x ∷ xs) =
     ]
 
 -- ---- the first place
+
+abbrev place_of : (library number : ℕ) → Chosen
+place_of library number = record { library = library; «module» = number }
+
+-- the place of the first module of the libraries, from a number on, that declares the name
+abbrev first_place_from : ℕ → List (List ModuleValue) → List ℕ → Option Chosen
+first_place_from at [] name = None
+first_place_from at (l ∷ ls) name = option_or (option_map (place_of at) (first_provider l name)) (first_place_from (at + 1) ls name)
 
 record FirstPlace (at : ℕ) (ls : List (List ModuleValue)) (name : List ℕ) (p : Chosen) : Type 0 where
   index : ℕ
@@ -153,85 +164,138 @@ is_provider libraries name p found =
           ]);
     }
 
-one_before : (libraries : List (List ModuleValue)) (name : List ℕ) (p q : Chosen) → IsFirstProvider libraries name p
-    → IsFirstProvider libraries name q → IsBefore p q → ⊥
-one_before libraries name p q first second before =
-    false≢true (sym (second.none_before p first.provider before first.there) ∙ first.declares_it)
-
-one_provider : (libraries : List (List ModuleValue)) (name : List ℕ) (p q : Chosen) → IsFirstProvider libraries name p
-    → IsFirstProvider libraries name q → p ≡ q
-one_provider libraries name p q first second = elim (cases_order p.library q.library) [
-  | inl library ↦ elim (cases_order p.module q.module) [
-    | inl number ↦ ap (λ l. place_of l p.module) library ∙ ap (place_of q.library) number
-    | inr differ ↦ elim differ [
-      | inl less ↦ absurd (one_before libraries name p q first second (inr (library, less)))
-      | inr more ↦ absurd (one_before libraries name q p second first (inr (sym library, more)))
-    ]
-  ]
-  | inr differ ↦ elim differ [
-    | inl less ↦ absurd (one_before libraries name p q first second (inl less))
-    | inr more ↦ absurd (one_before libraries name q p second first (inl more))
-  ]
-]
-
-provider_is : (libraries : List (List ModuleValue)) (name : List ℕ) (p : Chosen) → IsFirstProvider libraries name p
-    → first_place_from 0 libraries name ≡ Some p
-provider_is libraries name p first = by (first_place_from 0 libraries name) refl
+-- one that declares it gives a first one
+some_provider : (libraries : List (List ModuleValue)) (name : List ℕ) (q : Chosen) (m : ModuleValue) → module_at libraries q ≡ Some m
+    → declares name m ≡ true → (p : Chosen) × IsFirstProvider libraries name p
+some_provider libraries name q m there declares_it = by (first_place_from 0 libraries name) refl
   where
-    by : (o : Option Chosen) → first_place_from 0 libraries name ≡ o → o ≡ Some p
-    by None none = absurd (option_and_then_some (λ (ms : List ModuleValue). slice_get ms p.module) (slice_get libraries p.library)
-        first.provider first.there (λ k at_k at_m.
-        false≢true (sym (none_declares 0 libraries name none p.library k p.module first.provider at_k at_m) ∙ first.declares_it)))
-    by (Some q) found = ap (λ x. Some x) (one_provider libraries name q p (is_provider libraries name q found) first)
+    by : (o : Option Chosen) → first_place_from 0 libraries name ≡ o → (p : Chosen) × IsFirstProvider libraries name p
+    by None none = absurd (option_and_then_some (λ (ms : List ModuleValue). slice_get ms q.module) (slice_get libraries q.library) m
+        there (λ k at_k at_m.
+        false≢true (sym (none_declares 0 libraries name none q.library k q.module m at_k at_m) ∙ declares_it)))
+    by (Some p) found = (p, is_provider libraries name p found)
 
--- ---- the number of a place
+-- ---- roots
 
-same_place : (q p : Chosen) → ((q.library == p.library) && (q.module == p.module)) ≡ true → q ≡ p
-same_place q p is =
-    let both = and_parts (q.library == p.library) (q.module == p.module) is in
-    ap (λ l. place_of l q.module) (eqb-true q.library p.library both.0) ∙ ap (place_of p.library) (eqb-true q.module p.module both.1)
-
-itself : (p : Chosen) → ((p.library == p.library) && (p.module == p.module)) ≡ true
-itself p = ap (λ b. b && (p.module == p.module)) (equal p.library) ∙ equal p.module
+none_passes : {A : Type 0} (test : A → Bool) (xs : List A) → list_any test xs ≡ false → (i : ℕ) (x : A) → slice_get xs i ≡ Some x
+    → test x ≡ false
+none_passes test xs none = no_first test 0 xs (nothing (position_from test 0 xs) (passes_first test 0 xs ∙ none))
   where
-    equal : (n : ℕ) → (n == n) ≡ true
-    equal n = grind arith
+    nothing : (o : Option ℕ) → is_some o ≡ false → o ≡ None
+    nothing None is = refl
+    nothing (Some x) is = absurd (false≢true (sym is))
 
-number_is : (taken : List Chosen) (p : Chosen) (n : ℕ) → number_of taken p ≡ Some n → slice_get taken n ≡ Some p
-number_is taken p n is =
-    let first = is_first (λ (q : Chosen). (q.library == p.library) && (q.module == p.module)) n taken is in
-    first.there ∙ ap (λ q. Some q) (same_place first.one p first.passes)
-
-is_number : (taken : List Chosen) (p : Chosen) → Contains taken p → (n : ℕ) × (number_of taken p ≡ Some n)
-is_number taken p has = by (number_of taken p) refl
-  where
-    by : (o : Option ℕ) → number_of taken p ≡ o → (n : ℕ) × (o ≡ Some n)
-    by None none =
-        let at = at_has taken p has in
-        absurd (false≢true (sym (no_first (λ (q : Chosen). (q.library == p.library) && (q.module == p.module)) 0 taken none at.0 p at.1)
-        ∙ itself p))
-    by (Some n) is = (n, refl)
+none_any : {A : Type 0} (test : A → Bool) (xs : List A) → ((i : ℕ) (x : A) → slice_get xs i ≡ Some x → test x ≡ false)
+    → list_any test xs ≡ false
+none_any test [] each = refl
+none_any test (x ∷ xs) each =
+    ap (λ b. b || list_any test xs) (each 0 x refl) ∙ none_any test xs (λ i y at. each (suc i) y at)
 
 -- ---- the target of a name
 
-pub target_is : (roots : List ModuleValue) (libraries : List (List ModuleValue)) (taken : List Chosen) (name : List ℕ) (t : ℕ)
-    → target roots libraries taken name ≡ Some t
-    → (p : Chosen) × (slice_get taken t ≡ Some p) × IsSoughtAt roots libraries name p
-target_is roots libraries taken name t is = elim (cases_Bool (list_any (declares name) roots)) [
-  | inl root ↦ absurd (none-some t
-      (sym (ap (λ b. cond b None (option_and_then (number_of taken) (first_place_from 0 libraries name))) root) ∙ is))
-  | inr none ↦ option_and_then_some (number_of taken) (first_place_from 0 libraries name) t
-      (sym (ap (λ b. cond b None (option_and_then (number_of taken) (first_place_from 0 libraries name))) none) ∙ is)
-      (λ p found number. (p, number_is taken p t number, record { in_no_root = none; first = is_provider libraries name p found }))
+number_is : (roots n t : ℕ) → number_of roots n ≡ Some t → n ≡ roots + t
+number_is roots n t is = elim (cases_lt n roots) [
+  | inl less ↦
+      let test : nat_lt n roots ≡ true = grind (arith, nat_tests, less) in
+      absurd (none-some t (sym (ap (λ b. cond b None (Some (n - roots))) test) ∙ is))
+  | inr more ↦
+      let test : nat_lt n roots ≡ false = grind (arith, nat_tests, more) in
+      let same : n - roots ≡ t = same_Some (n - roots) t (sym (ap (λ b. cond b None (Some (n - roots))) test) ∙ is) in
+      omega (arith, same, more)
 ]
 
-pub is_target : (roots : List ModuleValue) (libraries : List (List ModuleValue)) (taken : List Chosen) (name : List ℕ) (p : Chosen)
-    → IsSoughtAt roots libraries name p → Contains taken p
-    → (t : ℕ) × (target roots libraries taken name ≡ Some t) × (slice_get taken t ≡ Some p)
-is_target roots libraries taken name p sought has =
-    let number = is_number taken p has in (
-      number.0,
-      ap (λ b. cond b None (option_and_then (number_of taken) (first_place_from 0 libraries name))) sought.in_no_root
-          ∙ ap (option_and_then (number_of taken)) (provider_is libraries name p sought.first) ∙ number.1,
-      number_is taken p number.0 number.1,
-    )
+is_number : (roots t : ℕ) → number_of roots (roots + t) ≡ Some t
+is_number roots t =
+    let test : nat_lt (roots + t) roots ≡ false = grind (arith, nat_tests) in
+    let same : roots + t - roots ≡ t = omega arith in
+    ap (λ b. cond b None (Some (roots + t - roots))) test ∙ ap (λ n. Some n) same
+
+module _ (roots : List ModuleValue) (libraries : List (List ModuleValue)) (taken : List Chosen)
+    (selection : IsSelection roots libraries taken) where
+  abbrev modules : List ModuleValue
+  modules = modules_with roots libraries taken
+
+  pub target_is : (n : ℕ) (m : ModuleValue) (index : ℕ) (name : List ℕ) (t : ℕ) → slice_get modules n ≡ Some m
+      → slice_get m.externals index ≡ Some name → target (length roots) modules name ≡ Some t
+      → (p : Chosen) × (slice_get taken t ≡ Some p) × IsSoughtAt roots libraries name p
+  target_is n m index name t at external is =
+      option_and_then_some (number_of (length roots)) (first_provider modules name) t is (λ k found number.
+      let first = is_first (declares name) k modules found in
+      of_first (number_is (length roots) k t number) first (linked_is roots libraries taken selection k first.one first.there))
+    where
+      -- what the libraries have first is taken, and no other one is taken before it
+      is_it : {k : ℕ} → k ≡ length roots + t → (first : IsFirst (declares name) modules k) → (q : Chosen)
+          → slice_get taken t ≡ Some q → module_at libraries q ≡ Some first.one → list_any (declares name) roots ≡ false
+          → IsFirstProvider libraries name q
+      is_it k_is first q at_q there in_no_root =
+          let some = some_provider libraries name q first.one there first.passes in
+          let needs = needs_for roots libraries taken selection m index name some.0 external
+          (record { in_no_root = in_no_root; first = some.1 }) in
+          let has = at_has taken some.0 (linked_takes roots libraries taken selection n m some.0 at needs) in
+          elim (cases_order has.0 t) [
+            | inl same ↦ subst (λ (p : Chosen). IsFirstProvider libraries name p)
+                (same_Some some.0 q (sym has.1 ∙ ap (slice_get taken) same ∙ at_q)) some.1
+            | inr differ ↦ elim differ [
+              | inl less ↦ absurd (false≢true (sym (first.before (length roots + has.0) some.1.provider (omega (arith, less, k_is))
+                  (member_module roots libraries taken selection has.0 some.0 some.1.provider has.1 some.1.there)) ∙ some.1.declares_it))
+              | inr more ↦ absurd (false≢true (sym (some.1.none_before q first.one
+                  (ascending_order taken t has.0 q some.0 selection.ascending more at_q has.1) there) ∙ first.passes))
+            ]
+          ]
+
+      of_first : {k : ℕ} → k ≡ length roots + t → (first : IsFirst (declares name) modules k)
+          → ((k < length roots) × Contains roots first.one)
+          ⊎ ((j : ℕ) × (k ≡ length roots + j) × ((q : Chosen) × (slice_get taken j ≡ Some q) × (module_at libraries q ≡ Some first.one)))
+          → (p : Chosen) × (slice_get taken t ≡ Some p) × IsSoughtAt roots libraries name p
+      of_first k_is first (inl root) = absurd (omega (arith, k_is, root.0))
+      of_first k_is first (inr other) =
+          let same : other.0 ≡ t = omega (arith, k_is, other.1) in
+          let at_q : slice_get taken t ≡ Some other.2.0 = ap (slice_get taken) (sym same) ∙ other.2.1 in
+          let in_no_root : list_any (declares name) roots ≡ false =
+          none_any (declares name) roots (λ i x at_x. first.before i x (omega (arith, k_is, slice_get_within roots i x at_x))
+          (root_module roots libraries taken selection i x at_x)) in (
+            other.2.0,
+            at_q,
+            record { in_no_root = in_no_root; first = is_it k_is first other.2.0 at_q other.2.2 in_no_root },
+          )
+
+  is_target_at : (name : List ℕ) (p : Chosen) (t : ℕ) → IsSoughtAt roots libraries name p → slice_get taken t ≡ Some p
+      → target (length roots) modules name ≡ Some t
+  is_target_at name p t sought at = by (first_provider modules name) refl
+    where
+      there : slice_get modules (length roots + t) ≡ Some sought.first.provider
+      there = member_module roots libraries taken selection t p sought.first.provider at sought.first.there
+
+      -- no root declares it, and nothing that is taken from an earlier place does
+      none_earlier : (k : ℕ) → k < length roots + t → (one : ModuleValue) → declares name one ≡ true
+          → ((k < length roots) × Contains roots one)
+          ⊎ ((j : ℕ) × (k ≡ length roots + j) × ((q : Chosen) × (slice_get taken j ≡ Some q) × (module_at libraries q ≡ Some one))) → ⊥
+      none_earlier k less one passes (inl root) =
+          let r = at_has roots one root.1 in
+          false≢true (sym (none_passes (declares name) roots sought.in_no_root r.0 one r.1) ∙ passes)
+      none_earlier k less one passes (inr other) =
+          false≢true (sym (sought.first.none_before other.2.0 one (ascending_order taken other.0 t other.2.0 p selection.ascending
+          (omega (arith, less, other.1)) other.2.1 at) other.2.2) ∙ passes)
+
+      number : (k : ℕ) → IsFirst (declares name) modules k → number_of (length roots) k ≡ Some t
+      number k first = elim (cases_order k (length roots + t)) [
+        | inl same ↦ ap (number_of (length roots)) same ∙ is_number (length roots) t
+        | inr differ ↦ elim differ [
+          | inl less ↦ absurd (none_earlier k less first.one first.passes
+              (linked_is roots libraries taken selection k first.one first.there))
+          | inr more ↦ absurd (false≢true (sym (first.before (length roots + t) sought.first.provider more there)
+              ∙ sought.first.declares_it))
+        ]
+      ]
+
+      by : (o : Option ℕ) → first_provider modules name ≡ o → target (length roots) modules name ≡ Some t
+      by None none = absurd (false≢true (sym (no_first (declares name) 0 modules none (length roots + t) sought.first.provider there)
+          ∙ sought.first.declares_it))
+      by (Some k) found =
+          ap (option_and_then (number_of (length roots))) found ∙ number k (is_first (declares name) k modules found)
+
+  pub is_target : (name : List ℕ) (p : Chosen) → IsSoughtAt roots libraries name p → Contains taken p
+      → (t : ℕ) × (target (length roots) modules name ≡ Some t) × (slice_get taken t ≡ Some p)
+  is_target name p sought has =
+      let at = at_has taken p has in
+      (at.0, is_target_at name p at.0 sought at.1, at.1)

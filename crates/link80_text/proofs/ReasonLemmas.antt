@@ -1,193 +1,53 @@
 -- A search that has reached its end gives reasons: what is found are distances, and the edges are the first of the nearest.
-use Rattle.std.specs.Prelude.{◌≡◌, ℕ, zero, suc, ◌+◌, ◌-◌, ◌<◌, ◌≤◌, ◌⊎◌, nat_lt, true, false, Option, Some, None, option_map, List, [], ◌∷◌, ◌++◌, filter_map, length, slice_get, slice_index_or, Contains, refl}
-use Rattle.std.specs.List.{cons_option}
-use Rattle.std.proofs.Common.{◌∙◌, ap, sym, subst, arith, inl, inr, cond}
-use Rattle.std.proofs.lemmas.Bool.{cases_lt, cases_order}
-use Rattle.std.proofs.lemmas.Bool.Decides.{nat_tests}
-use Rattle.std.proofs.lemmas.Option.{none-some, same_Some, slice_get_within, slice_get-get_or, get_or_from_slice_get}
+use Rattle.std.specs.Prelude.{◌≡◌, ℕ, zero, suc, ◌+◌, ◌-◌, ◌<◌, ◌≤◌, ◌⊎◌, Option, Some, List, length, slice_get, slice_index_or, refl}
+use Rattle.std.proofs.Common.{◌∙◌, ap, sym, subst, arith, inl, inr}
+use Rattle.std.proofs.lemmas.Option.{same_Some, slice_get_within, slice_get-get_or}
 use Rattle.omf_parts.specs.Modules.{ModuleValue}
 use Rattle.link80_select.specs.declared.chosen.Chosen.{Chosen}
-use Rattle.link80_select.specs.Selected.{module_at, IsBefore, Needs, IsChosen, by_root, by_member, AreAscending}
+use Rattle.link80_select.specs.Selected.{Needs, IsChosen, by_root, by_member}
 use Rattle.link80.specs.Selection.{IsSelection, modules_with}
 use Rattle.link80_text.specs.declared.reasons.edges.Edge.{Edge}
 use Rattle.link80_text.specs.declared.reasons.search.Found.{Found}
 use Rattle.link80_text.specs.Reasons.{IsReachedIn, from_root, from_member, IsDistance, IsAway, root, member, IsSoughtAt, IsReason}
-use Rattle.link80_text.specs.Edges.{target, edges_in}
-use Rattle.link80_text.specs.Search.{found_at, steps_to, LeadInside, IsComplete}
+use Rattle.link80_text.specs.Edges.{target, linked_edges}
+use Rattle.link80_text.specs.Search.{found_at, steps_to, LeadInside, AreByModule, IsComplete}
 use Rattle.link80_text.specs.Searched.{IsSearchedFor}
-use Rattle.link80_text.proofs.EdgeLemmas.{comes_from_module, none_missing_of, edges_ascend, all_at}
+use Rattle.link80_text.proofs.EdgeLemmas.{comes_from_module, none_missing_of, edges_ascend}
+use Rattle.link80_text.proofs.LinkedLemmas.{has_at, one_number, root_module, member_module, linked_is, linked_takes, needs_for}
+use Rattle.link80_text.proofs.SearchLemmas.{root_steps, member_steps, steps_parts}
 use Rattle.link80_text.proofs.ProviderLemmas.{at_has, target_is, is_target}
 
--- ---- lists
-
-has_at : {A : Type 0} (xs : List A) (i : ℕ) (x : A) → slice_get xs i ≡ Some x → Contains xs x
-has_at xs i x at = (i, slice_get_within xs i x at, get_or_from_slice_get xs i x x at)
-
-at_front : {A : Type 0} (xs ys : List A) (k : ℕ) → k < length xs → slice_get (xs ++ ys) k ≡ slice_get xs k
-at_front [] ys k less = absurd (omega (arith, less))
-at_front (x ∷ xs) ys zero less = refl
-at_front (x ∷ xs) ys (suc k) less = at_front xs ys k (omega arith)
-
-at_right : {A : Type 0} (xs ys : List A) (k : ℕ) → slice_get (xs ++ ys) (length xs + k) ≡ slice_get ys k
-at_right [] ys k = ap (slice_get ys) (omega arith)
-at_right (x ∷ xs) ys k = let e : length (x ∷ xs) + k ≡ suc (length xs + k) = omega arith in ap (slice_get (x ∷ (xs ++ ys))) e
-    ∙ at_right xs ys k
-
-at_back : {A : Type 0} (xs ys : List A) (k : ℕ) → length xs ≤ k
-    → (j : ℕ) × (k ≡ length xs + j) × (slice_get (xs ++ ys) k ≡ slice_get ys j)
-at_back xs ys k more =
-    let e : k ≡ length xs + (k - length xs) = omega arith in
-    (k - length xs, e, ap (slice_get (xs ++ ys)) e ∙ at_right xs ys (k - length xs))
-
--- where each item gives something, what they give stands at their numbers
-gives_at : {A B : Type 0} (f : A → Option B) (xs : List A) (k : ℕ) (x : A)
-    → ((i : ℕ) (y : A) → slice_get xs i ≡ Some y → (z : B) × (f y ≡ Some z)) → slice_get xs k ≡ Some x
-    → slice_get (filter_map f xs) k ≡ f x
-gives_at f [] k x each at = absurd (none-some x at)
-gives_at {A} {B} f (y ∷ xs) k x each at =
-    let first = each 0 y refl in
-    ap (λ (o : Option B). slice_get (cons_option o (filter_map f xs)) k) first.1
-    ∙ by k at first.0 first.1 (λ i at_i. gives_at f xs i x (λ j z there. each (suc j) z there) at_i)
-  where
-    by : (i : ℕ) → slice_get (y ∷ xs) i ≡ Some x → (z : B) → f y ≡ Some z
-        → ((j : ℕ) → slice_get xs j ≡ Some x → slice_get (filter_map f xs) j ≡ f x) → slice_get (z ∷ filter_map f xs) i ≡ f x
-    by zero here z is rest = sym is ∙ ap f (same_Some y x here)
-    by (suc i) here z is rest = rest i here
-
-given_at : {A B : Type 0} (f : A → Option B) (xs : List A) (k : ℕ) (z : B)
-    → ((i : ℕ) (y : A) → slice_get xs i ≡ Some y → (v : B) × (f y ≡ Some v)) → slice_get (filter_map f xs) k ≡ Some z
-    → (x : A) × (slice_get xs k ≡ Some x) × (f x ≡ Some z)
-given_at f [] k z each at = absurd (none-some z at)
-given_at {A} {B} f (y ∷ xs) k z each at =
-    let first = each 0 y refl in
-    by k first.0 first.1 (sym (ap (λ (o : Option B). slice_get (cons_option o (filter_map f xs)) k) first.1) ∙ at)
-    (λ i at_i. given_at f xs i z (λ j u there. each (suc j) u there) at_i)
-  where
-    by : (i : ℕ) (v : B) → f y ≡ Some v → slice_get (v ∷ filter_map f xs) i ≡ Some z
-        → ((j : ℕ) → slice_get (filter_map f xs) j ≡ Some z → (x : A) × (slice_get xs j ≡ Some x) × (f x ≡ Some z))
-        → (x : A) × (slice_get (y ∷ xs) i ≡ Some x) × (f x ≡ Some z)
-    by zero v is here rest = (y, refl, is ∙ here)
-    by (suc i) v is here rest = rest i here
-
-ascending_order : (ps : List Chosen) (j k : ℕ) (p q : Chosen) → AreAscending ps → j < k → slice_get ps j ≡ Some p
-    → slice_get ps k ≡ Some q → IsBefore p q
-ascending_order [] j k p q up less at_j at_k = absurd (none-some p at_j)
-ascending_order (x ∷ ps) zero zero p q up less at_j at_k = absurd (omega (arith, less))
-ascending_order (x ∷ ps) zero (suc k) p q up less at_j at_k =
-    subst (λ (y : Chosen). IsBefore y q) (same_Some x p at_j) (all_at (IsBefore x) ps k q up.0 at_k)
-ascending_order (x ∷ ps) (suc j) zero p q up less at_j at_k = absurd (omega (arith, less))
-ascending_order (x ∷ ps) (suc j) (suc k) p q up less at_j at_k = ascending_order ps j k p q up.1 (omega arith) at_j at_k
-
-not_before_itself : (p : Chosen) → IsBefore p p → ⊥
-not_before_itself p (inl less) = omega (arith, less)
-not_before_itself p (inr same) = let less = same.1 in omega (arith, less)
-
-one_number : (ps : List Chosen) (j k : ℕ) (p : Chosen) → AreAscending ps → slice_get ps j ≡ Some p → slice_get ps k ≡ Some p → j ≡ k
-one_number ps j k p up at_j at_k = elim (cases_order j k) [
-  | inl same ↦ same
-  | inr differ ↦ elim differ [
-    | inl less ↦ absurd (not_before_itself p (ascending_order ps j k p p up less at_j at_k))
-    | inr more ↦ absurd (not_before_itself p (ascending_order ps k j p p up more at_k at_j))
-  ]
-]
-
 -- ---- steps
-
-root_steps : (roots n : ℕ) (found : List (Option Found)) → n < roots → steps_to roots found n ≡ Some 0
-root_steps roots n found less =
-    let is : nat_lt n roots ≡ true = grind (arith, nat_tests, less) in
-    ap (λ b. cond b (Some 0) (option_map (λ (f : Found). f.steps) (found_at found (n - roots)))) is
-
-member_steps : (roots k : ℕ) (found : List (Option Found)) (w : Found) → found_at found k ≡ Some w
-    → steps_to roots found (roots + k) ≡ Some w.steps
-member_steps roots k found w at =
-    let is : nat_lt (roots + k) roots ≡ false = grind (arith, nat_tests) in
-    let number : roots + k - roots ≡ k = omega arith in
-    ap (λ b. cond b (Some 0) (option_map (λ (f : Found). f.steps) (found_at found (roots + k - roots)))) is
-    ∙ ap (λ i. option_map (λ (f : Found). f.steps) (found_at found i)) number ∙ ap (option_map (λ (f : Found). f.steps)) at
-
-steps_found : (o : Option Found) (d : ℕ) → option_map (λ (f : Found). f.steps) o ≡ Some d → (w : Found) × (o ≡ Some w) × (w.steps ≡ d)
-steps_found None d is = absurd (none-some d is)
-steps_found (Some w) d is = (w, refl, same_Some w.steps d is)
 
 -- steps to a number are those of a root or of what was found
 steps_of : (roots n d : ℕ) (found : List (Option Found)) → steps_to roots found n ≡ Some d →
     ((n < roots) × (d ≡ 0)) ⊎ ((k : ℕ) × (n ≡ roots + k) × ((w : Found) × (found_at found k ≡ Some w) × (w.steps ≡ d)))
-steps_of roots n d found is = elim (cases_lt n roots) [
-  | inl less ↦ inl (less, same_Some d 0 (sym is ∙ root_steps roots n found less))
-  | inr more ↦
-      let not_less : nat_lt n roots ≡ false = grind (arith, nat_tests, more) in
-      let of = steps_found (found_at found (n - roots)) d
-      (sym (ap (λ b. cond b (Some 0) (option_map (λ (f : Found). f.steps) (found_at found (n - roots)))) not_less) ∙ is) in
-      inr (n - roots, omega (arith, more), of)
+steps_of roots n d found is = elim (steps_parts roots n d found is) [
+  | inl one ↦ inl one
+  | inr other ↦ inr (n - roots, omega (arith, other.0), (other.1.0, other.1.1.0, other.1.1.1))
 ]
 
--- ---- the modules that are linked
+-- ---- the edges of linked modules
 
 module _ (roots : List ModuleValue) (libraries : List (List ModuleValue)) (taken : List Chosen)
     (selection : IsSelection roots libraries taken) where
-  needed_module : (m : ModuleValue) (p : Chosen) → Needs roots libraries m p → (k : ModuleValue) × (module_at libraries p ≡ Some k)
-  needed_module m p needs = (needs.first.provider, needs.first.there)
-
-  chosen_module : (p : Chosen) → IsChosen roots libraries p → (m : ModuleValue) × (module_at libraries p ≡ Some m)
-  chosen_module p (by_root r _ has needs) = needed_module r p needs
-  chosen_module p (by_member q _ m from at needs) = needed_module m p needs
-
-  each_module : (i : ℕ) (p : Chosen) → slice_get taken i ≡ Some p → (m : ModuleValue) × (module_at libraries p ≡ Some m)
-  each_module i p at = chosen_module p ((selection.chosen p).0 (has_at taken i p at))
-
-  root_module : (n : ℕ) (m : ModuleValue) → slice_get roots n ≡ Some m → slice_get (modules_with roots libraries taken) n ≡ Some m
-  root_module n m at =
-      at_front roots (filter_map (module_at libraries) taken) n (slice_get_within roots n m at) ∙ at
-
-  member_module : (k : ℕ) (p : Chosen) (m : ModuleValue) → slice_get taken k ≡ Some p → module_at libraries p ≡ Some m
-      → slice_get (modules_with roots libraries taken) (length roots + k) ≡ Some m
-  member_module k p m at there =
-      at_right roots (filter_map (module_at libraries) taken) k ∙ gives_at (module_at libraries) taken k p each_module at ∙ there
-
-  -- a linked module is a root, or stands at a place that was taken
-  linked_is : (n : ℕ) (m : ModuleValue) → slice_get (modules_with roots libraries taken) n ≡ Some m →
-      ((n < length roots) × Contains roots m)
-      ⊎ ((k : ℕ) × (n ≡ length roots + k) × ((p : Chosen) × (slice_get taken k ≡ Some p) × (module_at libraries p ≡ Some m)))
-  linked_is n m at = elim (cases_lt n (length roots)) [
-    | inl less ↦ inl (less, has_at roots n m (sym (at_front roots (filter_map (module_at libraries) taken) n less) ∙ at))
-    | inr more ↦
-        let back = at_back roots (filter_map (module_at libraries) taken) n more in
-        inr (back.0, back.1, given_at (module_at libraries) taken back.0 m each_module (sym back.2 ∙ at))
-  ]
-
-  linked_takes : (n : ℕ) (m : ModuleValue) (p : Chosen) → slice_get (modules_with roots libraries taken) n ≡ Some m
-      → Needs roots libraries m p → Contains taken p
-  linked_takes n m p at needs = (selection.chosen p).1 (elim (linked_is n m at) [
-    | inl one ↦ by_root m p one.1 needs
-    | inr other ↦ by_member other.2.0 p m ((selection.chosen other.2.0).0 (has_at taken other.0 other.2.0 other.2.1)) other.2.2 needs
-  ])
-
-  needs_for : (m : ModuleValue) (index : ℕ) (name : List ℕ) (p : Chosen) → slice_get m.externals index ≡ Some name
-      → IsSoughtAt roots libraries name p → Needs roots libraries m p
-  needs_for m index name p at sought = record {
-    name = name;
-    external = has_at m.externals index name at;
-    in_no_root = sought.in_no_root;
-    first = sought.first;
-  }
-
   -- the edge of a need
   pub record EdgeOf (n index : ℕ) (p : Chosen) : Type 0 where
     pub t : ℕ
     pub j : ℕ
     pub is_taken : slice_get taken t ≡ Some p
-    pub there : slice_get (edges_in (target roots libraries taken) (modules_with roots libraries taken)) j
+    pub there : slice_get (linked_edges (length roots) (modules_with roots libraries taken)) j
         ≡ Some (record { by = n; name = index; to = t })
 
   edge_of_need : (n : ℕ) (m : ModuleValue) (index : ℕ) (name : List ℕ) (p : Chosen)
       → slice_get (modules_with roots libraries taken) n ≡ Some m → slice_get m.externals index ≡ Some name
       → IsSoughtAt roots libraries name p → EdgeOf n index p
   edge_of_need n m index name p at external sought =
-      let has = linked_takes n m p at (needs_for m index name p external sought) in
-      let goes = is_target roots libraries taken name p sought has in
-      let edge = none_missing_of (target roots libraries taken) 0 (modules_with roots libraries taken) n m index name goes.0 at
-      external goes.1 in
+      let has = linked_takes roots libraries taken selection n m p at
+      (needs_for roots libraries taken selection m index name p external sought) in
+      let goes = is_target roots libraries taken selection name p sought has in
+      let edge = none_missing_of (target (length roots) (modules_with roots libraries taken)) 0 (modules_with roots libraries taken)
+      n m index name goes.0 at external goes.1 in
       record {
         t = goes.0;
         j = edge.0;
@@ -195,17 +55,25 @@ module _ (roots : List ModuleValue) (libraries : List (List ModuleValue)) (taken
         there = edge.1 ∙ ap (λ b. Some (record { by = b; name = index; to = goes.0 })) (let e : 0 + n ≡ n = omega arith in e);
       }
 
-  pub lead_inside : LeadInside (edges_in (target roots libraries taken) (modules_with roots libraries taken)) (length taken)
+  pub lead_inside : LeadInside (linked_edges (length roots) (modules_with roots libraries taken)) (length taken)
   lead_inside j e at =
-      let from = comes_from_module (target roots libraries taken) 0 (modules_with roots libraries taken) j e at in
-      let goes = target_is roots libraries taken from.name e.to from.to_is in
+      let from = comes_from_module (target (length roots) (modules_with roots libraries taken)) 0 (modules_with roots libraries taken)
+      j e at in
+      let goes = target_is roots libraries taken selection from.at from.m e.name from.name e.to from.there from.external from.to_is in
       slice_get_within taken e.to goes.0 goes.1
+
+  pub by_module : AreByModule (linked_edges (length roots) (modules_with roots libraries taken))
+  by_module i j e f le at_e at_f = elim (edges_ascend (target (length roots) (modules_with roots libraries taken))
+      (modules_with roots libraries taken) i j e f le at_e at_f) [
+        | inl less ↦ omega (arith, less)
+        | inr same ↦ let equal = same.0 in omega (arith, equal)
+      ]
 
 -- ---- what is found
 
 module _ (roots : List ModuleValue) (libraries : List (List ModuleValue)) (taken : List Chosen)
     (selection : IsSelection roots libraries taken) (found : List (Option Found))
-    (complete : IsComplete (length roots) (edges_in (target roots libraries taken) (modules_with roots libraries taken)) found) where
+    (complete : IsComplete (length roots) (linked_edges (length roots) (modules_with roots libraries taken)) found) where
   pub record FoundFor (p : Chosen) (most : ℕ) : Type 0 where
     pub t : ℕ
     pub w : Found
@@ -252,7 +120,7 @@ module _ (roots : List ModuleValue) (libraries : List (List ModuleValue)) (taken
     pub m : ModuleValue
     pub name : List ℕ
     pub distance : ℕ
-    pub there : slice_get (edges_in (target roots libraries taken) (modules_with roots libraries taken)) w.edge ≡ Some edge
+    pub there : slice_get (linked_edges (length roots) (modules_with roots libraries taken)) w.edge ≡ Some edge
     pub is_linked : slice_get (modules_with roots libraries taken) edge.by ≡ Some m
     pub external : slice_get m.externals edge.name ≡ Some name
     pub to_is : edge.to ≡ t
@@ -263,8 +131,10 @@ module _ (roots : List ModuleValue) (libraries : List (List ModuleValue)) (taken
   pub behind : (t : ℕ) (w : Found) (p : Chosen) → slice_get taken t ≡ Some p → found_at found t ≡ Some w → Behind t w p
   behind t w p is_taken at =
       let right = complete.right t w at in
-      let from = comes_from_module (target roots libraries taken) 0 (modules_with roots libraries taken) w.edge right.edge right.there in
-      let goes = target_is roots libraries taken from.name right.edge.to from.to_is in
+      let from = comes_from_module (target (length roots) (modules_with roots libraries taken)) 0 (modules_with roots libraries taken)
+      w.edge right.edge right.there in
+      let goes = target_is roots libraries taken selection from.at from.m right.edge.name from.name right.edge.to from.there from.external
+      from.to_is in
       let same : goes.0 ≡ p = same_Some goes.0 p (sym goes.1 ∙ ap (slice_get taken) right.to_is ∙ is_taken) in
       let number : right.edge.by ≡ from.at = omega (arith, from.by_is) in
       record {
@@ -355,7 +225,7 @@ module _ (roots : List ModuleValue) (libraries : List (List ModuleValue)) (taken
 
   pub reason_is : (t : ℕ) (w : Found) (p : Chosen) (edge : Edge) (by : ModuleValue) (name : List ℕ) → slice_get taken t ≡ Some p
       → found_at found t ≡ Some w
-      → slice_get (edges_in (target roots libraries taken) (modules_with roots libraries taken)) w.edge ≡ Some edge
+      → slice_get (linked_edges (length roots) (modules_with roots libraries taken)) w.edge ≡ Some edge
       → slice_get (modules_with roots libraries taken) edge.by ≡ Some by → slice_get by.externals edge.name ≡ Some name
       → IsReason roots libraries taken p name by
   reason_is t w p edge by name is_taken at at_edge at_by at_name =
@@ -400,7 +270,7 @@ module _ (roots : List ModuleValue) (libraries : List (List ModuleValue)) (taken
     where
       -- an edge of another need leads from farther away, or comes later
       first_of : (t : ℕ) (w : Found) (p : Chosen) (edge : Edge) (distance : ℕ) → slice_get taken t ≡ Some p → found_at found t ≡ Some w
-          → slice_get (edges_in (target roots libraries taken) (modules_with roots libraries taken)) w.edge ≡ Some edge
+          → slice_get (linked_edges (length roots) (modules_with roots libraries taken)) w.edge ≡ Some edge
           → w.steps ≡ suc distance → (other : ℕ) (m : ModuleValue) (index : ℕ) (its_name : List ℕ) (others : ℕ)
           → slice_get (modules_with roots libraries taken) other ≡ Some m → slice_get m.externals index ≡ Some its_name
           → IsSoughtAt roots libraries its_name p → steps_to (length roots) found other ≡ Some others
@@ -419,7 +289,8 @@ module _ (roots : List ModuleValue) (libraries : List (List ModuleValue)) (taken
                 let le : w.edge ≤ its.j = (let q = equal.1 in omega (arith, q, ap (λ (f : Found). f.edge) one)) in
                 inr (
                   omega (arith, e, its_steps, next),
-                  edges_ascend (target roots libraries taken) (modules_with roots libraries taken) w.edge its.j edge its_edge le at_edge its.there,
+                  edges_ascend (target (length roots) (modules_with roots libraries taken)) (modules_with roots libraries taken) w.edge its.j
+                      edge its_edge le at_edge its.there,
                 )
           ]
 

@@ -6,7 +6,7 @@ use Rattle.link80.specs.Selection.{IsSelection, modules_with}
 use Rattle.link80_text.specs.declared.reasons.edges.Edge.{Edge}
 use Rattle.link80_text.specs.declared.reasons.search.Found.{Found}
 use Rattle.link80_text.specs.Reasons.{IsReasonLine}
-use Rattle.link80_text.specs.Edges.{target, edges_in}
+use Rattle.link80_text.specs.Edges.{linked_edges}
 use Rattle.link80_text.specs.Search.{IsComplete}
 
 -- what callers see of it
@@ -20,8 +20,8 @@ pub record IsSearchedFor (roots : List ModuleValue) (libraries : List (List Modu
     (modules : List ModuleValue) (edges : List Edge) (found : List (Option Found)) : Type 0 where
   pub selection : IsSelection roots libraries taken
   pub modules_are : modules ≡ modules_with roots libraries taken
-  pub edges_are : edges ≡ edges_in (target roots libraries taken) (modules_with roots libraries taken)
-  pub complete : IsComplete (length roots) (edges_in (target roots libraries taken) (modules_with roots libraries taken)) found
+  pub edges_are : edges ≡ linked_edges (length roots) (modules_with roots libraries taken)
+  pub complete : IsComplete (length roots) (linked_edges (length roots) (modules_with roots libraries taken)) found
   pub len : length found ≡ length taken
 
 -- a text with the line of the module at a place behind it

@@ -2,7 +2,7 @@
 //! are defined in `specs/Reasons.antt`.
 
 mod edges;
-mod providing;
+mod linked;
 mod reason_lines;
 mod search;
 

@@ -1,9 +1,9 @@
 //! What the linked modules need, as edges.
 
 ghost use Rattle.std.specs.Prelude.{◌≡◌, ◌++◌, map, IfOk, OnOk};
-ghost use Rattle.link80_text.specs.Edges.{target, edges_of, edges_in};
+ghost use Rattle.link80_text.specs.Edges.{target, edges_of, linked_edges};
 
-use crate::reasons::providing::Selection;
+use crate::reasons::linked::LinkedModules;
 use omf_parts::Module;
 use std::alloc::{AllocError, Global};
 
@@ -15,19 +15,18 @@ pub(crate) struct Edge {
     pub to: usize,
 }
 
-/// The edges of all linked modules, in the order of these and of their externals.
+/// The edges of linked modules, in the order of these and of their externals. The first `roots` modules are roots.
 pub(crate) fn edges_in(
     alloc: Global,
-    selection: &Selection<'_>,
+    roots: usize,
     modules: &[&Module],
 ) -> Result<Vec<Edge>, AllocError>
-    ensures { IfOk result (λ edges. edges.items
-        ≡ edges_in (target selection.now.roots selection.now.libraries.items selection.now.taken.now)
-        (map (λ m. m.now) modules.now)) }
+    ensures { IfOk result (λ edges. edges.items ≡ linked_edges roots (map (λ m. m.now) modules.now)) }
 {
+    let linked = LinkedModules::of(alloc, roots, modules)?;
     let mut edges = Vec::new(alloc);
     for (by, source) in modules.iter().enumerate() {
-        append_edges(&mut edges, selection, by, source)?;
+        append_edges(&mut edges, &linked, by, source)?;
     }
     Ok(edges)
 }
@@ -35,15 +34,15 @@ pub(crate) fn edges_in(
 /// Appends the edges of a module.
 fn append_edges(
     edges: &mut Vec<Edge>,
-    selection: &Selection<'_>,
+    linked: &LinkedModules<'_>,
     by: usize,
     source: &Module,
 ) -> Result<(), AllocError>
     ensures { OnOk result (edges.new.items ≡ edges.old.items
-        ++ edges_of (target selection.now.roots selection.now.libraries.items selection.now.taken.now) (by, source.now)) }
+        ++ edges_of (target linked.now.roots linked.now.modules) (by, source.now)) }
 {
     for (name, external) in source.externals().iter().enumerate() {
-        if let Some(to) = selection.target(external.bytes()) {
+        if let Some(to) = linked.target(external.bytes()) {
             edges.push(Edge { by, name, to })?;
         }
     }

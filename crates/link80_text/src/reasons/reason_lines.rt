@@ -9,7 +9,6 @@ ghost use Rattle.link80_text.specs.Searched.{PrintsLine};
 
 use crate::modules::{linked_modules, module_at};
 use crate::reasons::edges::{Edge, edges_in};
-use crate::reasons::providing::Selection;
 use crate::reasons::search::{Found, fewest_steps};
 use crate::words::{append_word, path_of};
 use link80::Chosen;
@@ -86,9 +85,8 @@ impl<'a> Searched<'a> {
         requires { IsSelection roots.now libraries.now taken.now }
         ensures { IfOk result (λ s. s ≡ record { roots = roots.now; libraries = libraries.now; taken = taken.now }) }
     {
-        let selection = Selection::of(alloc, roots, libraries, taken)?;
         let modules = linked_modules(alloc, roots, libraries, taken)?;
-        let edges = edges_in(alloc, &selection, &modules)?;
+        let edges = edges_in(alloc, roots.len(), &modules)?;
         let found = fewest_steps(alloc, roots.len(), &edges, taken.len())?;
         Ok(Searched {
             roots,

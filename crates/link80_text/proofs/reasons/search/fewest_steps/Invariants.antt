@@ -1,15 +1,14 @@
 -- the search at the beginning of this round, or after the last
-use Rattle.std.specs.Prelude.{◌≡◌, ◌≤◌, ◌+◌, true, false, if◌then◌else◌, count_by, is_none, length}
-use Rattle.link80_text.specs.Search.{IsSearched, IsComplete}
+use Rattle.std.specs.Prelude.{◌≡◌, ◌≤◌, ◌<◌, ◌+◌, count_by, is_none, length}
+use Rattle.link80_text.specs.Search.{IsSearched}
 use Rattle.link80_text.proofs.reasons.search.fewest_steps.Given as goal
 
-abbrev pub invariant-loop-changed : goal.invariant-loop-changed
-invariant-loop-changed l = record {
-  searched : IsSearched l.roots l.edges l.round 0 l.found.items;
-  complete : l.changed ≡ false → IsComplete l.roots l.edges l.found.items;
-  few : l.changed ≡ true → l.round + count_by is_none l.found.items ≤ l.count;
-  len : length l.found.items ≡ l.count;
+abbrev pub invariant-loop-alloc : goal.invariant-loop-alloc
+invariant-loop-alloc l = record {
+  searched : IsSearched l.roots l.edges l.round l.search.next.items l.search.found.items;
+  few : 0 < length l.search.next.items → l.round + count_by is_none l.search.found.items ≤ l.count;
+  len : length l.search.found.items ≡ l.count;
 }
 
-abbrev pub decreases-loop-changed : goal.decreases-loop-changed
-decreases-loop-changed l = if l.changed then count_by is_none l.found.items + 1 else 0
+abbrev pub decreases-loop-alloc : goal.decreases-loop-alloc
+decreases-loop-alloc l = count_by is_none l.search.found.items + length l.search.next.items
