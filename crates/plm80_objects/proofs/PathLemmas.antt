@@ -1,11 +1,13 @@
 -- The paths of the files that were read.
-use Rattle.std.specs.Prelude.{◌≡◌, ℕ, zero, suc, ◌+◌, List, [], ◌∷◌, ◌++◌, length, map}
+use Rattle.std.specs.Prelude.{◌≡◌, ℕ, zero, suc, ◌+◌, ◌<◌, List, [], ◌∷◌, ◌++◌, length, map, take, slice_index_or}
 use Rattle.std.specs.Borrow.{Bor}
 use Rattle.std.specs.List.{repeat}
 use Rattle.std.proofs.Common.{◌∙◌, ap, sym, refl, add-one, append_assoc, length-append, arith}
 use Rattle.plm80_console.specs.declared.link_feed.LinkFile.{LinkFile}
 use Rattle.plm80_console.specs.declared.link_feed.LinkFile.TheVariants.{Modules, Library}
-use Rattle.plm80_objects.specs.Link.{AddsFile, HavePaths}
+use Rattle.std.proofs.lemmas.List.{flat_map_more, take_more}
+use Rattle.plm80_objects.specs.Link.{AddsFile, HavePaths, paths_of, root_paths}
+use Rattle.plm80_objects.specs.declared.link.RootFile.{RootFile}
 use Rattle.plm80_objects.specs.declared.link.LinkFiles.{LinkFiles}
 
 -- one more lent text behind the others
@@ -47,24 +49,33 @@ length_texts : (ps : List (Bor (List ℕ))) → length (map (λ p. p.now) ps) �
 length_texts [] = refl
 length_texts (p ∷ ps) = ap (λ (m : ℕ). suc m) (length_texts ps)
 
+-- the paths with those of one more file
+pub file_behind : (before after : List RootFile) (file : RootFile) → after ≡ before ++ file ∷ []
+    → root_paths after ≡ root_paths before ++ paths_of file
+file_behind before after file is = ap root_paths is ∙ sym (flat_map_more paths_of [] before file)
+
+pub one_more_file : (files : List RootFile) (n : ℕ) (file : RootFile) → n < length files → slice_index_or files n file ≡ file
+    → root_paths (take n files) ++ paths_of file ≡ root_paths (take (n + 1) files)
+one_more_file files n file less is =
+    flat_map_more paths_of [] (take n files) file
+    ∙ sym (ap root_paths (take_more files n file less ∙ ap (λ (f : RootFile). take n files ++ f ∷ []) is))
+
 pub paths_kept : (file : LinkFile) (path : List ℕ) (before after : LinkFiles) → AddsFile file path before after
     → HavePaths before → HavePaths after
 paths_kept (Modules ms) path before after adds have = record {
   roots =
-      sym (length_texts after.root_paths.items) ∙ (ap length adds.root_paths
-      ∙ (length-append (map (λ p. p.now) before.root_paths.items) (repeat (length ms.items) (path ∷ []))
+      ap length adds.paths_of_roots ∙ (length-append (root_paths before.root_files.items) (repeat (length ms.items) (path ∷ []))
       ∙ omega (
         arith,
-        length_texts before.root_paths.items,
         length_repeat path (length ms.items),
         have.roots,
         ap length adds.roots,
         length-append before.roots.items ms.items,
-      )));
+      ));
   libraries = cc (adds.paths, adds.libraries, have.libraries);
 }
 paths_kept (Library library) path before after adds have = record {
-  roots = cc (adds.root_paths, adds.roots, have.roots);
+  roots = cc (adds.root_files, adds.roots, have.roots);
   libraries =
       sym (length_texts after.paths.items) ∙ (ap length adds.paths
       ∙ (length-append (map (λ p. p.now) before.paths.items) (path ∷ [])

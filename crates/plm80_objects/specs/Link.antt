@@ -13,25 +13,33 @@ use Rattle.plm80_console.specs.Answer.{AnswerValue, writes}
 use Rattle.plm80_console.specs.declared.link_feed.LinkFile.{LinkFile}
 use Rattle.plm80_console.specs.declared.link_feed.LinkFile.TheVariants.{Modules, Library}
 use Rattle.plm80_objects.specs.declared.link.LinkFiles.{LinkFiles}
+use Rattle.plm80_objects.specs.declared.link.RootFile.{RootFile}
 use Rattle.plm80_objects.specs.declared.helpers.link_lines.LinkLines.{LinkLines}
+
+-- the path of each module of a file
+abbrev pub paths_of : RootFile → List (List ℕ)
+paths_of file = repeat file.modules (file.path.now ∷ [])
+
+-- the path of each module's file
+abbrev pub root_paths : List RootFile → List (List ℕ)
+root_paths files = flat_map paths_of files
 
 -- each module has the path of its file, and so has each library
 pub record HavePaths (files : LinkFiles) : Type 0 where
-  pub roots : length files.root_paths.items ≡ length files.roots.items
+  pub roots : length (root_paths files.root_files.items) ≡ length files.roots.items
   pub libraries : length files.paths.items ≡ length files.libraries.items
 
 -- the modules of an object file come behind the others, each with its path
 pub record AddsModules (modules : List ModuleValue) (path : List ℕ) (before after : LinkFiles) : Type 0 where
   pub roots : after.roots.items ≡ before.roots.items ++ modules
-  pub root_paths : map (λ p. p.now) after.root_paths.items
-      ≡ map (λ p. p.now) before.root_paths.items ++ repeat (length modules) (path ∷ [])
+  pub paths_of_roots : root_paths after.root_files.items ≡ root_paths before.root_files.items ++ repeat (length modules) (path ∷ [])
   pub libraries : after.libraries ≡ before.libraries
   pub paths : after.paths ≡ before.paths
 
 -- a library comes behind the others with its path
 pub record AddsLibrary (library : List ModuleValue) (path : List ℕ) (before after : LinkFiles) : Type 0 where
   pub roots : after.roots ≡ before.roots
-  pub root_paths : after.root_paths ≡ before.root_paths
+  pub root_files : after.root_files ≡ before.root_files
   pub libraries : after.libraries.items ≡ before.libraries.items ++ library ∷ []
   pub paths : map (λ p. p.now) after.paths.items ≡ map (λ p. p.now) before.paths.items ++ path ∷ []
 

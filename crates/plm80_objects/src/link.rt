@@ -1,7 +1,6 @@
 //! `plm80 link`: the modules of object files, and what they need of libraries, linked into one.
 
-ghost use Rattle.std.specs.Prelude.{◌≡◌, ◌++◌, ◌∷◌, [], map, IfOk, OnOk};
-ghost use Rattle.std.specs.List.{repeat};
+ghost use Rattle.std.specs.Prelude.{◌≡◌, ◌++◌, map, IfOk, OnOk};
 ghost use Rattle.link80.specs.Selection.{IsSelection};
 ghost use Rattle.link80_text.specs.Parts.{IsMade};
 ghost use Rattle.plm80_objects.specs.Arguments.{AreLinkArguments};
@@ -100,11 +99,18 @@ impl<'a> LinkArguments<'a> {
     }
 }
 
-/// The modules of object files, each with the path of its file, and libraries with their paths, in the order of the files.
+/// The path of an object file, and how many modules it has.
+#[derive(Clone, Copy)]
+pub(crate) struct RootFile<'a> {
+    pub path: &'a [u8],
+    pub modules: usize,
+}
+
+/// The modules of object files, and these files; and libraries with their paths: in the order of the files.
 #[derive(Drop)]
 pub(crate) struct LinkFiles<'a> {
     pub roots: Vec<Module>,
-    pub root_paths: Vec<&'a [u8]>,
+    pub root_files: Vec<RootFile<'a>>,
     pub libraries: Vec<Library>,
     pub paths: Vec<&'a [u8]>,
 }
@@ -153,7 +159,7 @@ fn read_files<'a>(console: Console<'_>, paths: &[&'a str]) -> Result<LinkFiles<'
 {
     let mut files = LinkFiles {
         roots: Vec::new(console.alloc()),
-        root_paths: Vec::new(console.alloc()),
+        root_files: Vec::new(console.alloc()),
         libraries: Vec::new(console.alloc()),
         paths: Vec::new(console.alloc()),
     };
@@ -181,15 +187,15 @@ impl<'a> LinkFiles<'a> {
         }
     }
 
-    /// Adds the modules of an object file, each with its path.
-    fn add_modules(&mut self, mut modules: Vec<Module>, path: &'a str) -> Result<(), AllocError>
+    /// Adds the modules of an object file, with its path.
+    fn add_modules(&mut self, modules: Vec<Module>, path: &'a str) -> Result<(), AllocError>
         ensures { OnOk result (AddsModules modules.items path.now self.old self.new) }
     {
-        push_paths(&mut self.root_paths, modules.len(), path)?;
-        match self.roots.append(&mut modules) {
-            Ok(()) => Ok(()),
-            Err(_) => Err(AllocError),
-        }
+        self.root_files.push(RootFile {
+            path: path.as_bytes(),
+            modules: modules.len(),
+        })?;
+        push_modules(&mut self.roots, modules)
     }
 
     /// Adds a library with its path.
@@ -202,14 +208,18 @@ impl<'a> LinkFiles<'a> {
     }
 }
 
-/// Appends the path `count` times.
-fn push_paths<'a>(paths: &mut Vec<&'a [u8]>, count: usize, path: &'a str) -> Result<(), AllocError>
-    ensures { OnOk result (map (λ p. p.now) paths.new.items ≡ map (λ p. p.now) paths.old.items ++ repeat count (path.now ∷ [])) }
+/// Appends modules. The first ones stay where they are, since to move them takes as much memory again.
+fn push_modules(roots: &mut Vec<Module>, mut modules: Vec<Module>) -> Result<(), AllocError>
+    ensures { OnOk result (roots.new.items ≡ roots.old.items ++ modules.items) }
 {
-    for _ in 0..count {
-        paths.push(path.as_bytes())?;
+    if roots.is_empty() {
+        *roots = modules;
+        return Ok(());
     }
-    Ok(())
+    match roots.append(&mut modules) {
+        Ok(()) => Ok(()),
+        Err(_) => Err(AllocError),
+    }
 }
 
 /// What the file of this path has.

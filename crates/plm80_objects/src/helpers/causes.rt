@@ -1,10 +1,12 @@
 //! Words below a fault of `link`, `locate` and `map`: where its cause is. If memory runs out for them, the fault stands alone.
 
-ghost use Rattle.std.specs.Prelude.{◌≡◌, [], map, IfOk};
+ghost use Rattle.std.specs.Prelude.{◌≡◌, ◌++◌, ◌∷◌, [], map, IfOk, OnOk};
+ghost use Rattle.std.specs.List.{repeat};
 ghost use Rattle.link80_text.specs.Causes.{PrintsCause};
 ghost use Rattle.place80.specs.Causes.{cause_text};
+ghost use Rattle.plm80_objects.specs.Link.{root_paths};
 
-use crate::link::LinkFiles;
+use crate::link::{LinkFiles, RootFile};
 use link80::LinkFault;
 use link80_text::LinkSources;
 use omf_module::Module;
@@ -35,18 +37,40 @@ fn link_lines(
     files: &LinkFiles<'_>,
     fault: &LinkFault,
 ) -> Result<Vec<u8>, AllocError>
-    ensures { IfOk result (λ lines. PrintsCause files.now.roots.items (map (λ p. p.now) files.now.root_paths.items)
+    ensures { IfOk result (λ lines. PrintsCause files.now.roots.items (root_paths files.now.root_files.items)
         files.now.libraries.items (map (λ p. p.now) files.now.paths.items) fault.now [] lines.items) }
 {
+    let paths = root_paths(alloc, &files.root_files)?;
     let sources = LinkSources {
         roots: &files.roots,
-        root_files: &files.root_paths,
+        root_files: &paths,
         libraries: &files.libraries,
         library_files: &files.paths,
     };
     let mut lines = Vec::new(alloc);
     link80_text::append_cause(alloc, &mut lines, &sources, fault)?;
     Ok(lines)
+}
+
+/// The path of each module's file.
+fn root_paths<'a>(alloc: Global, files: &[RootFile<'a>]) -> Result<Vec<&'a [u8]>, AllocError>
+    ensures { IfOk result (λ paths. map (λ p. p.now) paths.items ≡ root_paths files.now) }
+{
+    let mut paths = Vec::new(alloc);
+    for file in files {
+        push_paths(&mut paths, file.modules, file.path)?;
+    }
+    Ok(paths)
+}
+
+/// Appends the path `count` times.
+fn push_paths<'a>(paths: &mut Vec<&'a [u8]>, count: usize, path: &'a [u8]) -> Result<(), AllocError>
+    ensures { OnOk result (map (λ p. p.now) paths.new.items ≡ map (λ p. p.now) paths.old.items ++ repeat count (path.now ∷ [])) }
+{
+    for _ in 0..count {
+        paths.push(path)?;
+    }
+    Ok(())
 }
 
 /// Reports why a module can't be placed by these options, and says where the cause is if that is asked for.

@@ -1,6 +1,6 @@
 use Rattle.std.proofs.Common.{◌≡◌, ◌++◌, ◌∷◌, [], map}
 use Rattle.std.specs.List.{repeat}
-use Rattle.plm80_objects.proofs.link.push_paths.Given as goal
+use Rattle.plm80_objects.proofs.helpers.causes.push_paths.Given as goal
 
 -- the path once for each round so far
 abbrev pub invariant-loop : goal.invariant-loop

@@ -1,0 +1,7 @@
+use Rattle.std.proofs.Common.{◌≡◌, map, take}
+use Rattle.plm80_objects.specs.Link.{root_paths}
+use Rattle.plm80_objects.proofs.helpers.causes.root_paths.Given as goal
+
+-- the paths of the files so far
+abbrev pub invariant-loop-file : goal.invariant-loop-file
+invariant-loop-file l = map (λ p. p.now) l.paths.items ≡ root_paths (take l.file-index l.files)
