@@ -72,7 +72,7 @@ impl<'a> Syntax<'a> {
 pub const WHY: Argument<'static> = Argument {
     name: "why",
     kind: Kind::Flag,
-    help: "Say below a fault what is wrong, in words",
+    help: "Explain a fault below its line",
 };
 
 impl<'a> Argument<'a> {

@@ -41,8 +41,9 @@ It prints TAKEN and a name for each module that is taken from a library, and
 UNRESOLVED and a name for each name that no module declares. With --reasons,
 TAKEN also gives the name it is taken FOR, the nearest module that needs it
 (BY), and the library's file (FROM). With --map, UNRESOLVED has a line for each
-module that needs the name, and PART lines follow: offset in the linked segment,
-length, segment, and module. If there is a fault, no file is written.
+module that needs the name, and each part of a segment has a line PART: its
+offset in the linked segment, length, segment, and module. If there is a fault,
+no file is written.
 
 Example: plm80 link --name CONTROL --out linked.obj main.obj routines.lib
 

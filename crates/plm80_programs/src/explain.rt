@@ -31,10 +31,10 @@ stack before it, bottom to top. RET is its own return address, .. any word;
 BC=RET, DE=RET or HL=RET is a pair that holds its return address; TAKEN n counts
 words that it has taken from beneath its return address. If two ways disagree,
 both are shown, under ONE WAY and ANOTHER; if a procedure takes more words than
-its caller pushed, under CALLER and CALLEE. Of a program that is accepted, or
-whose stack is too small, it shows the chain of calls that needs most: the bytes
-that each procedure HAS on the stack, and two more for each call. Where the
-stack is too small, check's line for each procedure comes first.
+its caller pushed, under CALLER and CALLEE. If the program is accepted, or its
+stack is too small, check's lines for the procedures come first, and then the
+chain of calls that needs most: the bytes that each procedure HAS on the stack,
+and two more for each call.
 
 --names prints names as check and list do: behind a call its target's, behind
 the last line of a chain the address's.

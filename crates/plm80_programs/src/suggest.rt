@@ -32,13 +32,13 @@ pub struct SuggestArguments<'a> {
 const ABOUT: &str = "Prints the regions that an image's bytes suggest";
 
 const AFTER_HELP: &str = "\
-What is printed is a regions text to begin with. CODE is the bytes of the
-instructions that the program may reach from its start, behind each call too and
-by the jump tables that cases sees; within the --rom-range options, if there are
-any. STACK is 16 bytes below the address of LXI SP, or what the program needs,
-as far as they are free. DATA is what STA, LDA, SHLD and LHLD name outside CODE,
-STACK and the image's bytes; or the --ram-range options but for CODE and STACK,
-since no instruction says how long an array is. FIRST:LENGTH is a first address
+It prints a regions text to begin with. CODE has the instructions that the
+program may reach from its start, also after each call and through the jump
+tables that cases sees, within the --rom-range options, if any. STACK has 16
+bytes below the address of LXI SP, or what the program needs, as far as they are
+free. DATA has what STA, LDA, SHLD and LHLD name outside CODE, STACK and the
+image's bytes; or the --ram-range options but for CODE and STACK, since no
+instruction says how long an array is. FIRST:LENGTH is a first address
 and a number of bytes, as extract takes them by --first and --length: one to
 four hexadecimal digits each, in either case, without h or 0x. A range ends at
 or below FFFF.

@@ -58,11 +58,11 @@ of its run. --why, alone or after a command, explains a fault below its line;
 PLM80_WHY=1 in the environment does the same. Files have at most 1048576 bytes,
 a bundle 4194312.
 
-The exit status is 0 if the command is done or the program halted, 1 if the
-verifier refuses the program, or as the help of stores, cases and compare says,
-2 at a fault of the arguments or of a file, and for help, 3 if the program stops
-at an empty port, a refused output, a store outside data or a jump outside its
-declared targets, and 4 if its steps are used up.
+The exit status is 0 if the command succeeded or the program halted; 1 if the
+verifier refuses the program, or as the help of stores, cases, suggest, compare
+and find says; 2 for a fault of the arguments or of a file, and for help; 3 if
+the program stops at an empty port, a refused output, a store outside data or a
+jump outside its declared targets; and 4 if its steps are used up.
 
 Example: plm80 locate readings.obj readings.img readings.regions
          plm80 run readings.img readings.regions readings.inputs
