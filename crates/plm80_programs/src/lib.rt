@@ -1,6 +1,6 @@
 //! The commands of located programs and of their runs.
 //!
-//! Proved: the same.
+//! Proved: what each prints and writes of an image, its regions, the inputs of its run and its options, and the status.
 //!
 //! | Item | What it is |
 //! |---|---|
