@@ -1,14 +1,12 @@
 -- The command that a request is of, and the exit statuses of the program. (The statuses are this project's own.)
-use Rattle.std.specs.Prelude.{◌≡◌, ◌⊎◌, ℕ, Option, List, map, codes}
-use Rattle.machine80.specs.declared.end.End.{End}
+use Rattle.std.specs.Prelude.{◌≡◌, ◌⊎◌, ℕ, List, map, codes}
 use Rattle.plm80_names.specs.Arguments.{asks_names}
 use Rattle.plm80_names.specs.Verdict.{IsStatusFor}
 use Rattle.plm80_objects.specs.Compare.{IsCompareStatus}
 use Rattle.plm80_objects.specs.Find.{IsFindStatus}
 use Rattle.plm80_programs.specs.Cases.{IsCasesStatus}
 use Rattle.plm80_programs.specs.Printed.{IsStoresStatus, PrintsCalls, PrintsExplanation, PrintsListing, PrintsReport}
-use Rattle.plm80_programs.specs.Running.{IsCoverStatus, IsRunStatus, IsTraceStatus}
-use Rattle.plm80_programs.specs.Status.{end_status}
+use Rattle.plm80_programs.specs.Running.{IsCoverStatus, IsRunStatus, IsSessionStatus, IsTraceStatus}
 use Rattle.plm80_programs.specs.Suggest.{IsAdviceStatus}
 use Rattle.plm80.specs.declared.commands.arguments.Request.{Request}
 use Rattle.plm80.specs.declared.commands.arguments.Request.TheVariants as request
@@ -66,6 +64,6 @@ HasStatus (request.Suggest arguments) status =
 abbrev pub IsCommandStatus : (status : ℕ) → Type 0
 IsCommandStatus status = (status ≡ 2) ⊎ ((request : Request) × HasStatus request status)
 
--- that of a bundle: 2 at a fault, 1 if the image is refused, else that of the run
+-- that of a bundle: 2 at a fault, else that of its session, which ends or is refused
 abbrev pub IsBundleStatus : (status : ℕ) → Type 0
-IsBundleStatus status = (status ≡ 2) ⊎ ((status ≡ 1) ⊎ ((ending : Option End) × (status ≡ end_status ending)))
+IsBundleStatus status = (status ≡ 2) ⊎ IsSessionStatus status

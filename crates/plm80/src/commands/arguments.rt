@@ -1,6 +1,6 @@
 //! The command line, read by clap.
 
-ghost use Rattle.std.specs.Prelude.{◌≡◌, ◌⊎◌, ◌∷◌, [], true, false, None, Some, IfOk, IfErr, IfSome};
+ghost use Rattle.std.specs.Prelude.{◌≡◌, ◌⊎◌, ◌∷◌, [], true, false, None, Some, IfOk, IfErr, IfSome, codes, map};
 ghost use Rattle.std.specs.Str.{bytes_eq};
 ghost use Rattle.clap.specs.Matches.{has_subcommand, subcommand_name_of};
 ghost use Rattle.clap.specs.Values.{kind_of};
@@ -72,28 +72,29 @@ Faults and what to do: docs/FAULTS.md (installed: share/doc/plm80), man plm80.";
 /// The commands of object files, in the order of the help text. (Several functions make the commands, since one proof of all their
 /// texts is more than the prover takes.)
 fn object_commands() -> [Syntax<'static>; 5]
-    ensures { result ≡ LIB ∷ LINK ∷ LOCATE ∷ MAP ∷ MODULE ∷ [] }
+    ensures { map (λ command. command.name.now) result ≡ codes "lib" ∷ codes "link" ∷ codes "locate" ∷ codes "map" ∷ codes "module" ∷ [] }
 {
     [LIB, LINK, LOCATE, MAP, MODULE]
 }
 
 /// The commands that verify a located program, in the order of the help text.
 fn verifier_commands() -> [Syntax<'static>; 4]
-    ensures { result ≡ CHECK ∷ EXPLAIN ∷ CALLS ∷ STORES ∷ [] }
+    ensures { map (λ command. command.name.now) result ≡ codes "check" ∷ codes "explain" ∷ codes "calls" ∷ codes "stores" ∷ [] }
 {
     [CHECK, EXPLAIN, CALLS, STORES]
 }
 
 /// The commands that run one, in the order of the help text.
 fn run_commands() -> [Syntax<'static>; 4]
-    ensures { result ≡ RUN ∷ TRACE ∷ COVER ∷ INPUTS ∷ [] }
+    ensures { map (λ command. command.name.now) result ≡ codes "run" ∷ codes "trace" ∷ codes "cover" ∷ codes "inputs" ∷ [] }
 {
     [RUN, TRACE, COVER, INPUTS]
 }
 
 /// The commands of PROMs, and of programs of which there are no object files, in the order of the help text.
 fn prom_commands() -> [Syntax<'static>; 8]
-    ensures { result ≡ ABSOLUTE ∷ EXTRACT ∷ COMPARE ∷ FIND ∷ SUGGEST ∷ CASES ∷ LIST ∷ REGIONS ∷ [] }
+    ensures { map (λ command. command.name.now) result ≡ codes "absolute" ∷ codes "extract" ∷ codes "compare" ∷ codes "find"
+        ∷ codes "suggest" ∷ codes "cases" ∷ codes "list" ∷ codes "regions" ∷ [] }
 {
     [
         ABSOLUTE, EXTRACT, COMPARE, FIND, SUGGEST, CASES, LIST, REGIONS,
