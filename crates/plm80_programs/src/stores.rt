@@ -15,7 +15,7 @@ use plm80_console::{
 };
 use plm80_names::{NAMES, NamedFiles, Names, Verdict, judge};
 use std::alloc::{AllocError, Global};
-use verify80_stores::{Stores, find_stores, stores_text};
+use verify80_stores::{Cause, Setter, Stores, find_causes, find_stores, stores_text};
 
 const ABOUT: &str = "Verifies an image, and prints its stores that may leave data";
 
@@ -89,10 +89,28 @@ pub fn list_stores(console: Console<'_>, arguments: &StoresArguments<'_>) -> Res
 {
     let quiet = ranges_of(console, QUIET, &arguments.quiet)?;
     let (image, names) = arguments.files.read(console)?;
-    match judged(console.alloc(), image, &names, &quiet) {
-        Ok(answer) => console.give(answer),
+    match judged(
+        console.alloc(),
+        image,
+        &names,
+        &quiet,
+        console.explains(),
+    ) {
+        Ok(ListedStores { answer, causes }) => {
+            let status = console.give(answer)?;
+            explain_causes(console, &causes);
+            Ok(status)
+        }
         Err(_) => Err(console.report_memory()),
     }
+}
+
+/// The lines of a program's stores, and what leaves them open.
+#[derive(Drop)]
+struct ListedStores {
+    answer: Answer<'static>,
+    /// None unless they are asked for.
+    causes: Vec<Cause>,
 }
 
 /// The stores of an image, or its refusal.
@@ -101,12 +119,16 @@ fn judged(
     image: Image,
     names: &Names,
     quiet: &[Range],
-) -> Result<Answer<'static>, AllocError>
-    ensures { IfOk result (PrintsStores quiet.now image names.now) }
+    explains: bool,
+) -> Result<ListedStores, AllocError>
+    ensures { IfOk result (λ listed. PrintsStores quiet.now image names.now listed.answer) }
 {
     match judge(alloc, image, names)? {
-        Verdict::Accepted(vouched) => stores_of(alloc, &vouched, names, quiet),
-        Verdict::Refused(line) => Ok(Answer::prints(line, 1)),
+        Verdict::Accepted(vouched) => stores_of(alloc, &vouched, names, quiet, explains),
+        Verdict::Refused(line) => Ok(ListedStores {
+            answer: Answer::prints(line, 1),
+            causes: Vec::new(alloc),
+        }),
     }
 }
 
@@ -116,15 +138,43 @@ fn stores_of(
     vouched: &Vouched,
     names: &Names,
     quiet: &[Range],
-) -> Result<Answer<'static>, AllocError>
-    ensures { IfOk result (ListsStores quiet.now names.now vouched.now) }
+    explains: bool,
+) -> Result<ListedStores, AllocError>
+    ensures { IfOk result (λ listed. ListsStores quiet.now names.now vouched.now listed.answer) }
 {
     let code = vouched.image().regions.code();
     let stores = find_stores(alloc, vouched, quiet)?;
     let text = stores_text(alloc, &stores)?;
     let text = names.name(alloc, code, b"STORE ", text)?;
     let text = names.name(alloc, code, b"JUMP ", text)?;
-    Ok(Answer::prints(text, stores_status(&stores)))
+    let causes = if explains {
+        find_causes(alloc, vouched, &stores)?
+    } else {
+        Vec::new(alloc)
+    };
+    Ok(ListedStores {
+        answer: Answer::prints(text, stores_status(&stores)),
+        causes,
+    })
+}
+
+/// Says what sets the pair of each store and jump that is listed.
+fn explain_causes(console: Console<'_>, causes: &[Cause]) {
+    for cause in causes {
+        let at = cause.at;
+        let pair = cause.pair_name();
+        let _ = match cause.setter {
+            Setter::Instruction(by) => {
+                eprintln!(console.runtime(); "  {at:04X}: {pair} is set at {by:04X}")
+            }
+            Setter::Count(by) => {
+                eprintln!(console.runtime(); "  {at:04X}: {pair} is counted at {by:04X}")
+            }
+            Setter::Nothing => {
+                eprintln!(console.runtime(); "  {at:04X}: nothing sets {pair}")
+            }
+        };
+    }
 }
 
 /// The exit status: whether something is listed.

@@ -7,11 +7,13 @@
 //! | [`find_stores`] | goes over a vouched image, and answers which of its stores may leave data |
 //! | [`Stores`], [`OpenStore`] | what is found |
 //! | [`stores_text`] | the same, as it is printed |
+//! | [`find_causes`], [`Cause`] | what sets the pairs of stores and jumps that are listed: advice |
 //! | [`watched_runs_go_as_listed`] | what is found holds of the runs of the watched machine, as a contract |
 //! | [`Span`] | the words from a first to a last one |
 //! | [`bytes_stay_bytes`] | a machine's registers and memory hold bytes, as a contract |
 #![tactic(auto)]
 
+mod causes;
 mod code_bytes;
 mod data_ends;
 mod finding;
@@ -27,6 +29,7 @@ mod stack_pointer;
 mod states;
 mod stores;
 
+pub use causes::{Cause, Setter, find_causes};
 pub use finding::find_stores;
 pub use laws::watched_runs_go_as_listed;
 pub use lines::stores_text;

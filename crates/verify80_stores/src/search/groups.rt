@@ -74,7 +74,7 @@ impl Groups {
     }
 
     /// The number of the group at an address.
-    fn number(&self, at: u16) -> u16 {
+    pub fn number(&self, at: u16) -> u16 {
         match self.numbers.get(usize::from(at)) {
             Some(number) => *number,
             None => 0,
