@@ -37,6 +37,7 @@ and the option may be given more than once.
 
 The exit status is 0 if there is no line STORE, JUMP or SP NOT SET, 1 if there is
 one, or if the image is refused: then the refusal is printed alone, as by check.
+--why names on standard error the instruction that sets the pair of each.
 --names prints behind a line the name of its first address, as check does.
 
 Example: plm80 stores readings.img readings.regions --quiet-ram 2000:0100

@@ -100,6 +100,7 @@ struct Ways {
     ways: Vec<(u16, u32)>,
     /// The returns of each group.
     returns: Vec<u16>,
+    /// How many steps back are left.
     left: usize,
 }
 
@@ -192,13 +193,14 @@ impl Ways {
         search.waiting.push(at)?;
         let mut place = 0_usize;
         let mut setter = Setter::Nothing;
-        while self.left > 0 {
+        let most = self.left;
+        for _ in 0..most {
             let Some(here) = search.waiting.get(place) else {
                 break;
             };
             let here = *here;
             place = place.saturating_add(1);
-            self.left -= 1;
+            self.left = self.left.saturating_sub(1);
             if let Some(found) = self.look_back(program, &mut search, here, pair)? {
                 setter = found;
                 break;
