@@ -90,13 +90,7 @@ pub fn list_stores(console: Console<'_>, arguments: &StoresArguments<'_>) -> Res
 {
     let quiet = ranges_of(console, QUIET, &arguments.quiet)?;
     let (image, names) = arguments.files.read(console)?;
-    match judged(
-        console.alloc(),
-        image,
-        &names,
-        &quiet,
-        console.explains(),
-    ) {
+    match judged(console.alloc(), image, &names, &quiet, console.explains()) {
         Ok(ListedStores { answer, causes }) => {
             let status = console.give(answer)?;
             explain_causes(console, &causes);
@@ -171,9 +165,7 @@ fn explain_causes(console: Console<'_>, causes: &[Cause]) {
             Setter::Count(by) => {
                 eprintln!(console.runtime(); "  {at:04X}: {pair} is counted at {by:04X}")
             }
-            Setter::Nothing => {
-                eprintln!(console.runtime(); "  {at:04X}: nothing sets {pair}")
-            }
+            Setter::Nothing => { eprintln!(console.runtime(); "  {at:04X}: nothing sets {pair}") }
         };
     }
 }
