@@ -1,13 +1,14 @@
 use Rattle.std.proofs.Common.{subst}
 use Rattle.plm80_names.specs.Verdict.{IsVerdict}
 use Rattle.plm80_names.specs.Verdict.AnswersVerdict.{refused}
-use Rattle.plm80_programs.proofs.VerdictLemmas.{of_accepted}
+use Rattle.plm80_programs.proofs.VerdictLemmas.{of_accepted_in}
+use Rattle.plm80_programs.specs.declared.stores.ListedStores.{ListedStores}
 use Rattle.plm80_programs.specs.Printed.{ListsStores}
 use Rattle.plm80_programs.proofs.stores.judged.Goals as goal
 
 pub returns-in-Accepted : goal.returns-in-Accepted
 returns-in-Accepted c =
-    of_accepted (ListsStores c.args.quiet.now c.args.names.now) c.args.image c.args.names.now c.in-Accepted.vouched c.stores_of.result
+    of_accepted_in (λ (listed : ListedStores). listed.answer) (ListsStores c.args.quiet.now c.args.names.now) c.args.image c.args.names.now c.in-Accepted.vouched c.stores_of.result
     (subst (IsVerdict c.args.image c.args.names.now) c.in-Accepted.is c.in_ok-vouched.ensures) c.stores_of.ensures
 
 pub returns-in-Refused : goal.returns-in-Refused
