@@ -18,8 +18,7 @@ use Rattle.plm80_programs.specs.declared.cover.CoverArguments.{CoverArguments}
 use Rattle.plm80_programs.specs.declared.run.RunArguments.{RunArguments}
 use Rattle.plm80_programs.specs.declared.trace.TraceArguments.{TraceArguments}
 use Rattle.plm80_programs.specs.Arguments.{dump_of}
-use Rattle.plm80_programs.specs.Printed.{CountsRun, IsStoresStatus, PrintsStores}
-use Rattle.plm80_programs.specs.Ranges.{AreRangesOf}
+use Rattle.plm80_programs.specs.Printed.{CountsRun}
 use Rattle.plm80_programs.specs.Running.{AreLimitsOf, EndsRun, EndsTrace, IsCoverStatus, IsRunStatus, IsSessionStatus, IsSpanOf, IsStatusOfRun, IsTraceStatus, IsWatchStatus, is_session}
 
 -- an answer to files is given
@@ -69,15 +68,6 @@ module _ (Answers : List (ℕ × ℕ) → List Public → Voucher → AnswerValu
   pub run_refused : {E : Type 0} (line : List ℕ) (r : Result ℕ E) → IsRefusal image publics line
       → IfOk r (λ status. status ≡ 1) → IfOk r (IsStatusOfRun Answers asked)
   run_refused line r is_refusal gave = run_given (prints line 1) r (refused line is_refusal refl) gave
-
--- an answer of the stores, with the ranges that the options write
-pub stores_given : {E : Type 0} (texts : List (List ℕ)) (quiet : List Range) (asked : Bool) (image : Located) (publics : List Public)
-    (answer : AnswerValue) (r : Result ℕ E) → AreRangesOf texts quiet → AreOfFiles asked image publics → PrintsStores quiet image publics answer
-    → IfOk r (λ status. status ≡ answer.status) → IfOk r (IsStoresStatus texts asked)
-stores_given texts quiet asked image publics answer r written read answers gave =
-    IfOk-weaker r (IsStatusFor (PrintsStores quiet) asked) (IsStoresStatus texts asked)
-    (λ status is. record { quiet = quiet; written = written; is = is })
-    (given (PrintsStores quiet) asked image publics answer r read answers gave)
 
 -- ---- the numbers of the options
 
