@@ -10,7 +10,6 @@ use Rattle.loader80.specs.Vouched.{Voucher}
 use Rattle.plm80_console.specs.Answer.{AnswerValue, prints}
 use Rattle.plm80_names.specs.Verdict.{AnswersVerdict, AreOfFiles, IsAccepted, IsRefusal, IsStatusFor}
 use Rattle.plm80_names.specs.Verdict.AnswersVerdict.{accepted, refused}
-use Rattle.image80.specs.declared.range.Range.{Range}
 use Rattle.loader80_trace.specs.declared.limits.Limits.{Limits}
 use Rattle.loader80_trace.specs.declared.limits.Span.{Span}
 use Rattle.plm80_console.specs.NumberText.{count_value}
