@@ -4,13 +4,13 @@ use Rattle.std.specs.Prelude.{◌==◌, nat_le, if◌then◌else◌, IfOk, IfErr
 use Rattle.std.specs.List.{list_all, AllByRecursion}
 use Rattle.std.proofs.lemmas.Bool.{and_parts, le-leb, eqb-true}
 use Rattle.omf_core.specs.Name.{is_name}
-use Rattle.omf_parts.specs.declared.segment.Segment.{Segment}
-use Rattle.omf_parts.specs.declared.symbols.Public.{Public}
-use Rattle.omf_parts.specs.Contents.{ContentValue}
-use Rattle.omf_parts.specs.Segments.{entries_for, listed_ids, canonical_segments, has_segment}
-use Rattle.omf_parts.specs.Modules.{ModuleValue, made_of}
-use Rattle.omf_parts.specs.Rules.{IsModule, keeps_rules, is_content, is_in_bounds, is_fitting, each_after, end_of}
-use Rattle.omf_parts.specs.SoundParts.{in_bounds_parts, sound_parts}
+use Rattle.omf_model.specs.declared.segment.Segment.{Segment}
+use Rattle.omf_model.specs.declared.symbols.Public.{Public}
+use Rattle.omf_model.specs.Contents.{ContentValue}
+use Rattle.omf_model.specs.Segments.{entries_for, listed_ids, canonical_segments, has_segment}
+use Rattle.omf_model.specs.Modules.{ModuleValue, made_of}
+use Rattle.omf_model.specs.Rules.{IsModule, keeps_rules, is_content, is_in_bounds, is_fitting, each_after, end_of}
+use Rattle.omf_model.specs.SoundParts.{in_bounds_parts, sound_parts}
 use Rattle.omf_module.specs.declared.fault.Cause.{Cause}
 use Rattle.omf_module.specs.declared.fault.Cause.TheVariants.{Record, NoHeader, UnknownKind, BadBody, BadName, SegmentUnknown, OffsetOutside, FixupBeforeContent, FixupOutside, FixupTwice, IndexUnknown, NoEnd, Memory}
 use Rattle.omf_module.specs.declared.fault.ModuleFault.{ModuleFault}

@@ -7,10 +7,10 @@ use Rattle.omf_core.specs.Name.{is_name}
 use Rattle.omf_module.specs.declared.fault.Cause.{Cause}
 use Rattle.omf_module.specs.declared.fault.Cause.TheVariants.{Memory as OutOfMemory}
 use Rattle.omf_module.specs.declared.fault.ModuleFault.{ModuleFault}
-use Rattle.omf_parts.specs.declared.symbols.Public.{Public}
-use Rattle.omf_parts.specs.Contents.{ContentValue}
-use Rattle.omf_parts.specs.Segments.{absolute_id}
-use Rattle.omf_parts.specs.Modules.{ModuleValue}
+use Rattle.omf_model.specs.declared.symbols.Public.{Public}
+use Rattle.omf_model.specs.Contents.{ContentValue}
+use Rattle.omf_model.specs.Segments.{absolute_id}
+use Rattle.omf_model.specs.Modules.{ModuleValue}
 use Rattle.omf_module.specs.Spelled.{SpellsFile, FaultsFile}
 use Rattle.omf_module.specs.Writing.{file_bytes}
 use Rattle.image80_file.specs.declared.image_fault.ImageFault.{ImageFault}

@@ -10,7 +10,7 @@ use crate::absolute::AbsoluteProgram;
 use crate::image_fault::ImageFault;
 use crate::laws::written_image_is_spelled;
 use image80::{Chunk, Image, Regions};
-use omf_body::segment_id::ABSOLUTE;
+use omf_core::segment_id::ABSOLUTE;
 use omf_module::{Content, Module, Parts, Public, read_file, write_file};
 use std::alloc::{AllocError, Global};
 

@@ -7,7 +7,7 @@ use Rattle.std.proofs.lemmas.Bool.{leb-true, true≢false}
 use Rattle.std.proofs.lemmas.Bool.Decides.{nat_tests}
 use Rattle.std.proofs.lemmas.List.Folds.{find-append}
 use Rattle.image80.specs.declared.range.Range.{Range}
-use Rattle.omf_parts.specs.declared.symbols.Public.{Public}
+use Rattle.omf_model.specs.declared.symbols.Public.{Public}
 use Rattle.image80_text.specs.Names.{is_at, lies_below, IsNearest, IsNearestIn}
 
 -- the nearer one of the nearest public so far and a later one

@@ -10,7 +10,7 @@ use Rattle.std.proofs.lemmas.List.Sums.{prefix_len-le-length}
 use Rattle.std.proofs.lemmas.Option.{slice_get_cases, slice_get_past}
 use Rattle.image80.specs.declared.range.Range.{Range}
 use Rattle.image80.specs.Range.{in_range}
-use Rattle.omf_parts.specs.declared.symbols.Public.{Public}
+use Rattle.omf_model.specs.declared.symbols.Public.{Public}
 use Rattle.image80_text.specs.Names.{is_at, public_at}
 use Rattle.image80_text.specs.NameText.{nearest_from, nearest_of}
 use Rattle.image80_text.specs.Tables.{entry_at, public_with, noted, filled_from, not_below, nearest_within, AreFirst, AreNearest}

@@ -13,7 +13,7 @@ use Rattle.text80.specs.Digits.{byte_text, word_text}
 use Rattle.image80.specs.declared.range.Range.{Range}
 use Rattle.image80.specs.Range.{in_range}
 use Rattle.image80.specs.Lines.{is_line_feed, parts}
-use Rattle.omf_parts.specs.declared.symbols.Public.{Public}
+use Rattle.omf_model.specs.declared.symbols.Public.{Public}
 use Rattle.image80_text.specs.Names.{is_at, public_at, lies_below, IsNearest, IsNearestIn, IsNearestWithin}
 use Rattle.image80_text.specs.NameText.{nearest_from, nearest_of, above_text, name_text, digit_value, pair_value, address_at, instruction_address, address_behind, each_line, label_text, labelled_line, named_line, NoPublicsNoNames, PrintedAddressIsNamed, NearestIsGreatest}
 use Rattle.image80_text.proofs.NearestLemmas.{lies_at_most, none_found, nearest_exists}

@@ -54,9 +54,3 @@ range_lines memory range = lines_from memory range.first 0 range.length
 -- the lines of each range of code, by address
 abbrev pub listing_of : Located → List ℕ
 listing_of image = flat_map (range_lines (memory_of image.chunks)) image.regions.code
-
--- the line of the instruction at an address, with a given number of bytes of its range left
-abbrev pub instruction_line_of : Located → (at left : ℕ) → List ℕ
-instruction_line_of image at left =
-    let bytes = bytes_from (memory_of image.chunks) at in
-    list_line at bytes (instruction_of bytes left)

@@ -8,7 +8,7 @@ use Rattle.text80.specs.Digits.{word_text}
 use Rattle.image80.specs.declared.range.Range.{Range}
 use Rattle.image80.specs.Range.{in_range}
 use Rattle.image80.specs.Lines.{parts}
-use Rattle.omf_parts.specs.declared.symbols.Public.{Public}
+use Rattle.omf_model.specs.declared.symbols.Public.{Public}
 use Rattle.image80_text.specs.Names.{public_at, IsNearestOf}
 
 -- ---- the name of an address

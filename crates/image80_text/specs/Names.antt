@@ -5,7 +5,7 @@ use Rattle.std.specs.Prelude.{◌≡◌, ℕ, ◌≤◌, ◌==◌, Bool, true, f
 use Rattle.std.specs.List.{AllByRecursion}
 use Rattle.image80.specs.declared.range.Range.{Range}
 use Rattle.image80.specs.Range.{in_range}
-use Rattle.omf_parts.specs.declared.symbols.Public.{Public}
+use Rattle.omf_model.specs.declared.symbols.Public.{Public}
 
 -- the public is at this address
 abbrev pub is_at : ℕ → Public → Bool

@@ -3,7 +3,7 @@
 use Rattle.std.specs.Prelude.{◌≡◌, ℕ, ◌<◌, ◌==◌, ◌&&◌, nat_le, is_none, if◌then◌else◌, Option, Some, None, List, [], ◌∷◌, position, slice_get, slice_index_or, slice_set}
 use Rattle.std.specs.Option.{option_and_then, option_or}
 use Rattle.image80.specs.declared.range.Range.{Range}
-use Rattle.omf_parts.specs.declared.symbols.Public.{Public}
+use Rattle.omf_model.specs.declared.symbols.Public.{Public}
 use Rattle.image80_text.specs.Names.{is_at}
 use Rattle.image80_text.specs.NameText.{nearest_from}
 

@@ -10,7 +10,6 @@
 //! | [`label_lines`] | lines of instructions, with lines for their names before them |
 //! | [`laws`] | texts without names are as before, the nearest public is the greatest, as contracts |
 //! | [`listing`] | the instructions of an image's code, a line each |
-//! | [`instruction_line`] | the line of one instruction |
 //! | [`append_columns`] | the columns before the text of a line |
 //! | [`laws`] | the lines of a range take all of its bytes, as a contract |
 #![tactic(auto)]
@@ -24,6 +23,6 @@ mod naming;
 mod table;
 
 pub use lines::{label_lines, name_line, name_lines};
-pub use list_text::{append_columns, instruction_line, listing};
+pub use list_text::{append_columns, listing};
 pub use naming::{append_label, append_name};
 pub use table::PublicTable;

@@ -2,11 +2,10 @@
 
 ghost use Rattle.std.specs.Prelude.{◌≡◌, ◌+◌, ◌<◌, ◌≤◌, ◌++◌, length, IfOk, IfSome, OnOk};
 ghost use Rattle.std.specs.List.{flat_map};
-ghost use Rattle.image80_text.specs.Listing.{bytes_from, columns, instruction_line_of, instruction_of, line_length, list_line, listing_of, range_lines};
+ghost use Rattle.image80_text.specs.Listing.{bytes_from, columns, instruction_of, line_length, list_line, listing_of, range_lines};
 
 use decode80::{Instr, decode, spelling_laws, write_text};
 use image80::{Image, Range};
-use machine80::{Bus, FlatBus};
 use std::alloc::{AllocError, Global};
 use text80::{append_digits, word_digits};
 
@@ -19,41 +18,20 @@ use text80::{append_digits, word_digits};
 pub fn listing(alloc: Global, image: &Image) -> Result<Vec<u8>, AllocError>
     ensures { IfOk result (λ text. text.items ≡ listing_of image.now) }
 {
-    let memory = FlatBus::new(alloc, image)?;
+    let memory = image.memory(alloc)?;
     let mut text = Vec::new(alloc);
     append_ranges(alloc, &memory, image.regions.code(), &mut text)?;
     Ok(text)
 }
 
-/// The line of one instruction, if a given number of bytes of its range of code are left.
-///
-/// `left` must be at least 1. A byte that begins no instruction, or whose instruction is longer than what is left, has the text
-/// `??`.
-///
-/// # Errors
-/// `AllocError` only if memory runs out.
-pub fn instruction_line(
-    alloc: Global,
-    image: &Image,
-    at: u16,
-    left: usize,
-) -> Result<Vec<u8>, AllocError>
-    requires { 0 < left }
-    ensures { IfOk result (λ line. line.items ≡ instruction_line_of image.now at left) }
-{
-    let memory = FlatBus::new(alloc, image)?;
-    let mut line = Vec::new(alloc);
-    append_line(alloc, &memory, at, left, &mut line)?;
-    Ok(line)
-}
-
 /// Appends the lines of each range.
 fn append_ranges(
     alloc: Global,
-    memory: &FlatBus,
+    memory: &[u8],
     ranges: &[Range],
     text: &mut Vec<u8>,
 ) -> Result<(), AllocError>
+    requires { length memory.now ≡ 65536 }
     ensures { OnOk result (text.new.items ≡ text.old.items ++ flat_map (range_lines memory.now) ranges.now) }
 {
     for range in ranges {
@@ -65,10 +43,11 @@ fn append_ranges(
 /// Appends the lines of one range.
 fn append_range(
     alloc: Global,
-    memory: &FlatBus,
+    memory: &[u8],
     range: Range,
     text: &mut Vec<u8>,
 ) -> Result<(), AllocError>
+    requires { length memory.now ≡ 65536 }
     ensures { OnOk result (text.new.items ≡ text.old.items ++ range_lines memory.now range) }
 {
     let mut at = range.first;
@@ -84,12 +63,13 @@ fn append_range(
 /// Appends the line at an address, with `left` bytes of its range left there, and gives the number of its bytes.
 fn append_line(
     alloc: Global,
-    memory: &FlatBus,
+    memory: &[u8],
     at: u16,
     left: usize,
     text: &mut Vec<u8>,
 ) -> Result<usize, AllocError>
-    requires { 0 < left }
+    requires whole { length memory.now ≡ 65536 }
+    requires some { 0 < left }
     ensures line { OnOk result (text.new.items ≡ text.old.items
         ++ list_line at (bytes_from memory.now at) (instruction_of (bytes_from memory.now at) left)) }
     ensures length { IfOk result (λ n. n ≡ line_length (instruction_of (bytes_from memory.now at) left)) }
@@ -113,13 +93,14 @@ fn append_line(
 }
 
 /// The three bytes from an address on.
-fn bytes_at(memory: &FlatBus, at: u16) -> [u8; 3]
+fn bytes_at(memory: &[u8], at: u16) -> [u8; 3]
+    requires { length memory.now ≡ 65536 }
     ensures { result ≡ bytes_from memory.now at }
 {
     [
-        memory.load(at),
-        memory.load(at.wrapping_add(1)),
-        memory.load(at.wrapping_add(2)),
+        memory[usize::from(at)],
+        memory[usize::from(at.wrapping_add(1))],
+        memory[usize::from(at.wrapping_add(2))],
     ]
 }
 

@@ -5,7 +5,7 @@ ghost use Rattle.image80_text.specs.NameText.{above_text, distance_text, label_t
 
 use crate::table::PublicTable;
 use image80::Range;
-use omf_parts::Public;
+use omf_model::Public;
 use std::alloc::{AllocError, Global};
 
 /// Appends a blank and the name of an address of code, as in ` SCALE`, with the distance in hexadecimal if it is above its public, as

@@ -5,8 +5,8 @@ ghost use Rattle.image80.specs.Range.{in_range};
 ghost use Rattle.image80_text.specs.Tables.{entry_at, filled_from, not_below, noted, public_with, AreFirst};
 
 use image80::Range;
-use omf_body::segment_id::ABSOLUTE;
-use omf_parts::Public;
+use omf_core::segment_id::ABSOLUTE;
+use omf_model::Public;
 use std::alloc::{AllocError, Global};
 use std::marker::Model;
 
@@ -28,7 +28,7 @@ pub struct PublicTable {
 
 impl Model for PublicTable {
     ghost use Rattle.std.specs.Prelude.{List};
-    ghost use Rattle.omf_parts.specs.declared.symbols.Public.{Public};
+    ghost use Rattle.omf_model.specs.declared.symbols.Public.{Public};
     ghost use Rattle.image80_text.specs.Tables.{AreFirst, AreNearest};
 
     ghost Value = { List Public };

@@ -2,10 +2,10 @@
 use Rattle.std.proofs.Common.{rules, refl, ◌≢◌, ◌≡◌, ℕ, false, Some, None, List, [], ◌∷◌, subst, ◌∙◌}
 use Rattle.std.specs.Prelude.{option_map}
 use Rattle.std.specs.List.{AllByRecursion}
-use Rattle.omf_parts.specs.Modules.{ModuleValue}
-use Rattle.omf_parts.specs.Rules.{IsModule}
-use Rattle.omf_parts.specs.HighReferences.{any_loses_low_byte}
-use Rattle.omf_parts.specs.ImageByte.{image_byte}
+use Rattle.omf_model.specs.Modules.{ModuleValue}
+use Rattle.omf_model.specs.Rules.{IsModule}
+use Rattle.omf_model.specs.HighReferences.{any_loses_low_byte}
+use Rattle.omf_model.specs.ImageByte.{image_byte}
 use Rattle.link80.specs.Linked.{linked}
 use Rattle.link80.specs.LinkFault.{link_fault}
 use Rattle.link80.specs.LinkLaws.{LinkedBytesAreTheModules, LinkedStartIsTheModules}

@@ -5,12 +5,12 @@ use Rattle.std.specs.List.{AllByRecursion, list_any}
 use Rattle.std.proofs.lemmas.Bool.{cases_Bool, and_parts, and_from, ltb-true, lt-ltb, le-leb}
 use Rattle.std.proofs.lemmas.List.FromFn.{length-map-range_with_len}
 use Rattle.std.proofs.lemmas.List.Elements.{All-head, All-tail, All-from_recursion, recursion_from_All}
-use Rattle.omf_parts.specs.Contents.{ContentValue}
-use Rattle.omf_parts.specs.Segments.{has_segment, has_common_id}
-use Rattle.omf_parts.specs.Modules.{ModuleValue}
-use Rattle.omf_parts.specs.Rules.{each_after, is_new_common}
-use Rattle.omf_parts.specs.Patches.{byte_with}
-use Rattle.omf_parts.specs.ImageByte.{patch_of, ByteChunk, chunk_of, chunk_covers, distance}
+use Rattle.omf_model.specs.Contents.{ContentValue}
+use Rattle.omf_model.specs.Segments.{has_segment, has_common_id}
+use Rattle.omf_model.specs.Modules.{ModuleValue}
+use Rattle.omf_model.specs.Rules.{each_after, is_new_common}
+use Rattle.omf_model.specs.Patches.{byte_with}
+use Rattle.omf_model.specs.ImageByte.{patch_of, ByteChunk, chunk_of, chunk_covers, distance}
 use Rattle.place80.specs.declared.options.Options.{Options}
 use Rattle.place80.specs.declared.placed_segments.Placed.{Placed}
 use Rattle.place80.specs.Layout.{given_length, own_segment, nowhere, placed_in, base_in, top_in, layout_of, program_bases}

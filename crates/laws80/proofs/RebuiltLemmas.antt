@@ -7,17 +7,17 @@ use Rattle.std.specs.Cmp.Lexicographic.{pointwise}
 use Rattle.std.proofs.lemmas.Bool.{cases_Bool, and_parts, or_cases}
 use Rattle.std.proofs.lemmas.Bool.Decides.{nat_tests}
 use Rattle.std.proofs.lemmas.List.{append-nil}
-use Rattle.omf_parts.specs.declared.symbols.Common.{Common}
-use Rattle.omf_parts.specs.Contents.{ContentValue}
-use Rattle.omf_parts.specs.Laws.{SegmentsAreKept}
-use Rattle.omf_parts.specs.Segments.{has_common_id, is_fixed_id, segment_in, empty_segment}
-use Rattle.omf_parts.specs.declared.segment.Segment.{Segment}
-use Rattle.omf_parts.specs.Modules.{ModuleValue, made_of}
-use Rattle.omf_parts.specs.Rules.{is_sound, each_after, is_new_entry}
-use Rattle.omf_parts.specs.Place.{Bases, common_name}
-use Rattle.omf_parts.specs.ImageByte.{ByteChunk, chunk_of, chunk_covers, image_byte}
-use Rattle.omf_parts.specs.HighReferences.{any_loses_low_byte}
-use Rattle.omf_parts.specs.SoundModules.{LiesIn, RulesOf, SoundModulesKeepRules}
+use Rattle.omf_model.specs.declared.symbols.Common.{Common}
+use Rattle.omf_model.specs.Contents.{ContentValue}
+use Rattle.omf_model.specs.Laws.{SegmentsAreKept}
+use Rattle.omf_model.specs.Segments.{has_common_id, is_fixed_id, segment_in, empty_segment}
+use Rattle.omf_model.specs.declared.segment.Segment.{Segment}
+use Rattle.omf_model.specs.Modules.{ModuleValue, made_of}
+use Rattle.omf_model.specs.Rules.{is_sound, each_after, is_new_entry}
+use Rattle.omf_model.specs.Place.{Bases, common_name}
+use Rattle.omf_model.specs.ImageByte.{ByteChunk, chunk_of, chunk_covers, image_byte}
+use Rattle.omf_model.specs.HighReferences.{any_loses_low_byte}
+use Rattle.omf_model.specs.SoundModules.{LiesIn, RulesOf, SoundModulesKeepRules}
 use Rattle.link80.specs.Linked.{linked, linked_parts, linked_contents, linked_content, linked_commons, linked_id, numbered_common, common_names, id_of}
 use Rattle.link80.specs.LinkLaws.{LinkedChunksAreTheModules, LinkedBytesAreTheModules, LinkedModuleKeepsRules}
 use Rattle.place80.specs.declared.options.Options.{Options}

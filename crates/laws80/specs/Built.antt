@@ -1,9 +1,9 @@
 -- What the image of a linked and located program is, by the modules that went in.
 -- (ISIS-II User's Guide: LINK, then LOCATE.)
 use Rattle.std.specs.Prelude.{◌≡◌, ℕ, Some, None, option_map, slice_get, List}
-use Rattle.omf_parts.specs.Modules.{ModuleValue}
-use Rattle.omf_parts.specs.Place.{Bases}
-use Rattle.omf_parts.specs.ImageByte.{image_byte}
+use Rattle.omf_model.specs.Modules.{ModuleValue}
+use Rattle.omf_model.specs.Place.{Bases}
+use Rattle.omf_model.specs.ImageByte.{image_byte}
 use Rattle.link80_select.specs.declared.chosen.Chosen.{Chosen}
 use Rattle.link80.specs.declared.fault.LinkFault.{LinkFault}
 use Rattle.link80.specs.declared.fault.LinkFault.TheVariants as linking

@@ -3,10 +3,10 @@
 -- of two contents over a byte the later one stands.)
 use Rattle.std.specs.Prelude.{◌≡◌, ℕ, ◌%◌, Bool, true, ◌&&◌, Some, List}
 use Rattle.std.specs.List.{AllByRecursion, list_any, enumerate_from}
-use Rattle.omf_parts.specs.Modules.{ModuleValue}
-use Rattle.omf_parts.specs.Rules.{IsModule}
-use Rattle.omf_parts.specs.Place.{Bases}
-use Rattle.omf_parts.specs.ImageByte.{chunk_of, chunk_covers, image_byte}
+use Rattle.omf_model.specs.Modules.{ModuleValue}
+use Rattle.omf_model.specs.Rules.{IsModule}
+use Rattle.omf_model.specs.Place.{Bases}
+use Rattle.omf_model.specs.ImageByte.{chunk_of, chunk_covers, image_byte}
 use Rattle.image80.specs.Image.{Located, PlacedBytes, byte_at}
 use Rattle.place80.specs.declared.options.Options.{Options}
 use Rattle.place80.specs.Locating.{HoldsProgram}

@@ -4,8 +4,8 @@
 ghost use Rattle.laws80.specs.Rebuilt.{BytesAreTheDumps, LocatedImageIsTheDumps, BuiltImageIsTheDumps};
 
 use link80::laws::{linked_module_keeps_rules, linking_keeps_bytes};
-use omf_parts::laws::segments_are_kept;
-use omf_parts::relocation_laws::sound_modules_keep_rules;
+use omf_model::laws::segments_are_kept;
+use omf_model::relocation_laws::sound_modules_keep_rules;
 use place80::laws::{
     no_fault_where_segments_fit, segments_are_laid_out_in_one_way, segments_are_placed,
 };

@@ -5,18 +5,18 @@ use Rattle.std.proofs.Common.{◌∙◌, ap, sym, arith, inr, eqb-true}
 use Rattle.std.proofs.lemmas.Bool.{not-false, or_parts}
 use Rattle.omf_body.specs.declared.field.Field.{Field}
 use Rattle.omf_body.specs.declared.field.Field.TheVariants.{High}
-use Rattle.omf_parts.specs.declared.fixup.Fixup.{Fixup}
-use Rattle.omf_parts.specs.declared.fixup.Target.{Target}
-use Rattle.omf_parts.specs.Contents.{ContentValue}
-use Rattle.omf_parts.specs.Modules.{ModuleValue}
-use Rattle.omf_parts.specs.Rules.{has_target}
-use Rattle.omf_parts.specs.declared.patching.Patch.{Patch}
-use Rattle.omf_parts.specs.Patches.{with_patches}
-use Rattle.omf_parts.specs.PatchLaws.{patch_by, TwoWords, first_patch, second_patch, total_patch, AddsUp, TwoPassesAreOne}
-use Rattle.omf_parts.specs.Place.{Bases, part_start, place_in}
-use Rattle.omf_parts.specs.ImageByte.{target_word, patch_of, chunk_of}
-use Rattle.omf_parts.specs.HighReferences.{is_high, loses_low_byte}
-use Rattle.omf_parts.specs.SoundModules.{LiesIn, as_patch, HasItsFixups, PartsOfOneStartAtZero}
+use Rattle.omf_model.specs.declared.fixup.Fixup.{Fixup}
+use Rattle.omf_model.specs.declared.fixup.Target.{Target}
+use Rattle.omf_model.specs.Contents.{ContentValue}
+use Rattle.omf_model.specs.Modules.{ModuleValue}
+use Rattle.omf_model.specs.Rules.{has_target}
+use Rattle.omf_model.specs.declared.patching.Patch.{Patch}
+use Rattle.omf_model.specs.Patches.{with_patches}
+use Rattle.omf_model.specs.PatchLaws.{patch_by, TwoWords, first_patch, second_patch, total_patch, AddsUp, TwoPassesAreOne}
+use Rattle.omf_model.specs.Place.{Bases, part_start, place_in}
+use Rattle.omf_model.specs.ImageByte.{target_word, patch_of, chunk_of}
+use Rattle.omf_model.specs.HighReferences.{is_high, loses_low_byte}
+use Rattle.omf_model.specs.SoundModules.{LiesIn, as_patch, HasItsFixups, PartsOfOneStartAtZero}
 use Rattle.link80.specs.Linked.{linked_reference, fixup_to, linked_fixup, linked_content, linked}
 use Rattle.link80.proofs.ListLemmas.{map_map}
 use Rattle.link80.proofs.PlaceLemmas.{Listed, few_commons, content_place}

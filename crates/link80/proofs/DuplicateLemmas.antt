@@ -3,8 +3,8 @@ use Rattle.std.specs.Prelude.{◌≡◌, ℕ, Bool, true, false, not, if◌then�
 use Rattle.std.proofs.Common.{◌∙◌, ap, sym, append_assoc}
 use Rattle.std.proofs.lemmas.Bool.{and_parts, and_from}
 use Rattle.std.proofs.lemmas.List.{append-nil}
-use Rattle.omf_parts.specs.declared.symbols.Public.{Public}
-use Rattle.omf_parts.specs.Rules.{each_after}
+use Rattle.omf_model.specs.declared.symbols.Public.{Public}
+use Rattle.omf_model.specs.Rules.{each_after}
 use Rattle.link80.specs.declared.fault.LinkFault.TheVariants.{DuplicatePublic}
 use Rattle.link80.specs.Linked.{linked_publics}
 use Rattle.link80.specs.LinkFault.{is_declared, first_again}

@@ -4,13 +4,13 @@ use Rattle.std.specs.List.{list_all, list_any, cons_option, AllByRecursion}
 use Rattle.std.proofs.Common.{◌∙◌, ap, sym, arith}
 use Rattle.std.proofs.lemmas.Bool.{and_parts, and_from, or_parts, or_from, not_from_false, not-true}
 use Rattle.std.proofs.lemmas.Bool.Decides.{nat_tests}
-use Rattle.omf_parts.specs.declared.symbols.Common.{Common}
+use Rattle.omf_model.specs.declared.symbols.Common.{Common}
 use Rattle.omf_body.specs.declared.field.Field.{Field}
 use Rattle.omf_body.specs.declared.field.Field.TheVariants.{Low, High, Both}
-use Rattle.omf_parts.specs.declared.fixup.Fixup.{Fixup}
-use Rattle.omf_parts.specs.declared.fixup.Target.{Target}
-use Rattle.omf_parts.specs.Contents.{offsets_by, is_taken, shares_a_byte, is_among, is_inside}
-use Rattle.omf_parts.specs.Rules.{each_after, has_target, is_fitting}
+use Rattle.omf_model.specs.declared.fixup.Fixup.{Fixup}
+use Rattle.omf_model.specs.declared.fixup.Target.{Target}
+use Rattle.omf_model.specs.Contents.{offsets_by, is_taken, shares_a_byte, is_among, is_inside}
+use Rattle.omf_model.specs.Rules.{each_after, has_target, is_fitting}
 use Rattle.link80.specs.Linked.{fixup_to}
 
 -- ---- one fixup, moved

@@ -3,8 +3,8 @@ use Rattle.std.specs.Prelude.{◌≡◌, ◌<◌, ℕ, ◌+◌, nat_eq, true, fa
 use Rattle.std.specs.List.{list_any, flat_map, enumerate_from, cons_option}
 use Rattle.std.specs.Cmp.Lexicographic.{pointwise}
 use Rattle.std.proofs.Common.{◌∙◌, ap, sym, arith}
-use Rattle.omf_parts.specs.declared.symbols.Public.{Public}
-use Rattle.omf_parts.specs.Modules.{ModuleValue}
+use Rattle.omf_model.specs.declared.symbols.Public.{Public}
+use Rattle.omf_model.specs.Modules.{ModuleValue}
 use Rattle.link80.specs.FirstSight.{is_among}
 use Rattle.link80.specs.Gathered.{names_of_publics, again_in, mains_from}
 use Rattle.link80.specs.Linked.{linked_public, linked_publics}

@@ -6,13 +6,13 @@ use Rattle.std.specs.Cmp.Lexicographic.{pointwise}
 use Rattle.std.proofs.Common.{◌∙◌, ap, sym, arith, inl, inr, cond, true≢false}
 use Rattle.std.proofs.lemmas.Bool.{cases_Bool, and_parts, or_parts, or_from, ne_eqb}
 use Rattle.std.proofs.lemmas.Bool.Decides.{nat_tests}
-use Rattle.omf_parts.specs.declared.segment.Segment.{Segment}
-use Rattle.omf_parts.specs.declared.symbols.Common.{Common}
-use Rattle.omf_parts.specs.Segments.{empty_segment, is_fixed_id, segment_in}
-use Rattle.omf_parts.specs.Modules.{ModuleValue}
-use Rattle.omf_parts.specs.Rules.{each_after, is_new_common, IsModule}
-use Rattle.omf_parts.specs.SoundParts.{sound_parts}
-use Rattle.omf_parts.specs.Place.{common_name, is_laid_out}
+use Rattle.omf_model.specs.declared.segment.Segment.{Segment}
+use Rattle.omf_model.specs.declared.symbols.Common.{Common}
+use Rattle.omf_model.specs.Segments.{empty_segment, is_fixed_id, segment_in}
+use Rattle.omf_model.specs.Modules.{ModuleValue}
+use Rattle.omf_model.specs.Rules.{each_after, is_new_common, IsModule}
+use Rattle.omf_model.specs.SoundParts.{sound_parts}
+use Rattle.omf_model.specs.Place.{common_name, is_laid_out}
 use Rattle.link80.specs.FirstSight.{number_in}
 use Rattle.link80.specs.Joined.{joined_parts, with_parts, parts_of_commons, with_part_at, with_named_parts}
 use Rattle.link80.specs.Linked.{numbered_common, common_names, linked_commons, part_of, parts_end, greatest, linked_length, linked_segment}

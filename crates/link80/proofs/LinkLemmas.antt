@@ -7,16 +7,16 @@ use Rattle.std.specs.Prelude.{nat_eq, ◌==◌, zero, suc}
 use Rattle.std.proofs.Common.{◌∙◌, ap, sym, subst, arith, inl, inr, cond, append_assoc}
 use Rattle.std.proofs.lemmas.Bool.{cases_Bool, ltb-false, or_parts}
 use Rattle.std.proofs.lemmas.List.{append-nil}
-use Rattle.omf_parts.specs.declared.symbols.Common.{Common}
-use Rattle.omf_parts.specs.Contents.{ContentValue}
-use Rattle.omf_parts.specs.Segments.{has_common_id}
-use Rattle.omf_parts.specs.Modules.{ModuleValue}
-use Rattle.omf_parts.specs.Rules.{IsModule}
-use Rattle.omf_parts.specs.PatchLaws.{TwoPassesAreOne}
-use Rattle.omf_parts.specs.Place.{Bases, common_name}
-use Rattle.omf_parts.specs.ImageByte.{name_at, chunk_of}
-use Rattle.omf_parts.specs.HighReferences.{loses_low_byte}
-use Rattle.omf_parts.specs.SoundModules.{LiesIn, HasItsFixups, SoundModulesKeepRules, PartsOfOneStartAtZero}
+use Rattle.omf_model.specs.declared.symbols.Common.{Common}
+use Rattle.omf_model.specs.Contents.{ContentValue}
+use Rattle.omf_model.specs.Segments.{has_common_id}
+use Rattle.omf_model.specs.Modules.{ModuleValue}
+use Rattle.omf_model.specs.Rules.{IsModule}
+use Rattle.omf_model.specs.PatchLaws.{TwoPassesAreOne}
+use Rattle.omf_model.specs.Place.{Bases, common_name}
+use Rattle.omf_model.specs.ImageByte.{name_at, chunk_of}
+use Rattle.omf_model.specs.HighReferences.{loses_low_byte}
+use Rattle.omf_model.specs.SoundModules.{LiesIn, HasItsFixups, SoundModulesKeepRules, PartsOfOneStartAtZero}
 use Rattle.link80.specs.declared.fault.LinkFault.TheVariants.{TooManyCommons}
 use Rattle.link80.specs.Linked.{names_of_commons, common_names, linked_content, linked_contents, linked}
 use Rattle.link80.specs.LinkFault.{duplicate_public, segment_too_long, two_mains, high_not_paged, too_many_commons, too_many_externals, link_fault}

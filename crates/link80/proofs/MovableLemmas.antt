@@ -6,14 +6,14 @@ use Rattle.std.proofs.lemmas.Bool.{cases_Bool, and_parts}
 use Rattle.std.proofs.lemmas.Bool.Decides.{nat_tests}
 use Rattle.omf_body.specs.declared.field.Field.{Field}
 use Rattle.omf_body.specs.declared.field.Field.TheVariants.{Low, High, Both}
-use Rattle.omf_parts.specs.declared.fixup.Fixup.{Fixup}
-use Rattle.omf_parts.specs.Contents.{ContentValue, offsets_by}
-use Rattle.omf_parts.specs.Segments.{segment_in}
-use Rattle.omf_parts.specs.Modules.{ModuleValue}
-use Rattle.omf_parts.specs.Rules.{IsModule, end_of}
-use Rattle.omf_parts.specs.Patches.{is_inside_bytes}
-use Rattle.omf_parts.specs.Place.{is_laid_out, part_start, starts_from}
-use Rattle.omf_parts.specs.SoundModules.{SoundModulesKeepRules, LiesIn, HasItsFixups, as_patch}
+use Rattle.omf_model.specs.declared.fixup.Fixup.{Fixup}
+use Rattle.omf_model.specs.Contents.{ContentValue, offsets_by}
+use Rattle.omf_model.specs.Segments.{segment_in}
+use Rattle.omf_model.specs.Modules.{ModuleValue}
+use Rattle.omf_model.specs.Rules.{IsModule, end_of}
+use Rattle.omf_model.specs.Patches.{is_inside_bytes}
+use Rattle.omf_model.specs.Place.{is_laid_out, part_start, starts_from}
+use Rattle.omf_model.specs.SoundModules.{SoundModulesKeepRules, LiesIn, HasItsFixups, as_patch}
 use Rattle.link80.specs.Linked.{greatest, linked_commons, part_of, parts_end, linked_length}
 use Rattle.link80.specs.LinkFault.{segment_too_long}
 use Rattle.link80.specs.Movable.{CanBeMoved}

@@ -5,10 +5,10 @@ use Rattle.std.specs.Option.{option_map_or}
 use Rattle.std.specs.Cmp.Lexicographic.{pointwise}
 use Rattle.std.proofs.Common.{◌∙◌, ap, sym, arith, inl, inr, cond, eqb-true, eq-eqb}
 use Rattle.std.proofs.lemmas.Bool.{cases_Bool, and_parts, ne_eqb, not_from_false}
-use Rattle.omf_parts.specs.declared.symbols.Common.{Common}
-use Rattle.omf_parts.specs.Segments.{has_common_id}
-use Rattle.omf_parts.specs.Place.{common_name}
-use Rattle.omf_parts.specs.ImageByte.{name_at}
+use Rattle.omf_model.specs.declared.symbols.Common.{Common}
+use Rattle.omf_model.specs.Segments.{has_common_id}
+use Rattle.omf_model.specs.Place.{common_name}
+use Rattle.omf_model.specs.ImageByte.{name_at}
 use Rattle.link80.specs.Linked.{distinct, numbered_common, id_of, index_of}
 
 -- ---- equal names

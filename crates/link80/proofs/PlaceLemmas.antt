@@ -4,11 +4,11 @@ use Rattle.std.specs.List.{flat_map}
 use Rattle.std.proofs.Common.{◌∙◌, ap, sym, subst, arith, inl, inr, cond, eqb-true, true≢false}
 use Rattle.std.proofs.lemmas.Bool.{cases_Bool, ne_eqb}
 use Rattle.std.proofs.lemmas.Bool.Decides.{nat_tests}
-use Rattle.omf_parts.specs.Segments.{is_fixed_id, has_common_id, has_segment}
-use Rattle.omf_parts.specs.Modules.{ModuleValue}
-use Rattle.omf_parts.specs.Place.{Bases, word_of, common_name, base_of, part_start, place_in}
-use Rattle.omf_parts.specs.ImageByte.{name_at}
-use Rattle.omf_parts.specs.SoundModules.{RulesOf, PartsOfOneStartAtZero}
+use Rattle.omf_model.specs.Segments.{is_fixed_id, has_common_id, has_segment}
+use Rattle.omf_model.specs.Modules.{ModuleValue}
+use Rattle.omf_model.specs.Place.{Bases, word_of, common_name, base_of, part_start, place_in}
+use Rattle.omf_model.specs.ImageByte.{name_at}
+use Rattle.omf_model.specs.SoundModules.{RulesOf, PartsOfOneStartAtZero}
 use Rattle.link80.specs.Linked.{names_of_commons, common_names, linked_commons, id_of, linked_id, moved, linked}
 use Rattle.link80.proofs.NameLemmas.{has_name, distinct_has, IsNumbered, is_numbered}
 

@@ -6,15 +6,15 @@ use Rattle.std.specs.Cmp.Lexicographic.{pointwise}
 use Rattle.std.proofs.Common.{◌∙◌, ap, sym, subst, arith, inl, inr, cond, eqb-true}
 use Rattle.std.proofs.lemmas.Bool.{cases_Bool, ltb-true}
 use Rattle.std.proofs.lemmas.List.{append-nil}
-use Rattle.omf_parts.specs.declared.symbols.Public.{Public}
-use Rattle.omf_parts.specs.declared.fixup.Target.{Target}
-use Rattle.omf_parts.specs.declared.fixup.Target.TheVariants as target
-use Rattle.omf_parts.specs.Modules.{ModuleValue}
-use Rattle.omf_parts.specs.Segments.{has_segment}
-use Rattle.omf_parts.specs.Rules.{has_target}
-use Rattle.omf_parts.specs.Place.{Bases, word_of, base_of, part_start, place_in}
-use Rattle.omf_parts.specs.ImageByte.{PlacedName, placed_public, placed_publics, name_word, name_at, target_word}
-use Rattle.omf_parts.specs.SoundModules.{PartsOfOneStartAtZero}
+use Rattle.omf_model.specs.declared.symbols.Public.{Public}
+use Rattle.omf_model.specs.declared.fixup.Target.{Target}
+use Rattle.omf_model.specs.declared.fixup.Target.TheVariants as target
+use Rattle.omf_model.specs.Modules.{ModuleValue}
+use Rattle.omf_model.specs.Segments.{has_segment}
+use Rattle.omf_model.specs.Rules.{has_target}
+use Rattle.omf_model.specs.Place.{Bases, word_of, base_of, part_start, place_in}
+use Rattle.omf_model.specs.ImageByte.{PlacedName, placed_public, placed_publics, name_word, name_at, target_word}
+use Rattle.omf_model.specs.SoundModules.{PartsOfOneStartAtZero}
 use Rattle.link80.specs.Linked.{linked_id, moved, linked_public, linked_publics, public_of, unresolved, index_of, to_place, to_public, linked_reference, linked, distinct}
 use Rattle.link80.proofs.ListLemmas.{map_map, map_flat, flat_same, map_same, find_map, map_or_map}
 use Rattle.link80.proofs.NameLemmas.{has_name, distinct_has, passed_has, index_is}

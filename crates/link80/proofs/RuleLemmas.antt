@@ -6,20 +6,20 @@ use Rattle.std.proofs.Common.{◌∙◌, ap, sym, subst, arith, inl, inr, cond, 
 use Rattle.std.proofs.lemmas.Bool.{cases_Bool, and_parts, and_from, not_from_false, ne_eqb, lt-ltb, le-leb, ltb-true}
 use Rattle.std.proofs.lemmas.Bool.Decides.{nat_tests}
 use Rattle.std.proofs.lemmas.List.FromFn.{length-map-range_with_len}
-use Rattle.omf_parts.specs.declared.segment.Segment.{Segment}
-use Rattle.omf_parts.specs.declared.symbols.Common.{Common}
-use Rattle.omf_parts.specs.declared.symbols.Public.{Public}
-use Rattle.omf_parts.specs.declared.fixup.Fixup.{Fixup}
-use Rattle.omf_parts.specs.declared.fixup.Target.{Target}
-use Rattle.omf_parts.specs.declared.fixup.Target.TheVariants as target
-use Rattle.omf_parts.specs.Contents.{ContentValue}
-use Rattle.omf_parts.specs.Segments.{is_fixed_id, has_common_id, has_segment, segment_in}
-use Rattle.omf_parts.specs.Modules.{ModuleValue}
-use Rattle.omf_parts.specs.Rules.{each_after, is_new_entry, is_new_common, has_target, is_fitting, has_fitting, lies_within, is_in_bounds, is_content, end_of, is_start}
-use Rattle.omf_parts.specs.Patches.{byte_with}
-use Rattle.omf_parts.specs.Place.{common_name, is_laid_out, starts_from, part_start}
-use Rattle.omf_parts.specs.ImageByte.{name_at}
-use Rattle.omf_parts.specs.SoundModules.{LiesIn, HasItsFixups, SoundModulesKeepRules, CommonsByName}
+use Rattle.omf_model.specs.declared.segment.Segment.{Segment}
+use Rattle.omf_model.specs.declared.symbols.Common.{Common}
+use Rattle.omf_model.specs.declared.symbols.Public.{Public}
+use Rattle.omf_model.specs.declared.fixup.Fixup.{Fixup}
+use Rattle.omf_model.specs.declared.fixup.Target.{Target}
+use Rattle.omf_model.specs.declared.fixup.Target.TheVariants as target
+use Rattle.omf_model.specs.Contents.{ContentValue}
+use Rattle.omf_model.specs.Segments.{is_fixed_id, has_common_id, has_segment, segment_in}
+use Rattle.omf_model.specs.Modules.{ModuleValue}
+use Rattle.omf_model.specs.Rules.{each_after, is_new_entry, is_new_common, has_target, is_fitting, has_fitting, lies_within, is_in_bounds, is_content, end_of, is_start}
+use Rattle.omf_model.specs.Patches.{byte_with}
+use Rattle.omf_model.specs.Place.{common_name, is_laid_out, starts_from, part_start}
+use Rattle.omf_model.specs.ImageByte.{name_at}
+use Rattle.omf_model.specs.SoundModules.{LiesIn, HasItsFixups, SoundModulesKeepRules, CommonsByName}
 use Rattle.link80.specs.Linked.{common_names, linked_commons, id_of, linked_id, moved, linked_public, linked_publics, public_of, unresolved, index_of, to_place, to_public, linked_reference, link_patch, linked_content, linked_contents, part_of, parts_end, greatest, linked_length, linked_segment, linked_ids, moved_start, starts, linked_parts, distinct}
 use Rattle.link80.specs.LinkLaws.{LinkedModuleKeepsRules}
 use Rattle.link80.proofs.ListLemmas.{all_both}

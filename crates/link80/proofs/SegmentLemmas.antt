@@ -7,13 +7,13 @@ use Rattle.std.proofs.Common.{◌∙◌, ap, sym, arith, inl, inr, cond, eqb-tru
 use Rattle.std.proofs.lemmas.Bool.{cases_Bool, and_parts, and_from, or_parts, or_from, not_from_false, lt-ltb}
 use Rattle.std.proofs.lemmas.Bool.Decides.{nat_tests}
 use Rattle.omf_core.specs.SegmentId.{is_common_id}
-use Rattle.omf_parts.specs.declared.segment.Segment.{Segment}
-use Rattle.omf_parts.specs.declared.symbols.Common.{Common}
-use Rattle.omf_parts.specs.Segments.{empty_segment, is_fixed_id, has_common_id, has_segment, segment_in}
-use Rattle.omf_parts.specs.Modules.{ModuleValue}
-use Rattle.omf_parts.specs.Rules.{each_after, is_new_entry, is_new_common}
-use Rattle.omf_parts.specs.Place.{common_name, rounded, starts_from}
-use Rattle.omf_parts.specs.SoundModules.{CommonsByName}
+use Rattle.omf_model.specs.declared.segment.Segment.{Segment}
+use Rattle.omf_model.specs.declared.symbols.Common.{Common}
+use Rattle.omf_model.specs.Segments.{empty_segment, is_fixed_id, has_common_id, has_segment, segment_in}
+use Rattle.omf_model.specs.Modules.{ModuleValue}
+use Rattle.omf_model.specs.Rules.{each_after, is_new_entry, is_new_common}
+use Rattle.omf_model.specs.Place.{common_name, rounded, starts_from}
+use Rattle.omf_model.specs.SoundModules.{CommonsByName}
 use Rattle.link80.specs.Linked.{distinct, numbered_common, part_of, parts_end, greatest}
 use Rattle.link80.proofs.ListLemmas.{find_map}
 use Rattle.link80.proofs.NameLemmas.{has_name, name_is, name_itself, numbered}

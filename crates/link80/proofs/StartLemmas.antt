@@ -2,10 +2,10 @@
 use Rattle.std.specs.Prelude.{◌≡◌, ℕ, true, Option, Some, None, List, [], ◌∷◌, option_map, filter_map, slice_get, refl}
 use Rattle.std.specs.List.{enumerate_from, cons_option}
 use Rattle.std.proofs.Common.{ap}
-use Rattle.omf_parts.specs.Modules.{ModuleValue}
-use Rattle.omf_parts.specs.Rules.{is_start}
-use Rattle.omf_parts.specs.Place.{Bases, place_in}
-use Rattle.omf_parts.specs.SoundModules.{SoundModulesKeepRules, PartsOfOneStartAtZero}
+use Rattle.omf_model.specs.Modules.{ModuleValue}
+use Rattle.omf_model.specs.Rules.{is_start}
+use Rattle.omf_model.specs.Place.{Bases, place_in}
+use Rattle.omf_model.specs.SoundModules.{SoundModulesKeepRules, PartsOfOneStartAtZero}
 use Rattle.link80.specs.Linked.{moved_start, linked}
 use Rattle.link80.specs.LinkLaws.{LinkedStartIsTheModules, start_within}
 use Rattle.link80.proofs.LinkLemmas.{few, listed_from}

@@ -3,10 +3,10 @@ use Rattle.std.specs.Prelude.{◌≡◌, ℕ, suc, length, ◌+◌, ◌≤◌, �
 use Rattle.std.proofs.Common.{◌∙◌, ap, sym, arith, append_assoc}
 use Rattle.std.proofs.lemmas.Bool.{leb-false}
 use Rattle.std.proofs.lemmas.Bool.Decides.{nat_tests}
-use Rattle.omf_parts.specs.declared.segment.Segment.{Segment}
-use Rattle.omf_parts.specs.Segments.{segment_in}
-use Rattle.omf_parts.specs.Modules.{ModuleValue}
-use Rattle.omf_parts.specs.Place.{rounded, starts_from}
+use Rattle.omf_model.specs.declared.segment.Segment.{Segment}
+use Rattle.omf_model.specs.Segments.{segment_in}
+use Rattle.omf_model.specs.Modules.{ModuleValue}
+use Rattle.omf_model.specs.Place.{rounded, starts_from}
 use Rattle.link80.specs.Linked.{parts_end}
 use Rattle.link80.specs.Starts.{next_part}
 use Rattle.link80.proofs.LoopLemmas.{left_at}

@@ -1,10 +1,10 @@
 -- The definitions of LINK, computed on small modules.
 use Rattle.std.specs.Prelude.{◌≡◌, ℕ, List, [], ◌∷◌, true, false, Some, None, map, refl}
 use Rattle.omf_body.specs.declared.field.Field.TheVariants.{High, Both}
-use Rattle.omf_parts.specs.declared.fixup.Fixup.{Fixup}
-use Rattle.omf_parts.specs.declared.fixup.Target.TheVariants as target
-use Rattle.omf_parts.specs.Contents.{ContentValue}
-use Rattle.omf_parts.specs.Modules.{ModuleValue}
+use Rattle.omf_model.specs.declared.fixup.Fixup.{Fixup}
+use Rattle.omf_model.specs.declared.fixup.Target.TheVariants as target
+use Rattle.omf_model.specs.Contents.{ContentValue}
+use Rattle.omf_model.specs.Modules.{ModuleValue}
 use Rattle.link80.specs.declared.fault.LinkFault.TheVariants.{DuplicatePublic, SegmentTooLong, TwoMains, HighNotPaged}
 use Rattle.link80.specs.Linked.{linked_parts, linked_commons, linked_length, unresolved}
 use Rattle.link80.specs.LinkFault.{link_fault}

@@ -1,9 +1,9 @@
 -- The duplicate that LINK reports, in other words: the first public whose name some earlier public has. (It follows from the
 -- definitions.)
 use Rattle.std.specs.Prelude.{◌≡◌, ◌↔◌, ℕ, Bool, not, None, Some, List, [], ◌∷◌, ◌++◌, IsTrue}
-use Rattle.omf_parts.specs.declared.symbols.Public.{Public}
-use Rattle.omf_parts.specs.Modules.{ModuleValue}
-use Rattle.omf_parts.specs.Rules.{each_after}
+use Rattle.omf_model.specs.declared.symbols.Public.{Public}
+use Rattle.omf_model.specs.Modules.{ModuleValue}
+use Rattle.omf_model.specs.Rules.{each_after}
 use Rattle.link80.specs.declared.fault.LinkFault.TheVariants.{DuplicatePublic}
 use Rattle.link80.specs.Linked.{linked_publics}
 use Rattle.link80.specs.LinkFault.{is_declared, first_again, duplicate_public}

@@ -1,7 +1,7 @@
 -- What is found while the names of publics and the main programs are gathered.
 use Rattle.std.specs.Prelude.{◌≡◌, ℕ, if◌then◌else◌, Option, Some, None, option_map, List, [], ◌∷◌, ◌++◌, filter_map, map}
 use Rattle.std.specs.List.{enumerate_from}
-use Rattle.omf_parts.specs.Modules.{ModuleValue}
+use Rattle.omf_model.specs.Modules.{ModuleValue}
 use Rattle.link80.specs.declared.fault.LinkFault.{LinkFault}
 use Rattle.link80.specs.declared.fault.LinkFault.TheVariants.{DuplicatePublic}
 use Rattle.link80.specs.FirstSight.{is_among}

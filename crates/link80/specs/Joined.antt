@@ -1,9 +1,9 @@
 -- How the parts that modules have of one segment, lying over one another, become one: the longest, paged if one is.
 -- (ISIS-II User's Guide, LINK.)
 use Rattle.std.specs.Prelude.{ℕ, ◌||◌, Option, Some, None, List, [], ◌∷◌, map, max, slice_index_or, slice_set}
-use Rattle.omf_parts.specs.declared.segment.Segment.{Segment}
-use Rattle.omf_parts.specs.Segments.{empty_segment, segment_in}
-use Rattle.omf_parts.specs.Modules.{ModuleValue}
+use Rattle.omf_model.specs.declared.segment.Segment.{Segment}
+use Rattle.omf_model.specs.Segments.{empty_segment, segment_in}
+use Rattle.omf_model.specs.Modules.{ModuleValue}
 use Rattle.link80.specs.FirstSight.{number_in}
 
 abbrev pub joined_parts : Segment → Segment → Segment

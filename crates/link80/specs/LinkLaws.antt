@@ -2,12 +2,12 @@
 -- (ISIS-II User's Guide: LINK, then LOCATE.)
 use Rattle.std.specs.Prelude.{◌≡◌, ◌≤◌, ℕ, true, false, Option, None, List, [], ◌∷◌, option_map, filter_map, slice_get, IsTrue}
 use Rattle.std.specs.List.{AllByRecursion, enumerate_from}
-use Rattle.omf_parts.specs.Segments.{segment_in}
-use Rattle.omf_parts.specs.Modules.{ModuleValue}
-use Rattle.omf_parts.specs.Rules.{IsModule, keeps_rules}
-use Rattle.omf_parts.specs.Place.{Bases, place_in, is_laid_out}
-use Rattle.omf_parts.specs.ImageByte.{chunks_of, image_byte}
-use Rattle.omf_parts.specs.HighReferences.{any_loses_low_byte}
+use Rattle.omf_model.specs.Segments.{segment_in}
+use Rattle.omf_model.specs.Modules.{ModuleValue}
+use Rattle.omf_model.specs.Rules.{IsModule, keeps_rules}
+use Rattle.omf_model.specs.Place.{Bases, place_in, is_laid_out}
+use Rattle.omf_model.specs.ImageByte.{chunks_of, image_byte}
+use Rattle.omf_model.specs.HighReferences.{any_loses_low_byte}
 use Rattle.link80.specs.Linked.{parts_end, linked_length, linked_parts, linked, starts}
 use Rattle.link80.specs.LinkFault.{link_fault}
 

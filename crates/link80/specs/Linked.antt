@@ -6,20 +6,20 @@ use Rattle.std.specs.List.{list_any, flat_map, enumerate_from}
 use Rattle.std.specs.Option.{option_map_or}
 use Rattle.omf_core.specs.Name.{same_name}
 use Rattle.omf_core.specs.SegmentId.{absolute_id, code_id, data_id, stack_id, memory_id, unnamed_common_id}
-use Rattle.omf_parts.specs.declared.segment.Segment.{Segment}
-use Rattle.omf_parts.specs.declared.symbols.Common.{Common}
-use Rattle.omf_parts.specs.declared.symbols.Public.{Public}
-use Rattle.omf_parts.specs.declared.fixup.Fixup.{Fixup}
-use Rattle.omf_parts.specs.declared.fixup.Target.{Target}
-use Rattle.omf_parts.specs.declared.fixup.Target.TheVariants as target
-use Rattle.omf_parts.specs.Contents.{ContentValue}
-use Rattle.omf_parts.specs.Segments.{empty_segment, is_fixed_id, segment_in}
-use Rattle.omf_parts.specs.Modules.{ModuleValue, made_of}
-use Rattle.omf_parts.specs.declared.patching.Patch.{Patch}
+use Rattle.omf_model.specs.declared.segment.Segment.{Segment}
+use Rattle.omf_model.specs.declared.symbols.Common.{Common}
+use Rattle.omf_model.specs.declared.symbols.Public.{Public}
+use Rattle.omf_model.specs.declared.fixup.Fixup.{Fixup}
+use Rattle.omf_model.specs.declared.fixup.Target.{Target}
+use Rattle.omf_model.specs.declared.fixup.Target.TheVariants as target
+use Rattle.omf_model.specs.Contents.{ContentValue}
+use Rattle.omf_model.specs.Segments.{empty_segment, is_fixed_id, segment_in}
+use Rattle.omf_model.specs.Modules.{ModuleValue, made_of}
+use Rattle.omf_model.specs.declared.patching.Patch.{Patch}
 use Rattle.link80.specs.declared.reference.Reference.{Reference}
-use Rattle.omf_parts.specs.Patches.{with_patches}
-use Rattle.omf_parts.specs.Place.{common_name, rounded, is_laid_out, part_start}
-use Rattle.omf_parts.specs.ImageByte.{name_at}
+use Rattle.omf_model.specs.Patches.{with_patches}
+use Rattle.omf_model.specs.Place.{common_name, rounded, is_laid_out, part_start}
+use Rattle.omf_model.specs.ImageByte.{name_at}
 
 -- names without those that stood before
 abbrev pub distinct : List (List ℕ) → List (List ℕ)

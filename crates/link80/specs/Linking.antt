@@ -2,8 +2,8 @@
 -- (ISIS-II User's Guide, LINK.)
 use Rattle.std.specs.Prelude.{◌≡◌, ◌≢◌, Some, None, ℕ, List}
 use Rattle.std.specs.List.{AllByRecursion}
-use Rattle.omf_parts.specs.Modules.{ModuleValue}
-use Rattle.omf_parts.specs.Rules.{IsModule}
+use Rattle.omf_model.specs.Modules.{ModuleValue}
+use Rattle.omf_model.specs.Rules.{IsModule}
 use Rattle.link80.specs.declared.fault.LinkFault.{LinkFault}
 use Rattle.link80.specs.declared.fault.LinkFault.TheVariants.{Memory}
 use Rattle.link80.specs.Linked.{linked, unresolved}

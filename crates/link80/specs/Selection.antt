@@ -1,7 +1,7 @@
 -- The modules that are linked: the roots, and those that are taken from the libraries.
 -- (ISIS-II User's Guide, LINK.)
 use Rattle.std.specs.Prelude.{◌≡◌, ◌↔◌, Some, List, ◌++◌, filter_map, Contains}
-use Rattle.omf_parts.specs.Modules.{ModuleValue}
+use Rattle.omf_model.specs.Modules.{ModuleValue}
 use Rattle.link80.specs.declared.fault.LinkFault.{LinkFault}
 use Rattle.link80.specs.LinkFault.{link_fault}
 use Rattle.link80_select.specs.declared.chosen.Chosen.{Chosen}

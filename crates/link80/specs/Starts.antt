@@ -2,9 +2,9 @@
 -- (ISIS-II User's Guide, LINK.)
 use Rattle.std.specs.Prelude.{◌≡◌, ℕ, ◌+◌, nat_le, if◌then◌else◌, Option, Some, None, List}
 use Rattle.omf_core.specs.SegmentId.{code_id, data_id, stack_id}
-use Rattle.omf_parts.specs.declared.segment.Segment.{Segment}
-use Rattle.omf_parts.specs.Modules.{ModuleValue}
-use Rattle.omf_parts.specs.Place.{rounded, starts_from}
+use Rattle.omf_model.specs.declared.segment.Segment.{Segment}
+use Rattle.omf_model.specs.Modules.{ModuleValue}
+use Rattle.omf_model.specs.Place.{rounded, starts_from}
 use Rattle.link80.specs.Linked.{parts_end}
 use Rattle.link80.specs.LinkFault.{segment_too_long}
 

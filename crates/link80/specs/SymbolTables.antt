@@ -1,7 +1,7 @@
 -- What LINK keeps of modules while it links them.
 use Rattle.std.specs.Prelude.{◌≡◌, ℕ, None, List, map}
-use Rattle.omf_parts.specs.declared.symbols.Public.{Public}
-use Rattle.omf_parts.specs.Modules.{ModuleValue}
+use Rattle.omf_model.specs.declared.symbols.Public.{Public}
+use Rattle.omf_model.specs.Modules.{ModuleValue}
 use Rattle.link80.specs.Linked.{linked_publics, unresolved}
 use Rattle.link80.specs.LinkFault.{segment_too_long, too_many_externals}
 

@@ -1,8 +1,8 @@
 //! The ids of segments in the linked module: those of named commons go by their names.
 
 ghost use Rattle.std.specs.Prelude.{◌≡◌, ◌≢◌, ◌<◌, ◌≤◌, [], None, Some, is_some, length, slice_get, IfOk, IfErr, IfSome, OnOk};
-ghost use Rattle.omf_parts.specs.Segments.{is_fixed_id};
-ghost use Rattle.omf_parts.specs.Place.{common_name, is_laid_out, part_start};
+ghost use Rattle.omf_model.specs.Segments.{is_fixed_id};
+ghost use Rattle.omf_model.specs.Place.{common_name, is_laid_out, part_start};
 ghost use Rattle.link80.specs.FirstSight.{number_in, with_names};
 ghost use Rattle.link80.specs.Linked.{common_names, linked_commons, linked_id, moved, names_of_commons, parts_end};
 ghost use Rattle.link80.specs.LinkFault.{too_many_commons};
@@ -13,7 +13,7 @@ use crate::starts::LaidModules;
 use omf_core::Name;
 use omf_core::segment_id::FIRST_COMMON;
 use omf_library::NameHashes;
-use omf_parts::{Common, Module, common_name, is_fixed_id};
+use omf_model::{Common, Module, common_name, is_fixed_id};
 use std::alloc::{AllocError, Global};
 use std::marker::Model;
 
@@ -83,7 +83,7 @@ pub(crate) struct JoinedModules<'a> {
 
 impl<'a> Model for JoinedModules<'a> {
     ghost use Rattle.std.specs.Prelude.{◌≡◌, None, List};
-    ghost use Rattle.omf_parts.specs.Modules.{ModuleValue};
+    ghost use Rattle.omf_model.specs.Modules.{ModuleValue};
     ghost use Rattle.link80.specs.Linked.{common_names};
     ghost use Rattle.link80.specs.LinkFault.{too_many_commons};
 

@@ -2,15 +2,15 @@
 
 ghost use Rattle.std.specs.Prelude.{◌≡◌, ◌++◌, None, Some, filter_map, length, map, slice_get, IfOk, OnOk, IsTrue};
 ghost use Rattle.std.specs.List.{AllByRecursion};
-ghost use Rattle.omf_parts.specs.Rules.{IsModule};
-ghost use Rattle.omf_parts.specs.Patches.{are_apart, are_inside, with_patches};
+ghost use Rattle.omf_model.specs.Rules.{IsModule};
+ghost use Rattle.omf_model.specs.Patches.{are_apart, are_inside, with_patches};
 ghost use Rattle.link80.specs.Linked.{link_patch, linked_content, linked_contents, linked_fixup};
 ghost use Rattle.link80.specs.LinkFault.{segment_too_long};
 ghost use Rattle.link80.specs.Movable.{CanBeMoved};
 
 use crate::symbol_tables::SymbolTables;
-use omf_parts::relocation_laws::sound_modules_keep_rules;
-use omf_parts::{Content, Fixup, Module, Patch, apply_patches};
+use omf_model::relocation_laws::sound_modules_keep_rules;
+use omf_model::{Content, Fixup, Module, Patch, apply_patches};
 use std::alloc::{AllocError, Global};
 
 /// What LINK makes of a content's fixups: the words that it adds to the bytes, one for each fixup, and the fixups that are left,

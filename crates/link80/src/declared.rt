@@ -9,7 +9,7 @@ use crate::fault::LinkFault;
 use crate::modules::Modules;
 use crate::name_table::NameTable;
 use omf_library::NameHashes;
-use omf_parts::Module;
+use omf_model::Module;
 use std::alloc::Global;
 
 /// Appends the names of a module's publics.

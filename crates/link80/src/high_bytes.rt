@@ -5,7 +5,7 @@ ghost use Rattle.std.specs.List.{list_any};
 ghost use Rattle.link80.specs.LinkFault.{is_high_off_page, has_high_off_page, any_high_off_page};
 
 use crate::starts::LaidModules;
-use omf_parts::{Content, Field, Fixup, Target};
+use omf_model::{Content, Field, Fixup, Target};
 
 /// Whether a fixup takes the high byte of the place of a part that doesn't start at a multiple of 256.
 pub(crate) fn any_high_off_page(modules: &LaidModules) -> bool

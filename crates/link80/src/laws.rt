@@ -4,7 +4,7 @@
 ghost use Rattle.link80.specs.LinkLaws.{LinkedChunksAreTheModules, LinkedBytesAreTheModules, LinkedStartIsTheModules, LinkedLengthsAreWords, LinkedModuleKeepsRules, LaidPartsEndAtWords, PartsEndLater};
 ghost use Rattle.link80.specs.DuplicateLaws.{FirstAgainIsTheFirst, NoneAgainWhereAllAreNew, DuplicateIsTheFirst};
 
-use omf_parts::relocation_laws::{
+use omf_model::relocation_laws::{
     adding_twice_is_adding_once, commons_are_found_by_name, parts_of_one_start_at_zero,
     sound_modules_keep_rules,
 };

@@ -2,7 +2,7 @@
 
 ghost use Rattle.std.specs.Prelude.{◌≡◌, ◌≢◌, ◌<◌, [], None, map, option_copied, slice_get, IfOk, IfErr, OnOk};
 ghost use Rattle.std.specs.List.{AllByRecursion, cons_option};
-ghost use Rattle.omf_parts.specs.Rules.{IsModule};
+ghost use Rattle.omf_model.specs.Rules.{IsModule};
 ghost use Rattle.link80.specs.Gathered.{mains_from};
 ghost use Rattle.link80.specs.Linked.{linked, linked_parts, linked_publics, starts, unresolved};
 ghost use Rattle.link80.specs.LinkFault.{duplicate_public, link_fault, segment_too_long, too_many_externals};
@@ -26,7 +26,7 @@ use crate::symbol_tables::SymbolTables;
 use link80_select::Chosen;
 use omf_core::Name;
 use omf_library::Library;
-use omf_parts::{Module, Parts, copy_names};
+use omf_model::{Module, Parts, copy_names};
 use std::alloc::{AllocError, Global};
 
 /// What a link makes: one module, the places of the modules that were taken from libraries, and the names that no module

@@ -2,7 +2,7 @@
 
 ghost use Rattle.std.specs.Prelude.{◌≡◌, ◌<◌, [], ◌∷◌, ◌++◌, Some, length, slice_get, OnOk};
 
-use omf_parts::Module;
+use omf_model::Module;
 use std::alloc::{AllocError, Global};
 use std::marker::Model;
 
@@ -14,7 +14,7 @@ pub(crate) struct Modules<'a> {
 
 impl<'a> Model for Modules<'a> {
     ghost use Rattle.std.specs.Prelude.{List, map};
-    ghost use Rattle.omf_parts.specs.Modules.{ModuleValue};
+    ghost use Rattle.omf_model.specs.Modules.{ModuleValue};
 
     ghost Value = { List ModuleValue };
 

@@ -1,6 +1,6 @@
 //! What LINK makes of a reference.
 
-use omf_parts::Target;
+use omf_model::Target;
 
 /// What LINK makes of a reference: the word that it adds to it, and what the reference is to from then on, unless to
 /// absolute bytes.

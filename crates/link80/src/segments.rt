@@ -3,15 +3,15 @@
 
 ghost use Rattle.std.specs.Prelude.{◌≡◌, ◌∷◌, ◌≤◌, [], length, map, IfOk, IsTrue};
 ghost use Rattle.std.specs.List.{enumerate_from};
-ghost use Rattle.omf_parts.specs.Rules.{IsModule};
-ghost use Rattle.omf_parts.specs.Segments.{is_fixed_id};
+ghost use Rattle.omf_model.specs.Rules.{IsModule};
+ghost use Rattle.omf_model.specs.Segments.{is_fixed_id};
 ghost use Rattle.link80.specs.Joined.{joined_parts, parts_of_commons, with_named_parts};
 ghost use Rattle.link80.specs.Linked.{common_names, linked_commons, linked_ids, linked_segment, numbered_segments};
 
 use crate::commons::JoinedModules;
 use crate::starts::segment_of;
 use omf_core::segment_id::{CODE, DATA, FIRST_COMMON, MEMORY, STACK, UNNAMED_COMMON};
-use omf_parts::{Module, Segment};
+use omf_model::{Module, Segment};
 use std::alloc::{AllocError, Global};
 
 /// A segment without bytes.

@@ -6,7 +6,7 @@ ghost use Rattle.link80_select.specs.Selected.{IsChosen, AreAscending};
 use crate::fault::LinkFault;
 use link80_select::Chosen;
 use omf_library::Library;
-use omf_parts::Module;
+use omf_model::Module;
 use std::alloc::Global;
 
 /// The modules that a link of these roots takes from these libraries: the first that declares a name which a root has as

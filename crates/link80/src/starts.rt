@@ -1,8 +1,8 @@
 //! Where the parts of CODE, DATA and STACK start: one after another, in module order.
 
 ghost use Rattle.std.specs.Prelude.{◌≡◌, ◌≢◌, ◌<◌, ◌≤◌, None, Some, is_some, length, slice_get, slice_index, IfSome, IfOk, IfErr, OnOk, IsTrue};
-ghost use Rattle.omf_parts.specs.Segments.{has_segment, is_fixed_id, segment_in};
-ghost use Rattle.omf_parts.specs.Place.{is_laid_out, part_start};
+ghost use Rattle.omf_model.specs.Segments.{has_segment, is_fixed_id, segment_in};
+ghost use Rattle.omf_model.specs.Place.{is_laid_out, part_start};
 ghost use Rattle.link80.specs.Linked.{moved, parts_end};
 ghost use Rattle.link80.specs.LinkFault.{segment_too_long};
 ghost use Rattle.link80.specs.Starts.{laid_out, next_part};
@@ -10,7 +10,7 @@ ghost use Rattle.link80.specs.Starts.{laid_out, next_part};
 use crate::fault::LinkFault;
 use crate::modules::Modules;
 use omf_core::segment_id::{ABSOLUTE, CODE, DATA, STACK};
-use omf_parts::{Module, Segment};
+use omf_model::{Module, Segment};
 use std::alloc::Global;
 use std::marker::Model;
 
@@ -113,7 +113,7 @@ pub(crate) struct LaidModules<'a> {
 
 impl<'a> Model for LaidModules<'a> {
     ghost use Rattle.std.specs.Prelude.{List};
-    ghost use Rattle.omf_parts.specs.Modules.{ModuleValue};
+    ghost use Rattle.omf_model.specs.Modules.{ModuleValue};
     ghost use Rattle.link80.specs.Starts.{AreLaid};
 
     ghost Value = { List ModuleValue };

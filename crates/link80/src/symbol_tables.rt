@@ -2,7 +2,7 @@
 
 ghost use Rattle.std.specs.Prelude.{◌≡◌, ◌≢◌, ◌++◌, None, Some, true, filter, is_none, length, map, slice_get, IfOk, IfErr, OnOk};
 ghost use Rattle.std.specs.List.{flat_map};
-ghost use Rattle.omf_parts.specs.Rules.{has_target};
+ghost use Rattle.omf_model.specs.Rules.{has_target};
 ghost use Rattle.link80.specs.FirstSight.{is_among, number_in, with_names};
 ghost use Rattle.link80.specs.Linked.{linked_public, linked_publics, linked_reference, public_of, to_place, to_public, unresolved};
 ghost use Rattle.link80.specs.LinkFault.{segment_too_long, too_many_externals};
@@ -14,7 +14,7 @@ use crate::reference::Reference;
 use omf_core::Name;
 use omf_core::segment_id::ABSOLUTE;
 use omf_library::NameHashes;
-use omf_parts::{Module, Public, Target};
+use omf_model::{Module, Public, Target};
 use std::alloc::{AllocError, Global};
 use std::marker::Model;
 
@@ -137,7 +137,7 @@ pub(crate) struct SymbolTables<'t, 'a> {
 
 impl<'t, 'a> Model for SymbolTables<'t, 'a> {
     ghost use Rattle.std.specs.Prelude.{List};
-    ghost use Rattle.omf_parts.specs.Modules.{ModuleValue};
+    ghost use Rattle.omf_model.specs.Modules.{ModuleValue};
     ghost use Rattle.link80.specs.SymbolTables.{AreSymbolTables};
 
     ghost Value = { List ModuleValue };

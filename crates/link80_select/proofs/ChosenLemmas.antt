@@ -8,7 +8,7 @@ use Rattle.std.proofs.lemmas.List.{get_or-drop}
 use Rattle.std.proofs.lemmas.List.Quantifiers.{position-Some}
 use Rattle.std.proofs.lemmas.List.Elements.{Contains-append_left, Contains-append_right, Contains-append_cases}
 use Rattle.std.proofs.lemmas.Option.{none-some, same_Some, slice_get_within, slice_get-get_or}
-use Rattle.omf_parts.specs.Modules.{ModuleValue}
+use Rattle.omf_model.specs.Modules.{ModuleValue}
 use Rattle.omf_library.specs.Providers.{declares, first_provider}
 use Rattle.link80_select.specs.declared.chosen.Chosen.{Chosen}
 use Rattle.link80_select.specs.Selected.{module_at, IsBefore, IsFirstProvider, Needs, IsChosen, by_root, by_member, AreAscending}

@@ -3,7 +3,7 @@
 -- several that declare it, and the order of those taken, are this project's own.)
 use Rattle.std.specs.Prelude.{◌≡◌, ℕ, ◌<◌, ◌⊎◌, true, false, Option, Some, option_and_then, List, [], ◌∷◌, slice_get, Contains}
 use Rattle.std.specs.List.{list_any, AllByRecursion}
-use Rattle.omf_parts.specs.Modules.{ModuleValue}
+use Rattle.omf_model.specs.Modules.{ModuleValue}
 use Rattle.omf_library.specs.Providers.{declares}
 use Rattle.link80_select.specs.declared.chosen.Chosen.{Chosen}
 

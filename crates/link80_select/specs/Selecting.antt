@@ -1,7 +1,7 @@
 -- Words for the private functions that select modules: all modules in one row, the roots first, and marks on the row.
 use Rattle.std.specs.Prelude.{◌≡◌, ◌↔◌, ℕ, ◌+◌, ◌<◌, ◌⊎◌, Bool, true, false, not, if◌then◌else◌, Some, List, [], ◌∷◌, ◌++◌, slice_get, filter_map, length, Contains, count_by}
 use Rattle.std.specs.List.{slice_index_or}
-use Rattle.omf_parts.specs.Modules.{ModuleValue}
+use Rattle.omf_model.specs.Modules.{ModuleValue}
 use Rattle.omf_library.specs.Providers.{first_provider}
 use Rattle.link80_select.specs.declared.chosen.Chosen.{Chosen}
 use Rattle.link80_select.specs.declared.selecting.Search.{Search}

@@ -1,6 +1,6 @@
 -- What a link takes is determined: two lists of all chosen places and of no others, both in ascending order, are the same.
 use Rattle.std.specs.Prelude.{◌≡◌, ◌↔◌, List, Contains}
-use Rattle.omf_parts.specs.Modules.{ModuleValue}
+use Rattle.omf_model.specs.Modules.{ModuleValue}
 use Rattle.link80_select.specs.declared.chosen.Chosen.{Chosen}
 use Rattle.link80_select.specs.Selected.{IsChosen, AreAscending}
 

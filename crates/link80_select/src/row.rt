@@ -5,7 +5,7 @@ ghost use Rattle.omf_library.specs.Providers.{first_provider};
 ghost use Rattle.link80_select.specs.Selecting.{members};
 
 use omf_library::{Library, Providers};
-use omf_parts::Module;
+use omf_model::Module;
 use std::alloc::{AllocError, Global};
 use std::marker::Model;
 
@@ -18,7 +18,7 @@ pub(crate) struct Row<'a> {
 
 impl<'a> Model for Row<'a> {
     ghost use Rattle.std.specs.Prelude.{List, map};
-    ghost use Rattle.omf_parts.specs.Modules.{ModuleValue};
+    ghost use Rattle.omf_model.specs.Modules.{ModuleValue};
     ghost use Rattle.omf_library.specs.Providers.{AreProviders};
 
     ghost Value = { List ModuleValue };

@@ -7,7 +7,7 @@ ghost use Rattle.link80_select.specs.Selecting.{members, places_in, places_from,
 use crate::chosen::Chosen;
 use crate::row::Row;
 use omf_library::Library;
-use omf_parts::Module;
+use omf_model::Module;
 use std::alloc::{AllocError, Global};
 
 /// Marks on a row of modules, and the queue of the numbers that have one, in the order in which they got it.

@@ -4,7 +4,7 @@ use Rattle.std.specs.List.{AllByRecursion, flat_map, enumerate_from, cons_option
 use Rattle.std.proofs.Common.{◌∙◌, ap, sym, subst, arith, inl, inr}
 use Rattle.std.proofs.lemmas.Bool.{cases_lt}
 use Rattle.std.proofs.lemmas.Option.{none-some, same_Some}
-use Rattle.omf_parts.specs.Modules.{ModuleValue}
+use Rattle.omf_model.specs.Modules.{ModuleValue}
 use Rattle.link80_text.specs.declared.reasons.edges.Edge.{Edge}
 use Rattle.link80_text.specs.Edges.{edge_of, edges_of, edges_in}
 

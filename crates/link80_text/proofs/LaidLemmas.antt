@@ -5,11 +5,11 @@ use Rattle.std.proofs.Common.{◌∙◌, ap, sym, arith, inl, inr, cond, append_
 use Rattle.std.proofs.lemmas.Bool.{cases_Bool, eqb-true}
 use Rattle.std.proofs.lemmas.Bool.Decides.{nat_tests}
 use Rattle.std.proofs.lemmas.List.{drop_more}
-use Rattle.omf_parts.specs.declared.segment.Segment.{Segment}
-use Rattle.omf_parts.specs.declared.symbols.Common.{Common}
-use Rattle.omf_parts.specs.Segments.{segment_in}
-use Rattle.omf_parts.specs.Modules.{ModuleValue}
-use Rattle.omf_parts.specs.Place.{rounded, is_laid_out, starts_from, part_start}
+use Rattle.omf_model.specs.declared.segment.Segment.{Segment}
+use Rattle.omf_model.specs.declared.symbols.Common.{Common}
+use Rattle.omf_model.specs.Segments.{segment_in}
+use Rattle.omf_model.specs.Modules.{ModuleValue}
+use Rattle.omf_model.specs.Place.{rounded, is_laid_out, starts_from, part_start}
 use Rattle.link80.specs.Linked.{linked_commons, part_of, parts_end}
 use Rattle.link80.specs.LinkLaws.{PartsEndLater}
 use Rattle.link80_text.specs.Parts.{part_line, part_text, segment_text}

@@ -9,7 +9,7 @@ use Rattle.std.specs.Prelude.{is_some, not}
 use Rattle.std.proofs.lemmas.Bool.{and_parts, and_from, eqb-true, eq-eqb, true≢false}
 use Rattle.std.proofs.lemmas.List.Folds.{list_any-append}
 use Rattle.std.proofs.lemmas.Option.{none-some}
-use Rattle.omf_parts.specs.Modules.{ModuleValue}
+use Rattle.omf_model.specs.Modules.{ModuleValue}
 use Rattle.link80_text.specs.Parts.{needs_name, needing_line, line_of_need}
 use Rattle.link80_text.specs.declared.needs.Need.{Need}
 use Rattle.link80_text.specs.Needs.{needers, IsChain, NeedsValue, first_of, is_of, AreNeeds, AreWith, SetsFirst, line_at, first_line, others_of}

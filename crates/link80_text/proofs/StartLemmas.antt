@@ -3,10 +3,10 @@ use Rattle.std.specs.Prelude.{◌≡◌, ℕ, zero, suc, ◌+◌, ◌<◌, ◌�
 use Rattle.std.specs.List.{take-map}
 use Rattle.std.proofs.Common.{refl, ◌∙◌, ap, arith, get_or}
 use Rattle.std.proofs.lemmas.Option.{slice_get-map, slice_get-get_or}
-use Rattle.omf_parts.specs.declared.segment.Segment.{Segment}
-use Rattle.omf_parts.specs.Segments.{segment_in}
-use Rattle.omf_parts.specs.Modules.{ModuleValue}
-use Rattle.omf_parts.specs.Place.{rounded, is_laid_out, starts_from, part_start}
+use Rattle.omf_model.specs.declared.segment.Segment.{Segment}
+use Rattle.omf_model.specs.Segments.{segment_in}
+use Rattle.omf_model.specs.Modules.{ModuleValue}
+use Rattle.omf_model.specs.Place.{rounded, is_laid_out, starts_from, part_start}
 use Rattle.link80.specs.Linked.{parts_end}
 
 pub starts_after : (id before : ℕ) (ms : List ModuleValue) (n : ℕ) (m : ModuleValue) → slice_get ms n ≡ Some m →

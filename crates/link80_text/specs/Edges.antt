@@ -1,7 +1,7 @@
 -- What the linked modules need, as edges: which one, by which of its names, needs which of those that were taken.
 use Rattle.std.specs.Prelude.{ℕ, ◌-◌, nat_lt, if◌then◌else◌, Option, Some, None, option_map, option_and_then, List, filter_map}
 use Rattle.std.specs.List.{flat_map, enumerate_from}
-use Rattle.omf_parts.specs.Modules.{ModuleValue}
+use Rattle.omf_model.specs.Modules.{ModuleValue}
 use Rattle.omf_library.specs.Providers.{first_provider}
 use Rattle.link80_text.specs.declared.reasons.edges.Edge.{Edge}
 

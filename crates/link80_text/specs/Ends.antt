@@ -1,6 +1,6 @@
 -- The ends of the parts of CODE and DATA of some modules.
 use Rattle.std.specs.Prelude.{◌≡◌, ℕ, ◌*◌, ◌≤◌, List}
-use Rattle.omf_parts.specs.Modules.{ModuleValue}
+use Rattle.omf_model.specs.Modules.{ModuleValue}
 use Rattle.link80.specs.Linked.{parts_end}
 use Rattle.link80_text.specs.declared.causes.starts.PartEnds.{PartEnds}
 

@@ -3,11 +3,11 @@
 use Rattle.std.specs.Prelude.{ℕ, if◌then◌else◌, Option, Some, None, List, [], ◌∷◌}
 use Rattle.std.specs.List.{enumerate_from}
 use Rattle.std.specs.Option.{option_or}
-use Rattle.omf_parts.specs.declared.fixup.Fixup.{Fixup}
-use Rattle.omf_parts.specs.declared.fixup.Target.{Target}
-use Rattle.omf_parts.specs.declared.fixup.Target.TheVariants as target
-use Rattle.omf_parts.specs.Contents.{ContentValue}
-use Rattle.omf_parts.specs.Modules.{ModuleValue}
+use Rattle.omf_model.specs.declared.fixup.Fixup.{Fixup}
+use Rattle.omf_model.specs.declared.fixup.Target.{Target}
+use Rattle.omf_model.specs.declared.fixup.Target.TheVariants as target
+use Rattle.omf_model.specs.Contents.{ContentValue}
+use Rattle.omf_model.specs.Modules.{ModuleValue}
 use Rattle.link80.specs.Linked.{moved}
 use Rattle.link80.specs.LinkFault.{is_high_off_page}
 use Rattle.link80_text.specs.declared.causes.high_bytes.HighByte.{HighByte}

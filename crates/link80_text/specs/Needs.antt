@@ -4,7 +4,7 @@ use Rattle.std.specs.List.{AllByRecursion, list_any}
 use Rattle.std.specs.Option.{option_map_or}
 use Rattle.std.specs.Map.{lookup}
 use Rattle.omf_core.specs.Name.{same_name}
-use Rattle.omf_parts.specs.Modules.{ModuleValue}
+use Rattle.omf_model.specs.Modules.{ModuleValue}
 use Rattle.link80_text.specs.Parts.{needs_name, line_of_need}
 use Rattle.link80_text.specs.declared.needs.Need.{Need}
 

@@ -6,11 +6,11 @@ use Rattle.std.specs.List.{flat_map, list_any, enumerate_from}
 use Rattle.text80.specs.Digits.{word_text}
 use Rattle.omf_core.specs.Name.{same_name}
 use Rattle.omf_core.specs.SegmentId.{segment_word}
-use Rattle.omf_parts.specs.declared.segment.Segment.{Segment}
-use Rattle.omf_parts.specs.declared.symbols.Common.{Common}
-use Rattle.omf_parts.specs.Segments.{is_used}
-use Rattle.omf_parts.specs.Modules.{ModuleValue}
-use Rattle.omf_parts.specs.Place.{part_start}
+use Rattle.omf_model.specs.declared.segment.Segment.{Segment}
+use Rattle.omf_model.specs.declared.symbols.Common.{Common}
+use Rattle.omf_model.specs.Segments.{is_used}
+use Rattle.omf_model.specs.Modules.{ModuleValue}
+use Rattle.omf_model.specs.Place.{part_start}
 use Rattle.omf_text.specs.Places.{common_part}
 use Rattle.link80.specs.declared.linking.Linked.{Linked}
 use Rattle.link80.specs.Linked.{linked, linked_commons, linked_ids, part_of, unresolved}

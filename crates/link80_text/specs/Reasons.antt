@@ -3,7 +3,7 @@
 -- and the form of the lines are this project's own.)
 use Rattle.std.specs.Prelude.{◌≡◌, ℕ, suc, ◌+◌, ◌<◌, ◌≤◌, ◌⊎◌, false, Some, List, [], ◌∷◌, ◌++◌, codes, length, slice_get, slice_index_or, Contains}
 use Rattle.std.specs.List.{concat, list_any, AllZip}
-use Rattle.omf_parts.specs.Modules.{ModuleValue}
+use Rattle.omf_model.specs.Modules.{ModuleValue}
 use Rattle.omf_library.specs.Providers.{declares}
 use Rattle.link80_select.specs.declared.chosen.Chosen.{Chosen}
 use Rattle.link80_select.specs.Selected.{module_at, IsFirstProvider, Needs}

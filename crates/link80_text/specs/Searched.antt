@@ -1,6 +1,6 @@
 -- What the search for reasons keeps, and the line of one module.
 use Rattle.std.specs.Prelude.{◌≡◌, ℕ, Option, List, ◌++◌, length}
-use Rattle.omf_parts.specs.Modules.{ModuleValue}
+use Rattle.omf_model.specs.Modules.{ModuleValue}
 use Rattle.link80_select.specs.declared.chosen.Chosen.{Chosen}
 use Rattle.link80.specs.Selection.{IsSelection, modules_with}
 use Rattle.link80_text.specs.declared.reasons.edges.Edge.{Edge}

@@ -1,13 +1,13 @@
 //! The parts of CODE, DATA and STACK: one after another, in the order of the modules.
 
 ghost use Rattle.std.specs.Prelude.{◌≡◌, ◌≤◌, ◌++◌, map, OnOk};
-ghost use Rattle.omf_parts.specs.Place.{rounded};
+ghost use Rattle.omf_model.specs.Place.{rounded};
 ghost use Rattle.link80.specs.Linked.{parts_end};
 ghost use Rattle.link80_text.specs.Words.{laid_text};
 
 use crate::lines::append_part;
 use link80::laws::laid_parts_end_at_words;
-use omf_parts::{Common, Module, segment_in};
+use omf_model::{Common, Module, segment_in};
 use std::alloc::AllocError;
 
 /// Appends the lines of the parts that lie one after another.

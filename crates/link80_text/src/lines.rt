@@ -5,7 +5,7 @@ ghost use Rattle.link80_text.specs.Parts.{extent_of, owner_of, line_of, part_lin
 
 use omf_core::Name;
 use omf_core::segment_id::word_of;
-use omf_parts::{Common, Segment, is_used};
+use omf_model::{Common, Segment, is_used};
 use omf_text::append_common;
 use std::alloc::AllocError;
 use text80::word_digits;

@@ -6,7 +6,7 @@ ghost use Rattle.link80.specs.Selection.{modules_with};
 
 use link80::Chosen;
 use omf_library::Library;
-use omf_parts::Module;
+use omf_model::Module;
 use std::alloc::{AllocError, Global};
 
 /// The module at a place in the libraries.

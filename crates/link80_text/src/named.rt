@@ -4,7 +4,7 @@ ghost use Rattle.std.specs.Prelude.{◌≡◌};
 ghost use Rattle.link80.specs.Linked.{part_of};
 ghost use Rattle.link80_text.specs.Words.{named_part};
 
-use omf_parts::{Common, Module, Segment, common_name, is_fixed_id, segment_in};
+use omf_model::{Common, Module, Segment, common_name, is_fixed_id, segment_in};
 
 /// A segment without bytes.
 const EMPTY: Segment = Segment {

@@ -7,7 +7,7 @@ ghost use Rattle.link80_text.specs.declared.needs.Need.{Need};
 use indexmap::IndexMap;
 use omf_core::Name;
 use omf_library::NameHashes;
-use omf_parts::Module;
+use omf_model::Module;
 use std::alloc::{AllocError, Global};
 use std::marker::Model;
 

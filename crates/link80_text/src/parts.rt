@@ -2,7 +2,7 @@
 
 ghost use Rattle.std.specs.Prelude.{◌≡◌, ◌++◌, ◌∷◌, ◌≤◌, [], None, map, false, OnOk};
 ghost use Rattle.std.specs.List.{flat_map};
-ghost use Rattle.omf_parts.specs.Place.{is_laid_out};
+ghost use Rattle.omf_model.specs.Place.{is_laid_out};
 ghost use Rattle.link80.specs.Linked.{linked_commons};
 ghost use Rattle.link80.specs.LinkFault.{link_fault};
 ghost use Rattle.link80_text.specs.Parts.{modules_of, IsMade, segment_text, parts_text};
@@ -16,7 +16,7 @@ use link80::Linked;
 use link80::laws::laid_parts_end_at_words;
 use omf_core::segment_id::{CODE, DATA, MEMORY, STACK, UNNAMED_COMMON};
 use omf_library::Library;
-use omf_parts::{Common, Module};
+use omf_model::{Common, Module};
 use std::alloc::{AllocError, Global};
 
 /// Appends a line for each part of a linked module that has bytes or is paged: where it starts in its segment of the linked

@@ -11,7 +11,7 @@ use crate::words::append_word;
 use link80::Linked;
 use omf_core::Name;
 use omf_library::Library;
-use omf_parts::Module;
+use omf_model::Module;
 use std::alloc::{AllocError, Global};
 
 /// Appends a line for each unresolved name and each module that has it as external, as `UNRESOLVED GETKEY BY METER`: the names

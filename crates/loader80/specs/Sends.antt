@@ -1,7 +1,7 @@
 -- What a session reads, answers and writes, over readers and a writer whose bytes are known.
 use Rattle.std.specs.Prelude.{◌≡◌, ℕ, ◌<◌, ◌≤◌, ◌==◌, List, [], Option, Result, Err, IfSome, length, take, if◌then◌else◌}
 use Rattle.std.specs.Io.KnownBytes.{Appends}
-use Rattle.loader80_streams.specs.WholeText.{text_limit}
+use Rattle.stream80.specs.WholeText.{text_limit}
 use Rattle.loader80.specs.declared.replies.Outcome.{Outcome}
 use Rattle.loader80.specs.declared.fault.SessionFault.{SessionFault}
 use Rattle.loader80.specs.declared.fault.SessionFault.TheVariants.{Read, Write, Memory, TooLong}

@@ -10,7 +10,7 @@
 //! | [`front_text`], [`ending_text`] | a run's transcript but for its last line; that line |
 //! | [`session`] | three inputs to the transcript of a run |
 //! | [`answer_texts`] | the same of three texts that were read |
-//! | [`Source`], [`Sink`], [`Failed`] | what gives and takes bytes, and counts the calls that failed; these stand in `loader80_streams` |
+//! | [`Source`], [`Sink`], [`Failed`] | what gives and takes bytes, and counts the calls that failed; these stand in `stream80` |
 //! | [`Reading`], [`Writing`] | those made of std's readers and writers, which stand there too |
 //! | [`read_all`], [`write_all`], [`ReadAllFault`] | a source read whole within a limit, bytes written whole, which stand there too |
 //! | [`read_inputs`] | the inputs of a run, from their text |
@@ -30,12 +30,12 @@ mod vouched;
 
 pub use fault::SessionFault;
 pub use inputs::{InputsFault, read_inputs};
-pub use loader80_streams::{
-    Failed, ReadAllFault, Reading, Sink, Source, TEXT_LIMIT, Writing, read_all, write_all,
-};
 pub use replies::{Outcome, Reply, SessionTexts, answer_texts};
 pub use running::{Ended, run};
 pub use sessions::session;
+pub use stream80::{
+    Failed, ReadAllFault, Reading, Sink, Source, TEXT_LIMIT, Writing, read_all, write_all,
+};
 pub use transcript::{ending_text, front_text, refusal_text};
 pub use verify80::{ProcRow, Refusal};
 pub use vouched::{Vouched, vouch};

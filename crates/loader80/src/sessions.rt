@@ -2,13 +2,13 @@
 
 ghost use Rattle.std.specs.Prelude.{◌≡◌, ◌+◌, ◌<◌, ◌≤◌, Some, IfOk, IfErr, IfSome, vec_len};
 ghost use Rattle.loader80.specs.Texts.{Texts};
-ghost use Rattle.loader80_streams.specs.WholeText.{TakesAtMost, text_limit};
+ghost use Rattle.stream80.specs.WholeText.{TakesAtMost, text_limit};
 ghost use Rattle.loader80.specs.Sends.{Sends, read_failures_at, write_failures_of, TextFault};
 
 use crate::fault::SessionFault;
 use crate::replies::{Outcome, SessionTexts, answer_texts};
-use loader80_streams::{Failed, ReadAllFault, Sink, Source, TEXT_LIMIT, read_all, write_all};
 use std::alloc::Global;
+use stream80::{Failed, ReadAllFault, Sink, Source, TEXT_LIMIT, read_all, write_all};
 
 /// Reads an image, regions and inputs, each whole, in this order; checks the image and runs it for `steps` steps at most,
 /// keeping `outputs` outputs at most; and writes the transcript, or the line of the refusal.

@@ -8,7 +8,7 @@ use Rattle.hex.specs.Hex.{encode_upper, upper_digits}
 use Rattle.hex.proofs.HexLemmas.{length-encode_with}
 use Rattle.loader80_text.specs.declared.inputs.repeated.Repeated.{Repeated}
 use Rattle.loader80_text.specs.Text.{content_of, line_of, text_of}
-use Rattle.loader80_streams.specs.WholeText.{text_limit}
+use Rattle.stream80.specs.WholeText.{text_limit}
 
 -- how long a line is
 pub length-line_of : (r : Repeated) → length (line_of r) ≡ 4 + 2 * r.count

@@ -17,7 +17,7 @@ use Rattle.machine80.specs.Flags.{flags_byte}
 use Rattle.machine80.specs.Ports.{next_input}
 use Rattle.machine80.specs.Step.{Machine, fetch}
 use Rattle.machine80.specs.World.{World}
-use Rattle.omf_parts.specs.declared.symbols.Public.{Public}
+use Rattle.omf_model.specs.declared.symbols.Public.{Public}
 use Rattle.image80_text.specs.Listing.{columns}
 use Rattle.image80_text.specs.NameText.{label_text}
 

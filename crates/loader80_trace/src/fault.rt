@@ -2,8 +2,8 @@
 
 ghost use Rattle.std.specs.Prelude.{◌≡◌};
 
-use loader80_streams::Failed;
 use std::alloc::AllocError;
+use stream80::Failed;
 use thiserror::Error;
 
 /// Why the lines of a run weren't written.

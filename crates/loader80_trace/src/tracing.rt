@@ -20,10 +20,10 @@ use crate::stepping::{Rules, make_step};
 use decode80::{Fetched, Instr};
 use image80::RegionMap;
 use loader80::{Ended, Vouched};
-use loader80_streams::{Sink, write_all};
 use machine80::{Cpu, End, Inputs, ListPorts, PagedBus, fetch};
 use machine80_quick::laws::images_that_never_go_wrong_stay_right;
 use std::alloc::{AllocError, Global};
+use stream80::{Sink, write_all};
 
 /// Writes the lines of some instructions of a run, each as it comes: the run of a vouched image from its start with these inputs.
 /// A line has the instruction as a listing has it, the byte that it takes from a port or gives to one, and the registers before

@@ -12,8 +12,8 @@ use Rattle.omf_core.specs.Lasting.{last_now, stay_lasting}
 use Rattle.omf_core.specs.Laws.{RecordsStay, ListsStay, OtherFaultsStay, TruncatedCanBeSpoilt}
 use Rattle.omf_body.specs.declared.body.Body.TheVariants.{ModuleHeader}
 use Rattle.omf_body.specs.Bodies.{body_bytes}
-use Rattle.omf_parts.specs.Modules.{ModuleValue}
-use Rattle.omf_parts.specs.declared.symbols.Common.{Common}
+use Rattle.omf_model.specs.Modules.{ModuleValue}
+use Rattle.omf_model.specs.declared.symbols.Common.{Common}
 use Rattle.omf_module.specs.declared.fault.Cause.{Cause}
 use Rattle.omf_module.specs.declared.fault.Cause.TheVariants as cause
 use Rattle.omf_module.specs.declared.pieces.UnfinishedModule.{UnfinishedModule}

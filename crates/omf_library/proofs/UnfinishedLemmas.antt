@@ -9,8 +9,8 @@ use Rattle.omf_core.specs.Fault.{is_truncation}
 use Rattle.omf_core.specs.Record.{SpellsRecord, fault_at}
 use Rattle.omf_core.specs.Records.{RecordValue}
 use Rattle.omf_core.specs.Laws.{RecordsStay, OtherFaultsStay, ListGrows}
-use Rattle.omf_parts.specs.Modules.{ModuleValue}
-use Rattle.omf_parts.specs.declared.symbols.Common.{Common}
+use Rattle.omf_model.specs.Modules.{ModuleValue}
+use Rattle.omf_model.specs.declared.symbols.Common.{Common}
 use Rattle.omf_module.specs.declared.fault.Cause.TheVariants as cause
 use Rattle.omf_module.specs.declared.fault.ModuleFault.{ModuleFault}
 use Rattle.omf_module.specs.declared.pieces.UnfinishedModule.{UnfinishedModule}

@@ -6,7 +6,7 @@ use Rattle.std.proofs.lemmas.Bool.{or_parts, ltb-false, ltb-true}
 use Rattle.std.proofs.lemmas.List.{append-nil, drop_more, length-append}
 use Rattle.std.proofs.Math.Seq.{take-suc}
 use Rattle.omf_core.specs.Record.{spelling}
-use Rattle.omf_parts.specs.Modules.{ModuleValue}
+use Rattle.omf_model.specs.Modules.{ModuleValue}
 use Rattle.omf_module.specs.Writing.{module_bytes}
 use Rattle.omf_module.specs.WritingLaws.{IsReadAgain}
 use Rattle.omf_library.specs.Writing.{location_bytes, places_from, header_body, names_body, locations_body, dictionary_body, index_place, library_bytes, is_too_large}

@@ -1,6 +1,6 @@
 -- Bytes spell one library at most, or have one first fault, and never both. (It follows from the layout of records.)
 use Rattle.std.specs.Prelude.{◌≡◌, ℕ, List}
-use Rattle.omf_parts.specs.Modules.{ModuleValue}
+use Rattle.omf_model.specs.Modules.{ModuleValue}
 use Rattle.omf_library.specs.declared.fault.LibraryFault.{LibraryFault}
 use Rattle.omf_library.specs.Spelled.{SpellsLibrary, FaultsLibrary}
 

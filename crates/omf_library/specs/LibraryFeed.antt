@@ -3,7 +3,7 @@
 use Rattle.std.specs.Prelude.{◌≡◌, ℕ, List, [], length, Option}
 use Rattle.omf_core.specs.Lasting.{Lasting}
 use Rattle.omf_core.specs.Records.{RecordValue}
-use Rattle.omf_parts.specs.Modules.{ModuleValue}
+use Rattle.omf_model.specs.Modules.{ModuleValue}
 use Rattle.omf_module.specs.Spelled.{SpellsModules}
 use Rattle.omf_module.specs.Pieces.{IsCutOff, EndsWithin}
 use Rattle.omf_library.specs.declared.fault.LibraryFault.{LibraryFault}

@@ -10,7 +10,7 @@ use Rattle.omf_core.specs.Record.{SpellsRecord, fault_at, word_at}
 use Rattle.omf_core.specs.Records.{RecordValue, SpellsRecords}
 use Rattle.omf_module.specs.declared.fault.Cause.TheVariants as cause
 use Rattle.omf_module.specs.declared.fault.ModuleFault.{ModuleFault}
-use Rattle.omf_parts.specs.Modules.{ModuleValue}
+use Rattle.omf_model.specs.Modules.{ModuleValue}
 use Rattle.omf_module.specs.Uses.{fault_by}
 use Rattle.omf_module.specs.Spelled.{SpellsModules, FaultsModule, EndsFile}
 use Rattle.omf_library.specs.declared.fault.LibraryFault.{LibraryFault}

@@ -7,7 +7,7 @@ use Rattle.omf_core.specs.Lasting.{Lasting}
 use Rattle.omf_core.specs.declared.fault.RecordFault.TheVariants.{Truncated}
 use Rattle.omf_core.specs.Record.{SpellsRecord}
 use Rattle.omf_core.specs.Records.{RecordValue}
-use Rattle.omf_parts.specs.Modules.{ModuleValue}
+use Rattle.omf_model.specs.Modules.{ModuleValue}
 use Rattle.omf_module.specs.declared.pieces.UnfinishedModule.{UnfinishedModule}
 use Rattle.omf_module.specs.declared.fault.Cause.TheVariants as cause
 use Rattle.omf_module.specs.Pieces.{IsCutOff, ReadsModule}

@@ -8,7 +8,7 @@ use Rattle.omf_core.specs.Name.{name_spelling}
 use Rattle.omf_core.specs.Record.{spelling}
 use Rattle.omf_core.specs.Records.{RecordValue, spellings}
 use Rattle.omf_body.specs.Fields.{word_bytes}
-use Rattle.omf_parts.specs.Modules.{ModuleValue}
+use Rattle.omf_model.specs.Modules.{ModuleValue}
 use Rattle.omf_module.specs.WritingLaws.{IsReadAgain}
 use Rattle.omf_module.specs.Writing.{module_bytes}
 use Rattle.omf_library.specs.Spelled.{SpellsLibrary}

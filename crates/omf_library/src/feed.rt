@@ -1,7 +1,7 @@
 //! Libraries that come in pieces.
 
 ghost use Rattle.std.specs.Prelude.{◌≡◌, ◌≢◌, ◌++◌, List, [], None, Some, Ok, Err, IfOk, IfErr, OnOk};
-ghost use Rattle.omf_parts.specs.Modules.{ModuleValue};
+ghost use Rattle.omf_model.specs.Modules.{ModuleValue};
 ghost use Rattle.omf_library.specs.declared.fault.LibraryFault.{LibraryFault as LibraryFaultValue};
 ghost use Rattle.omf_library.specs.Fault.{OrNoMemory, Answers};
 ghost use Rattle.omf_library.specs.Spelled.{SpellsLibrary, FaultsLibrary};

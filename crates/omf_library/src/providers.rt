@@ -2,7 +2,7 @@
 
 ghost use Rattle.std.specs.Prelude.{◌≡◌, ℕ, List, map, IfOk, OnOk};
 ghost use Rattle.omf_core.specs.Name.{same_name};
-ghost use Rattle.omf_parts.specs.Modules.{ModuleValue};
+ghost use Rattle.omf_model.specs.Modules.{ModuleValue};
 ghost use Rattle.omf_library.specs.Providers.{declares, first_provider, AreProviders, TakesNames};
 
 use crate::name_hashes::NameHashes;

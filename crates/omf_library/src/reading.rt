@@ -1,7 +1,7 @@
 //! Libraries read from a file.
 
 ghost use Rattle.std.specs.Prelude.{Ok, Err, List, IfOk, IfErr};
-ghost use Rattle.omf_parts.specs.Modules.{ModuleValue};
+ghost use Rattle.omf_model.specs.Modules.{ModuleValue};
 ghost use Rattle.omf_library.specs.declared.fault.LibraryFault.{LibraryFault as LibraryFaultValue};
 ghost use Rattle.omf_library.specs.Fault.{OrNoMemory, Answers};
 ghost use Rattle.omf_library.specs.Spelled.{SpellsLibrary, FaultsLibrary};

@@ -5,7 +5,7 @@ use Rattle.omf_module.specs.declared.fault.Cause.{Cause}
 use Rattle.omf_module.specs.declared.fault.Cause.TheVariants.{Memory}
 use Rattle.omf_module.specs.declared.fault.ModuleFault.{ModuleFault}
 use Rattle.omf_module.specs.Fault.{no_memory, fault_of}
-use Rattle.omf_parts.specs.Modules.{ModuleValue}
+use Rattle.omf_model.specs.Modules.{ModuleValue}
 use Rattle.omf_module.specs.Uses.{fault_by}
 use Rattle.omf_module.specs.Spelled.{SpellsModule, FaultsModule, FaultsFile}
 use Rattle.omf_module.specs.Reading.{OrNoMemory}

@@ -11,12 +11,12 @@ use Rattle.omf_body.specs.declared.entries.CommonEntry.{CommonEntry}
 use Rattle.omf_body.specs.declared.fault.FieldFault.{FieldFault}
 use Rattle.omf_body.specs.Entries.{common_bytes, common_layout}
 use Rattle.omf_module.specs.declared.fault.Cause.{Cause}
-use Rattle.omf_parts.specs.declared.symbols.Common.{Common}
-use Rattle.omf_parts.specs.Rules.{each_after, is_new_common}
+use Rattle.omf_model.specs.declared.symbols.Common.{Common}
+use Rattle.omf_model.specs.Rules.{each_after, is_new_common}
 use Rattle.omf_module.specs.Spelled.{read_new_common, FaultsCommons, here, later, commons_cause}
 use Rattle.omf_module.specs.Reading.{common_of, TakesCommons, RefusesCommons}
 use Rattle.omf_module.proofs.ListLemmas.{each_after_push}
-use Rattle.omf_parts.specs.SoundParts.{new_common}
+use Rattle.omf_model.specs.SoundParts.{new_common}
 
 -- what was taken, and what is left
 pub record CommonsSoFar (before : List Common) (bytes : List ℕ) (now : List Common) (rest : List ℕ) : Type 0 where

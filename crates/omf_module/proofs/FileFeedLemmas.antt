@@ -8,8 +8,8 @@ use Rattle.omf_core.specs.declared.fault.RecordFault.TheVariants.{BadSum}
 use Rattle.omf_core.specs.Record.{SpellsRecord, fault_at}
 use Rattle.omf_core.specs.Lasting.{last_now, stay_lasting}
 use Rattle.omf_core.specs.Laws.{OneRecordAtEachPlace, NoFaultExactlyAtRecords, TruncatedCanBeSpoilt}
-use Rattle.omf_parts.specs.Modules.{ModuleValue}
-use Rattle.omf_parts.specs.declared.symbols.Common.{Common}
+use Rattle.omf_model.specs.Modules.{ModuleValue}
+use Rattle.omf_model.specs.declared.symbols.Common.{Common}
 use Rattle.omf_module.specs.declared.fault.Cause.TheVariants.{NoHeader, NoEnd, Record}
 use Rattle.omf_module.specs.declared.fault.ModuleFault.{ModuleFault}
 use Rattle.omf_module.specs.declared.file_feed.Progress.{Progress}

@@ -1,7 +1,7 @@
 -- The modules of a file, one after another.
 use Rattle.std.proofs.Common.{ℕ, ◌<◌, ◌≤◌, List, [], ◌∷◌, ◌++◌, length, refl, sym, subst, arith}
 use Rattle.omf_module.specs.declared.module_file.PlacedBody.{PlacedBody}
-use Rattle.omf_parts.specs.Modules.{ModuleValue}
+use Rattle.omf_model.specs.Modules.{ModuleValue}
 use Rattle.omf_module.specs.Records.{SpellsBodies}
 use Rattle.omf_module.specs.Spelled.{SpellsModule, SpellsModules}
 

@@ -9,10 +9,10 @@ use Rattle.omf_module.specs.declared.fault.Cause.{Cause}
 use Rattle.omf_module.specs.declared.fault.Cause.TheVariants.{SegmentUnknown, FixupBeforeContent}
 use Rattle.omf_module.specs.declared.fault.ModuleFault.{ModuleFault}
 use Rattle.omf_module.specs.declared.module_file.PlacedBody.{PlacedBody}
-use Rattle.omf_parts.specs.declared.fixup.Fixup.{Fixup}
-use Rattle.omf_parts.specs.Contents.{ContentValue}
-use Rattle.omf_parts.specs.Modules.{ModuleValue}
-use Rattle.omf_parts.specs.Segments.{has_segment}
+use Rattle.omf_model.specs.declared.fixup.Fixup.{Fixup}
+use Rattle.omf_model.specs.Contents.{ContentValue}
+use Rattle.omf_model.specs.Modules.{ModuleValue}
+use Rattle.omf_model.specs.Segments.{has_segment}
 use Rattle.omf_module.specs.Gathered.{fixups_in, with_fixups, content_after, contents_from, parts_of}
 use Rattle.omf_module.specs.Uses.{unknown_id, ids_in, place_fault, fixup_fault, fixups_fault, is_reference, reference_fault, body_fault, bodies_fault, fault_by, header_fault}
 use Rattle.omf_module.specs.FirstUseLaws.{with_earlier, unknown_segments, nearest_content, cause_of_fixup, causes_of_fixups, causes_in, faults_at, faults_in, bodies_faults, BodiesFaultIsTheFirst, UseFaultIsTheFirst}

@@ -11,7 +11,7 @@ use Rattle.omf_body.specs.declared.body.Body.{Body}
 use Rattle.omf_body.specs.declared.body.HeaderBody.{HeaderBody}
 use Rattle.omf_body.specs.declared.body.Body.TheVariants.{ModuleHeader, ModuleEnd, EndOfFile, NamedCommons}
 use Rattle.omf_body.specs.Bodies.{body_kind, body_bytes, Spells}
-use Rattle.omf_parts.specs.declared.symbols.Common.{Common}
+use Rattle.omf_model.specs.declared.symbols.Common.{Common}
 use Rattle.omf_module.specs.Records.{SpellsBody, commons_in, may_follow}
 use Rattle.omf_module.specs.Spelled.{stands_alone}
 use Rattle.omf_module.specs.Reading.{BeginsModule, Follows, is_end, TakesCommons}

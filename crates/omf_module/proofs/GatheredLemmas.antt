@@ -6,8 +6,8 @@ use Rattle.std.proofs.lemmas.List.{append-nil}
 use Rattle.std.proofs.lemmas.List.Sums.{take_while-cons}
 use Rattle.omf_body.specs.declared.body.Body.{Body}
 use Rattle.omf_body.specs.declared.body.Body.TheVariants.{Content}
-use Rattle.omf_parts.specs.declared.fixup.Fixup.{Fixup}
-use Rattle.omf_parts.specs.Contents.{ContentValue}
+use Rattle.omf_model.specs.declared.fixup.Fixup.{Fixup}
+use Rattle.omf_model.specs.Contents.{ContentValue}
 use Rattle.omf_module.specs.declared.module_file.PlacedBody.{PlacedBody}
 use Rattle.omf_module.specs.Gathered.{fixups_in, with_fixups, begins_content, contents_from}
 use Rattle.omf_module.specs.GatheredLaws.{fixups_up_to_content, contents_begun, ContentsHaveTheFixupsUpToTheNext}

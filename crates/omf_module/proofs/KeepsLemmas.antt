@@ -13,23 +13,23 @@ use Rattle.omf_body.specs.declared.body.Body.TheVariants.{Content, PublicDeclara
 use Rattle.omf_core.specs.Name.{is_name}
 use Rattle.omf_body.specs.Entries.{is_paged}
 use Rattle.omf_body.specs.Bodies.{body_bytes, are_distinct}
-use Rattle.omf_parts.specs.declared.segment.Segment.{Segment}
-use Rattle.omf_parts.specs.declared.symbols.Common.{Common}
-use Rattle.omf_parts.specs.declared.symbols.Public.{Public}
-use Rattle.omf_parts.specs.declared.fixup.Fixup.{Fixup}
-use Rattle.omf_parts.specs.declared.fixup.Target.{Target}
-use Rattle.omf_parts.specs.declared.fixup.Target.TheVariants as target
+use Rattle.omf_model.specs.declared.segment.Segment.{Segment}
+use Rattle.omf_model.specs.declared.symbols.Common.{Common}
+use Rattle.omf_model.specs.declared.symbols.Public.{Public}
+use Rattle.omf_model.specs.declared.fixup.Fixup.{Fixup}
+use Rattle.omf_model.specs.declared.fixup.Target.{Target}
+use Rattle.omf_model.specs.declared.fixup.Target.TheVariants as target
 use Rattle.omf_module.specs.declared.fault.Cause.TheVariants.{SegmentUnknown, OffsetOutside, FixupOutside, FixupTwice, IndexUnknown}
 use Rattle.omf_module.specs.declared.module_file.PlacedBody.{PlacedBody}
-use Rattle.omf_parts.specs.Contents.{ContentValue, is_inside, shares_a_byte}
-use Rattle.omf_parts.specs.Segments.{has_segment}
-use Rattle.omf_parts.specs.Modules.{ModuleValue}
-use Rattle.omf_parts.specs.Rules.{each_after, is_new_entry, is_new_common, has_target, is_fitting, end_of, is_in_bounds, has_fitting, is_content, is_start, keeps_rules}
+use Rattle.omf_model.specs.Contents.{ContentValue, is_inside, shares_a_byte}
+use Rattle.omf_model.specs.Segments.{has_segment}
+use Rattle.omf_model.specs.Modules.{ModuleValue}
+use Rattle.omf_model.specs.Rules.{each_after, is_new_entry, is_new_common, has_target, is_fitting, end_of, is_in_bounds, has_fitting, is_content, is_start, keeps_rules}
 use Rattle.omf_module.specs.Records.{SpellsBodies, commons_in, commons_of, stands_within, may_follow, each_follows, ModuleRecords, SpellsModuleRecords}
 use Rattle.omf_module.specs.Gathered.{publics_in, fixups_in, with_fixups, content_after, begins_content, contents_from, parts_of}
 use Rattle.omf_module.specs.Uses.{unknown_id, ids_in, place_fault, lacks_external, fixup_fault, fixups_fault, reference_fault, body_fault, fault_by, bodies_fault, header_fault, end_fault, use_fault}
 use Rattle.omf_module.proofs.ListLemmas.{each_after_both}
-use Rattle.omf_parts.specs.SoundParts.{in_bounds_parts}
+use Rattle.omf_model.specs.SoundParts.{in_bounds_parts}
 
 -- ---- options and tests
 

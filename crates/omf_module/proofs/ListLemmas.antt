@@ -2,7 +2,7 @@
 use Rattle.std.proofs.Common.{◌≡◌, ◌<◌, ◌+◌, ℕ, Bool, true, List, [], ◌∷◌, ◌++◌, length, drop, get_or, refl, sym, ap, ◌∙◌, subst, append_assoc}
 use Rattle.std.proofs.lemmas.Bool.{and_parts, and_from}
 use Rattle.std.proofs.lemmas.List.{append-nil, drop_more}
-use Rattle.omf_parts.specs.Rules.{each_after}
+use Rattle.omf_model.specs.Rules.{each_after}
 
 pub each_after_both : {A : Type 0} (test : List A → A → Bool) (before xs ys : List A) → each_after test before xs ≡ true
     → each_after test (before ++ xs) ys ≡ true → each_after test before (xs ++ ys) ≡ true

@@ -4,7 +4,7 @@ use Rattle.omf_body.specs.declared.body.Body.TheVariants.{ModuleHeader}
 use Rattle.omf_body.specs.Bodies.{body_bytes}
 use Rattle.omf_module.specs.declared.fault.Cause.TheVariants.{NoEnd}
 use Rattle.omf_module.specs.declared.fault.ModuleFault.{ModuleFault}
-use Rattle.omf_parts.specs.Modules.{ModuleValue}
+use Rattle.omf_model.specs.Modules.{ModuleValue}
 use Rattle.omf_module.specs.Uses.{fault_by}
 use Rattle.omf_module.specs.Spelled.{SpellsModule, FaultsModule, SpellsModules, EndsFile, SpellsFile, FaultsFile, first_module, later_module, no_end}
 use Rattle.omf_module.specs.ReadingLaws.{OneFile, OneFileFault, NeverBothFile}

@@ -23,14 +23,14 @@ use Rattle.omf_body.specs.FirstFault.{FirstFault}
 use Rattle.omf_body.specs.Laws.{OneBody, OneFault as OneBodyFault, NeverBoth as NeverBothBody}
 use Rattle.omf_module.specs.declared.fault.Cause.{Cause}
 use Rattle.omf_module.specs.declared.fault.Cause.TheVariants.{Record, UnknownKind, NoEnd}
-use Rattle.omf_parts.specs.declared.symbols.Common.{Common}
-use Rattle.omf_parts.specs.Rules.{each_after, has_common_name, is_new_common}
-use Rattle.omf_parts.specs.Segments.{has_common_id}
+use Rattle.omf_model.specs.declared.symbols.Common.{Common}
+use Rattle.omf_model.specs.Rules.{each_after, has_common_name, is_new_common}
+use Rattle.omf_model.specs.Segments.{has_common_id}
 use Rattle.omf_module.specs.Records.{SpellsBody, may_follow}
 use Rattle.omf_module.specs.Spelled.{cause_of, no_header_byte, no_header_record, other_kind, in_header_body, read_new_common, FaultsCommons, here, later, commons_cause, FaultsWithin, no_byte, no_record, file_ends, second_header, in_body, in_commons}
 use Rattle.omf_module.specs.Reading.{common_of, is_end}
 use Rattle.omf_module.specs.ReadingLaws.{OneHeaderFault, SoundHeader}
-use Rattle.omf_parts.specs.SoundParts.{new_common}
+use Rattle.omf_model.specs.SoundParts.{new_common}
 
 -- what holds of records and bodies
 pub record Below : Type 0 where

@@ -2,12 +2,12 @@
 use Rattle.std.proofs.Common.{◌≡◌, ℕ, ◌≤◌, true, List, [], ◌∷◌, length}
 use Rattle.std.specs.List.{AllByRecursion, list_all}
 use Rattle.std.proofs.lemmas.Bool.{and_parts}
-use Rattle.omf_parts.specs.declared.segment.Segment.{Segment}
-use Rattle.omf_parts.specs.declared.symbols.Common.{Common}
-use Rattle.omf_parts.specs.Contents.{ContentValue}
-use Rattle.omf_parts.specs.Modules.{ModuleValue}
-use Rattle.omf_parts.specs.Rules.{is_content, is_in_bounds, has_fitting, IsModule}
-use Rattle.omf_parts.specs.SoundParts.{sound_parts, in_bounds_parts}
+use Rattle.omf_model.specs.declared.segment.Segment.{Segment}
+use Rattle.omf_model.specs.declared.symbols.Common.{Common}
+use Rattle.omf_model.specs.Contents.{ContentValue}
+use Rattle.omf_model.specs.Modules.{ModuleValue}
+use Rattle.omf_model.specs.Rules.{is_content, is_in_bounds, has_fitting, IsModule}
+use Rattle.omf_model.specs.SoundParts.{sound_parts, in_bounds_parts}
 
 -- each content that keeps the rules fits a record
 pub contents_short : (s : List (ℕ × Segment)) (c : List Common) (externals : ℕ) (xs : List ContentValue)

@@ -11,8 +11,8 @@ use Rattle.omf_core.specs.Laws.{RecordsStay, OtherFaultsStay, TruncatedCanBeSpoi
 use Rattle.omf_body.specs.declared.body.Body.{Body}
 use Rattle.omf_body.specs.declared.body.EndBody.{EndBody}
 use Rattle.omf_body.specs.declared.body.Body.TheVariants.{ModuleHeader, ModuleEnd}
-use Rattle.omf_parts.specs.Modules.{made_of}
-use Rattle.omf_parts.specs.declared.symbols.Common.{Common}
+use Rattle.omf_model.specs.Modules.{made_of}
+use Rattle.omf_model.specs.declared.symbols.Common.{Common}
 use Rattle.omf_module.specs.declared.fault.Cause.{Cause}
 use Rattle.omf_module.specs.declared.fault.Cause.TheVariants.{Memory, NoHeader, NoEnd, Record}
 use Rattle.omf_module.specs.declared.fault.ModuleFault.{ModuleFault}

@@ -6,10 +6,10 @@ use Rattle.std.specs.Option.{option_or, option_to_list}
 use Rattle.omf_module.specs.declared.fault.Cause.{Cause}
 use Rattle.omf_module.specs.declared.fault.ModuleFault.{ModuleFault}
 use Rattle.omf_module.specs.declared.module_file.PlacedBody.{PlacedBody}
-use Rattle.omf_parts.specs.declared.symbols.Common.{Common}
+use Rattle.omf_model.specs.declared.symbols.Common.{Common}
 use Rattle.omf_module.specs.Fault.{fault_of}
-use Rattle.omf_parts.specs.Contents.{ContentValue}
-use Rattle.omf_parts.specs.Modules.{ModuleValue}
+use Rattle.omf_model.specs.Contents.{ContentValue}
+use Rattle.omf_model.specs.Modules.{ModuleValue}
 use Rattle.omf_module.specs.Records.{ModuleRecords, SpellsModuleRecords, commons_of}
 use Rattle.omf_module.specs.Gathered.{segments_in, publics_in, externals_in, start_in, contents_from, parts_of}
 use Rattle.omf_module.specs.Uses.{unknown_id, bodies_fault, fault_by, end_fault, use_fault}

@@ -9,23 +9,23 @@ use Rattle.omf_body.specs.declared.entries.SegmentEntry.{SegmentEntry}
 use Rattle.omf_body.specs.declared.body.Place.{Place}
 use Rattle.omf_body.specs.declared.body.Body.{Body}
 use Rattle.omf_body.specs.declared.body.Body.TheVariants.{Content}
-use Rattle.omf_parts.specs.declared.segment.Segment.{Segment}
-use Rattle.omf_parts.specs.declared.symbols.Common.{Common}
-use Rattle.omf_parts.specs.declared.fixup.Fixup.{Fixup}
-use Rattle.omf_parts.specs.declared.fixup.Target.{Target}
-use Rattle.omf_parts.specs.declared.fixup.Target.TheVariants as target
+use Rattle.omf_model.specs.declared.segment.Segment.{Segment}
+use Rattle.omf_model.specs.declared.symbols.Common.{Common}
+use Rattle.omf_model.specs.declared.fixup.Fixup.{Fixup}
+use Rattle.omf_model.specs.declared.fixup.Target.{Target}
+use Rattle.omf_model.specs.declared.fixup.Target.TheVariants as target
 use Rattle.omf_module.specs.declared.fault.Cause.TheVariants.{FixupBeforeContent}
 use Rattle.omf_module.specs.declared.module_file.PlacedBody.{PlacedBody}
-use Rattle.omf_parts.specs.Contents.{ContentValue, is_inside, shares_a_byte}
-use Rattle.omf_parts.specs.Segments.{has_segment}
-use Rattle.omf_parts.specs.Modules.{ModuleValue}
-use Rattle.omf_parts.specs.Rules.{each_after, is_new_entry, has_target, end_of, is_in_bounds, has_fitting, is_start, is_sound}
+use Rattle.omf_model.specs.Contents.{ContentValue, is_inside, shares_a_byte}
+use Rattle.omf_model.specs.Segments.{has_segment}
+use Rattle.omf_model.specs.Modules.{ModuleValue}
+use Rattle.omf_model.specs.Rules.{each_after, is_new_entry, has_target, end_of, is_in_bounds, has_fitting, is_start, is_sound}
 use Rattle.omf_module.specs.Records.{ModuleRecords}
 use Rattle.omf_module.specs.Gathered.{fixups_in, with_fixups, content_after, begins_content, contents_from, parts_of}
 use Rattle.omf_module.specs.Uses.{unknown_id, ids_in, place_fault, lacks_external, fixup_fault, fixups_fault, is_reference, reference_fault, body_fault, bodies_fault, use_fault}
 use Rattle.omf_module.specs.UseLaws.{has_its_segments, is_after_content, UsesAreThere, NoFaultExactlyWhereUsesAreThere}
 use Rattle.omf_module.proofs.ListLemmas.{each_after_parts}
-use Rattle.omf_parts.specs.SoundParts.{in_bounds_parts, sound_parts}
+use Rattle.omf_model.specs.SoundParts.{in_bounds_parts, sound_parts}
 use Rattle.omf_module.proofs.UseLemmas.{fault_later}
 use Rattle.omf_module.proofs.KeepsLemmas.{passed, all_known, first_sound, entry_of, fitting, fits, all_fit, keeps, each_without}
 

@@ -13,8 +13,8 @@ use Rattle.omf_body.specs.declared.body.Body.TheVariants.{ModuleHeader, ModuleEn
 use Rattle.omf_body.specs.Bodies.{body_bytes, record_bytes}
 use Rattle.omf_body.specs.Writing.{Appends}
 use Rattle.omf_body.specs.Entries.{segment_bytes}
-use Rattle.omf_parts.specs.declared.segment.Segment.{Segment}
-use Rattle.omf_parts.specs.Modules.{ModuleValue}
+use Rattle.omf_model.specs.declared.segment.Segment.{Segment}
+use Rattle.omf_model.specs.Modules.{ModuleValue}
 use Rattle.omf_module.specs.Writing.{segment_entry, header_body, common_body, public_body, external_body, content_bodies, end_body, module_bytes}
 use Rattle.omf_module.proofs.WrittenSound.{header_short}
 

@@ -7,9 +7,9 @@ use Rattle.omf_core.specs.Record.{SpellsRecord}
 use Rattle.omf_core.specs.Laws.{WrittenIsSpelled}
 use Rattle.omf_body.specs.declared.body.Body.TheVariants.{ModuleHeader, ModuleEnd, EndOfFile}
 use Rattle.omf_body.specs.Bodies.{record_bytes}
-use Rattle.omf_parts.specs.declared.segment.Segment.{Segment}
-use Rattle.omf_parts.specs.Modules.{ModuleValue, made_of}
-use Rattle.omf_parts.specs.Rules.{IsModule}
+use Rattle.omf_model.specs.declared.segment.Segment.{Segment}
+use Rattle.omf_model.specs.Modules.{ModuleValue, made_of}
+use Rattle.omf_model.specs.Rules.{IsModule}
 use Rattle.omf_module.specs.Records.{SpellsBody, SpellsBodies}
 use Rattle.omf_module.specs.Spelled.{SpellsModule, SpellsModules}
 use Rattle.omf_module.specs.Writing.{header_body, end_body, bodies_within, module_bytes, file_bytes}

@@ -12,21 +12,21 @@ use Rattle.omf_body.specs.declared.field.Field.{Field}
 use Rattle.omf_body.specs.declared.body.Body.{Body}
 use Rattle.omf_body.specs.declared.body.Body.TheVariants.{Relocation, IntersegmentReferences}
 use Rattle.omf_body.specs.Bodies.{record_bytes}
-use Rattle.omf_parts.specs.declared.symbols.Common.{Common}
-use Rattle.omf_parts.specs.declared.symbols.Public.{Public}
+use Rattle.omf_model.specs.declared.symbols.Common.{Common}
+use Rattle.omf_model.specs.declared.symbols.Public.{Public}
 use Rattle.omf_module.specs.declared.fault.Cause.{Cause}
-use Rattle.omf_parts.specs.declared.fixup.Fixup.{Fixup}
-use Rattle.omf_parts.specs.declared.fixup.Target.{Target}
-use Rattle.omf_parts.specs.declared.fixup.Target.TheVariants as target
-use Rattle.omf_parts.specs.Contents.{ContentValue, is_inside, shares_a_byte}
-use Rattle.omf_parts.specs.Segments.{has_segment}
-use Rattle.omf_parts.specs.Modules.{ModuleValue}
-use Rattle.omf_parts.specs.Rules.{each_after, is_new_common, is_fitting, is_in_bounds, has_fitting, is_content}
+use Rattle.omf_model.specs.declared.fixup.Fixup.{Fixup}
+use Rattle.omf_model.specs.declared.fixup.Target.{Target}
+use Rattle.omf_model.specs.declared.fixup.Target.TheVariants as target
+use Rattle.omf_model.specs.Contents.{ContentValue, is_inside, shares_a_byte}
+use Rattle.omf_model.specs.Segments.{has_segment}
+use Rattle.omf_model.specs.Modules.{ModuleValue}
+use Rattle.omf_model.specs.Rules.{each_after, is_new_common, is_fitting, is_in_bounds, has_fitting, is_content}
 use Rattle.omf_module.specs.Records.{commons_in, may_follow, each_follows}
 use Rattle.omf_module.specs.Gathered.{publics_in, externals_in, with_fixups, content_after, begins_content, contents_from}
 use Rattle.omf_module.specs.Uses.{fixups_fault, body_fault, fault_by, bodies_fault}
 use Rattle.omf_module.specs.Writing.{common_body, public_body, external_body, fixup_by, fixup_body, content_body, content_bodies}
-use Rattle.omf_parts.specs.SoundParts.{in_bounds_parts, new_common}
+use Rattle.omf_model.specs.SoundParts.{in_bounds_parts, new_common}
 use Rattle.omf_module.proofs.UsesThere.{fixups_fit, body_fits}
 use Rattle.omf_module.proofs.WrittenSpelled.{Fits, placed_after}
 use Rattle.omf_module.proofs.WrittenSound.{chosen_by, common_fits, public_fits, external_fits, own_fits, other_fits, external_reference_fits, content_fits}

@@ -6,15 +6,15 @@ use Rattle.omf_core.specs.Name.{is_name}
 use Rattle.std.proofs.lemmas.Bool.{and_parts}
 use Rattle.std.proofs.lemmas.List.{append-nil}
 use Rattle.std.proofs.lemmas.List.Folds.{list_all-map}
-use Rattle.omf_parts.specs.declared.segment.Segment.{Segment}
-use Rattle.omf_parts.specs.Segments.{has_segment}
-use Rattle.omf_parts.specs.Modules.{ModuleValue}
-use Rattle.omf_parts.specs.Rules.{is_start, has_names, IsModule}
+use Rattle.omf_model.specs.declared.segment.Segment.{Segment}
+use Rattle.omf_model.specs.Segments.{has_segment}
+use Rattle.omf_model.specs.Modules.{ModuleValue}
+use Rattle.omf_model.specs.Rules.{is_start, has_names, IsModule}
 use Rattle.omf_module.specs.Records.{ModuleRecords}
 use Rattle.omf_module.specs.Gathered.{parts_of}
 use Rattle.omf_module.specs.Uses.{use_fault}
 use Rattle.omf_module.specs.Writing.{segment_entry, header_body, common_body, public_body, external_body, content_bodies, place_of, end_body, bodies_within}
-use Rattle.omf_parts.specs.SoundParts.{sound_parts}
+use Rattle.omf_model.specs.SoundParts.{sound_parts}
 use Rattle.omf_module.proofs.UsesThere.{none_unknown, start_known}
 use Rattle.omf_module.proofs.WrittenSpelled.{placed_after}
 use Rattle.omf_module.proofs.WrittenPasses.{Passes, commons_pass, publics_pass, externals_pass, contents_pass}

@@ -11,14 +11,14 @@ use Rattle.omf_body.specs.declared.field.Field.{Field}
 use Rattle.omf_body.specs.declared.body.Body.TheVariants.{ModuleHeader, ModuleEnd, ExternalReferences, Relocation, IntersegmentReferences}
 use Rattle.omf_body.specs.Entries.{segment_bytes}
 use Rattle.omf_body.specs.Bodies.{are_distinct, body_bytes}
-use Rattle.omf_parts.specs.declared.segment.Segment.{Segment}
-use Rattle.omf_parts.specs.declared.symbols.Common.{Common}
-use Rattle.omf_parts.specs.declared.symbols.Public.{Public}
-use Rattle.omf_parts.specs.Contents.{ContentValue}
-use Rattle.omf_parts.specs.Segments.{has_common_id, is_used, segment_in, entries_for, listed_ids, canonical_segments}
-use Rattle.omf_parts.specs.Modules.{ModuleValue}
+use Rattle.omf_model.specs.declared.segment.Segment.{Segment}
+use Rattle.omf_model.specs.declared.symbols.Common.{Common}
+use Rattle.omf_model.specs.declared.symbols.Public.{Public}
+use Rattle.omf_model.specs.Contents.{ContentValue}
+use Rattle.omf_model.specs.Segments.{has_common_id, is_used, segment_in, entries_for, listed_ids, canonical_segments}
+use Rattle.omf_model.specs.Modules.{ModuleValue}
 use Rattle.omf_module.specs.Writing.{segment_entry, header_body, common_body, public_body, external_body, content_body, end_body}
-use Rattle.omf_parts.specs.FewSegments.{canonical_few}
+use Rattle.omf_model.specs.FewSegments.{canonical_few}
 use Rattle.omf_module.proofs.WrittenSpelled.{Fits}
 
 pub chosen_by : {A : Type 0} (P : A → Type 0) (b : Bool) (x y : A) → (b ≡ true → P x) → P y → P (if b then x else y)

@@ -3,7 +3,7 @@
 -- read.)
 use Rattle.std.specs.Prelude.{◌≡◌, ℕ, ◌<◌, ◌≤◌, Bool, true, false, List, [], ◌++◌, length, Option}
 use Rattle.omf_core.specs.Lasting.{Lasting}
-use Rattle.omf_parts.specs.Modules.{ModuleValue}
+use Rattle.omf_model.specs.Modules.{ModuleValue}
 use Rattle.omf_module.specs.declared.fault.ModuleFault.{ModuleFault}
 use Rattle.omf_module.specs.declared.file_feed.Progress.{Progress}
 use Rattle.omf_module.specs.declared.pieces.UnfinishedModule.{UnfinishedModule}

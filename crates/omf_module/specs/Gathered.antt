@@ -8,13 +8,13 @@ use Rattle.omf_body.specs.declared.body.Body.TheVariants.{Content, PublicDeclara
 use Rattle.omf_body.specs.declared.body.HeaderBody.{HeaderBody}
 use Rattle.omf_body.specs.declared.body.EndBody.{EndBody}
 use Rattle.omf_body.specs.Entries.{is_paged}
-use Rattle.omf_parts.specs.declared.segment.Segment.{Segment}
-use Rattle.omf_parts.specs.declared.symbols.Public.{Public}
-use Rattle.omf_parts.specs.declared.fixup.Fixup.{Fixup}
-use Rattle.omf_parts.specs.declared.fixup.Target.TheVariants as target
+use Rattle.omf_model.specs.declared.segment.Segment.{Segment}
+use Rattle.omf_model.specs.declared.symbols.Public.{Public}
+use Rattle.omf_model.specs.declared.fixup.Fixup.{Fixup}
+use Rattle.omf_model.specs.declared.fixup.Target.TheVariants as target
 use Rattle.omf_module.specs.declared.module_file.PlacedBody.{PlacedBody}
-use Rattle.omf_parts.specs.Contents.{ContentValue}
-use Rattle.omf_parts.specs.Modules.{ModuleValue}
+use Rattle.omf_model.specs.Contents.{ContentValue}
+use Rattle.omf_model.specs.Modules.{ModuleValue}
 use Rattle.omf_module.specs.Records.{ModuleRecords, commons_of}
 
 -- the segments of a header

@@ -4,8 +4,8 @@ use Rattle.std.specs.Prelude.{◌≡◌, ℕ, not, Option, Some, None, List, [],
 use Rattle.std.specs.List.{flat_map, take_while}
 use Rattle.omf_body.specs.declared.body.Body.{Body}
 use Rattle.omf_body.specs.declared.body.Body.TheVariants.{Content}
-use Rattle.omf_parts.specs.declared.fixup.Fixup.{Fixup}
-use Rattle.omf_parts.specs.Contents.{ContentValue}
+use Rattle.omf_model.specs.declared.fixup.Fixup.{Fixup}
+use Rattle.omf_model.specs.Contents.{ContentValue}
 use Rattle.omf_module.specs.declared.module_file.PlacedBody.{PlacedBody}
 use Rattle.omf_module.specs.Gathered.{fixups_in, begins_content, contents_from}
 

@@ -6,7 +6,7 @@ use Rattle.omf_core.specs.Record.{fault_at}
 use Rattle.omf_core.specs.Lasting.{Lasting}
 use Rattle.omf_body.specs.declared.body.HeaderBody.{HeaderBody}
 use Rattle.omf_body.specs.declared.body.Body.TheVariants.{ModuleHeader}
-use Rattle.omf_parts.specs.declared.symbols.Common.{Common}
+use Rattle.omf_model.specs.declared.symbols.Common.{Common}
 use Rattle.omf_module.specs.declared.fault.ModuleFault.{ModuleFault}
 use Rattle.omf_module.specs.declared.module_file.PlacedBody.{PlacedBody}
 use Rattle.omf_module.specs.Records.{SpellsBody, SpellsBodies, commons_of, each_follows, ModuleRecords, SpellsModuleRecords}

@@ -12,12 +12,12 @@ use Rattle.omf_module.specs.declared.fault.Cause.{Cause}
 use Rattle.omf_module.specs.declared.fault.ModuleFault.{ModuleFault}
 use Rattle.omf_module.specs.declared.module_file.ModuleFile.{ModuleFile}
 use Rattle.omf_module.specs.declared.module_file.WithinRead.{WithinRead}
-use Rattle.omf_parts.specs.declared.symbols.Common.{Common}
+use Rattle.omf_model.specs.declared.symbols.Common.{Common}
 use Rattle.omf_module.specs.Fault.{no_memory}
-use Rattle.omf_parts.specs.Rules.{each_after, is_new_common}
+use Rattle.omf_model.specs.Rules.{each_after, is_new_common}
 use Rattle.omf_module.specs.Records.{SpellsBody, SpellsBodies, commons_in, commons_of, may_follow, each_follows, ModuleRecords}
-use Rattle.omf_parts.specs.Contents.{ContentValue}
-use Rattle.omf_parts.specs.Modules.{ModuleValue}
+use Rattle.omf_model.specs.Contents.{ContentValue}
+use Rattle.omf_model.specs.Modules.{ModuleValue}
 use Rattle.omf_module.specs.Gathered.{content_after, begins_content}
 use Rattle.omf_module.specs.Uses.{body_fault}
 use Rattle.omf_module.specs.Spelled.{commons_cause, FaultsCommons}

@@ -6,7 +6,7 @@ use Rattle.omf_body.specs.declared.body.Body.TheVariants.{ModuleHeader}
 use Rattle.omf_module.specs.declared.fault.Cause.{Cause}
 use Rattle.omf_module.specs.declared.fault.ModuleFault.{ModuleFault}
 use Rattle.omf_module.specs.Fault.{no_memory}
-use Rattle.omf_parts.specs.Modules.{ModuleValue}
+use Rattle.omf_model.specs.Modules.{ModuleValue}
 use Rattle.omf_module.specs.Records.{SpellsBody}
 use Rattle.omf_module.specs.Spelled.{SpellsModule, FaultsHeader, FaultsModule, SpellsFile, FaultsFile}
 

@@ -9,9 +9,9 @@ use Rattle.omf_body.specs.declared.body.EndBody.{EndBody}
 use Rattle.omf_body.specs.declared.body.Body.{Body}
 use Rattle.omf_body.specs.declared.body.Body.TheVariants.{ModuleHeader, ModuleEnd, EndOfFile, NamedCommons}
 use Rattle.omf_body.specs.Bodies.{body_kind, body_bytes, is_sound_body}
-use Rattle.omf_parts.specs.declared.symbols.Common.{Common}
+use Rattle.omf_model.specs.declared.symbols.Common.{Common}
 use Rattle.omf_module.specs.declared.module_file.PlacedBody.{PlacedBody}
-use Rattle.omf_parts.specs.Rules.{each_after, is_new_common}
+use Rattle.omf_model.specs.Rules.{each_after, is_new_common}
 
 -- The bytes from place `from` up to place `to` are a record with this body.
 pub record SpellsBody (bytes : List ℕ) (from to : ℕ) (body : Body) : Type 0 where

@@ -17,11 +17,11 @@ use Rattle.omf_body.specs.FirstFault.{FirstFault}
 use Rattle.omf_module.specs.declared.fault.Cause.{Cause}
 use Rattle.omf_module.specs.declared.fault.Cause.TheVariants as cause
 use Rattle.omf_module.specs.declared.fault.ModuleFault.{ModuleFault}
-use Rattle.omf_parts.specs.declared.symbols.Common.{Common}
+use Rattle.omf_model.specs.declared.symbols.Common.{Common}
 use Rattle.omf_module.specs.declared.module_file.PlacedBody.{PlacedBody}
-use Rattle.omf_parts.specs.Segments.{has_common_id}
-use Rattle.omf_parts.specs.Rules.{has_common_name}
-use Rattle.omf_parts.specs.Modules.{ModuleValue, made_of}
+use Rattle.omf_model.specs.Segments.{has_common_id}
+use Rattle.omf_model.specs.Rules.{has_common_name}
+use Rattle.omf_model.specs.Modules.{ModuleValue, made_of}
 use Rattle.omf_module.specs.Records.{SpellsBody, SpellsBodies, commons_of, each_follows, ModuleRecords, SpellsModuleRecords}
 use Rattle.omf_module.specs.Gathered.{parts_of}
 use Rattle.omf_module.specs.Uses.{fault_by, use_fault}

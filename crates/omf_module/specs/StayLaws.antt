@@ -1,8 +1,8 @@
 -- What holds of modules wherever they stand. (It follows from the layout of records.)
 use Rattle.std.specs.Prelude.{ℕ, ◌<◌, ◌≤◌, List, [], ◌∷◌, ◌++◌, length}
 use Rattle.std.specs.List.{flat_map, AllByRecursion}
-use Rattle.omf_parts.specs.declared.symbols.Common.{Common}
-use Rattle.omf_parts.specs.Modules.{ModuleValue}
+use Rattle.omf_model.specs.declared.symbols.Common.{Common}
+use Rattle.omf_model.specs.Modules.{ModuleValue}
 use Rattle.omf_module.specs.declared.fault.Cause.{Cause}
 use Rattle.omf_module.specs.Spelled.{SpellsModule, SpellsModules, FaultsWithin, FaultsModule}
 use Rattle.omf_module.specs.Pieces.{BegunModule, ReadsModule}

@@ -1,10 +1,10 @@
 -- When the records of a module use nothing that isn't there, in the words of the rules. (It follows from the definitions.)
 use Rattle.std.specs.Prelude.{◌≡◌, ◌↔◌, ℕ, Bool, not, ◌||◌, None, List, [], IsTrue}
 use Rattle.std.specs.List.{list_all, list_any}
-use Rattle.omf_parts.specs.declared.symbols.Common.{Common}
+use Rattle.omf_model.specs.declared.symbols.Common.{Common}
 use Rattle.omf_module.specs.declared.module_file.PlacedBody.{PlacedBody}
-use Rattle.omf_parts.specs.Segments.{has_segment}
-use Rattle.omf_parts.specs.Rules.{each_after, keeps_rules}
+use Rattle.omf_model.specs.Segments.{has_segment}
+use Rattle.omf_model.specs.Rules.{each_after, keeps_rules}
 use Rattle.omf_module.specs.Records.{ModuleRecords, SpellsModuleRecords, commons_of}
 use Rattle.omf_module.specs.Gathered.{begins_content, parts_of}
 use Rattle.omf_module.specs.Uses.{ids_in, is_reference, use_fault}

@@ -9,14 +9,14 @@ use Rattle.omf_body.specs.declared.body.Body.TheVariants.{Content, PublicDeclara
 use Rattle.omf_module.specs.declared.fault.Cause.{Cause}
 use Rattle.omf_module.specs.declared.fault.Cause.TheVariants.{SegmentUnknown, OffsetOutside, FixupBeforeContent, FixupOutside, FixupTwice, IndexUnknown}
 use Rattle.omf_module.specs.declared.fault.ModuleFault.{ModuleFault}
-use Rattle.omf_parts.specs.declared.fixup.Fixup.{Fixup}
-use Rattle.omf_parts.specs.declared.fixup.Target.{Target}
-use Rattle.omf_parts.specs.declared.fixup.Target.TheVariants as target
+use Rattle.omf_model.specs.declared.fixup.Fixup.{Fixup}
+use Rattle.omf_model.specs.declared.fixup.Target.{Target}
+use Rattle.omf_model.specs.declared.fixup.Target.TheVariants as target
 use Rattle.omf_module.specs.declared.module_file.PlacedBody.{PlacedBody}
-use Rattle.omf_parts.specs.Contents.{ContentValue, is_inside, shares_a_byte}
-use Rattle.omf_parts.specs.Modules.{ModuleValue}
-use Rattle.omf_parts.specs.Rules.{end_of}
-use Rattle.omf_parts.specs.Segments.{has_segment}
+use Rattle.omf_model.specs.Contents.{ContentValue, is_inside, shares_a_byte}
+use Rattle.omf_model.specs.Modules.{ModuleValue}
+use Rattle.omf_model.specs.Rules.{end_of}
+use Rattle.omf_model.specs.Segments.{has_segment}
 use Rattle.omf_module.specs.Records.{ModuleRecords}
 use Rattle.omf_module.specs.Gathered.{fixups_in, with_fixups, content_after, parts_of}
 

@@ -1,8 +1,8 @@
 -- What is written is read again as the same modules. (8080 Object Module Formats, module and object file.)
 use Rattle.std.specs.Prelude.{ℕ, ◌+◌, ◌<◌, List, ◌++◌, length}
 use Rattle.std.specs.List.{AllByRecursion}
-use Rattle.omf_parts.specs.Modules.{ModuleValue}
-use Rattle.omf_parts.specs.Rules.{IsModule}
+use Rattle.omf_model.specs.Modules.{ModuleValue}
+use Rattle.omf_model.specs.Rules.{IsModule}
 use Rattle.omf_module.specs.Spelled.{SpellsModule, SpellsFile}
 use Rattle.omf_module.specs.Writing.{module_bytes, file_bytes}
 

@@ -3,7 +3,7 @@
 ghost use Rattle.std.specs.Prelude.{◌≡◌, ◌≢◌, ◌++◌, Ok, Err, IfOk, IfErr, OnOk, IsTrue};
 ghost use Rattle.omf_core.specs.Name.{is_name};
 ghost use Rattle.omf_body.specs.Entries.{common_bytes};
-ghost use Rattle.omf_parts.specs.Rules.{is_new_common};
+ghost use Rattle.omf_model.specs.Rules.{is_new_common};
 ghost use Rattle.omf_module.specs.Spelled.{read_new_common};
 ghost use Rattle.omf_module.specs.Reading.{common_of, TakesCommons, RefusesCommons};
 
@@ -11,7 +11,7 @@ use crate::fault::Cause;
 use omf_body::{CommonEntry, Cursor, FieldFault, NameBytes};
 use omf_core::segment_id::{FIRST_COMMON, LAST_COMMON};
 use omf_core::{Name, NameFault};
-use omf_parts::{Common, has_common_id, has_common_name};
+use omf_model::{Common, has_common_id, has_common_name};
 use std::alloc::{AllocError, Global};
 
 /// A copy of a name that stands in a file.

@@ -1,7 +1,7 @@
 //! Modules of an object file that comes in pieces.
 
 ghost use Rattle.std.specs.Prelude.{◌≡◌, ◌<◌, ◌++◌, ◌⊎◌, List, [], None, Some, Ok, Err, length, take, true, false, IfOk, IfErr, OnOk, IsOk, IsTrue};
-ghost use Rattle.omf_parts.specs.Modules.{ModuleValue};
+ghost use Rattle.omf_model.specs.Modules.{ModuleValue};
 ghost use Rattle.omf_module.specs.declared.fault.ModuleFault.{ModuleFault as ModuleFaultValue};
 ghost use Rattle.omf_module.specs.Fault.{no_memory};
 ghost use Rattle.omf_module.specs.Reading.{OrNoMemory};
@@ -18,7 +18,7 @@ use omf_core::laws::{
     truncated_can_be_spoilt,
 };
 use omf_core::{RecordKind, next_record};
-use omf_parts::Module;
+use omf_model::Module;
 use std::alloc::Global;
 use std::marker::Model;
 

@@ -2,14 +2,14 @@
 
 ghost use Rattle.std.specs.Prelude.{◌≡◌, ◌++◌, IfOk, OnOk, map};
 ghost use Rattle.std.specs.List.{flat_map};
-ghost use Rattle.omf_parts.specs.declared.fixup.Target.TheVariants as target;
+ghost use Rattle.omf_model.specs.declared.fixup.Target.TheVariants as target;
 ghost use Rattle.omf_module.specs.Gathered.{segments_in, publics_in, externals_in, fixups_in};
 
 use crate::commons::kept;
 use crate::module_file::PlacedBody;
 use omf_body::{Body, ExternalReferencesBody, Field, HeaderBody, OffsetEntry, Row};
 use omf_core::Name;
-use omf_parts::{Fixup, Public, Segment, Target};
+use omf_model::{Fixup, Public, Segment, Target};
 use std::alloc::{AllocError, Global};
 
 /// The segments of a header.

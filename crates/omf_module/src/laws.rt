@@ -14,7 +14,7 @@ use omf_core::laws::{
     no_fault_exactly_at_records, one_record_at_each_place, other_faults_stay, records_stay,
     written_is_spelled,
 };
-pub use omf_parts::laws::segments_are_kept;
+pub use omf_model::laws::segments_are_kept;
 
 /// Bytes spell one module at a place at most, or have one first fault there, and never both.
 pub fn one_reading()

@@ -1,5 +1,5 @@
 //! Relocatable modules of Intel's 8080 object files (OMF-80): how they are read and written. What a module holds, and the rules
-//! that it keeps, stand in `omf_parts`, whose names this crate passes on.
+//! that it keeps, stand in `omf_model`, whose names this crate passes on.
 //!
 //! Proved: exactly the modules that the bytes spell, or the first fault; written, they are read back as themselves.
 //!
@@ -31,7 +31,7 @@ mod writing;
 
 pub use fault::{Cause, ModuleFault};
 pub use file_feed::FileFeed;
-pub use omf_parts::{
+pub use omf_model::{
     Common, Content, Field, Fixup, Module, Parts, PartsFault, Public, Segment, Target,
 };
 pub use pieces::{UnfinishedModule, next_module};

@@ -1,7 +1,7 @@
 //! The records of a module as they lie in a file.
 
 use omf_body::{Body, EndBody, HeaderBody};
-use omf_parts::Common;
+use omf_model::Common;
 
 /// The body of a record, and the place of the record in the file.
 #[derive(Drop)]

@@ -3,8 +3,8 @@
 use crate::fault::Cause;
 use crate::gathering::fixups_in;
 use omf_body::Body;
-use omf_parts::marks::{is_free, is_inside, mark, no_marks};
-use omf_parts::{Content, Fixup, Parts, Target};
+use omf_model::marks::{is_free, is_inside, mark, no_marks};
+use omf_model::{Content, Fixup, Parts, Target};
 use std::alloc::{AllocError, Global};
 use std::marker::Model;
 
@@ -19,11 +19,11 @@ pub(crate) struct OpenContent<'a> {
 
 impl<'a> Model for OpenContent<'a> {
     ghost use Rattle.std.specs.Prelude.{length};
-    ghost use Rattle.omf_parts.specs.Contents.{ContentValue};
+    ghost use Rattle.omf_model.specs.Contents.{ContentValue};
 
     ghost Value = { ContentValue };
 
-    ghost use Rattle.omf_parts.specs.Marks.{IsMarked};
+    ghost use Rattle.omf_model.specs.Marks.{IsMarked};
 
     ghost view = { λ o. record { segment = o.segment; offset = o.offset; bytes = o.bytes.now; fixups = o.fixups.items } };
 
@@ -32,7 +32,7 @@ impl<'a> Model for OpenContent<'a> {
 
 impl<'a> OpenContent<'a> {
     ghost use Rattle.std.specs.Prelude.{◌≡◌, ◌≢◌, List, [], ◌∷◌, None, Some, IfOk, IfErr, OnOk};
-    ghost use Rattle.omf_parts.specs.Contents.{ContentValue};
+    ghost use Rattle.omf_model.specs.Contents.{ContentValue};
     ghost use Rattle.omf_module.specs.Gathered.{fixups_in, with_fixups};
     ghost use Rattle.omf_module.specs.Uses.{fixup_fault, fixups_fault};
     ghost use Rattle.omf_module.specs.Reading.{with_contents};

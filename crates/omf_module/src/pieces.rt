@@ -14,7 +14,7 @@ use crate::record_reading::{header_at, next_body};
 use omf_body::Body;
 use omf_core::is_cut_off;
 use omf_core::laws::{other_faults_stay, records_stay, truncated_can_be_spoilt};
-use omf_parts::{Common, Module};
+use omf_model::{Common, Module};
 use std::alloc::Global;
 
 /// How far the module is read that begins at place `begin`: its records are checked up to place `here`, and declare these

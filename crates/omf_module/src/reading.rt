@@ -8,7 +8,7 @@ ghost use Rattle.omf_module.specs.Uses.{fault_by, use_fault};
 ghost use Rattle.omf_module.specs.declared.fault.Cause.{Cause as CauseValue};
 ghost use Rattle.omf_module.specs.declared.fault.ModuleFault.{ModuleFault as ModuleFaultValue};
 ghost use Rattle.omf_module.specs.Fault.{no_memory};
-ghost use Rattle.omf_parts.specs.Modules.{ModuleValue};
+ghost use Rattle.omf_model.specs.Modules.{ModuleValue};
 ghost use Rattle.omf_module.specs.ReadingLaws.{Answers};
 ghost use Rattle.omf_module.specs.Spelled.{SpellsModule, FaultsHeader, FaultsModule, SpellsFile, FaultsFile};
 ghost use Rattle.omf_module.specs.Reading.{OrNoMemory, records_of, with_contents};
@@ -22,7 +22,7 @@ use crate::module_file::{ModuleFile, ModuleFileRead, PlacedBody};
 use crate::record_reading::{header_at, records_at};
 use crate::uses::{contents_of, look_at_header, look_at_start};
 use omf_body::{HeaderBody, Place};
-use omf_parts::{Common, Content, Module, Parts};
+use omf_model::{Common, Content, Module, Parts};
 use std::alloc::{AllocError, Global};
 
 /// The parts that records say, but for their contents.

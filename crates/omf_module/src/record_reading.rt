@@ -10,7 +10,7 @@ use crate::fault::{Cause, ModuleFault};
 use crate::module_file::{ModuleFile, ModuleFileRead, PlacedBody, Within, WithinRead};
 use omf_body::{Body, HeaderBody, parse};
 use omf_core::{RecordKind, next_record};
-use omf_parts::Common;
+use omf_model::Common;
 use std::alloc::Global;
 
 /// The module header at a place, and the place after it. It takes no memory.

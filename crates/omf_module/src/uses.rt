@@ -3,7 +3,7 @@
 ghost use Rattle.std.specs.Prelude.{◌≡◌, ◌≢◌, ◌++◌, List, [], ◌∷◌, None, Some, option_map, IfOk, IfErr, OnOk, map};
 ghost use Rattle.std.specs.Option.{option_or, option_to_list};
 ghost use Rattle.std.specs.Result.{result_err};
-ghost use Rattle.omf_parts.specs.Contents.{ContentValue};
+ghost use Rattle.omf_model.specs.Contents.{ContentValue};
 ghost use Rattle.omf_module.specs.Gathered.{contents_from, fixups_in, with_fixups};
 ghost use Rattle.omf_module.specs.Uses.{unknown_id, ids_in, place_fault, reference_fault, body_fault, bodies_fault};
 ghost use Rattle.omf_module.specs.Reading.{with_contents, TakesBody, OrNoMemory};
@@ -13,7 +13,7 @@ use crate::module_file::PlacedBody;
 use crate::open_content::OpenContent;
 use omf_body::{Body, HeaderBody, Place};
 use omf_core::segment_id::STACK;
-use omf_parts::{Content, Parts, end_of, has_segment};
+use omf_model::{Content, Parts, end_of, has_segment};
 use std::alloc::{AllocError, Global};
 
 /// Whether the module has a segment of this id.

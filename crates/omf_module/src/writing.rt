@@ -5,7 +5,7 @@ ghost use Rattle.std.specs.List.{flat_map, AllByRecursion};
 ghost use Rattle.omf_core.specs.Name.{is_name};
 ghost use Rattle.omf_body.specs.declared.body.Body.TheVariants.{ModuleHeader, ModuleEnd};
 ghost use Rattle.omf_body.specs.Bodies.{record_bytes};
-ghost use Rattle.omf_parts.specs.Rules.{IsModule};
+ghost use Rattle.omf_model.specs.Rules.{IsModule};
 ghost use Rattle.omf_module.specs.Spelled.{SpellsFile};
 ghost use Rattle.omf_module.specs.Writing.{segment_entry, header_body, common_body, public_body, external_body, fixup_body, content_bodies, end_body, module_bytes, file_bytes};
 ghost use Rattle.omf_module.specs.WritingLaws.{IsReadAgain};
@@ -17,7 +17,7 @@ use omf_body::{
     put_header, put_intersegment, put_publics, put_relocation,
 };
 use omf_core::{Name, RecordKind, never_too_long, put_record};
-use omf_parts::{Common, Content, Fixup, Module, Public, Segment, Target};
+use omf_model::{Common, Content, Fixup, Module, Public, Segment, Target};
 use std::alloc::{AllocError, Global};
 
 /// The alignment byte of a part that starts at a multiple of 256.

@@ -4,11 +4,11 @@
 use Rattle.std.specs.Prelude.{ℕ, ◌%◌, Option, Some, None, List, [], ◌∷◌, ◌++◌, length, codes}
 use Rattle.std.specs.List.{flat_map}
 use Rattle.text80.specs.Digits.{word_text}
-use Rattle.omf_parts.specs.declared.segment.Segment.{Segment}
-use Rattle.omf_parts.specs.declared.symbols.Common.{Common}
-use Rattle.omf_parts.specs.declared.symbols.Public.{Public}
-use Rattle.omf_parts.specs.Contents.{ContentValue}
-use Rattle.omf_parts.specs.Modules.{ModuleValue}
+use Rattle.omf_model.specs.declared.segment.Segment.{Segment}
+use Rattle.omf_model.specs.declared.symbols.Common.{Common}
+use Rattle.omf_model.specs.declared.symbols.Public.{Public}
+use Rattle.omf_model.specs.Contents.{ContentValue}
+use Rattle.omf_model.specs.Modules.{ModuleValue}
 use Rattle.omf_text.specs.Places.{common_part, offset_words, place_words, part_words}
 
 -- the line of a segment of the header: its word, its length, whether it is paged, and the name of a named common

@@ -3,8 +3,8 @@ use Rattle.std.specs.Prelude.{ℕ, ◌==◌, Bool, if◌then◌else◌, List, []
 use Rattle.std.specs.Option.{option_map_or}
 use Rattle.text80.specs.Digits.{word_text}
 use Rattle.omf_core.specs.SegmentId.{segment_word}
-use Rattle.omf_parts.specs.declared.segment.Segment.{Segment}
-use Rattle.omf_parts.specs.declared.symbols.Common.{Common}
+use Rattle.omf_model.specs.declared.segment.Segment.{Segment}
+use Rattle.omf_model.specs.declared.symbols.Common.{Common}
 
 -- a blank and the name of the common of this id, if it has one
 abbrev pub common_part : List Common → ℕ → List ℕ

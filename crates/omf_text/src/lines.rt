@@ -5,7 +5,7 @@ ghost use Rattle.omf_text.specs.ModuleText.{segment_line, public_line, external_
 
 use crate::places::{append_common, append_offset, append_part, append_place};
 use omf_core::Name;
-use omf_parts::{Common, Content, Public, Segment};
+use omf_model::{Common, Content, Public, Segment};
 use std::alloc::AllocError;
 use text80::word_digits;
 

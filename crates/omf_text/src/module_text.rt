@@ -17,7 +17,7 @@ ghost use Rattle.omf_text.specs.ModuleText.{
 use crate::lines::{append_content, append_external, append_public, append_segment};
 use crate::places::append_place;
 use omf_core::Name;
-use omf_parts::{Common, Content, Module, Public, Segment};
+use omf_model::{Common, Content, Module, Public, Segment};
 use std::alloc::AllocError;
 
 /// Appends what the module holds, a line each: its name, as `MODULE METER`; its segments as the header lists them, as `CODE 0064

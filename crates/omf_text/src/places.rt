@@ -4,7 +4,7 @@ ghost use Rattle.std.specs.Prelude.{◌≡◌, ◌++◌, OnOk};
 ghost use Rattle.omf_text.specs.Places.{common_part, offset_words, place_words, part_words};
 
 use omf_core::segment_id::word_of;
-use omf_parts::{Common, Segment};
+use omf_model::{Common, Segment};
 use std::alloc::AllocError;
 use text80::word_digits;
 

@@ -4,9 +4,9 @@ use Rattle.std.specs.Prelude.{nat_le, nat_lt, Option, None, Some, filter, find, 
 use Rattle.std.specs.List.{last_or, AllByRecursion}
 use Rattle.std.specs.Option.{option_map_or}
 use Rattle.std.proofs.lemmas.Bool.{cases_Bool, cases_lt, and_parts, leb-true, ltb-true, and_left, and_right, and_from, lt-ltb, le-ltb, le-leb, lt-leb}
-use Rattle.omf_parts.specs.Modules.{ModuleValue}
-use Rattle.omf_parts.specs.Rules.{is_sound}
-use Rattle.omf_parts.specs.ImageByte.{ByteChunk, distance, chunk_covers, chunks_of, image_byte}
+use Rattle.omf_model.specs.Modules.{ModuleValue}
+use Rattle.omf_model.specs.Rules.{is_sound}
+use Rattle.omf_model.specs.ImageByte.{ByteChunk, distance, chunk_covers, chunks_of, image_byte}
 use Rattle.place80.specs.declared.options.Options.{Options}
 use Rattle.image80.specs.Image.{PlacedBytes, covers, byte_of, byte_at}
 use Rattle.place80.specs.Layout.{layout_of, program_bases}

@@ -6,15 +6,15 @@ use Rattle.std.proofs.lemmas.Bool.{cases_Bool, or_parts}
 use Rattle.std.proofs.lemmas.Bool.Decides.{nat_tests}
 use Rattle.std.proofs.lemmas.List.FromFn.{length-map-range_with_len}
 use Rattle.std.proofs.lemmas.List.Elements.{All-head, All-tail, All-from_get_or, recursion_from_All}
-use Rattle.omf_parts.specs.Contents.{ContentValue}
-use Rattle.omf_parts.specs.Segments.{segment_in, has_segment, empty_segment}
-use Rattle.omf_parts.specs.Modules.{ModuleValue}
-use Rattle.omf_parts.specs.Place.{place_in}
-use Rattle.omf_parts.specs.ImageByte.{patch_of, ByteChunk, chunk_of, chunks_of}
-use Rattle.omf_parts.specs.Rules.{end_of, is_sound}
-use Rattle.omf_parts.specs.declared.patching.Patch.{Patch}
-use Rattle.omf_parts.specs.Patches.{byte_with, with_patches}
-use Rattle.omf_parts.specs.SoundModules.{LiesIn}
+use Rattle.omf_model.specs.Contents.{ContentValue}
+use Rattle.omf_model.specs.Segments.{segment_in, has_segment, empty_segment}
+use Rattle.omf_model.specs.Modules.{ModuleValue}
+use Rattle.omf_model.specs.Place.{place_in}
+use Rattle.omf_model.specs.ImageByte.{patch_of, ByteChunk, chunk_of, chunks_of}
+use Rattle.omf_model.specs.Rules.{end_of, is_sound}
+use Rattle.omf_model.specs.declared.patching.Patch.{Patch}
+use Rattle.omf_model.specs.Patches.{byte_with, with_patches}
+use Rattle.omf_model.specs.SoundModules.{LiesIn}
 use Rattle.place80.specs.declared.options.Options.{Options}
 use Rattle.place80.specs.declared.placed_segments.Placed.{Placed}
 use Rattle.image80.specs.Image.{IsChunk}

@@ -4,7 +4,7 @@ use Rattle.std.specs.List.{AllByRecursion}
 use Rattle.std.proofs.Common.{cond, arith, Some, sym, ap, subst, ◌∙◌, append_assoc, get_or, drop-cons}
 use Rattle.std.proofs.lemmas.List.{drop_more}
 use Rattle.place80.specs.declared.placed_segments.Placed.{Placed}
-use Rattle.omf_parts.specs.Contents.{ContentValue}
+use Rattle.omf_model.specs.Contents.{ContentValue}
 use Rattle.image80.specs.Image.{PlacedBytes}
 use Rattle.image80.specs.declared.range.Range.{Range}
 use Rattle.image80.specs.RegionsText.{filled}

@@ -6,19 +6,19 @@ use Rattle.std.proofs.Common.{◌∙◌, ap, sym, subst, arith, ◌<◌, get_or}
 use Rattle.std.proofs.lemmas.Bool.{ltb-true}
 use Rattle.std.proofs.lemmas.List.Elements.{All-from_get_or, recursion_from_All}
 use Rattle.std.proofs.lemmas.List.{append-nil}
-use Rattle.omf_parts.specs.declared.fixup.Fixup.{Fixup}
-use Rattle.omf_parts.specs.declared.fixup.Target.{Target}
-use Rattle.omf_parts.specs.declared.fixup.Target.TheVariants as target
-use Rattle.omf_parts.specs.declared.patching.Patch.{Patch}
-use Rattle.omf_parts.specs.Contents.{ContentValue}
-use Rattle.omf_parts.specs.Patches.{with_patches}
-use Rattle.omf_parts.specs.Segments.{has_segment}
-use Rattle.omf_parts.specs.Modules.{ModuleValue}
-use Rattle.omf_parts.specs.Rules.{has_target, is_start, is_sound}
-use Rattle.omf_parts.specs.Place.{Bases, place_in}
-use Rattle.omf_parts.specs.ImageByte.{target_word, patch_with, patch_of, chunk_of}
-use Rattle.omf_parts.specs.HighReferences.{is_high, loses_with, loses_low_byte, any_loses_low_byte}
-use Rattle.omf_parts.specs.SoundModules.{LiesIn, HasItsFixups}
+use Rattle.omf_model.specs.declared.fixup.Fixup.{Fixup}
+use Rattle.omf_model.specs.declared.fixup.Target.{Target}
+use Rattle.omf_model.specs.declared.fixup.Target.TheVariants as target
+use Rattle.omf_model.specs.declared.patching.Patch.{Patch}
+use Rattle.omf_model.specs.Contents.{ContentValue}
+use Rattle.omf_model.specs.Patches.{with_patches}
+use Rattle.omf_model.specs.Segments.{has_segment}
+use Rattle.omf_model.specs.Modules.{ModuleValue}
+use Rattle.omf_model.specs.Rules.{has_target, is_start, is_sound}
+use Rattle.omf_model.specs.Place.{Bases, place_in}
+use Rattle.omf_model.specs.ImageByte.{target_word, patch_with, patch_of, chunk_of}
+use Rattle.omf_model.specs.HighReferences.{is_high, loses_with, loses_low_byte, any_loses_low_byte}
+use Rattle.omf_model.specs.SoundModules.{LiesIn, HasItsFixups}
 use Rattle.std.proofs.Math.Bool.{or-false}
 use Rattle.place80.specs.declared.options.Options.{Options}
 use Rattle.place80.specs.declared.placed_segments.Placed.{Placed}

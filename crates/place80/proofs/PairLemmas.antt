@@ -5,7 +5,7 @@ use Rattle.std.specs.Option.{option_or}
 use Rattle.std.proofs.Common.{Bool, cond, ◌∙◌, ap, sym, subst, get_or, drop-cons, take_all, length-drop, arith}
 use Rattle.std.proofs.lemmas.List.{drop_more}
 use Rattle.omf_core.specs.SegmentId.{absolute_id}
-use Rattle.omf_parts.specs.Contents.{ContentValue}
+use Rattle.omf_model.specs.Contents.{ContentValue}
 use Rattle.place80.specs.declared.placed_segments.Placed.{Placed}
 use Rattle.place80.specs.PlaceFault.{overlaps, beside_each, pairs, absolute_place, absolute_places, with_each, first_sharing}
 

@@ -3,12 +3,12 @@ use Rattle.std.proofs.Common.{◌≡◌, ℕ, ◌+◌, ◌%◌, true, false, con
 use Rattle.std.specs.Prelude.{◌==◌, IsTrue, if◌then◌else◌}
 use Rattle.std.proofs.lemmas.Bool.{cases_Bool}
 use Rattle.std.proofs.lemmas.Bool.Decides.{nat_tests}
-use Rattle.omf_parts.specs.declared.symbols.Common.{Common}
-use Rattle.omf_parts.specs.Segments.{is_fixed_id, has_common_id, has_segment}
-use Rattle.omf_parts.specs.Modules.{ModuleValue}
-use Rattle.omf_parts.specs.Place.{word_of, common_name, base_of, part_start, place_in}
-use Rattle.omf_parts.specs.Rules.{each_after, is_new_common}
-use Rattle.omf_parts.specs.SoundModules.{SoundModulesKeepRules, CommonsByName, PartsOfOneStartAtZero}
+use Rattle.omf_model.specs.declared.symbols.Common.{Common}
+use Rattle.omf_model.specs.Segments.{is_fixed_id, has_common_id, has_segment}
+use Rattle.omf_model.specs.Modules.{ModuleValue}
+use Rattle.omf_model.specs.Place.{word_of, common_name, base_of, part_start, place_in}
+use Rattle.omf_model.specs.Rules.{each_after, is_new_common}
+use Rattle.omf_model.specs.SoundModules.{SoundModulesKeepRules, CommonsByName, PartsOfOneStartAtZero}
 use Rattle.place80.specs.declared.placed_segments.Placed.{Placed}
 use Rattle.place80.specs.Layout.{base_in, top_in, bases_of}
 

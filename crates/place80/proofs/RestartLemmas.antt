@@ -11,8 +11,8 @@ use Rattle.image80.specs.Memory.{byte_at-snoc}
 use Rattle.image80.specs.Regions.{AreDisjoint, held}
 use Rattle.place80.specs.declared.placed_segments.Placed.{Placed}
 use Rattle.place80.specs.PlaceFault.{overlaps, beside_each, pairs, with_each, absolute_places, first_sharing}
-use Rattle.omf_parts.specs.Modules.{ModuleValue}
-use Rattle.omf_parts.specs.ImageByte.{image_byte}
+use Rattle.omf_model.specs.Modules.{ModuleValue}
+use Rattle.omf_model.specs.ImageByte.{image_byte}
 use Rattle.place80.specs.declared.options.Options.{Options}
 use Rattle.place80.specs.Layout.{program_bases}
 use Rattle.place80.specs.Locating.{HoldsProgram, range_at, located_code, located_stack, located_data}

@@ -5,9 +5,9 @@ use Rattle.std.specs.Prelude.{ℕ, ◌%◌, nat_lt, if◌then◌else◌, Option,
 use Rattle.std.specs.Option.{option_map_or}
 use Rattle.text80.specs.Digits.{word_text}
 use Rattle.omf_core.specs.SegmentId.{code_id, segment_word}
-use Rattle.omf_parts.specs.declared.symbols.Common.{Common}
-use Rattle.omf_parts.specs.declared.symbols.Public.{Public}
-use Rattle.omf_parts.specs.Modules.{ModuleValue}
+use Rattle.omf_model.specs.declared.symbols.Common.{Common}
+use Rattle.omf_model.specs.declared.symbols.Public.{Public}
+use Rattle.omf_model.specs.Modules.{ModuleValue}
 use Rattle.place80.specs.declared.options.Options.{Options}
 use Rattle.place80.specs.declared.placed_segments.Placed.{Placed}
 use Rattle.place80.specs.declared.place_fault.PlaceFault.{PlaceFault}

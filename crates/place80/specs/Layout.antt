@@ -3,11 +3,11 @@
 -- if no option gives one is this project's own.)
 use Rattle.std.specs.Prelude.{ℕ, ◌+◌, ◌%◌, ◌==◌, if◌then◌else◌, Option, None, unwrap_or, List, [], ◌∷◌, ◌++◌, filter, find, map}
 use Rattle.std.specs.List.{range_with_len}
-use Rattle.omf_parts.specs.declared.symbols.Common.{Common}
-use Rattle.omf_parts.specs.declared.segment.Segment.{Segment}
-use Rattle.omf_parts.specs.Segments.{code_id, data_id, stack_id, memory_id, unnamed_common_id, has_common_id, empty_segment}
-use Rattle.omf_parts.specs.Modules.{ModuleValue, segment_of}
-use Rattle.omf_parts.specs.Place.{Bases, place_at, rounded}
+use Rattle.omf_model.specs.declared.symbols.Common.{Common}
+use Rattle.omf_model.specs.declared.segment.Segment.{Segment}
+use Rattle.omf_model.specs.Segments.{code_id, data_id, stack_id, memory_id, unnamed_common_id, has_common_id, empty_segment}
+use Rattle.omf_model.specs.Modules.{ModuleValue, segment_of}
+use Rattle.omf_model.specs.Place.{Bases, place_at, rounded}
 use Rattle.place80.specs.declared.options.Options.{Options}
 use Rattle.place80.specs.declared.placed_segments.Placed.{Placed}
 

@@ -2,11 +2,11 @@
 -- and that they fit. (ISIS-II User's Guide, LOCATE: the order of segments, their bases, and the sizes of STACK and MEMORY.)
 use Rattle.std.specs.Prelude.{◌≡◌, ◌↔◌, ℕ, ◌+◌, ◌≤◌, ◌==◌, true, false, unwrap_or, None, List, [], ◌∷◌, map, length, All, AllPairs, IsTrue}
 use Rattle.std.specs.List.{AllByRecursion, list_any}
-use Rattle.omf_parts.specs.Contents.{ContentValue}
-use Rattle.omf_parts.specs.Segments.{absolute_id, memory_id, has_common_id, has_segment}
-use Rattle.omf_parts.specs.Modules.{ModuleValue}
-use Rattle.omf_parts.specs.Place.{rounded, place_in}
-use Rattle.omf_parts.specs.Rules.{each_after, is_new_common}
+use Rattle.omf_model.specs.Contents.{ContentValue}
+use Rattle.omf_model.specs.Segments.{absolute_id, memory_id, has_common_id, has_segment}
+use Rattle.omf_model.specs.Modules.{ModuleValue}
+use Rattle.omf_model.specs.Place.{rounded, place_in}
+use Rattle.omf_model.specs.Rules.{each_after, is_new_common}
 use Rattle.place80.specs.declared.options.Options.{Options}
 use Rattle.place80.specs.declared.placed_segments.Placed.{Placed}
 use Rattle.place80.specs.Layout.{default_base, order_of, given_base, given_length, own_segment, place_among, bases_of, layout_of}

@@ -2,7 +2,7 @@
 -- (ISIS-II User's Guide, LOCATE: the segments CODE, DATA, STACK and MEMORY, and the stack's top.)
 use Rattle.std.specs.Prelude.{◌≡◌, ℕ, ◌+◌, ◌≤◌, ◌==◌, Bool, ◌&&◌, List, All}
 use Rattle.std.specs.List.{list_any}
-use Rattle.omf_parts.specs.Segments.{code_id, stack_id}
+use Rattle.omf_model.specs.Segments.{code_id, stack_id}
 use Rattle.place80.specs.declared.placed_segments.Placed.{Placed}
 use Rattle.image80.specs.Range.{in_range}
 use Rattle.image80.specs.Regions.{Areas, Arranges, in_code, in_data, top_of}

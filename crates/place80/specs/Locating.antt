@@ -2,12 +2,12 @@
 -- (ISIS-II User's Guide, LOCATE: an absolute module.)
 use Rattle.std.specs.Prelude.{ℕ, ◌≡◌, ◌+◌, ◌≤◌, ◌<◌, All, IsTrue, length, ◌%◌, ◌==◌, Bool, ◌||◌, not, Option, None, option_map, List, [], ◌∷◌, filter, find, map}
 use Rattle.std.specs.List.{AllByRecursion}
-use Rattle.omf_parts.specs.Segments.{code_id, stack_id}
-use Rattle.omf_parts.specs.Modules.{ModuleValue}
-use Rattle.omf_parts.specs.declared.fixup.Target.{Target}
-use Rattle.omf_parts.specs.Contents.{ContentValue}
-use Rattle.omf_parts.specs.Patches.{are_inside, are_apart}
-use Rattle.omf_parts.specs.ImageByte.{word_to, patch_with, ByteChunk, chunk_at, chunks_of, image_byte}
+use Rattle.omf_model.specs.Segments.{code_id, stack_id}
+use Rattle.omf_model.specs.Modules.{ModuleValue}
+use Rattle.omf_model.specs.declared.fixup.Target.{Target}
+use Rattle.omf_model.specs.Contents.{ContentValue}
+use Rattle.omf_model.specs.Patches.{are_inside, are_apart}
+use Rattle.omf_model.specs.ImageByte.{word_to, patch_with, ByteChunk, chunk_at, chunks_of, image_byte}
 use Rattle.image80.specs.declared.range.Range.{Range}
 use Rattle.place80.specs.declared.options.Options.{Options}
 use Rattle.place80.specs.declared.placed_segments.Placed.{Placed}

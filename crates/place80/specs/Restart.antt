@@ -5,9 +5,9 @@ use Rattle.std.specs.Prelude.{◌≡◌, ℕ, ◌/◌, ◌%◌, ◌==◌, if◌t
 use Rattle.std.specs.Option.{option_or}
 use Rattle.decode80.specs.declared.instr.Instr.TheVariants.{Jmp}
 use Rattle.decode80.specs.Spelling.{spelling}
-use Rattle.omf_parts.specs.Segments.{absolute_id}
-use Rattle.omf_parts.specs.Modules.{ModuleValue}
-use Rattle.omf_parts.specs.ImageByte.{image_byte}
+use Rattle.omf_model.specs.Segments.{absolute_id}
+use Rattle.omf_model.specs.Modules.{ModuleValue}
+use Rattle.omf_model.specs.ImageByte.{image_byte}
 use Rattle.image80.specs.declared.range.Range.{Range}
 use Rattle.image80.specs.Image.{PlacedBytes, byte_at}
 use Rattle.image80.specs.Regions.{Areas, Arranges}

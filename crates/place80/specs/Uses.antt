@@ -5,14 +5,14 @@ use Rattle.std.specs.Prelude.{ℕ, Bool, false, not, ◌&&◌, if◌then◌else�
 use Rattle.std.specs.Option.{option_or}
 use Rattle.std.specs.Char.{to_ascii_lowercase}
 use Rattle.omf_core.specs.Name.{same_name}
-use Rattle.omf_parts.specs.declared.fixup.Fixup.{Fixup}
-use Rattle.omf_parts.specs.declared.fixup.Target.{Target}
-use Rattle.omf_parts.specs.declared.fixup.Target.TheVariants as target
-use Rattle.omf_parts.specs.declared.symbols.Public.{Public}
-use Rattle.omf_parts.specs.Contents.{ContentValue}
-use Rattle.omf_parts.specs.Modules.{ModuleValue}
-use Rattle.omf_parts.specs.HighReferences.{loses_with}
-use Rattle.omf_parts.specs.ImageByte.{name_at}
+use Rattle.omf_model.specs.declared.fixup.Fixup.{Fixup}
+use Rattle.omf_model.specs.declared.fixup.Target.{Target}
+use Rattle.omf_model.specs.declared.fixup.Target.TheVariants as target
+use Rattle.omf_model.specs.declared.symbols.Public.{Public}
+use Rattle.omf_model.specs.Contents.{ContentValue}
+use Rattle.omf_model.specs.Modules.{ModuleValue}
+use Rattle.omf_model.specs.HighReferences.{loses_with}
+use Rattle.omf_model.specs.ImageByte.{name_at}
 use Rattle.place80.specs.declared.placed_segments.Placed.{Placed}
 use Rattle.place80.specs.Locating.{word_among}
 use Rattle.place80.specs.declared.causes.uses.Use.{Use}

@@ -5,7 +5,7 @@ ghost use Rattle.place80.specs.Layout.{top_in, place_among};
 ghost use Rattle.place80.specs.PlaceFault.{is_in_placed};
 
 use crate::placed_segments::{Placed, placed_in};
-use omf_body::segment_id::{ABSOLUTE, STACK};
+use omf_core::segment_id::{ABSOLUTE, STACK};
 
 /// The stack's top, as a word.
 fn top_in(segments: &[Placed]) -> u16

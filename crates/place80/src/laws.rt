@@ -4,7 +4,7 @@ ghost use Rattle.place80.specs.LayoutLaws.{LayoutIsLaidOut, LaidOutInOneWay, Seg
 ghost use Rattle.place80.specs.CauseLaws.{OutsideIsShown, OverlapIsShown};
 ghost use Rattle.place80.specs.LocatedLaws.{LocatedRegionsHoldSegments};
 
-use omf_parts::relocation_laws::{
+use omf_model::relocation_laws::{
     commons_are_found_by_name, parts_of_one_start_at_zero, sound_modules_keep_rules,
 };
 

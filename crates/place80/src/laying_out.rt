@@ -2,7 +2,7 @@
 
 ghost use Rattle.std.specs.Prelude.{◌≡◌, ◌⊎◌, ◌≤◌, ◌<◌, ◌+◌, None, Some, length, IfOk, IfErr, OnOk};
 ghost use Rattle.std.specs.List.{AllByRecursion};
-ghost use Rattle.omf_parts.specs.Place.{rounded};
+ghost use Rattle.omf_model.specs.Place.{rounded};
 ghost use Rattle.place80.specs.Layout.{common_ids, order_of, placed_after, layout_of};
 ghost use Rattle.place80.specs.PlaceFault.{layout_fault};
 ghost use Rattle.place80.specs.declared.place_fault.PlaceFault.TheVariants.{Memory};
@@ -12,9 +12,9 @@ use crate::outside::first_outside;
 use crate::overlap::first_overlap;
 use crate::place_fault::PlaceFault;
 use crate::placed_segments::{Layout, Placed};
-use omf_body::segment_id::{CODE, DATA, FIRST_COMMON, MEMORY, STACK, UNNAMED_COMMON};
+use omf_core::segment_id::{CODE, DATA, FIRST_COMMON, MEMORY, STACK, UNNAMED_COMMON};
+use omf_model::has_common_id;
 use omf_module::{Common, Module, Segment};
-use omf_parts::has_common_id;
 use std::alloc::{AllocError, Global};
 
 /// Where CODE stands without an option.

@@ -2,15 +2,15 @@
 
 ghost use Rattle.std.specs.Prelude.{◌≡◌, ◌≤◌, map, IfOk};
 ghost use Rattle.std.specs.List.{AllByRecursion, list_any};
-ghost use Rattle.omf_parts.specs.ImageByte.{patch_with};
-ghost use Rattle.omf_parts.specs.HighReferences.{loses_with};
+ghost use Rattle.omf_model.specs.ImageByte.{patch_with};
+ghost use Rattle.omf_model.specs.HighReferences.{loses_with};
 ghost use Rattle.place80.specs.Locating.{word_among, chunk_among, CanBePlaced};
 
 use crate::addresses::place_of;
 use crate::placed_segments::Placed;
 use image80::Chunk;
+use omf_model::{Patch, apply_patches};
 use omf_module::{Content, Field, Fixup, Target};
-use omf_parts::{Patch, apply_patches};
 use std::alloc::{AllocError, Global};
 
 /// Whether a reference of the contents takes the high byte of a word that isn't a multiple of 256.

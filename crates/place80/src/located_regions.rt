@@ -8,7 +8,7 @@ ghost use Rattle.place80.specs.Locating.{Fit, is_data, range_at, located_code, l
 
 use crate::placed_segments::{Placed, placed_in};
 use image80::{Range, Regions};
-use omf_body::segment_id::{CODE, STACK};
+use omf_core::segment_id::{CODE, STACK};
 use std::alloc::{AllocError, Global};
 
 /// The regions of the segments: code is CODE, data are DATA, MEMORY and all commons, the stack is STACK.

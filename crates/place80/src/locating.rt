@@ -2,7 +2,7 @@
 
 ghost use Rattle.std.specs.Prelude.{◌≡◌, ◌⊎◌, false, None, Some, [], ◌∷◌, map, IfOk, IfErr, OnOk};
 ghost use Rattle.std.specs.List.{AllByRecursion};
-ghost use Rattle.omf_parts.specs.HighReferences.{any_loses_low_byte};
+ghost use Rattle.omf_model.specs.HighReferences.{any_loses_low_byte};
 ghost use Rattle.place80.specs.Layout.{layout_of, program_bases};
 ghost use Rattle.place80.specs.Locating.{CanBePlaced, Fit, HoldsProgram, ArrangesSegments, chunk_among, located_chunks, program_start};
 ghost use Rattle.place80.specs.PlaceFault.{locate_fault};
@@ -16,12 +16,12 @@ use crate::options::Options;
 use crate::place_fault::PlaceFault;
 use crate::placed_segments::{Placed, placed_in};
 use image80::Image;
-use omf_body::segment_id::CODE;
 use omf_core::Name;
-use omf_module::Module;
-use omf_parts::relocation_laws::{
+use omf_core::segment_id::CODE;
+use omf_model::relocation_laws::{
     commons_are_found_by_name, parts_of_one_start_at_zero, sound_modules_keep_rules,
 };
+use omf_module::Module;
 use std::alloc::{AllocError, Global};
 
 /// The program's image at its places.

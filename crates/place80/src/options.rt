@@ -1,6 +1,6 @@
 //! What a caller of LOCATE chooses: bases and sizes.
 
-use omf_body::segment_id::{CODE, DATA, MEMORY, STACK, UNNAMED_COMMON};
+use omf_core::segment_id::{CODE, DATA, MEMORY, STACK, UNNAMED_COMMON};
 
 /// The options of LOCATE: bases of segments, and sizes in place of those of STACK and MEMORY, all in bytes.
 /// (ISIS-II User's Guide, LOCATE: the controls CODE, STACK, DATA, MEMORY and STACKSIZE; the others are this project's.)

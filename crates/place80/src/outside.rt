@@ -5,7 +5,7 @@ ghost use Rattle.std.specs.List.{list_any};
 ghost use Rattle.place80.specs.PlaceFault.{passes_memory, is_outside, first_outside};
 
 use crate::placed_segments::Placed;
-use omf_body::segment_id::MEMORY;
+use omf_core::segment_id::MEMORY;
 use omf_module::{Content, Module};
 
 /// The first segment that is outside memory.

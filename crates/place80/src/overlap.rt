@@ -4,9 +4,9 @@ ghost use Rattle.std.specs.Prelude.{◌≡◌, ◌≤◌, ◌==◌, if◌then◌
 ghost use Rattle.place80.specs.PlaceFault.{overlaps, beside_each, pairs, absolute_place, absolute_places, with_each, all_pairs, first_sharing};
 
 use crate::placed_segments::Placed;
-use omf_body::segment_id::ABSOLUTE;
+use omf_core::segment_id::ABSOLUTE;
+use omf_model::relocation_laws::sound_modules_keep_rules;
 use omf_module::{Content, Module};
-use omf_parts::relocation_laws::sound_modules_keep_rules;
 
 /// Two places that share an address.
 pub(crate) type Pair = (Placed, Placed);

@@ -16,7 +16,7 @@ use crate::place_fault::PlaceFault;
 use crate::placed_segments::Placed;
 use decode80::{Instr, encode};
 use image80::{Chunk, Image, Range, Regions};
-use omf_body::segment_id::ABSOLUTE;
+use omf_core::segment_id::ABSOLUTE;
 use omf_module::Module;
 use std::alloc::{AllocError, Global};
 

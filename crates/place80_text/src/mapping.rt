@@ -9,7 +9,7 @@ ghost use Rattle.place80_text.specs.Map.{IsMap};
 
 use crate::public_lines::append_publics;
 use crate::segment_lines::append_segments;
-use omf_parts::Module;
+use omf_model::Module;
 use place80::{Options, PlaceFault, Placed, layout, locate};
 use std::alloc::{AllocError, Global};
 

@@ -4,7 +4,7 @@ ghost use Rattle.std.specs.Prelude.{◌≡◌, ◌++◌, map, OnOk, IfOk};
 ghost use Rattle.std.specs.List.{flat_map};
 ghost use Rattle.place80_text.specs.Map.{IsByAddress, PrintsPublics, public_line};
 
-use omf_parts::Public;
+use omf_model::Public;
 use place80::{Placed, place_of};
 use std::alloc::{AllocError, Global};
 use text80::word_digits;

@@ -6,8 +6,8 @@ ghost use Rattle.omf_module.specs.Fault.{no_memory};
 ghost use Rattle.omf_module.specs.Spelled.{FaultsFile};
 ghost use Rattle.place80_text.specs.ImagePublics.{HasPublics};
 
+use omf_model::copy_publics;
 use omf_module::{Module, ModuleFault, Public, read_file};
-use omf_parts::copy_publics;
 use std::alloc::{AllocError, Global};
 
 /// The publics that the object file of an image has, in the order of their records; those of its modules in order, if it has more

@@ -5,7 +5,7 @@ ghost use Rattle.std.specs.List.{AllByRecursion, flat_map};
 ghost use Rattle.place80_text.specs.Map.{segment_line};
 
 use omf_core::segment_id::word_of;
-use omf_parts::Common;
+use omf_model::Common;
 use omf_text::append_common;
 use place80::Placed;
 use std::alloc::AllocError;

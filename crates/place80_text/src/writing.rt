@@ -9,7 +9,7 @@ ghost use Rattle.place80_text.specs.ImagePublics.{absolute_public, publics_at};
 use image80::Image;
 use image80_file::image_module;
 use image80_file::laws::written_image_is_spelled;
-use omf_body::segment_id::ABSOLUTE;
+use omf_core::segment_id::ABSOLUTE;
 use omf_module::{Public, write_file};
 use place80::{Placed, place_of};
 use std::alloc::{AllocError, Global};

@@ -18,7 +18,6 @@ mod commands;
 use bundle_words::{CopiedReader, explain_bundle};
 use commands::{refuse_arguments, run_command};
 use loader80::SessionFault;
-use loader80_streams::{Reading, Writing};
 pub use loader80_text::{BUNDLE_LIMIT, BundleFault, bundle};
 use plm80_console::{Console, NotedWriter, Reported};
 use plm80_programs::{explain_end, status_of};
@@ -26,6 +25,7 @@ use std::alloc::AllocError;
 use std::env;
 use std::io::{ErrorKind, IsTerminal};
 use std::process::ExitCode;
+use stream80::{Reading, Writing};
 
 /// The steps that a bundle's run makes at most.
 const STEPS: u64 = 1_000_000;

@@ -2,7 +2,7 @@
 use Rattle.std.specs.Prelude.{◌≡◌, ℕ, Bool, true, false, ◌==◌, List, [], ◌∷◌, Option, Some, None, Result, Ok, Err}
 use Rattle.omf_core.specs.Kind.{kind_byte}
 use Rattle.omf_core.specs.declared.kind.RecordKind.TheVariants.{LibraryHeader}
-use Rattle.loader80_streams.specs.WholeText.{read_all_failures}
+use Rattle.stream80.specs.WholeText.{read_all_failures}
 use Rattle.omf_module.specs.FileFeed.{FileFeedValue, LastingFileFault}
 use Rattle.omf_module.specs.Reading.{OrNoMemory as OrNoModuleMemory}
 use Rattle.omf_module.specs.Spelled.{SpellsFile, FaultsFile}

@@ -4,10 +4,10 @@ ghost use Rattle.std.specs.Prelude.{◌≡◌};
 
 use crate::console::{Console, Reported};
 use crate::file_kinds::FileRole;
-use loader80_streams::ReadAllFault;
 use omf_library::LibraryFault;
 use omf_module::{Cause, ModuleFault};
 use std::io::ErrorKind;
+use stream80::ReadAllFault;
 
 /// Why an object file or a library isn't read.
 #[derive(Clone, Copy, Debug)]

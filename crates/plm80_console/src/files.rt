@@ -2,14 +2,14 @@
 
 ghost use Rattle.std.specs.Prelude.{◌≡◌, ◌≤◌, None, vec_len, IfOk, IfSome, IsTrue, OnSome};
 ghost use Rattle.std.specs.Io.{ReadsAtMost};
-ghost use Rattle.loader80_streams.specs.WholeText.{text_limit};
+ghost use Rattle.stream80.specs.WholeText.{text_limit};
 
 use crate::console::{Console, Reported};
-use loader80_streams::{Failed, ReadAllFault, Reading, TEXT_LIMIT, Writing, read_all, write_all};
 use std::fs::File;
 use std::io::{ErrorKind, Read, Write};
 use std::marker::Model;
 use std::{fs, io};
+use stream80::{Failed, ReadAllFault, Reading, TEXT_LIMIT, Writing, read_all, write_all};
 
 /// A file that is opened when it is first read, so that a missing file is reported when its turn comes.
 #[derive(Drop)]

@@ -1,19 +1,19 @@
 //! The files that `link` takes: object files and libraries, by their first byte.
 
 ghost use Rattle.std.specs.Prelude.{◌≡◌, ◌<◌, ◌≤◌, ◌+◌, List, ℕ, length, Err, IfOk, IfErr, IfSome};
-ghost use Rattle.loader80_streams.specs.declared.whole.ReadAllFault.TheVariants as read;
-ghost use Rattle.loader80_streams.specs.WholeText.{text_limit};
+ghost use Rattle.stream80.specs.declared.whole.ReadAllFault.TheVariants as read;
+ghost use Rattle.stream80.specs.WholeText.{text_limit};
 ghost use Rattle.omf_module.specs.Spelled.{SpellsFile};
 ghost use Rattle.plm80_console.specs.declared.file_fault.FileFault.TheVariants as fault;
 ghost use Rattle.plm80_console.specs.Pieces.{HasTakenEither, SpellsEither, FaultsEither, FaultsObjectFile, WasRead, file_failures};
 
 use crate::file_fault::FileFault;
 use crate::pieces::{TakePieces, read_in_pieces};
-use loader80_streams::{Source, TEXT_LIMIT};
 use omf_core::RecordKind;
 use omf_library::{Library, LibraryFeed};
 use omf_module::{FileFeed, Module};
 use std::alloc::{AllocError, Global};
+use stream80::{Source, TEXT_LIMIT};
 
 /// The type of a library header, which no module begins with.
 const LIBRARY_HEADER: u8 = RecordKind::LibraryHeader as u8;

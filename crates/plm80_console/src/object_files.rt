@@ -5,8 +5,8 @@ ghost use Rattle.std.specs.Prelude.{◌≡◌, ◌++◌, [], OnOk};
 use crate::console::{Console, Reported};
 use crate::files::LateFile;
 use crate::link_feed::read_object_file;
-use loader80_streams::Reading;
 use omf_module::Module;
+use stream80::Reading;
 
 /// The modules of the object file of this path, in order.
 pub fn read_modules(console: Console<'_>, path: &str) -> Result<Vec<Module>, Reported> {

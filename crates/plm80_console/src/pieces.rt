@@ -2,15 +2,15 @@
 
 ghost use Rattle.std.specs.Prelude.{◌≡◌, ◌≢◌, ℕ, ◌+◌, ◌<◌, ◌≤◌, ◌++◌, List, [], length, IfSome, OnOk, Err};
 ghost use Rattle.std.specs.Io.KnownBytes.{IsAtEnd};
-ghost use Rattle.loader80_streams.specs.WholeText.{TakesAtMost, read_all_failures};
+ghost use Rattle.stream80.specs.WholeText.{TakesAtMost, read_all_failures};
 ghost use Rattle.omf_module.specs.Fault.{no_memory};
 
-use loader80_streams::{ReadAllFault, Source};
 use omf_library::laws::lasting_faults_last;
 use omf_library::{LibraryFault, LibraryFeed};
 use omf_module::laws::lasting_file_faults_last;
 use omf_module::{Cause, FileFeed, ModuleFault};
 use std::alloc::AllocError;
+use stream80::{ReadAllFault, Source};
 
 // How many bytes are read at a time.
 const PIECE: usize = 512;

@@ -1,7 +1,7 @@
 -- What is read of two files, and what the verifier says of it.
 use Rattle.std.specs.Prelude.{◌≡◌, ◌≢◌, ℕ, Bool, List, Result, Ok, Err, IfOk}
 use Rattle.std.proofs.Common.{◌∙◌, ap}
-use Rattle.omf_parts.specs.declared.symbols.Public.{Public}
+use Rattle.omf_model.specs.declared.symbols.Public.{Public}
 use Rattle.image80.specs.Image.{Located}
 use Rattle.image80.specs.RegionsText.{Spells}
 use Rattle.image80_file.specs.ImageFile.{SpellsImage, without_regions}

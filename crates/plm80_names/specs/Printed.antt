@@ -4,7 +4,7 @@ use Rattle.std.specs.Prelude.{◌≡◌, ℕ, ◌-◌, Bool, true, false, nat_eq
 use Rattle.std.specs.Cmp.Lexicographic.{pointwise}
 use Rattle.std.specs.List.{flat_map}
 use Rattle.image80.specs.declared.range.Range.{Range}
-use Rattle.omf_parts.specs.declared.symbols.Public.{Public}
+use Rattle.omf_model.specs.declared.symbols.Public.{Public}
 use Rattle.image80_text.specs.NameText.{name_text, named_text}
 use Rattle.place80_text.specs.ImagePublics.{HasPublics}
 use Rattle.verify80_flow.specs.declared.refusal.Refusal.{Refusal}

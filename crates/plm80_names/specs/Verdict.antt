@@ -1,7 +1,7 @@
 -- What is answered of a program by what the verifier says of it.
 -- (That a refusal is printed alone, and its exit status, are this project's own.)
 use Rattle.std.specs.Prelude.{◌≡◌, ◌≢◌, ℕ, Bool, List}
-use Rattle.omf_parts.specs.declared.symbols.Public.{Public}
+use Rattle.omf_model.specs.declared.symbols.Public.{Public}
 use Rattle.image80.specs.Image.{Located}
 use Rattle.image80.specs.RegionsText.{Spells}
 use Rattle.image80_file.specs.ImageFile.{SpellsImage, without_regions}

@@ -22,7 +22,7 @@ pub struct Names {
 
 impl Model for Names {
     ghost use Rattle.std.specs.Prelude.{List};
-    ghost use Rattle.omf_parts.specs.declared.symbols.Public.{Public};
+    ghost use Rattle.omf_model.specs.declared.symbols.Public.{Public};
 
     ghost Value = { List Public };
 

@@ -2,7 +2,7 @@
 use Rattle.std.specs.Prelude.{◌≡◌, ℕ, suc, ◌+◌, ◌<◌, Bool, true, false, List, ◌∷◌, ◌++◌, drop, length}
 use Rattle.std.specs.List.{flat_map}
 use Rattle.std.proofs.Common.{◌∙◌, ap, sym, add-one, append_assoc, drop-cons, get_or}
-use Rattle.omf_parts.specs.Modules.{ModuleValue}
+use Rattle.omf_model.specs.Modules.{ModuleValue}
 use Rattle.link80.specs.declared.linking.Linked.{Linked}
 use Rattle.link80_text.specs.Parts.{parts_text, unresolved_text}
 use Rattle.plm80_objects.specs.Link.{names_text, rest_text}

@@ -1,7 +1,7 @@
 -- The exit statuses of commands, from the answers that they give.
 use Rattle.std.specs.Prelude.{◌≡◌, ℕ, List, Result, Ok, Err, IfOk, IsOkAnd, length}
 use Rattle.std.proofs.lemmas.Result.{IfOk-weaker}
-use Rattle.omf_parts.specs.declared.symbols.Public.{Public}
+use Rattle.omf_model.specs.declared.symbols.Public.{Public}
 use Rattle.image80.specs.Image.{Located}
 use Rattle.image80_file.specs.ImageFile.{SpellsImage, without_regions}
 use Rattle.rom80.specs.Rom.{bytes_over}

@@ -1,7 +1,7 @@
 -- What `compare` prints of an image and a dump.
 -- (The form of the lines and the status are this project's own.)
 use Rattle.std.specs.Prelude.{◌≡◌, ℕ, List, [], ◌∷◌, length, codes}
-use Rattle.omf_parts.specs.declared.symbols.Public.{Public}
+use Rattle.omf_model.specs.declared.symbols.Public.{Public}
 use Rattle.image80.specs.declared.range.Range.{Range}
 use Rattle.image80.specs.Image.{Located}
 use Rattle.image80_file.specs.ImageFile.{SpellsImage, without_regions}

@@ -1,7 +1,7 @@
 -- What `locate` writes of a program: its image, and its regions.
 -- (ISIS-II User's Guide, LOCATE. That the regions have a file of their own is this project's.)
 use Rattle.std.specs.Prelude.{◌≡◌, ℕ, Bool, true, false, Option, Some, List, [], ◌∷◌}
-use Rattle.omf_parts.specs.Modules.{ModuleValue}
+use Rattle.omf_model.specs.Modules.{ModuleValue}
 use Rattle.omf_module.specs.Writing.{file_bytes}
 use Rattle.image80.specs.Image.{Located}
 use Rattle.image80.specs.RegionsText.{regions_text}

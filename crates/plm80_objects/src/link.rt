@@ -10,7 +10,6 @@ use crate::helpers::causes::report_link_fault;
 use crate::helpers::link_lines::{LinkLines, lines_of};
 use clap::ArgMatches;
 use link80::{Linked, link};
-use loader80_streams::Reading;
 use omf_core::Name;
 use omf_library::Library;
 use omf_module::{Module, write_file};
@@ -20,6 +19,7 @@ use plm80_console::{
 };
 use std::alloc::{AllocError, Global};
 use std::slice;
+use stream80::Reading;
 
 /// The arguments of `link`.
 #[derive(Drop)]

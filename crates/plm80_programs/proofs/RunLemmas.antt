@@ -6,7 +6,7 @@ use Rattle.std.proofs.Common.{◌∙◌, ap, arith, subst, sym}
 use Rattle.std.proofs.Math.Nat.{min-eq_left}
 use Rattle.std.proofs.KnownBytes.{Appends-nil, Appends-trans}
 use Rattle.std.proofs.lemmas.Result.{IfOk-weaker}
-use Rattle.omf_parts.specs.declared.symbols.Public.{Public}
+use Rattle.omf_model.specs.declared.symbols.Public.{Public}
 use Rattle.image80.specs.Regions.{Areas}
 use Rattle.machine80.specs.declared.end.End.{End}
 use Rattle.machine80.specs.Run.{IsRun}

@@ -1,7 +1,7 @@
 -- What is printed of stores.
 use Rattle.std.specs.Prelude.{◌≡◌, ℕ, List, codes}
 use Rattle.std.proofs.Common.{◌∙◌, ap}
-use Rattle.omf_parts.specs.declared.symbols.Public.{Public}
+use Rattle.omf_model.specs.declared.symbols.Public.{Public}
 use Rattle.image80.specs.declared.range.Range.{Range}
 use Rattle.image80.specs.Image.{Located}
 use Rattle.image80_text.specs.NameText.{named_text}

@@ -1,7 +1,7 @@
 -- Answers to what the verifier says.
 use Rattle.std.specs.Prelude.{List, Result, IfOk}
 use Rattle.std.proofs.lemmas.Result.{IfOk-weaker}
-use Rattle.omf_parts.specs.declared.symbols.Public.{Public}
+use Rattle.omf_model.specs.declared.symbols.Public.{Public}
 use Rattle.image80.specs.Image.{Located}
 use Rattle.loader80.specs.Vouched.{Voucher}
 use Rattle.plm80_console.specs.Answer.{AnswerValue}

@@ -2,11 +2,11 @@
 -- (That each PCHL has its line, its note or both, is this project's own.)
 use Rattle.std.specs.Prelude.{◌≡◌, ◌≤◌, ℕ, Bool, true, false, List, [], All, Option, length, map, filter, filter_map}
 use Rattle.std.specs.List.{range_with_len}
-use Rattle.omf_parts.specs.declared.symbols.Public.{Public}
+use Rattle.omf_model.specs.declared.symbols.Public.{Public}
 use Rattle.image80.specs.Case.{DeclaredCase}
 use Rattle.image80.specs.Image.{Located}
 use Rattle.image80.specs.RegionsText.{cases_text}
-use Rattle.loader80_streams.specs.WholeText.{text_limit}
+use Rattle.stream80.specs.WholeText.{text_limit}
 use Rattle.verify80_cases.specs.declared.search.Note.{Note}
 use Rattle.verify80_cases.specs.declared.search.SuggestedCase.{SuggestedCase}
 use Rattle.verify80_cases.specs.Added.{AddsCases}

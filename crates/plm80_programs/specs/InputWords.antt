@@ -3,7 +3,7 @@
 use Rattle.std.specs.Prelude.{◌≡◌, ◌≢◌, ◌<◌, ℕ, List, [], ◌∷◌, ◌++◌, All, None, unwrap_or, codes, length, map}
 use Rattle.std.specs.List.{flat_map}
 use Rattle.clap.specs.declared.parser.matches.ArgMatches.{ArgMatches}
-use Rattle.loader80_streams.specs.WholeText.{text_limit}
+use Rattle.stream80.specs.WholeText.{text_limit}
 use Rattle.loader80_text.specs.declared.inputs.repeated.Repeated.{Repeated}
 use Rattle.loader80_text.specs.Text.{text_of}
 use Rattle.loader80_text.specs.Words.{word_of}

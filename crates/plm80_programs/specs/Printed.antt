@@ -1,7 +1,7 @@
 -- What commands print of an image, and their exit statuses. (The texts are those of the crates below; that a refusal is printed alone,
 -- with status 1, is this project's own.)
 use Rattle.std.specs.Prelude.{◌≡◌, ◌≢◌, ℕ, Bool, true, false, List, [], Option, None, Some, All, codes, map}
-use Rattle.omf_parts.specs.declared.symbols.Public.{Public}
+use Rattle.omf_model.specs.declared.symbols.Public.{Public}
 use Rattle.image80.specs.declared.range.Range.{Range}
 use Rattle.image80.specs.Image.{Located}
 use Rattle.image80_text.specs.Listing.{listing_of}

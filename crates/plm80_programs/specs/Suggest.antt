@@ -6,7 +6,7 @@ use Rattle.image80.specs.declared.range.Range.{Range}
 use Rattle.image80.specs.Image.{Located}
 use Rattle.image80.specs.RegionsText.{regions_text}
 use Rattle.image80_file.specs.ImageFile.{SpellsImage, without_regions}
-use Rattle.loader80_streams.specs.WholeText.{text_limit}
+use Rattle.stream80.specs.WholeText.{text_limit}
 use Rattle.verify80_suggest.specs.declared.suggesting.Advice.{Advice}
 use Rattle.verify80_suggest.specs.Suggestion.{IsSuggestion}
 use Rattle.plm80_console.specs.Answer.{AnswerValue, prints}

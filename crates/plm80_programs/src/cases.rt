@@ -14,13 +14,13 @@ use crate::helpers::endings::report_lines;
 use clap::ArgMatches;
 use image80::{Case, Image, RegionsFault, case_lines};
 use loader80::TEXT_LIMIT;
-use loader80_streams::{Sink, Writing, write_all};
 use loader80_trace::TraceFault;
 use plm80_console::{
     Answer, Argument, Console, IMAGE, Kind, NotedWriter, REGIONS, Reported, Syntax, argument_text,
 };
 use plm80_names::ProgramTexts;
 use std::alloc::{AllocError, Global};
+use stream80::{Sink, Writing, write_all};
 use verify80::ImageCode;
 use verify80_cases::{Note, Search, SuggestedCase, regions_with_cases};
 

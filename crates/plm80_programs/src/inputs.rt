@@ -1,7 +1,7 @@
 //! `plm80 inputs`: the text of a run's inputs, from words.
 
 ghost use Rattle.std.specs.Prelude.{◌≡◌, ◌≤◌, [], All, length, map, IfOk, IfErr, OnOk};
-ghost use Rattle.loader80_streams.specs.WholeText.{text_limit};
+ghost use Rattle.stream80.specs.WholeText.{text_limit};
 ghost use Rattle.loader80_text.specs.Text.{text_of};
 ghost use Rattle.plm80_console.specs.Answer.{writes};
 ghost use Rattle.plm80_programs.specs.InputWords.{AreInputsArguments, FaultsFile, FaultsWords, IsGoodWord, inputs_named};

@@ -11,7 +11,6 @@ use crate::helpers::endings::{Traced, report_lines, trace_ending_of, write_trace
 use crate::helpers::run_arguments::{INPUTS, LimitTexts, OUTPUTS, RunFiles, STEPS};
 use clap::ArgMatches;
 use loader80::{Ended, Vouched};
-use loader80_streams::{Sink, Writing};
 use loader80_trace::{Limits, Span, TraceFault};
 use machine80::Inputs;
 use plm80_console::{
@@ -19,6 +18,7 @@ use plm80_console::{
 };
 use plm80_names::{NAMES, Names, Verdict, judge};
 use std::alloc::{AllocError, Global};
+use stream80::{Sink, Writing};
 
 /// The arguments of `trace`.
 #[derive(Clone, Copy)]

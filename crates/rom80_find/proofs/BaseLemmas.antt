@@ -5,15 +5,15 @@ use Rattle.std.specs.Option.{option_map_or}
 use Rattle.std.specs.Cmp.Lexicographic.{pointwise}
 use Rattle.std.proofs.Common.{refl, sym, ◌∙◌, ap, arith, inl, inr}
 use Rattle.std.proofs.lemmas.Bool.{eqb-true, lt-ltb, ltb-true, leb-true, le-ltb, true≢false, or_cases}
-use Rattle.omf_parts.specs.declared.symbols.Public.{Public}
-use Rattle.omf_parts.specs.declared.fixup.Target.{Target}
-use Rattle.omf_parts.specs.declared.fixup.Target.TheVariants as target
-use Rattle.omf_parts.specs.Segments.{has_segment, has_common_id, is_fixed_id}
-use Rattle.omf_parts.specs.Modules.{ModuleValue}
-use Rattle.omf_parts.specs.Rules.{has_target}
-use Rattle.omf_parts.specs.Place.{Bases, word_of, base_of, part_start, place_at, place_in}
-use Rattle.omf_parts.specs.ImageByte.{name_at, placed_public, target_word}
-use Rattle.omf_parts.specs.SoundModules.{RulesOf, CommonsByName, PartsOfOneStartAtZero}
+use Rattle.omf_model.specs.declared.symbols.Public.{Public}
+use Rattle.omf_model.specs.declared.fixup.Target.{Target}
+use Rattle.omf_model.specs.declared.fixup.Target.TheVariants as target
+use Rattle.omf_model.specs.Segments.{has_segment, has_common_id, is_fixed_id}
+use Rattle.omf_model.specs.Modules.{ModuleValue}
+use Rattle.omf_model.specs.Rules.{has_target}
+use Rattle.omf_model.specs.Place.{Bases, word_of, base_of, part_start, place_at, place_in}
+use Rattle.omf_model.specs.ImageByte.{name_at, placed_public, target_word}
+use Rattle.omf_model.specs.SoundModules.{RulesOf, CommonsByName, PartsOfOneStartAtZero}
 use Rattle.rom80_find.specs.declared.pattern.resolving.Resolved.{Resolved}
 use Rattle.rom80_find.specs.CodeBytes.{number_of}
 use Rattle.rom80_find.specs.Modules.{first_with, resolved}

@@ -6,19 +6,19 @@ use Rattle.std.proofs.Common.{refl, sym, ◌∙◌, ap, arith, inl, inr}
 use Rattle.std.proofs.lemmas.Bool.{eqb-true, true≢false, or_cases}
 use Rattle.omf_body.specs.declared.field.Field.{Field}
 use Rattle.omf_body.specs.declared.field.Field.TheVariants as field
-use Rattle.omf_parts.specs.declared.fixup.Fixup.{Fixup}
-use Rattle.omf_parts.specs.Contents.{ContentValue, offsets_by}
-use Rattle.omf_parts.specs.Modules.{ModuleValue}
-use Rattle.omf_parts.specs.Rules.{has_target}
-use Rattle.omf_parts.specs.Place.{Bases}
-use Rattle.omf_parts.specs.ImageByte.{patch_with, target_word}
-use Rattle.omf_parts.specs.Patches.{word_in_bytes, patched, byte_with}
+use Rattle.omf_model.specs.declared.fixup.Fixup.{Fixup}
+use Rattle.omf_model.specs.Contents.{ContentValue, offsets_by}
+use Rattle.omf_model.specs.Modules.{ModuleValue}
+use Rattle.omf_model.specs.Rules.{has_target}
+use Rattle.omf_model.specs.Place.{Bases}
+use Rattle.omf_model.specs.ImageByte.{patch_with, target_word}
+use Rattle.omf_model.specs.Patches.{word_in_bytes, patched, byte_with}
 use Rattle.rom80_find.specs.declared.pattern.code_byte.Half.TheVariants as half
 use Rattle.rom80_find.specs.declared.pattern.resolving.Resolved.{Resolved}
 use Rattle.rom80_find.specs.CodeBytes.{number_of, half_of, byte_by}
 use Rattle.rom80_find.specs.Modules.{resolved, has_byte, plain_byte, field_byte, fixup_byte, byte_by_fixups}
 use Rattle.rom80_find.proofs.BaseLemmas.{Agrees, value_by, target_agrees}
-use Rattle.omf_parts.specs.SoundModules.{RulesOf}
+use Rattle.omf_model.specs.SoundModules.{RulesOf}
 
 low_byte : (v a b w : ℕ) → w % 65536 ≡ (v + a) % 65536 → (v + (a + b) % 65536) % 65536 % 256 ≡ (b + w % 256) % 256 % 256
 low_byte v a b w e = omega arith

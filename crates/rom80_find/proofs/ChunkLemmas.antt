@@ -5,13 +5,13 @@ use Rattle.std.proofs.Common.{refl, sym, ◌∙◌, ap, subst, arith, inl, inr}
 use Rattle.std.proofs.lemmas.Bool.{and_parts, eqb-true, lt-ltb, le-ltb, le-leb, lt-leb, ltb-true, leb-true, true≢false, cases_lt}
 use Rattle.std.proofs.lemmas.List.FromFn.{length-map-range_with_len, get_or-map-range_with_len}
 use Rattle.omf_core.specs.SegmentId.{code_id}
-use Rattle.omf_parts.specs.Contents.{ContentValue}
-use Rattle.omf_parts.specs.Modules.{ModuleValue}
-use Rattle.omf_parts.specs.Rules.{end_of}
-use Rattle.omf_parts.specs.Place.{Bases, place_in}
-use Rattle.omf_parts.specs.ImageByte.{ByteChunk, patch_with, target_word, chunk_of, chunk_covers, distance, last_over}
-use Rattle.omf_parts.specs.Patches.{byte_with}
-use Rattle.omf_parts.specs.SoundModules.{RulesOf, LiesIn, HasItsFixups, PartsOfOneStartAtZero}
+use Rattle.omf_model.specs.Contents.{ContentValue}
+use Rattle.omf_model.specs.Modules.{ModuleValue}
+use Rattle.omf_model.specs.Rules.{end_of}
+use Rattle.omf_model.specs.Place.{Bases, place_in}
+use Rattle.omf_model.specs.ImageByte.{ByteChunk, patch_with, target_word, chunk_of, chunk_covers, distance, last_over}
+use Rattle.omf_model.specs.Patches.{byte_with}
+use Rattle.omf_model.specs.SoundModules.{RulesOf, LiesIn, HasItsFixups, PartsOfOneStartAtZero}
 use Rattle.rom80_find.specs.CodeBytes.{byte_by}
 use Rattle.rom80_find.specs.Modules.{covers, covers_code, byte_in, code_byte_at, code_length}
 use Rattle.rom80_find.specs.Chunks.{is_code, code_chunks, chunk_byte}

@@ -5,17 +5,17 @@ use Rattle.std.specs.Option.{option_map_or}
 use Rattle.std.proofs.Common.{refl, sym, ◌∙◌, ap, arith}
 use Rattle.std.proofs.lemmas.Bool.{eqb-true, ltb-true, true≢false}
 use Rattle.omf_core.specs.SegmentId.{code_id}
-use Rattle.omf_parts.specs.declared.fixup.Fixup.{Fixup}
-use Rattle.omf_parts.specs.declared.fixup.Target.{Target}
-use Rattle.omf_parts.specs.declared.fixup.Target.TheVariants as target
-use Rattle.omf_parts.specs.Contents.{ContentValue}
-use Rattle.omf_parts.specs.Modules.{ModuleValue}
-use Rattle.omf_parts.specs.Rules.{has_target}
-use Rattle.omf_parts.specs.declared.patching.Patch.{Patch}
-use Rattle.omf_parts.specs.Place.{Bases, part_start, place_in}
-use Rattle.omf_parts.specs.ImageByte.{ByteChunk, patch_with, target_word, chunk_of, chunk_covers, chunks_of, image_byte, distance}
-use Rattle.omf_parts.specs.Patches.{with_patches}
-use Rattle.omf_parts.specs.SoundModules.{RulesOf, HasItsFixups, SoundModulesKeepRules}
+use Rattle.omf_model.specs.declared.fixup.Fixup.{Fixup}
+use Rattle.omf_model.specs.declared.fixup.Target.{Target}
+use Rattle.omf_model.specs.declared.fixup.Target.TheVariants as target
+use Rattle.omf_model.specs.Contents.{ContentValue}
+use Rattle.omf_model.specs.Modules.{ModuleValue}
+use Rattle.omf_model.specs.Rules.{has_target}
+use Rattle.omf_model.specs.declared.patching.Patch.{Patch}
+use Rattle.omf_model.specs.Place.{Bases, part_start, place_in}
+use Rattle.omf_model.specs.ImageByte.{ByteChunk, patch_with, target_word, chunk_of, chunk_covers, chunks_of, image_byte, distance}
+use Rattle.omf_model.specs.Patches.{with_patches}
+use Rattle.omf_model.specs.SoundModules.{RulesOf, HasItsFixups, SoundModulesKeepRules}
 use Rattle.rom80_find.specs.Dump.{DumpValue, dump_byte}
 use Rattle.rom80_find.specs.Chunks.{is_code, is_covered, chunk_byte}
 use Rattle.rom80_find.specs.LinkLaws.{GoWith, LiesInLink, OnlyCodeCovers}

@@ -7,13 +7,13 @@ use Rattle.std.proofs.lemmas.Bool.{and_parts, eqb-true, leb-true, ltb-true, case
 use Rattle.omf_core.specs.SegmentId.{code_id}
 use Rattle.omf_body.specs.declared.field.Field.{Field}
 use Rattle.omf_body.specs.declared.field.Field.TheVariants as field
-use Rattle.omf_parts.specs.declared.fixup.Fixup.{Fixup}
-use Rattle.omf_parts.specs.Contents.{ContentValue}
-use Rattle.omf_parts.specs.Modules.{ModuleValue}
-use Rattle.omf_parts.specs.Rules.{end_of}
-use Rattle.omf_parts.specs.Place.{Bases}
-use Rattle.omf_parts.specs.ImageByte.{ByteChunk, chunk_of, chunk_covers, distance, last_over}
-use Rattle.omf_parts.specs.SoundModules.{RulesOf, LiesIn, HasItsFixups, CommonsByName, PartsOfOneStartAtZero}
+use Rattle.omf_model.specs.declared.fixup.Fixup.{Fixup}
+use Rattle.omf_model.specs.Contents.{ContentValue}
+use Rattle.omf_model.specs.Modules.{ModuleValue}
+use Rattle.omf_model.specs.Rules.{end_of}
+use Rattle.omf_model.specs.Place.{Bases}
+use Rattle.omf_model.specs.ImageByte.{ByteChunk, chunk_of, chunk_covers, distance, last_over}
+use Rattle.omf_model.specs.SoundModules.{RulesOf, LiesIn, HasItsFixups, CommonsByName, PartsOfOneStartAtZero}
 use Rattle.rom80_find.specs.Dump.{DumpValue, dump_byte}
 use Rattle.rom80_find.specs.declared.pattern.code_byte.CodeByte.{CodeByte}
 use Rattle.rom80_find.specs.declared.pattern.resolving.Resolved.{Resolved}

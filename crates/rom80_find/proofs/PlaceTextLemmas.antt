@@ -4,7 +4,7 @@ use Rattle.std.specs.List.{AllByRecursion, AllZip, concat}
 use Rattle.std.proofs.Common.{◌∙◌, ap, sym, subst, append_assoc, append-nil, get_or, refl, arith}
 use Rattle.std.proofs.lemmas.Bool.{eq-eqb, or_left, or_right}
 use Rattle.std.proofs.lemmas.List.{take_more}
-use Rattle.omf_parts.specs.Modules.{ModuleValue}
+use Rattle.omf_model.specs.Modules.{ModuleValue}
 use Rattle.rom80_find.specs.Dump.{DumpValue}
 use Rattle.rom80_find.specs.Places.{is_listed}
 use Rattle.rom80_find.specs.Lies.{HasModule, AreModulePlaces}

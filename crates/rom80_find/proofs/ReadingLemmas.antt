@@ -4,11 +4,11 @@ use Rattle.std.specs.List.{cons_option, list_all, range_with_len}
 use Rattle.std.specs.Option.{option_map_or}
 use Rattle.std.proofs.Common.{refl, sym, ◌∙◌, ap, arith, get_or, drop, drop-cons}
 use Rattle.std.proofs.lemmas.Bool.{and_parts}
-use Rattle.omf_parts.specs.declared.fixup.Fixup.{Fixup}
-use Rattle.omf_parts.specs.Contents.{ContentValue}
-use Rattle.omf_parts.specs.Modules.{ModuleValue}
-use Rattle.omf_parts.specs.Patches.{is_inside_bytes}
-use Rattle.omf_parts.specs.SoundModules.{as_patch, HasItsFixups}
+use Rattle.omf_model.specs.declared.fixup.Fixup.{Fixup}
+use Rattle.omf_model.specs.Contents.{ContentValue}
+use Rattle.omf_model.specs.Modules.{ModuleValue}
+use Rattle.omf_model.specs.Patches.{is_inside_bytes}
+use Rattle.omf_model.specs.SoundModules.{as_patch, HasItsFixups}
 use Rattle.rom80_find.specs.declared.pattern.code_byte.CodeByte.{CodeByte}
 use Rattle.rom80_find.specs.Modules.{IsWithin, covers, has_byte, fixup_byte, byte_by_fixups, plain_byte}
 use Rattle.rom80_find.proofs.SolveLemmas.{each_at}

@@ -4,7 +4,7 @@ use Rattle.std.specs.List.{AllByRecursion, list_all}
 use Rattle.std.proofs.Common.{refl, sym, ◌∙◌, arith, get_or, take}
 use Rattle.std.proofs.lemmas.Bool.{and_parts, and_from}
 use Rattle.std.proofs.lemmas.List.Folds.{list_all_more}
-use Rattle.omf_parts.specs.declared.fixup.Target.TheVariants as target
+use Rattle.omf_model.specs.declared.fixup.Target.TheVariants as target
 use Rattle.rom80_find.specs.declared.pattern.code_byte.Half.TheVariants as half
 use Rattle.rom80_find.specs.declared.pattern.code_byte.CodeByte.{CodeByte}
 

@@ -4,10 +4,10 @@
 use Rattle.std.specs.Prelude.{ℕ, ◌%◌, ◌==◌, Bool, List, [], ◌∷◌, map, filter}
 use Rattle.std.specs.List.{list_any}
 use Rattle.omf_core.specs.SegmentId.{code_id}
-use Rattle.omf_parts.specs.Contents.{ContentValue}
-use Rattle.omf_parts.specs.Modules.{ModuleValue}
-use Rattle.omf_parts.specs.Place.{Bases}
-use Rattle.omf_parts.specs.ImageByte.{ByteChunk, chunk_of, chunk_covers, byte_of}
+use Rattle.omf_model.specs.Contents.{ContentValue}
+use Rattle.omf_model.specs.Modules.{ModuleValue}
+use Rattle.omf_model.specs.Place.{Bases}
+use Rattle.omf_model.specs.ImageByte.{ByteChunk, chunk_of, chunk_covers, byte_of}
 
 -- the chunks of the module's contents in CODE alone, as they are if it has these bases
 abbrev pub is_code : ContentValue → Bool

@@ -1,8 +1,8 @@
 -- The bytes of a module's code if each target has a value.
 -- (8080 Object Module Formats: relocation, intersegment and external reference records.)
 use Rattle.std.specs.Prelude.{ℕ, ◌+◌, ◌/◌, ◌%◌, nat_lt, Bool, true, false}
-use Rattle.omf_parts.specs.declared.fixup.Target.{Target}
-use Rattle.omf_parts.specs.declared.fixup.Target.TheVariants as target
+use Rattle.omf_model.specs.declared.fixup.Target.{Target}
+use Rattle.omf_model.specs.declared.fixup.Target.TheVariants as target
 use Rattle.rom80_find.specs.declared.pattern.code_byte.Half.{Half}
 use Rattle.rom80_find.specs.declared.pattern.code_byte.Half.TheVariants.{Low, High}
 use Rattle.rom80_find.specs.declared.pattern.code_byte.CodeByte.{CodeByte}

@@ -1,7 +1,7 @@
 -- What is found of modules in a dump, and the text of it. (The form of the lines is this project's own.)
 use Rattle.std.specs.Prelude.{◌≡◌, ℕ, ◌<◌, nat_lt, Bool, true, false, not, List, [], ◌++◌, length, take, filter}
 use Rattle.std.specs.List.{AllByRecursion, AllZip, concat, flat_map, list_any}
-use Rattle.omf_parts.specs.Modules.{ModuleValue}
+use Rattle.omf_model.specs.Modules.{ModuleValue}
 use Rattle.rom80_find.specs.Dump.{DumpValue}
 use Rattle.rom80_find.specs.Modules.{code_bytes}
 use Rattle.rom80_find.specs.declared.words.Word.{Word}

@@ -1,8 +1,8 @@
 -- The places of a module's pattern are those of the module.
 use Rattle.std.specs.Prelude.{◌↔◌, ℕ, ◌<◌, List, length, IsTrue}
 use Rattle.std.specs.List.{AllByRecursion}
-use Rattle.omf_parts.specs.Modules.{ModuleValue}
-use Rattle.omf_parts.specs.Rules.{is_sound}
+use Rattle.omf_model.specs.Modules.{ModuleValue}
+use Rattle.omf_model.specs.Rules.{is_sound}
 use Rattle.rom80_find.specs.Dump.{DumpValue}
 use Rattle.rom80_find.specs.Modules.{code_bytes, code_length}
 use Rattle.rom80_find.specs.declared.words.Word.{Word}

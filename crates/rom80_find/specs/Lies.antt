@@ -2,12 +2,12 @@
 -- (8080 Object Module Formats: content and fixup records; ISIS-II User's Guide, LOCATE: bases of segments; of two contents
 -- over a byte the later one stands.)
 use Rattle.std.specs.Prelude.{◌≡◌, ℕ, ◌%◌, ◌<◌, ◌≤◌, true, Some, List, [], ◌∷◌, length, take, IsTrue, AllPairs, ⊤}
-use Rattle.omf_parts.specs.declared.fixup.Target.{Target}
-use Rattle.omf_parts.specs.declared.fixup.Target.TheVariants as target
-use Rattle.omf_parts.specs.Modules.{ModuleValue}
-use Rattle.omf_parts.specs.Rules.{has_target}
-use Rattle.omf_parts.specs.Place.{Bases, word_of, place_in}
-use Rattle.omf_parts.specs.ImageByte.{ByteChunk, name_at, last_over}
+use Rattle.omf_model.specs.declared.fixup.Target.{Target}
+use Rattle.omf_model.specs.declared.fixup.Target.TheVariants as target
+use Rattle.omf_model.specs.Modules.{ModuleValue}
+use Rattle.omf_model.specs.Rules.{has_target}
+use Rattle.omf_model.specs.Place.{Bases, word_of, place_in}
+use Rattle.omf_model.specs.ImageByte.{ByteChunk, name_at, last_over}
 use Rattle.rom80_find.specs.Dump.{DumpValue, dump_byte}
 use Rattle.rom80_find.specs.CodeBytes.{number_of}
 use Rattle.rom80_find.specs.Modules.{first_with}

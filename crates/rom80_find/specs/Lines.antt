@@ -6,10 +6,10 @@ use Rattle.std.specs.Option.{option_map_or}
 use Rattle.std.specs.Fmt.{decimal}
 use Rattle.text80.specs.Digits.{word_text}
 use Rattle.omf_core.specs.SegmentId.{stack_id}
-use Rattle.omf_parts.specs.declared.fixup.Target.{Target}
-use Rattle.omf_parts.specs.declared.fixup.Target.TheVariants as target
-use Rattle.omf_parts.specs.declared.symbols.Common.{Common}
-use Rattle.omf_parts.specs.Modules.{ModuleValue}
+use Rattle.omf_model.specs.declared.fixup.Target.{Target}
+use Rattle.omf_model.specs.declared.fixup.Target.TheVariants as target
+use Rattle.omf_model.specs.declared.symbols.Common.{Common}
+use Rattle.omf_model.specs.Modules.{ModuleValue}
 use Rattle.omf_text.specs.Places.{place_words}
 use Rattle.rom80_find.specs.Modules.{code_length}
 use Rattle.rom80_find.specs.declared.words.Word.{Word}

@@ -3,12 +3,12 @@
 -- the later one stands.)
 use Rattle.std.specs.Prelude.{◌≡◌, ℕ, ◌%◌, ◌<◌, true, Some, List, [], ◌∷◌, length, IsTrue}
 use Rattle.std.specs.List.{AllByRecursion, enumerate_from}
-use Rattle.omf_parts.specs.declared.fixup.Target.TheVariants as target
-use Rattle.omf_parts.specs.Segments.{has_segment}
-use Rattle.omf_parts.specs.Modules.{ModuleValue}
-use Rattle.omf_parts.specs.Rules.{is_sound}
-use Rattle.omf_parts.specs.Place.{Bases, place_in}
-use Rattle.omf_parts.specs.ImageByte.{target_word, chunk_of, chunk_covers, chunks_of, image_byte}
+use Rattle.omf_model.specs.declared.fixup.Target.TheVariants as target
+use Rattle.omf_model.specs.Segments.{has_segment}
+use Rattle.omf_model.specs.Modules.{ModuleValue}
+use Rattle.omf_model.specs.Rules.{is_sound}
+use Rattle.omf_model.specs.Place.{Bases, place_in}
+use Rattle.omf_model.specs.ImageByte.{target_word, chunk_of, chunk_covers, chunks_of, image_byte}
 use Rattle.rom80_find.specs.Dump.{DumpValue, dump_byte}
 use Rattle.rom80_find.specs.Chunks.{is_code, is_covered}
 use Rattle.rom80_find.specs.Lies.{LiesByBases}

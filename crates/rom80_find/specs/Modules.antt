@@ -8,14 +8,14 @@ use Rattle.omf_core.specs.Name.{same_name}
 use Rattle.omf_core.specs.SegmentId.{code_id}
 use Rattle.omf_body.specs.declared.field.Field.{Field}
 use Rattle.omf_body.specs.declared.field.Field.TheVariants as field
-use Rattle.omf_parts.specs.declared.fixup.Fixup.{Fixup}
-use Rattle.omf_parts.specs.declared.fixup.Target.{Target}
-use Rattle.omf_parts.specs.declared.fixup.Target.TheVariants as target
-use Rattle.omf_parts.specs.Contents.{ContentValue, offsets_by}
-use Rattle.omf_parts.specs.Segments.{segment_in}
-use Rattle.omf_parts.specs.Modules.{ModuleValue}
-use Rattle.omf_parts.specs.ImageByte.{name_at, patch_with}
-use Rattle.omf_parts.specs.Patches.{word_in_bytes, is_inside_bytes}
+use Rattle.omf_model.specs.declared.fixup.Fixup.{Fixup}
+use Rattle.omf_model.specs.declared.fixup.Target.{Target}
+use Rattle.omf_model.specs.declared.fixup.Target.TheVariants as target
+use Rattle.omf_model.specs.Contents.{ContentValue, offsets_by}
+use Rattle.omf_model.specs.Segments.{segment_in}
+use Rattle.omf_model.specs.Modules.{ModuleValue}
+use Rattle.omf_model.specs.ImageByte.{name_at, patch_with}
+use Rattle.omf_model.specs.Patches.{word_in_bytes, is_inside_bytes}
 use Rattle.rom80_find.specs.declared.pattern.code_byte.Half.TheVariants as half
 use Rattle.rom80_find.specs.declared.pattern.code_byte.CodeByte.{CodeByte}
 use Rattle.rom80_find.specs.declared.pattern.resolving.Resolved.{Resolved}

@@ -1,7 +1,7 @@
 -- The code of a module that is looked for.
 use Rattle.std.specs.Prelude.{◌≡◌, ◌≤◌, List}
-use Rattle.omf_parts.specs.Modules.{ModuleValue}
-use Rattle.omf_parts.specs.Rules.{IsModule}
+use Rattle.omf_model.specs.Modules.{ModuleValue}
+use Rattle.omf_model.specs.Rules.{IsModule}
 use Rattle.rom80_find.specs.declared.pattern.code_byte.CodeByte.{CodeByte}
 use Rattle.rom80_find.specs.Modules.{code_bytes, code_length}
 

@@ -1,7 +1,7 @@
 -- What the private functions append.
 use Rattle.std.specs.Prelude.{◌≡◌, ℕ, Bool, not, if◌then◌else◌, List, [], ◌++◌, length, filter}
 use Rattle.std.specs.List.{AllZip, concat, flat_map}
-use Rattle.omf_parts.specs.Modules.{ModuleValue}
+use Rattle.omf_model.specs.Modules.{ModuleValue}
 use Rattle.rom80_find.specs.Dump.{DumpValue}
 use Rattle.rom80_find.specs.declared.lines.finding.Finding.{Finding}
 use Rattle.rom80_find.specs.Found.{IsPlaceText, IsPlacesText, IsFound, is_missing, has_place}

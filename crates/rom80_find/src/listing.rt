@@ -15,7 +15,7 @@ use crate::lone::lone_values;
 use crate::pattern::CodeByte;
 use crate::search::Search;
 use crate::sieve::{WORDS, sieve};
-use omf_parts::Target;
+use omf_model::Target;
 use std::alloc::{AllocError, Global};
 
 /// The addresses at which the code lies in a dump, in ascending order: those for which there are values of its targets with which

@@ -13,7 +13,7 @@ use crate::dump::Dump;
 use crate::pattern::{CodeByte, target_of};
 use crate::solving::solve;
 use crate::table::table;
-use omf_parts::Target;
+use omf_model::Target;
 use std::alloc::{AllocError, Global};
 
 /// The word of a target: the base of a segment, the top of STACK, or what an external stands for.

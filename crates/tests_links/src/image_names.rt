@@ -3,7 +3,7 @@
 use image80::Range;
 use image80_text::PublicTable;
 use omf_core::Name;
-use omf_parts::Public;
+use omf_model::Public;
 use std::alloc::Global;
 use std::test::Fail;
 

@@ -2,7 +2,7 @@
 -- this project's own.)
 use Rattle.std.specs.Prelude.{◌≡◌, ℕ, List, ◌++◌, codes}
 use Rattle.image80.specs.Image.{Located}
-use Rattle.omf_parts.specs.declared.symbols.Public.{Public}
+use Rattle.omf_model.specs.declared.symbols.Public.{Public}
 use Rattle.verify80_flow.specs.declared.refusal.Refusal.{Refusal}
 use Rattle.verify80.specs.Looking.{code_of}
 use Rattle.verify80_explain.specs.declared.chain.Chain.{Chain}

@@ -13,7 +13,7 @@ use link80::{Chosen, LinkFault, select};
 use link80_select::laws::selections_are_unique;
 use omf_core::Name;
 use omf_library::Library;
-use omf_parts::Module;
+use omf_model::Module;
 use std::alloc::{AllocError, Global};
 
 /// What is linked: modules, each with its file, and libraries, each with its file.

@@ -4,7 +4,7 @@ ghost use Rattle.std.specs.Prelude.{◌≡◌, ◌++◌, map, IfOk, OnOk};
 ghost use Rattle.link80_text.specs.Causes.{declarations_in, declarations, mains};
 
 use omf_core::Name;
-use omf_parts::Module;
+use omf_model::Module;
 use std::alloc::{AllocError, Global};
 
 /// The numbers of the modules that declare the name, each once for each of its publics that has it.

@@ -4,7 +4,7 @@ ghost use Rattle.std.specs.Prelude.{◌≡◌, map};
 ghost use Rattle.link80_text.specs.HighBytes.{first_given, high_of_fixup, high_of_content, high_of_module, first_high};
 
 use crate::causes::starts::{PartEnds, PartStarts};
-use omf_parts::{Content, Field, Fixup, Module, Target};
+use omf_model::{Content, Field, Fixup, Module, Target};
 
 /// A fixup of a high byte: the number of its module, the segment and the offset where it is, the segment that it refers to, and where the
 /// module's part of that starts in the linked segment.

@@ -6,7 +6,7 @@ ghost use Rattle.link80_text.specs.Causes.{module_words, deed_line, line_of, fir
 use crate::causes::high_bytes::HighByte;
 use crate::words::path_of;
 use omf_core::Name;
-use omf_parts::{Common, Module};
+use omf_model::{Common, Module};
 use omf_text::append_place;
 use std::alloc::AllocError;
 

@@ -5,7 +5,7 @@ ghost use Rattle.link80_text.specs.Causes.{used_line, part_line, parts_text};
 
 use crate::causes::lines::append_module;
 use omf_core::Name;
-use omf_parts::{Module, Segment, is_used, segment_in};
+use omf_model::{Module, Segment, is_used, segment_in};
 use omf_text::append_part;
 use std::alloc::AllocError;
 

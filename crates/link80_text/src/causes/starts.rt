@@ -1,13 +1,13 @@
 //! Where the parts of a module start in the linked segments.
 
 ghost use Rattle.std.specs.Prelude.{◌≡◌, ◌<◌, ◌+◌, ◌*◌, ◌≤◌, ◌%◌, ◌++◌, ◌∷◌, [], List, length, map, take, IsTrue};
-ghost use Rattle.omf_parts.specs.Modules.{ModuleValue};
-ghost use Rattle.omf_parts.specs.Place.{part_start, is_laid_out, rounded};
+ghost use Rattle.omf_model.specs.Modules.{ModuleValue};
+ghost use Rattle.omf_model.specs.Place.{part_start, is_laid_out, rounded};
 ghost use Rattle.link80.specs.Linked.{moved, parts_end};
 ghost use Rattle.link80_text.specs.Ends.{AreEnds, AreNear};
 
 use omf_core::segment_id::{CODE, DATA};
-use omf_parts::{Module, Segment, segment_in};
+use omf_model::{Module, Segment, segment_in};
 use std::marker::Model;
 
 /// A module by its number among those that are linked, and where its parts of CODE and DATA start. A contract sees the modules and
@@ -22,7 +22,7 @@ pub(crate) struct PartStarts<'a, 'b> {
 
 impl<'a, 'b> Model for PartStarts<'a, 'b> {
     ghost use Rattle.std.specs.Prelude.{◌≡◌, ◌<◌, ℕ, List, length, map};
-    ghost use Rattle.omf_parts.specs.Modules.{ModuleValue};
+    ghost use Rattle.omf_model.specs.Modules.{ModuleValue};
     ghost use Rattle.link80.specs.Linked.{moved};
 
     ghost Value = { List ModuleValue × ℕ };

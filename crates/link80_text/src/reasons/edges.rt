@@ -4,7 +4,7 @@ ghost use Rattle.std.specs.Prelude.{◌≡◌, ◌++◌, map, IfOk, OnOk};
 ghost use Rattle.link80_text.specs.Edges.{target, edges_of, linked_edges};
 
 use crate::reasons::linked::LinkedModules;
-use omf_parts::Module;
+use omf_model::Module;
 use std::alloc::{AllocError, Global};
 
 /// A linked module, by its number, needs one that was taken, by its number among these: for its external with this index.

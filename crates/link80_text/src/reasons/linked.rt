@@ -4,7 +4,7 @@ ghost use Rattle.std.specs.Prelude.{◌≡◌, map, IfOk};
 ghost use Rattle.link80_text.specs.Edges.{number_of, target};
 
 use omf_library::Providers;
-use omf_parts::Module;
+use omf_model::Module;
 use std::alloc::{AllocError, Global};
 use std::marker::Model;
 

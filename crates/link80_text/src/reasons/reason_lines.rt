@@ -14,7 +14,7 @@ use crate::words::{append_word, path_of};
 use link80::Chosen;
 use omf_core::Name;
 use omf_library::Library;
-use omf_parts::Module;
+use omf_model::Module;
 use std::alloc::{AllocError, Global};
 use std::marker::Model;
 

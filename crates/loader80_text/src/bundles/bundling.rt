@@ -2,7 +2,7 @@
 
 ghost use Rattle.std.specs.Prelude.{◌≡◌, ℕ, ◌+◌, ◌<◌, ◌≤◌, List, Some, None, length, IfSome, IfNone};
 ghost use Rattle.loader80_text.specs.BundleText.{bundle_texts};
-ghost use Rattle.loader80_streams.specs.WholeText.{TakesAtMost};
+ghost use Rattle.stream80.specs.WholeText.{TakesAtMost};
 ghost use Rattle.loader80.specs.Sends.{AreWithin, IsTooLong};
 ghost use Rattle.loader80.specs.Texts.{texts_of};
 ghost use Rattle.loader80_text.specs.Bundle.{bundle_limit, BundleSends, BundleTooLong, bundle_read_failures, bundle_write_failures, of_session};
@@ -11,8 +11,8 @@ use crate::bundles::bundle_text::part_bundle;
 use crate::bundles::fault::BundleFault;
 use loader80::laws::what_is_said_is_sent;
 use loader80::{Outcome, SessionFault, SessionTexts, TEXT_LIMIT, answer_texts};
-use loader80_streams::{Failed, ReadAllFault, Sink, Source, read_all, write_all};
 use std::alloc::Global;
+use stream80::{Failed, ReadAllFault, Sink, Source, read_all, write_all};
 
 /// The greatest number of bytes of a bundle whose three parts can be within their limits.
 pub const BUNDLE_LIMIT: usize = 4_194_312;

@@ -3,15 +3,15 @@
 ghost use Rattle.std.specs.Prelude.{◌≡◌, ◌≢◌, ◌<◌, ◌≤◌, ◌^◌, ◌++◌, [], None, IfOk, IfSome, OnOk, OnErr, length, nat_le, string_bytes};
 ghost use Rattle.loader80_text.specs.Laws.{SpellsInputs};
 ghost use Rattle.loader80_text.specs.Text.{line_of, text_of};
-ghost use Rattle.loader80_streams.specs.WholeText.{text_limit};
+ghost use Rattle.stream80.specs.WholeText.{text_limit};
 ghost use Rattle.loader80_text.specs.Words.{word_of};
 
 use crate::inputs::fault::{LengthFault, WordFault};
 use crate::inputs::repeated::Repeated;
 use crate::inputs::word::read_word;
-use loader80_streams::TEXT_LIMIT;
 use std::alloc::{AllocError, Global};
 use std::marker::Model;
+use stream80::TEXT_LIMIT;
 
 /// The bytes that words name, in the order of the words.
 #[derive(Drop)]

@@ -16,7 +16,7 @@ use crate::place_fault::PlaceFault;
 use crate::placed_segments::Placed;
 use crate::restarting::first_over_restart;
 use omf_core::Name;
-use omf_parts::Module;
+use omf_model::Module;
 use std::alloc::{AllocError, Global};
 
 /// Appends the lines that say where the cause of a fault of `locate` or `locate_with_restart` is, each with two blanks before it:

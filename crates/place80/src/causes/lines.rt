@@ -9,7 +9,7 @@ use crate::causes::uses::Use;
 use crate::overlap::Pair;
 use crate::placed_segments::{Placed, placed_in};
 use omf_core::segment_id::{CODE, word_of};
-use omf_parts::{Common, Module, Public};
+use omf_model::{Common, Module, Public};
 use omf_text::{append_common, append_place};
 use std::alloc::AllocError;
 use text80::word_digits;

@@ -3,12 +3,12 @@
 ghost use Rattle.std.specs.Prelude.{◌≡◌, map, option_copied};
 ghost use Rattle.std.specs.Char.{to_ascii_lowercase};
 ghost use Rattle.omf_core.specs.Name.{same_name};
-ghost use Rattle.omf_parts.specs.ImageByte.{name_at};
+ghost use Rattle.omf_model.specs.ImageByte.{name_at};
 ghost use Rattle.place80.specs.Uses.{refers_to, first_given, use_of, no_word, first_use_in, first_use_of, differs_in_case, alike};
 
 use crate::causes::uses::Use;
 use omf_core::Name;
-use omf_parts::{Content, Module, Public, Target};
+use omf_model::{Content, Module, Public, Target};
 
 /// The first fixup that refers to the name, with no word.
 pub(crate) fn first_use_of(program: &Module, name: &Name) -> Option<Use>

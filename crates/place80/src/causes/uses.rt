@@ -1,12 +1,12 @@
 //! The first fixup of a high byte of an address that isn't a multiple of 256.
 
 ghost use Rattle.std.specs.Prelude.{◌≡◌};
-ghost use Rattle.omf_parts.specs.HighReferences.{loses_with};
+ghost use Rattle.omf_model.specs.HighReferences.{loses_with};
 ghost use Rattle.place80.specs.Locating.{word_among};
 ghost use Rattle.place80.specs.Uses.{use_of, first_use_in, first_high};
 
 use crate::{Placed, place_of};
-use omf_parts::{Content, Field, Fixup, Module, Target};
+use omf_model::{Content, Field, Fixup, Module, Target};
 
 /// A fixup: the segment and the offset where it is, and the word that it adds.
 #[derive(Clone, Copy, PartialEq, Eq, Debug)]

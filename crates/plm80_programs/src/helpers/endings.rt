@@ -7,13 +7,13 @@ ghost use Rattle.plm80_programs.specs.Running.{IsTraceOf, ending, trace_ending, 
 
 use crate::status_of;
 use loader80::{Ended, Vouched, ending_text};
-use loader80_streams::Sink;
 use loader80_trace::{Limits, LineForm, Span, TraceFault, write_lines};
 use machine80::Inputs;
 use plm80_console::{Answer, Console, Reported};
 use plm80_names::Names;
 use std::alloc::{AllocError, Global};
 use std::io::ErrorKind;
+use stream80::Sink;
 
 /// Some instructions of a program's run.
 #[derive(Clone, Copy)]

@@ -6,10 +6,10 @@ ghost use Rattle.plm80_programs.specs.Running.{IsSessionStatus, failure_of_text,
 use crate::helpers::run_arguments::RunFiles;
 use crate::{explain_end, status_of};
 use loader80::{Outcome, SessionFault, session};
-use loader80_streams::{Reading, Writing};
 use loader80_trace::Limits;
 use plm80_console::{Console, LateFile, NotedWriter, Reported, explain_regions};
 use std::io::ErrorKind;
+use stream80::{Reading, Writing};
 
 /// Why reading a session's files or writing its transcript failed, if it did.
 #[derive(Clone, Copy)]

@@ -11,12 +11,12 @@ use crate::explain_end;
 use crate::helpers::endings::{Traced, ending_of, report_lines, write_traced};
 use crate::helpers::run_arguments::RunFiles;
 use loader80::{Ended, Vouched, front_text};
-use loader80_streams::{Sink, Writing, write_all};
 use loader80_trace::{Finished, Limits, Span, TraceFault, finish, memory_bytes};
 use machine80::{Inputs, PagedBus};
 use plm80_console::{Answer, Console, NotedWriter, Reported};
 use plm80_names::{Names, Verdict, judge};
 use std::alloc::{AllocError, Global};
+use stream80::{Sink, Writing, write_all};
 
 /// What is seen of a run beside its transcript.
 #[derive(Clone, Copy)]

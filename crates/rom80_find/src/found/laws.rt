@@ -5,7 +5,7 @@
 ghost use Rattle.rom80_find.specs.Laws.{PatternsLieAsModules, PatternPlacesAreModulePlaces, PatternWordsAreModuleWords, PatternWordsMayBeListed};
 ghost use Rattle.rom80_find.specs.LinkLaws.{LinkHasTheBytes};
 
-use omf_parts::relocation_laws::{
+use omf_model::relocation_laws::{
     commons_are_found_by_name, parts_of_one_start_at_zero, sound_modules_keep_rules,
 };
 

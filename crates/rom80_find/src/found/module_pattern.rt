@@ -2,7 +2,7 @@
 
 ghost use Rattle.std.specs.Prelude.{◌≡◌, ◌≤◌, ◌==◌, length, IfOk, IfSome, IfNone};
 ghost use Rattle.std.specs.List.{AllByRecursion};
-ghost use Rattle.omf_parts.specs.Rules.{IsModule};
+ghost use Rattle.omf_model.specs.Rules.{IsModule};
 ghost use Rattle.rom80_find.specs.Dump.{dump_of};
 ghost use Rattle.rom80_find.specs.Modules.{code_bytes, code_length};
 ghost use Rattle.rom80_find.specs.Words.{AreAscending};
@@ -17,7 +17,7 @@ use crate::indexed_dump::IndexedDump;
 use crate::listing::{count_of, places};
 use crate::pattern::{CodeByte, code_bytes};
 use crate::words::{Word, words_at};
-use omf_parts::Module;
+use omf_model::Module;
 use std::alloc::{AllocError, Global};
 use std::marker::Model;
 
@@ -29,7 +29,7 @@ pub(crate) struct ModulePattern<'a> {
 }
 
 impl<'a> Model for ModulePattern<'a> {
-    ghost use Rattle.omf_parts.specs.Modules.{ModuleValue};
+    ghost use Rattle.omf_model.specs.Modules.{ModuleValue};
     ghost use Rattle.rom80_find.specs.Patterns.{IsCodeOf};
 
     ghost Value = { ModuleValue };

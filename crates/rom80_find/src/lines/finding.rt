@@ -9,7 +9,7 @@ use crate::found::ModulePattern;
 use crate::indexed_dump::IndexedDump;
 use crate::lines::places::append_places;
 use crate::pattern::CodeByte;
-use omf_parts::Module;
+use omf_model::Module;
 use std::alloc::{AllocError, Global};
 
 /// What is found of a module.

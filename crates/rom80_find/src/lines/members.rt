@@ -9,7 +9,7 @@ ghost use Rattle.rom80_find.specs.Prints.{PrintsFound};
 use crate::dump::Dump;
 use crate::indexed_dump::IndexedDump;
 use crate::lines::finding::append_found;
-use omf_parts::Module;
+use omf_model::Module;
 use std::alloc::{AllocError, Global};
 
 /// Appends the lines of those of a library's modules that are found in a dump that stands from the address `first` on, as

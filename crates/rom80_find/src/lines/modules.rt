@@ -10,7 +10,7 @@ use crate::dump::Dump;
 use crate::indexed_dump::IndexedDump;
 use crate::lines::finding::{Finding, append_found};
 use omf_core::Name;
-use omf_parts::Module;
+use omf_model::Module;
 use std::alloc::{AllocError, Global};
 
 /// Appends what is found of each of these modules in a dump that stands from the address `first` on, and says whether none is

@@ -8,7 +8,7 @@ ghost use Rattle.rom80_find.specs.Lines.{extent_words, heading, base_words, base
 use crate::words::Word;
 use omf_core::Name;
 use omf_core::segment_id::{CODE, STACK};
-use omf_parts::{Common, Module, Target};
+use omf_model::{Common, Module, Target};
 use omf_text::append_place;
 use std::alloc::AllocError;
 use text80::word_digits;

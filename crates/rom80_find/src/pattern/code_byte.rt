@@ -3,7 +3,7 @@
 ghost use Rattle.std.specs.Prelude.{◌≡◌};
 ghost use Rattle.rom80_find.specs.Places.{is_plain};
 
-use omf_parts::Target;
+use omf_model::Target;
 
 /// One of the two bytes of a word.
 #[derive(Clone, Copy, PartialEq, Eq)]

@@ -7,7 +7,7 @@ use crate::pattern::resolving::Resolved;
 use indexmap::IndexMap;
 use omf_core::Name;
 use omf_library::NameHashes;
-use omf_parts::{Module, Public, Target};
+use omf_model::{Module, Public, Target};
 use std::alloc::{AllocError, Global};
 use std::marker::Model;
 

@@ -3,7 +3,7 @@
 ghost use Rattle.std.specs.Prelude.{◌≡◌, ◌<◌, true};
 ghost use Rattle.rom80_find.specs.CodeBytes.{number_of, has_small_id};
 
-use omf_parts::Target;
+use omf_model::Target;
 
 /// The number by which a target's value goes: the id of a segment, and 256 plus the index of an external.
 pub(crate) fn number_of(target: Target) -> usize

@@ -1,20 +1,20 @@
 //! The bytes of a module's code.
 
 ghost use Rattle.omf_body.specs.declared.field.Field.TheVariants as field;
-ghost use Rattle.omf_parts.specs.Patches.{word_in_bytes};
+ghost use Rattle.omf_model.specs.Patches.{word_in_bytes};
 ghost use Rattle.std.specs.Prelude.{◌==◌, ◌||◌, ◌≡◌, ℕ, ◌<◌, ◌≤◌, ◌+◌, ◌-◌, ◌&&◌, if◌then◌else◌, Option, Some, None, List, length, slice_index_or, filter_map, IsTrue, IfOk, OnOk};
 ghost use Rattle.std.specs.List.{range_with_len};
 ghost use Rattle.rom80_find.specs.declared.pattern.code_byte.CodeByte.{CodeByte};
-ghost use Rattle.omf_parts.specs.Rules.{IsModule, has_target};
-ghost use Rattle.omf_parts.specs.SoundModules.{HasItsFixups, LiesIn};
+ghost use Rattle.omf_model.specs.Rules.{IsModule, has_target};
+ghost use Rattle.omf_model.specs.SoundModules.{HasItsFixups, LiesIn};
 ghost use Rattle.rom80_find.specs.Modules.{code_bytes, code_length, covers, has_byte, fixup_byte, byte_in, plain_byte, field_byte, IsWithin, IsTable};
 
 use crate::pattern::code_byte::{CodeByte, Half};
 use crate::pattern::resolving::{Resolved, ResolvedModule};
 use crate::table::table;
 use omf_core::segment_id::CODE;
-use omf_parts::relocation_laws::sound_modules_keep_rules;
-use omf_parts::{Content, Field, Fixup, Module, Target};
+use omf_model::relocation_laws::sound_modules_keep_rules;
+use omf_model::{Content, Field, Fixup, Module, Target};
 use std::alloc::{AllocError, Global};
 
 /// The bytes that the module's contents define in CODE, in ascending order of their offsets. If two contents cover an offset

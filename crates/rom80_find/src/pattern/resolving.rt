@@ -1,13 +1,13 @@
 //! What the targets of fixups stand for.
 
 ghost use Rattle.std.specs.Prelude.{◌≡◌, ◌≤◌, length, IsTrue, IfOk};
-ghost use Rattle.omf_parts.specs.Rules.{has_target, IsModule};
+ghost use Rattle.omf_model.specs.Rules.{has_target, IsModule};
 ghost use Rattle.rom80_find.specs.Modules.{code_length, resolved};
 ghost use Rattle.rom80_find.specs.Names.{AreExternals};
 
 use crate::pattern::names::Names;
 use omf_core::segment_id::CODE;
-use omf_parts::{Content, Module, Target};
+use omf_model::{Content, Module, Target};
 use std::alloc::{AllocError, Global};
 use std::marker::Model;
 
@@ -26,7 +26,7 @@ pub(crate) struct ResolvedModule<'a> {
 }
 
 impl<'a> Model for ResolvedModule<'a> {
-    ghost use Rattle.omf_parts.specs.Modules.{ModuleValue};
+    ghost use Rattle.omf_model.specs.Modules.{ModuleValue};
     ghost use Rattle.rom80_find.specs.Names.{AreExternals};
 
     ghost Value = { ModuleValue };

@@ -1,4 +1,4 @@
-use Rattle.omf_parts.specs.Contents.{ContentValue}
+use Rattle.omf_model.specs.Contents.{ContentValue}
 use Rattle.image80.specs.Image.{IsChunk}
 use Rattle.image80_file.specs.ImageFile.{content_chunk}
 use Rattle.image80_file.proofs.ImageFileLemmas.{all_item}

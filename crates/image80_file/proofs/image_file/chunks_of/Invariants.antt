@@ -1,7 +1,7 @@
 -- what is made, and what is left to make, which keeps the rule
 use Rattle.std.proofs.Common.{◌≡◌, ◌++◌, drop, map}
 use Rattle.std.specs.List.{AllByRecursion}
-use Rattle.omf_parts.specs.Contents.{ContentValue}
+use Rattle.omf_model.specs.Contents.{ContentValue}
 use Rattle.image80.specs.Image.{IsChunk}
 use Rattle.image80_file.specs.ImageFile.{content_chunk}
 use Rattle.image80_file.proofs.image_file.chunks_of.Given as goal

@@ -1,7 +1,7 @@
 use Rattle.std.specs.Prelude.{IfOk}
 use Rattle.std.proofs.Common.{◌≡◌, ap, subst, ◌∙◌}
-use Rattle.omf_parts.specs.Modules.{ModuleValue, made_of}
-use Rattle.omf_parts.specs.Rules.{keeps_rules}
+use Rattle.omf_model.specs.Modules.{ModuleValue, made_of}
+use Rattle.omf_model.specs.Rules.{keeps_rules}
 use Rattle.image80_file.proofs.ImageFileLemmas.{made_as_it_is, image_keeps_rules}
 use Rattle.image80_file.proofs.image_file.image_module.Goals as goal
 

@@ -1,6 +1,6 @@
 use Rattle.std.proofs.Common.{◌∙◌, List, subst, sym}
 use Rattle.std.specs.List.{AllByRecursion}
-use Rattle.omf_parts.specs.Contents.{ContentValue}
+use Rattle.omf_model.specs.Contents.{ContentValue}
 use Rattle.image80.specs.Image.{IsChunk}
 use Rattle.image80_file.specs.ImageFile.{content_chunk}
 use Rattle.image80_file.proofs.ImageFileLemmas.{absolute_contents}

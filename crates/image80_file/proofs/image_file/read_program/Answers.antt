@@ -1,7 +1,7 @@
 use Rattle.std.specs.Prelude.{List}
 use Rattle.std.proofs.Common.{rules, ◌≡◌, Err, subst}
 use Rattle.std.proofs.lemmas.Result.{err_from_is_err_and}
-use Rattle.omf_parts.specs.Modules.{ModuleValue}
+use Rattle.omf_model.specs.Modules.{ModuleValue}
 use Rattle.image80_file.specs.declared.image_fault.ImageFault.TheVariants.{NotOneModule}
 use Rattle.image80_file.specs.ImageFile.{program_of, program_of_one, of_modules}
 use Rattle.image80_file.proofs.ImageFileLemmas.{fault_of_file, program_of_first, read_by_module, refused_by_module}

@@ -1,7 +1,7 @@
 use Rattle.std.specs.Prelude.{◌≡◌, ℕ, ◌+◌, ◌∷◌, [], ◌++◌, List, Option, None, length, take}
 use Rattle.std.proofs.Common.{rules, ◌∙◌, ap, subst, sym, arith}
 use Rattle.std.proofs.lemmas.List.{take_more, length-replicate, length-take}
-use Rattle.omf_parts.specs.declared.symbols.Public.{Public}
+use Rattle.omf_model.specs.declared.symbols.Public.{Public}
 use Rattle.image80_text.specs.Tables.{AreFirst}
 use Rattle.image80_text.proofs.TableLemmas.{first_none, first_more, length-noted}
 use Rattle.image80_text.proofs.table.first_numbers.Goals as goal

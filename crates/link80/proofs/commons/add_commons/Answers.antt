@@ -1,6 +1,6 @@
 use Rattle.std.specs.Prelude.{◌+◌, drop, map}
 use Rattle.std.proofs.Common.{◌∙◌, ap}
-use Rattle.omf_parts.specs.declared.symbols.Common.{Common}
+use Rattle.omf_model.specs.declared.symbols.Common.{Common}
 use Rattle.link80.specs.FirstSight.{with_names}
 use Rattle.link80.proofs.LoopLemmas.{one_name_more}
 use Rattle.link80.proofs.commons.add_commons.Goals as goal

@@ -1,11 +1,11 @@
 use Rattle.std.specs.Prelude.{◌≡◌, ◌+◌, ℕ, List, length, map}
 use Rattle.std.proofs.Common.{◌∙◌, ap, sym, subst, arith, IsTrue}
 use Rattle.std.proofs.lemmas.Option.{slice_get_within}
-use Rattle.omf_parts.specs.Contents.{ContentValue}
-use Rattle.omf_parts.specs.Modules.{ModuleValue}
-use Rattle.omf_parts.specs.declared.patching.Patch.{Patch}
-use Rattle.omf_parts.specs.Patches.{are_inside, are_apart, with_patches}
-use Rattle.omf_parts.specs.Place.{part_start}
+use Rattle.omf_model.specs.Contents.{ContentValue}
+use Rattle.omf_model.specs.Modules.{ModuleValue}
+use Rattle.omf_model.specs.declared.patching.Patch.{Patch}
+use Rattle.omf_model.specs.Patches.{are_inside, are_apart, with_patches}
+use Rattle.omf_model.specs.Place.{part_start}
 use Rattle.link80.specs.Linked.{linked_id, linked_reference, link_patch}
 use Rattle.link80.proofs.contents.linked_content.Goals as goal
 

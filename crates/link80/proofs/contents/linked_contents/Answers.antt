@@ -2,8 +2,8 @@ use Rattle.std.specs.Prelude.{◌≤◌, ◌++◌, ◌+◌, List, map, drop, sli
 use Rattle.std.specs.List.{flat_map, enumerate_from}
 use Rattle.std.proofs.lemmas.Option.{slice_get_within}
 use Rattle.std.proofs.Common.{◌∙◌, ap, sym, arith}
-use Rattle.omf_parts.specs.Modules.{ModuleValue}
-use Rattle.omf_parts.specs.Rules.{IsModule}
+use Rattle.omf_model.specs.Modules.{ModuleValue}
+use Rattle.omf_model.specs.Rules.{IsModule}
 use Rattle.link80.specs.Linked.{linked_content, linked_contents}
 use Rattle.link80.specs.LinkFault.{segment_too_long}
 use Rattle.link80.proofs.LoopLemmas.{all_made, more_numbered, one_further, holds_of_all}

@@ -1,6 +1,6 @@
 use Rattle.std.proofs.Common.{◌≡◌, ◌<◌, ◌++◌, ℕ, Some, map, drop, slice_get}
-use Rattle.omf_parts.specs.Modules.{ModuleValue}
-use Rattle.omf_parts.specs.Rules.{IsModule}
+use Rattle.omf_model.specs.Modules.{ModuleValue}
+use Rattle.omf_model.specs.Rules.{IsModule}
 use Rattle.std.specs.List.{flat_map, enumerate_from}
 use Rattle.link80.specs.Linked.{linked_content, linked_contents}
 use Rattle.link80.proofs.contents.linked_contents.Given as goal

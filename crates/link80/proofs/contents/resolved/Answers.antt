@@ -4,13 +4,13 @@ use Rattle.std.specs.List.{AllByRecursion}
 use Rattle.std.proofs.Common.{◌∙◌, ap, sym, subst, arith, get_or}
 use Rattle.std.proofs.lemmas.Option.{slice_get_within}
 use Rattle.omf_body.specs.declared.field.Field.TheVariants.{Low}
-use Rattle.omf_parts.specs.declared.fixup.Fixup.{Fixup}
-use Rattle.omf_parts.specs.declared.fixup.Target.TheVariants.{Segment}
-use Rattle.omf_parts.specs.Contents.{ContentValue}
-use Rattle.omf_parts.specs.Rules.{has_target}
-use Rattle.omf_parts.specs.Modules.{ModuleValue}
-use Rattle.omf_parts.specs.declared.patching.Patch.{Patch}
-use Rattle.omf_parts.specs.Place.{part_start}
+use Rattle.omf_model.specs.declared.fixup.Fixup.{Fixup}
+use Rattle.omf_model.specs.declared.fixup.Target.TheVariants.{Segment}
+use Rattle.omf_model.specs.Contents.{ContentValue}
+use Rattle.omf_model.specs.Rules.{has_target}
+use Rattle.omf_model.specs.Modules.{ModuleValue}
+use Rattle.omf_model.specs.declared.patching.Patch.{Patch}
+use Rattle.omf_model.specs.Place.{part_start}
 use Rattle.link80.specs.declared.reference.Reference.{Reference}
 use Rattle.link80.specs.Linked.{fixup_to, linked_fixup, link_patch}
 use Rattle.link80.proofs.LoopLemmas.{item_has, one_item_more, one_left_more, none_left_more}

@@ -1,8 +1,8 @@
 use Rattle.std.specs.Prelude.{◌≡◌, ◌||◌, ◌+◌, Bool, ℕ, List, Some, true, false, drop, slice_get}
 use Rattle.std.specs.List.{list_any, enumerate_from}
 use Rattle.std.proofs.Common.{◌∙◌, ap, sym}
-use Rattle.omf_parts.specs.Contents.{ContentValue}
-use Rattle.omf_parts.specs.Modules.{ModuleValue}
+use Rattle.omf_model.specs.Contents.{ContentValue}
+use Rattle.omf_model.specs.Modules.{ModuleValue}
 use Rattle.link80.specs.LinkFault.{is_high_off_page}
 use Rattle.link80.proofs.LoopLemmas.{passes_at}
 use Rattle.link80.proofs.high_bytes.any_high_off_page.Goals as goal

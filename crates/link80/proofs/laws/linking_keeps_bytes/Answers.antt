@@ -2,7 +2,7 @@ use Rattle.std.specs.Prelude.{List, None, filter, slice_index}
 use Rattle.std.specs.List.{last_or}
 use Rattle.std.specs.Option.{option_map_or}
 use Rattle.std.proofs.Common.{ap}
-use Rattle.omf_parts.specs.ImageByte.{ByteChunk, distance, chunk_covers}
+use Rattle.omf_model.specs.ImageByte.{ByteChunk, distance, chunk_covers}
 use Rattle.link80.proofs.LinkLemmas.{linked_chunks}
 use Rattle.link80.proofs.StartLemmas.{linked_start}
 use Rattle.link80.proofs.laws.linking_keeps_bytes.Goals as goal

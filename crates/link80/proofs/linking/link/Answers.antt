@@ -1,6 +1,6 @@
 use Rattle.std.specs.List.{AllByRecursion}
 use Rattle.std.proofs.Common.{◌∙◌, ap, sym, subst}
-use Rattle.omf_parts.specs.Rules.{IsModule}
+use Rattle.omf_model.specs.Rules.{IsModule}
 use Rattle.link80.specs.Linked.{linked, unresolved}
 use Rattle.link80.specs.LinkFault.{link_fault}
 use Rattle.link80.specs.Selection.{modules_with}

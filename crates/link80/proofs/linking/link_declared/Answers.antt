@@ -1,7 +1,7 @@
 use Rattle.std.specs.Prelude.{List, map, IfOk, IfErr}
 use Rattle.std.proofs.Common.{◌∙◌, ap, sym, subst}
-use Rattle.omf_parts.specs.declared.symbols.Public.{Public}
-use Rattle.omf_parts.specs.Modules.{ModuleValue}
+use Rattle.omf_model.specs.declared.symbols.Public.{Public}
+use Rattle.omf_model.specs.Modules.{ModuleValue}
 use Rattle.link80.specs.Linked.{linked_publics}
 use Rattle.link80.specs.LinkFault.{duplicate_public, segment_too_long}
 use Rattle.link80.specs.Linking.{IsFirstFault, IsLinkOf}

@@ -2,8 +2,8 @@ use Rattle.std.specs.Prelude.{◌≡◌, None}
 use Rattle.std.specs.List.{AllByRecursion}
 use Rattle.std.proofs.Common.{◌∙◌, ap, subst, IsTrue}
 use Rattle.std.proofs.lemmas.Result.{err_from_is_err_and}
-use Rattle.omf_parts.specs.Modules.{made_of}
-use Rattle.omf_parts.specs.Rules.{IsModule, keeps_rules}
+use Rattle.omf_model.specs.Modules.{made_of}
+use Rattle.omf_model.specs.Rules.{IsModule, keeps_rules}
 use Rattle.link80.specs.Linked.{linked_parts, unresolved}
 use Rattle.link80.specs.LinkFault.{link_fault}
 use Rattle.link80.proofs.linking.link_joined.Goals as goal

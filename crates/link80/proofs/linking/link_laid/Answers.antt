@@ -1,7 +1,7 @@
 use Rattle.std.specs.Prelude.{◌≡◌, List, true, false, Some, IfOk, IfErr}
 use Rattle.std.proofs.Common.{◌∙◌, ap, sym, subst}
 use Rattle.std.proofs.lemmas.Result.{err_from_is_err_and}
-use Rattle.omf_parts.specs.Modules.{ModuleValue}
+use Rattle.omf_model.specs.Modules.{ModuleValue}
 use Rattle.link80.specs.LinkFault.{two_mains, too_many_externals, link_fault}
 use Rattle.link80.specs.Linking.{IsFirstFault, IsLinkOf}
 use Rattle.link80.proofs.MainLemmas.{two_mains_are, one_main_is}

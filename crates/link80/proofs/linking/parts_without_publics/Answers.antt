@@ -1,6 +1,6 @@
 use Rattle.std.specs.Prelude.{ℕ, List, map}
 use Rattle.std.proofs.Common.{◌∙◌, ap}
-use Rattle.omf_parts.specs.Modules.{ModuleValue}
+use Rattle.omf_model.specs.Modules.{ModuleValue}
 use Rattle.link80.specs.Linked.{linked_commons, linked_ids, linked_segment}
 use Rattle.link80.proofs.linking.parts_without_publics.Goals as goal
 

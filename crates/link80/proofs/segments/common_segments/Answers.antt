@@ -3,8 +3,8 @@ use Rattle.std.specs.List.{flat_map, AllByRecursion}
 use Rattle.std.proofs.Common.{◌∙◌, ap, sym, subst, arith}
 use Rattle.std.proofs.lemmas.List.{at_drop_all, drop_all, length-map}
 use Rattle.std.proofs.lemmas.Simd.{splat_is_map}
-use Rattle.omf_parts.specs.Modules.{ModuleValue}
-use Rattle.omf_parts.specs.Segments.{empty_segment}
+use Rattle.omf_model.specs.Modules.{ModuleValue}
+use Rattle.omf_model.specs.Segments.{empty_segment}
 use Rattle.link80.specs.Joined.{parts_of_commons, with_named_parts}
 use Rattle.link80.specs.Linked.{common_names}
 use Rattle.link80.proofs.JoinedLemmas.{OncePart, once_part, common_entries, with_both_parts}

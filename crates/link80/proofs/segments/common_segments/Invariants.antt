@@ -1,6 +1,6 @@
 use Rattle.std.proofs.Common.{◌≡◌, drop, map, length}
 use Rattle.std.specs.List.{flat_map, AllByRecursion}
-use Rattle.omf_parts.specs.Segments.{empty_segment}
+use Rattle.omf_model.specs.Segments.{empty_segment}
 use Rattle.link80.specs.Joined.{parts_of_commons, with_named_parts}
 use Rattle.link80.specs.Linked.{common_names}
 use Rattle.link80.proofs.JoinedLemmas.{OncePart}

@@ -1,9 +1,9 @@
 use Rattle.std.specs.Prelude.{◌≡◌, ◌≤◌, ◌+◌, drop, length}
 use Rattle.std.proofs.Common.{◌∙◌, ap, sym, arith}
 use Rattle.std.proofs.lemmas.List.{at_drop_all}
-use Rattle.omf_parts.specs.declared.segment.Segment.{Segment}
-use Rattle.omf_parts.specs.Modules.{ModuleValue}
-use Rattle.omf_parts.specs.Segments.{empty_segment, segment_in}
+use Rattle.omf_model.specs.declared.segment.Segment.{Segment}
+use Rattle.omf_model.specs.Modules.{ModuleValue}
+use Rattle.omf_model.specs.Segments.{empty_segment, segment_in}
 use Rattle.link80.specs.Joined.{joined_parts, with_parts}
 use Rattle.link80.proofs.JoinedLemmas.{over_one_another, one_after_another}
 use Rattle.link80.proofs.LoopLemmas.{left_at}

@@ -1,5 +1,5 @@
 use Rattle.std.proofs.Common.{◌≡◌, drop}
-use Rattle.omf_parts.specs.Segments.{empty_segment, segment_in}
+use Rattle.omf_model.specs.Segments.{empty_segment, segment_in}
 use Rattle.link80.specs.Joined.{with_parts}
 use Rattle.link80.proofs.segments.fixed_segment.Given as goal
 

@@ -1,5 +1,5 @@
 use Rattle.std.proofs.Common.{◌≡◌, drop, map, length}
-use Rattle.omf_parts.specs.Segments.{segment_in}
+use Rattle.omf_model.specs.Segments.{segment_in}
 use Rattle.link80.specs.Joined.{parts_of_commons, with_named_parts}
 use Rattle.link80.specs.Linked.{common_names}
 use Rattle.link80.proofs.segments.join_commons.Given as goal

@@ -1,7 +1,7 @@
 use Rattle.std.specs.Prelude.{◌++◌, ◌+◌, drop, length}
 use Rattle.std.specs.List.{enumerate_from}
 use Rattle.std.proofs.Common.{◌∙◌, ap, arith}
-use Rattle.omf_parts.specs.Segments.{empty_segment}
+use Rattle.omf_model.specs.Segments.{empty_segment}
 use Rattle.link80.proofs.LoopLemmas.{one_numbered_more}
 use Rattle.link80.proofs.segments.linked_segments.Goals as goal
 

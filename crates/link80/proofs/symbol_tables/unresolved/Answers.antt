@@ -2,7 +2,7 @@ use Rattle.std.specs.Prelude.{◌≤◌, ◌+◌, ℕ, List, drop, filter, is_no
 use Rattle.std.specs.List.{flat_map}
 use Rattle.std.proofs.Common.{◌∙◌, ap, sym, arith}
 use Rattle.std.proofs.lemmas.List.{at_drop_all}
-use Rattle.omf_parts.specs.Modules.{ModuleValue}
+use Rattle.omf_model.specs.Modules.{ModuleValue}
 use Rattle.link80.specs.FirstSight.{number_in, with_names}
 use Rattle.link80.proofs.FirstSightLemmas.{with_both}
 use Rattle.link80.proofs.LoopLemmas.{left_at}

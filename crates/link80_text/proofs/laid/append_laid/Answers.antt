@@ -1,8 +1,8 @@
 use Rattle.std.specs.Prelude.{◌≡◌, ◌++◌, ◌+◌, ℕ, List, drop, map}
 use Rattle.std.proofs.Common.{rules, ◌∙◌, ap}
-use Rattle.omf_parts.specs.declared.segment.Segment.{Segment}
-use Rattle.omf_parts.specs.Segments.{segment_in}
-use Rattle.omf_parts.specs.Place.{rounded}
+use Rattle.omf_model.specs.declared.segment.Segment.{Segment}
+use Rattle.omf_model.specs.Segments.{segment_in}
+use Rattle.omf_model.specs.Place.{rounded}
 use Rattle.link80.specs.Linked.{parts_end}
 use Rattle.link80_text.specs.Parts.{part_line}
 use Rattle.link80_text.proofs.LaidLemmas.{left_of, Fit, part_fits, one_more}

@@ -1,6 +1,6 @@
 use Rattle.std.proofs.Common.{◌≤◌, arith, map, length, drop, Bor}
 use Rattle.std.proofs.lemmas.List.{length-map}
-use Rattle.omf_parts.specs.declared.modules.Module.{Module}
+use Rattle.omf_model.specs.declared.modules.Module.{Module}
 use Rattle.link80_text.specs.Needs.{needers}
 use Rattle.link80_text.proofs.NeedLemmas.{all_done, dropped_next, ended_by, none_left, text_next}
 use Rattle.link80_text.proofs.unresolved.append_needing.Goals as goal

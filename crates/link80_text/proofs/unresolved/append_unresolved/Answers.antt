@@ -1,8 +1,8 @@
 use Rattle.std.specs.Prelude.{OnOk}
 use Rattle.std.specs.List.{flat_map}
 use Rattle.std.proofs.Common.{◌≡◌, ◌++◌, ◌∙◌, ap, subst, ℕ, List, map, Bor}
-use Rattle.omf_parts.specs.declared.modules.Module.{Module}
-use Rattle.omf_parts.specs.Modules.{ModuleValue}
+use Rattle.omf_model.specs.declared.modules.Module.{Module}
+use Rattle.omf_model.specs.Modules.{ModuleValue}
 use Rattle.link80_select.specs.declared.chosen.Chosen.{Chosen}
 use Rattle.link80.specs.Selection.{modules_with}
 use Rattle.link80_text.specs.Parts.{modules_of, needing_text, unresolved_text}

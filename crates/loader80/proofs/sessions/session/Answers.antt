@@ -2,7 +2,7 @@ use Rattle.std.proofs.Common.{◌<◌, ◌+◌, ◌∙◌, ℕ, List, ◌≤◌,
 use Rattle.std.specs.Prelude.{string_bytes}
 use Rattle.std.specs.Io.KnownBytes.{Appends}
 use Rattle.loader80.specs.Sends.{AreWithin}
-use Rattle.loader80_streams.specs.WholeText.{text_limit}
+use Rattle.stream80.specs.WholeText.{text_limit}
 use Rattle.loader80.proofs.SendsLemmas.{Read3, told_text, sends_all, sends_prefix, no_read_failed, no_write_failed}
 use Rattle.loader80.proofs.sessions.session.Goals as goal
 

@@ -1,6 +1,6 @@
 use Rattle.std.proofs.Common.{◌≡◌, ℕ, List, [], Ok, None, sym, subst}
 use Rattle.std.proofs.lemmas.Result.{err_from_is_err_and}
-use Rattle.omf_parts.specs.Modules.{ModuleValue}
+use Rattle.omf_model.specs.Modules.{ModuleValue}
 use Rattle.omf_library.specs.declared.unfinished.Progress.TheVariants.{Modules}
 use Rattle.omf_module.specs.declared.pieces.UnfinishedModule.{UnfinishedModule}
 use Rattle.omf_module.specs.Pieces.{IsCutOff, ReadsModule}

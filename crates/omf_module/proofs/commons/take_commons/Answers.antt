@@ -1,5 +1,5 @@
 use Rattle.std.proofs.Common.{rules, ◌≡◌, List, [], sym, subst, ◌++◌, ◌∷◌}
-use Rattle.omf_parts.specs.declared.symbols.Common.{Common}
+use Rattle.omf_model.specs.declared.symbols.Common.{Common}
 use Rattle.omf_module.specs.Reading.{common_of}
 use Rattle.omf_module.proofs.CommonLemmas.{CommonsSoFar, one_taken, refused, not_empty}
 use Rattle.omf_module.proofs.commons.take_commons.Goals as goal

@@ -1,6 +1,6 @@
 -- what was taken, and what is left
 use Rattle.std.proofs.Common.{◌≡◌, ◌++◌, length, map}
-use Rattle.omf_parts.specs.declared.fixup.Target.TheVariants as target
+use Rattle.omf_model.specs.declared.fixup.Target.TheVariants as target
 use Rattle.omf_module.proofs.gathering.by_index.Given as goal
 
 abbrev pub invariant-loop-entry : goal.invariant-loop-entry

@@ -1,6 +1,6 @@
 use Rattle.std.proofs.Common.{List, sym, subst}
 use Rattle.std.specs.Prelude.{IfOk, IfSome}
-use Rattle.omf_parts.specs.declared.symbols.Common.{Common}
+use Rattle.omf_model.specs.declared.symbols.Common.{Common}
 use Rattle.omf_module.specs.Pieces.{BegunModule}
 use Rattle.omf_module.proofs.StayLemmas.{none_declared}
 use Rattle.omf_module.proofs.pieces.unchecked_from.Goals as goal

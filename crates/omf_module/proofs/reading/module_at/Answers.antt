@@ -1,7 +1,7 @@
 use Rattle.std.proofs.Common.{sym, subst, IsTrue}
 use Rattle.std.proofs.lemmas.Result.{err_from_is_err_and}
-use Rattle.omf_parts.specs.Modules.{ModuleValue}
-use Rattle.omf_parts.specs.Rules.{keeps_rules}
+use Rattle.omf_model.specs.Modules.{ModuleValue}
+use Rattle.omf_model.specs.Rules.{keeps_rules}
 use Rattle.omf_module.specs.Reading.{records_of}
 use Rattle.omf_module.proofs.KeepsLemmas.{keeps}
 use Rattle.omf_module.proofs.UsedLemmas.{uses_then}

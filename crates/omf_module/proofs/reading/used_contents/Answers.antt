@@ -1,6 +1,6 @@
 use Rattle.std.proofs.Common.{◌≡◌, subst, List, None, Some}
 use Rattle.std.proofs.lemmas.Result.{err_from_is_err_and}
-use Rattle.omf_parts.specs.Contents.{ContentValue}
+use Rattle.omf_model.specs.Contents.{ContentValue}
 use Rattle.omf_module.specs.declared.module_file.PlacedBody.{PlacedBody}
 use Rattle.omf_module.specs.Uses.{bodies_fault}
 use Rattle.omf_module.specs.Reading.{records_of, with_contents, OrNoMemory}

@@ -1,6 +1,6 @@
 -- what is left has the first fault of all
 use Rattle.std.proofs.Common.{◌≡◌, length, map, List}
-use Rattle.omf_parts.specs.Contents.{ContentValue}
+use Rattle.omf_model.specs.Contents.{ContentValue}
 use Rattle.omf_module.specs.Uses.{unknown_id}
 use Rattle.omf_module.specs.Reading.{with_contents}
 use Rattle.omf_module.proofs.uses.look_at_header.Given as goal

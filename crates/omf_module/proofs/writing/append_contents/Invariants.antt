@@ -2,7 +2,7 @@
 use Rattle.std.proofs.Common.{◌≡◌, ◌≤◌, ◌++◌, drop, take, length}
 use Rattle.std.specs.List.{flat_map, AllByRecursion}
 use Rattle.omf_body.specs.Bodies.{record_bytes}
-use Rattle.omf_parts.specs.Contents.{ContentValue}
+use Rattle.omf_model.specs.Contents.{ContentValue}
 use Rattle.omf_module.specs.Writing.{content_bodies}
 use Rattle.omf_module.proofs.writing.append_contents.Given as goal
 

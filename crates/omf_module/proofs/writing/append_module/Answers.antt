@@ -2,9 +2,9 @@ use Rattle.std.proofs.Common.{◌≤◌, ℕ, Option, List, ◌++◌, map, lengt
 use Rattle.std.specs.List.{AllByRecursion, flat_map}
 use Rattle.omf_body.specs.declared.body.Body.TheVariants.{ModuleEnd}
 use Rattle.omf_body.specs.Bodies.{record_bytes}
-use Rattle.omf_parts.specs.declared.symbols.Common.{Common}
-use Rattle.omf_parts.specs.declared.symbols.Public.{Public}
-use Rattle.omf_parts.specs.Contents.{ContentValue}
+use Rattle.omf_model.specs.declared.symbols.Common.{Common}
+use Rattle.omf_model.specs.declared.symbols.Public.{Public}
+use Rattle.omf_model.specs.Contents.{ContentValue}
 use Rattle.omf_module.specs.Writing.{common_body, public_body, external_body, content_bodies, end_body}
 use Rattle.omf_module.proofs.ShortLemmas.{module_contents_short}
 use Rattle.omf_module.proofs.WritingLemmas.{module_written}

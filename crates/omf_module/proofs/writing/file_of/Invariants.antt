@@ -1,7 +1,7 @@
 -- what is written, and that those written are modules
 use Rattle.std.proofs.Common.{◌≡◌, drop, take}
 use Rattle.std.specs.List.{flat_map, AllByRecursion}
-use Rattle.omf_parts.specs.Rules.{IsModule}
+use Rattle.omf_model.specs.Rules.{IsModule}
 use Rattle.omf_module.specs.Writing.{module_bytes}
 use Rattle.omf_module.proofs.writing.file_of.Given as goal
 

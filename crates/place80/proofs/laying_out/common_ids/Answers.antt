@@ -3,7 +3,7 @@ use Rattle.std.specs.Prelude.{filter}
 use Rattle.std.specs.List.{range_with_len}
 use Rattle.std.proofs.lemmas.List.{append-nil}
 use Rattle.std.specs.Global.{Vec}
-use Rattle.omf_parts.specs.Segments.{has_common_id}
+use Rattle.omf_model.specs.Segments.{has_common_id}
 use Rattle.place80.proofs.PlacingLemmas.{from_first_id, ids_step, ids_end, with_id, without_id}
 use Rattle.place80.proofs.laying_out.common_ids.Goals as goal
 use Rattle.place80.proofs.laying_out.common_ids.Goals.{then-has_common_id+in_ok-push, else-has_common_id}

@@ -1,7 +1,7 @@
 use Rattle.std.proofs.Common.{◌≡◌, ◌≤◌, ◌+◌, ◌++◌, ◌-◌, length}
 use Rattle.std.specs.Prelude.{filter}
 use Rattle.std.specs.List.{range_with_len}
-use Rattle.omf_parts.specs.Segments.{has_common_id}
+use Rattle.omf_model.specs.Segments.{has_common_id}
 use Rattle.place80.specs.Layout.{common_ids}
 use Rattle.place80.proofs.laying_out.common_ids.Given as goal
 

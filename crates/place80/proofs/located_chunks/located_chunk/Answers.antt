@@ -1,11 +1,11 @@
 use Rattle.std.specs.Prelude.{◌≤◌, ℕ, List, length, map, IsTrue}
 use Rattle.std.specs.List.{AllByRecursion}
 use Rattle.std.proofs.Common.{◌∙◌, ap, sym, subst}
-use Rattle.omf_parts.specs.Contents.{ContentValue}
-use Rattle.omf_parts.specs.declared.fixup.Fixup.{Fixup}
-use Rattle.omf_parts.specs.declared.patching.Patch.{Patch}
-use Rattle.omf_parts.specs.Patches.{are_inside, are_apart}
-use Rattle.omf_parts.specs.ImageByte.{patch_with}
+use Rattle.omf_model.specs.Contents.{ContentValue}
+use Rattle.omf_model.specs.declared.fixup.Fixup.{Fixup}
+use Rattle.omf_model.specs.declared.patching.Patch.{Patch}
+use Rattle.omf_model.specs.Patches.{are_inside, are_apart}
+use Rattle.omf_model.specs.ImageByte.{patch_with}
 use Rattle.place80.specs.Locating.{word_among}
 use Rattle.place80.proofs.located_chunks.located_chunk.Goals as goal
 

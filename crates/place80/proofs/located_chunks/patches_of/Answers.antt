@@ -1,5 +1,5 @@
 use Rattle.std.specs.Prelude.{◌≤◌}
-use Rattle.omf_parts.specs.declared.fixup.Fixup.{Fixup}
+use Rattle.omf_model.specs.declared.fixup.Fixup.{Fixup}
 use Rattle.place80.proofs.LocatedLemmas.{item_has}
 use Rattle.place80.proofs.located_chunks.patches_of.Goals as goal
 

@@ -1,5 +1,5 @@
 use Rattle.std.proofs.Common.{◌≡◌, ◌++◌, map, drop}
-use Rattle.omf_parts.specs.ImageByte.{patch_with}
+use Rattle.omf_model.specs.ImageByte.{patch_with}
 use Rattle.place80.specs.Locating.{word_among}
 use Rattle.place80.proofs.located_chunks.patches_of.Given as goal
 

@@ -1,6 +1,6 @@
 use Rattle.std.proofs.Common.{◌≡◌, ◌≤◌, drop, length}
 use Rattle.std.specs.List.{AllByRecursion}
-use Rattle.omf_parts.specs.Contents.{ContentValue}
+use Rattle.omf_model.specs.Contents.{ContentValue}
 use Rattle.place80.specs.PlaceFault.{absolute_places, with_each}
 use Rattle.place80.specs.PlaceFault.{first_sharing}
 use Rattle.place80.proofs.overlap.first_of_contents.Given as goal

@@ -2,7 +2,7 @@ use Rattle.std.specs.Prelude.{◌≡◌, ◌≤◌, ◌++◌, ℕ, List, length}
 use Rattle.std.proofs.Common.{◌∙◌, ap, arith, subst}
 use Rattle.image80.specs.Image.{Located}
 use Rattle.image80.specs.RegionsText.{regions_text}
-use Rattle.loader80_streams.specs.WholeText.{text_limit}
+use Rattle.stream80.specs.WholeText.{text_limit}
 use Rattle.verify80_suggest.specs.Suggestion.{IsSuggestion, with_regions}
 use Rattle.plm80_console.specs.Answer.{prints}
 use Rattle.plm80_programs.specs.Status.{notes_status}

@@ -1,6 +1,6 @@
 use Rattle.std.proofs.Common.{◌∙◌, ℕ, List, ap}
 use Rattle.std.specs.Prelude.{Option}
-use Rattle.omf_parts.specs.declared.symbols.Public.{Public}
+use Rattle.omf_model.specs.declared.symbols.Public.{Public}
 use Rattle.image80_text.specs.Names.{is_at, public_at}
 use Rattle.image80_text.specs.Tables.{entry_at, public_with}
 use Rattle.image80_text.proofs.TableLemmas.{found_by_position}

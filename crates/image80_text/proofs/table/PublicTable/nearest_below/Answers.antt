@@ -1,7 +1,7 @@
 use Rattle.std.proofs.Common.{◌≡◌, ◌∙◌, ℕ, List, ap, sym}
 use Rattle.std.specs.Prelude.{Option, Some, None, IfSome, option_copied, ◌≤◌}
 use Rattle.std.proofs.Common.{Bor}
-use Rattle.omf_parts.specs.declared.symbols.Public.{Public}
+use Rattle.omf_model.specs.declared.symbols.Public.{Public}
 use Rattle.image80_text.specs.NameText.{nearest_from}
 use Rattle.image80_text.specs.Tables.{entry_at, public_with}
 use Rattle.image80_text.proofs.TableLemmas.{nearest_at_most}

@@ -1,6 +1,6 @@
 use Rattle.std.specs.Prelude.{ℕ, List, Option, None}
 use Rattle.std.proofs.Common.{◌≡◌, ◌∙◌, ap, subst, sym}
-use Rattle.omf_parts.specs.declared.symbols.Public.{Public}
+use Rattle.omf_model.specs.declared.symbols.Public.{Public}
 use Rattle.image80_text.specs.Tables.{AreFirst, AreNearest, filled_from}
 use Rattle.image80_text.proofs.TableLemmas.{nearest_filled}
 use Rattle.image80_text.proofs.table.PublicTable.new.Goals as goal

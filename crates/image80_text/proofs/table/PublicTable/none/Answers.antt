@@ -1,6 +1,6 @@
 use Rattle.std.specs.Prelude.{◌≡◌, ℕ, List, Option, []}
 use Rattle.std.proofs.Common.{subst, sym}
-use Rattle.omf_parts.specs.declared.symbols.Public.{Public}
+use Rattle.omf_model.specs.declared.symbols.Public.{Public}
 use Rattle.image80_text.specs.Tables.{AreFirst, AreNearest}
 use Rattle.image80_text.proofs.TableLemmas.{first_of_none, nearest_of_none}
 use Rattle.image80_text.proofs.table.PublicTable.none.Goals as goal

@@ -1,7 +1,7 @@
 use Rattle.std.specs.Prelude.{◌≡◌, ◌+◌, ◌≤◌, ◌<◌, Option, ℕ, length}
 use Rattle.std.specs.Option.{option_map_or}
 use Rattle.std.proofs.Common.{◌∙◌, ap, sym, arith, rules}
-use Rattle.omf_parts.specs.Place.{common_name}
+use Rattle.omf_model.specs.Place.{common_name}
 use Rattle.link80.specs.FirstSight.{number_in}
 use Rattle.link80.specs.Linked.{common_names}
 use Rattle.link80.proofs.NumberLemmas.{linked_id_is, few_commons}

@@ -1,8 +1,8 @@
 use Rattle.std.specs.Prelude.{◌≡◌, ◌≤◌, ◌++◌, ◌+◌, Some, None, drop, length, refl}
 use Rattle.std.proofs.Common.{◌∙◌, ap, sym, arith}
 use Rattle.std.proofs.lemmas.List.{at_drop_all}
-use Rattle.omf_parts.specs.Segments.{segment_in}
-use Rattle.omf_parts.specs.Place.{starts_from}
+use Rattle.omf_model.specs.Segments.{segment_in}
+use Rattle.omf_model.specs.Place.{starts_from}
 use Rattle.link80.specs.Linked.{parts_end}
 use Rattle.link80.specs.Starts.{next_part}
 use Rattle.link80.proofs.StartsLemmas.{part_is_laid, too_long_at}

@@ -1,5 +1,5 @@
 use Rattle.std.proofs.Common.{◌≡◌, ◌≤◌, ◌++◌, drop}
-use Rattle.omf_parts.specs.Place.{starts_from}
+use Rattle.omf_model.specs.Place.{starts_from}
 use Rattle.link80.specs.Linked.{parts_end}
 use Rattle.link80.proofs.starts.LaidOut.new.Given as goal
 

@@ -1,8 +1,8 @@
 use Rattle.std.specs.Prelude.{◌≡◌, ◌<◌, ℕ, List, Option, map, is_some, is_none, length, slice_get, refl}
 use Rattle.std.proofs.Common.{◌∙◌, ap, sym, arith, true≢false}
 use Rattle.std.proofs.lemmas.Option.{slice_get_read}
-use Rattle.omf_parts.specs.declared.symbols.Public.{Public}
-use Rattle.omf_parts.specs.Modules.{ModuleValue}
+use Rattle.omf_model.specs.declared.symbols.Public.{Public}
+use Rattle.omf_model.specs.Modules.{ModuleValue}
 use Rattle.link80.specs.FirstSight.{number_in}
 use Rattle.link80.specs.Linked.{linked_publics, unresolved}
 use Rattle.link80.specs.SymbolTables.{AreSymbolTables}

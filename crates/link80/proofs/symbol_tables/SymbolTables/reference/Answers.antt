@@ -2,7 +2,7 @@ use Rattle.std.specs.Prelude.{◌≡◌, ◌<◌, ℕ, List, [], Option, Some, r
 use Rattle.std.proofs.Common.{◌∙◌, ap, sym, arith, get_or}
 use Rattle.std.proofs.lemmas.Bool.Decides.{nat_tests}
 use Rattle.std.proofs.lemmas.Option.{slice_get_read}
-use Rattle.omf_parts.specs.Rules.{has_target}
+use Rattle.omf_model.specs.Rules.{has_target}
 use Rattle.link80.specs.Linked.{linked_reference, public_of, to_public}
 use Rattle.link80.proofs.UnresolvedLemmas.{among_here, among_all}
 use Rattle.link80.proofs.symbol_tables.SymbolTables.reference.Goals as goal

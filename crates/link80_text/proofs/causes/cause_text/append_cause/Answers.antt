@@ -1,7 +1,7 @@
 use Rattle.std.specs.Prelude.{◌≡◌, ◌++◌, ℕ, Some, List, map}
 use Rattle.std.proofs.Common.{◌∙◌, ap, subst, Bor}
-use Rattle.omf_parts.specs.Modules.{ModuleValue}
-use Rattle.omf_parts.specs.declared.modules.Module.{Module}
+use Rattle.omf_model.specs.Modules.{ModuleValue}
+use Rattle.omf_model.specs.declared.modules.Module.{Module}
 use Rattle.link80_select.specs.declared.chosen.Chosen.{Chosen}
 use Rattle.link80.specs.LinkFault.{link_fault}
 use Rattle.link80.specs.Selection.{modules_with}

@@ -1,9 +1,9 @@
 use Rattle.std.specs.Prelude.{◌%◌, ℕ}
 use Rattle.std.proofs.Common.{◌∙◌, ap, sym, get_or, Bor}
-use Rattle.omf_parts.specs.declared.segment.Segment.{Segment}
-use Rattle.omf_parts.specs.declared.modules.Module.{Module}
-use Rattle.omf_parts.specs.Segments.{segment_in}
-use Rattle.omf_parts.specs.Place.{rounded}
+use Rattle.omf_model.specs.declared.segment.Segment.{Segment}
+use Rattle.omf_model.specs.declared.modules.Module.{Module}
+use Rattle.omf_model.specs.Segments.{segment_in}
+use Rattle.omf_model.specs.Place.{rounded}
 use Rattle.link80_text.proofs.StartLemmas.{part_start_after}
 use Rattle.link80_text.proofs.causes.starts.moved_start.Goals as goal
 

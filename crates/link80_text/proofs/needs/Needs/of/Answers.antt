@@ -1,6 +1,6 @@
 use Rattle.std.proofs.Common.{◌≡◌, ◌+◌, ◌-◌, ◌<◌, ◌∙◌, ap, subst, arith, ℕ, List, map, length, drop, get_or, Bor}
 use Rattle.std.proofs.lemmas.List.{length-map}
-use Rattle.omf_parts.specs.declared.modules.Module.{Module}
+use Rattle.omf_model.specs.declared.modules.Module.{Module}
 use Rattle.link80_text.specs.Needs.{AreNeeds, AreWith, needers}
 use Rattle.link80_text.proofs.NeedLemmas.{at_mapped, begin_module, end_module}
 use Rattle.link80_text.proofs.needs.Needs.of.Goals as goal

@@ -1,6 +1,6 @@
 use Rattle.std.proofs.Common.{◌≡◌, ◌+◌, length, take}
 use Rattle.loader80_text.specs.Text.{text_of}
-use Rattle.loader80_streams.specs.WholeText.{text_limit}
+use Rattle.stream80.specs.WholeText.{text_limit}
 use Rattle.loader80_text.proofs.inputs.word_inputs.fits.Given as goal
 
 abbrev pub invariant-loop-input : goal.invariant-loop-input

@@ -1,6 +1,6 @@
 -- what was taken, and what is left has the first fault of all
 use Rattle.std.proofs.Common.{◌≡◌, drop, List}
-use Rattle.omf_parts.specs.Contents.{ContentValue}
+use Rattle.omf_model.specs.Contents.{ContentValue}
 use Rattle.omf_module.specs.Gathered.{with_fixups}
 use Rattle.omf_module.specs.Uses.{fixups_fault}
 use Rattle.omf_module.specs.Reading.{with_contents}

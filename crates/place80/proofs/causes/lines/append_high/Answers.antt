@@ -1,7 +1,7 @@
 use Rattle.std.specs.Prelude.{◌≡◌, ◌++◌, ◌∷◌, [], codes, List}
 use Rattle.std.proofs.Common.{rules, ◌∙◌, ap}
 use Rattle.text80.specs.Digits.{word_text}
-use Rattle.omf_parts.specs.declared.symbols.Common.{Common}
+use Rattle.omf_model.specs.declared.symbols.Common.{Common}
 use Rattle.place80.specs.Causes.{high_line}
 use Rattle.omf_text.specs.Places.{place_words}
 use Rattle.place80.proofs.TextLemmas.{joined, some_piece}

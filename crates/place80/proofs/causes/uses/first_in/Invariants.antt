@@ -1,5 +1,5 @@
 use Rattle.std.proofs.Common.{◌≡◌, drop}
-use Rattle.omf_parts.specs.HighReferences.{loses_with}
+use Rattle.omf_model.specs.HighReferences.{loses_with}
 use Rattle.place80.specs.Locating.{word_among}
 use Rattle.place80.specs.Uses.{first_given, use_of, first_use_in}
 use Rattle.place80.proofs.causes.uses.first_in.Given as goal

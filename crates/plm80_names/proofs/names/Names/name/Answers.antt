@@ -1,6 +1,6 @@
 use Rattle.std.specs.Prelude.{List, length, refl}
 use Rattle.std.proofs.Common.{ap, sym, ◌∙◌}
-use Rattle.omf_parts.specs.declared.symbols.Public.{Public}
+use Rattle.omf_model.specs.declared.symbols.Public.{Public}
 use Rattle.image80_text.specs.NameText.{named_text}
 use Rattle.plm80_names.proofs.PrintedLemmas.{none_if}
 use Rattle.plm80_names.proofs.names.Names.name.Goals as goal

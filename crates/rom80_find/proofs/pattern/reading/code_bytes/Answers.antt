@@ -2,7 +2,7 @@ use Rattle.std.proofs.Common.{◌≡◌, ◌∙◌, ◌+◌, arith, subst, List,
 use Rattle.std.specs.Prelude.{filter_map}
 use Rattle.std.specs.List.{range_with_len}
 use Rattle.rom80_find.specs.declared.pattern.code_byte.CodeByte.{CodeByte}
-use Rattle.omf_parts.specs.Modules.{ModuleValue}
+use Rattle.omf_model.specs.Modules.{ModuleValue}
 use Rattle.rom80_find.specs.Modules.{code_bytes, code_byte_at, IsTable}
 use Rattle.rom80_find.proofs.ReadingLemmas.{given}
 use Rattle.rom80_find.proofs.pattern.reading.code_bytes.Goals as goal

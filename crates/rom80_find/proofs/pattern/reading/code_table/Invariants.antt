@@ -2,7 +2,7 @@
 use Rattle.std.proofs.Common.{◌≡◌, ℕ, ◌<◌, length, slice_index_or, None, drop}
 use Rattle.std.specs.Prelude.{map, filter}
 use Rattle.std.specs.List.{last_or, AllByRecursion}
-use Rattle.omf_parts.specs.SoundModules.{LiesIn, HasItsFixups}
+use Rattle.omf_model.specs.SoundModules.{LiesIn, HasItsFixups}
 use Rattle.rom80_find.specs.Modules.{code_length, code_byte_at, covers_code, byte_in}
 use Rattle.rom80_find.proofs.pattern.reading.code_table.Given as goal
 

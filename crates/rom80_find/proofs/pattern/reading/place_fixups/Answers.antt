@@ -1,6 +1,6 @@
 use Rattle.std.proofs.Common.{◌-◌, ◌<◌, ◌∙◌, arith, subst, sym, length, List, get_or, ap}
-use Rattle.omf_parts.specs.declared.fixup.Fixup.{Fixup}
-use Rattle.omf_parts.specs.declared.fixup.Target.TheVariants as target
+use Rattle.omf_model.specs.declared.fixup.Fixup.{Fixup}
+use Rattle.omf_model.specs.declared.fixup.Target.TheVariants as target
 use Rattle.omf_body.specs.declared.field.Field.TheVariants as field
 use Rattle.rom80_find.specs.Modules.{IsWithin}
 use Rattle.rom80_find.proofs.ReadingLemmas.{within_at, place_more}

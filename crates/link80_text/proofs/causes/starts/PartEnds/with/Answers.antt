@@ -1,8 +1,8 @@
 use Rattle.std.specs.Prelude.{◌≡◌, ◌+◌, ℕ}
 use Rattle.std.proofs.Common.{◌∙◌, ap, sym}
-use Rattle.omf_parts.specs.declared.segment.Segment.{Segment}
-use Rattle.omf_parts.specs.Segments.{segment_in}
-use Rattle.omf_parts.specs.Place.{rounded}
+use Rattle.omf_model.specs.declared.segment.Segment.{Segment}
+use Rattle.omf_model.specs.Segments.{segment_in}
+use Rattle.omf_model.specs.Place.{rounded}
 use Rattle.link80_text.proofs.StartLemmas.{end_more}
 use Rattle.link80_text.proofs.causes.starts.PartEnds.with.Goals as goal
 

@@ -1,0 +1,22 @@
+//! Bytes of a segment, with the fixups in them.
+
+use crate::fixup::Fixup;
+use std::marker::Model;
+
+/// Bytes of a segment from an offset on, and the fixups in them, by offsets in the segment.
+/// (8080 Object Module Formats, content record, and the fixup records that follow it.)
+#[derive(Debug, Drop)]
+pub struct Content {
+    pub segment: u8,
+    pub offset: u16,
+    pub bytes: Vec<u8>,
+    pub fixups: Vec<Fixup>,
+}
+
+impl Model for Content {
+    ghost use Rattle.omf_model.specs.Contents.{ContentValue};
+
+    ghost Value = { ContentValue };
+
+    ghost view = { λ c. record { segment = c.segment; offset = c.offset; bytes = c.bytes.items; fixups = c.fixups.items } };
+}

@@ -1,0 +1,10 @@
+//! What holds of all modules that are made, whatever calls are made. The law is ensured by a function that does nothing: a layer
+//! above that calls it has the law in its proof.
+
+ghost use Rattle.omf_model.specs.Laws.{SegmentsAreKept, AbsoluteIsEmpty};
+
+/// A module that is made of parts has their segments, in whatever order they were listed; absolute bytes have no length.
+pub fn segments_are_kept()
+    ensures kept { SegmentsAreKept }
+    ensures absolute { AbsoluteIsEmpty }
+{}

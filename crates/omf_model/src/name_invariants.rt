@@ -1,0 +1,43 @@
+//! The names of a module are names: their type keeps it, and a look at each of them makes it known to the proof.
+
+ghost use Rattle.std.specs.Prelude.{IsTrue};
+ghost use Rattle.std.specs.List.{list_all};
+ghost use Rattle.omf_core.specs.Name.{is_name};
+ghost use Rattle.omf_model.specs.Rules.{has_names};
+
+use crate::parts::Parts;
+use crate::symbols::{Common, Public};
+use omf_core::Name;
+
+fn look_at_commons(commons: &[Common])
+    ensures { IsTrue (list_all (λ c. is_name c.name) commons.now) }
+{
+    for common in commons {
+        let _ = common.name.bytes();
+    }
+}
+
+fn look_at_publics(publics: &[Public])
+    ensures { IsTrue (list_all (λ p. is_name p.name) publics.now) }
+{
+    for public in publics {
+        let _ = public.name.bytes();
+    }
+}
+
+fn look_at_externals(externals: &[Name])
+    ensures { IsTrue (list_all is_name externals.now) }
+{
+    for name in externals {
+        let _ = name.bytes();
+    }
+}
+
+pub(crate) fn look_at_names(parts: &Parts)
+    ensures { IsTrue (has_names parts.now) }
+{
+    let _ = parts.name.bytes();
+    look_at_commons(&parts.commons);
+    look_at_publics(&parts.publics);
+    look_at_externals(&parts.externals);
+}

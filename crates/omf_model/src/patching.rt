@@ -1,0 +1,63 @@
+//! References are applied to bytes: the one kernel that linking and locating share.
+
+ghost use Rattle.std.specs.Prelude.{◌≡◌, IsTrue, length, [], ◌∷◌, ◌+◌, ◌*◌, ◌/◌, ◌%◌};
+ghost use Rattle.omf_model.specs.Patches.{with_patches, are_inside, are_apart, is_inside_bytes};
+
+use crate::Field;
+
+/// A word to be added to a byte or to two bytes at a place.
+#[derive(Clone, Copy, Debug, PartialEq, Eq)]
+pub struct Patch {
+    /// The place of the first byte.
+    pub at: usize,
+    /// The low byte of the word is added to a byte, its high byte, or the word to a word.
+    pub field: Field,
+    pub word: u16,
+}
+
+/// Adds each word at its place. The patches lie inside the bytes, and no two of them share a byte.
+pub fn apply_patches(bytes: &mut [u8], patches: &[Patch])
+    requires inside { IsTrue (are_inside (length bytes.old) patches.now) }
+    requires apart { IsTrue (are_apart patches.now) }
+    ensures { bytes.new ≡ with_patches patches.now bytes.old }
+{
+    for patch in patches {
+        apply_patch(bytes, *patch);
+    }
+}
+
+/// Adds one word at its place.
+fn apply_patch(bytes: &mut [u8], patch: Patch)
+    requires { IsTrue (is_inside_bytes (length bytes.old) patch) }
+    ensures { bytes.new ≡ with_patches (patch ∷ []) bytes.old }
+{
+    let at = patch.at;
+    match patch.field {
+        Field::Low => bytes[at] = bytes[at].wrapping_add(low_byte(patch.word)),
+        Field::High => bytes[at] = bytes[at].wrapping_add(high_byte(patch.word)),
+        Field::Both => {
+            let sum = add_words(bytes[at], bytes[at + 1], patch.word);
+            bytes[at] = low_byte(sum);
+            bytes[at + 1] = high_byte(sum);
+        }
+    }
+}
+
+/// The word of a low and a high byte plus a word, modulo 65536.
+fn add_words(low: u8, high: u8, word: u16) -> u16
+    ensures { result ≡ (low + 256 * high + word) % 65536 }
+{
+    u16::from_le_bytes([low, high]).wrapping_add(word)
+}
+
+fn low_byte(word: u16) -> u8
+    ensures { result ≡ word % 256 }
+{
+    (word % 256) as u8
+}
+
+fn high_byte(word: u16) -> u8
+    ensures { result ≡ word / 256 % 256 }
+{
+    (word / 256) as u8
+}

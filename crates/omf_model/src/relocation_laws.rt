@@ -1,0 +1,31 @@
+//! What holds of patches, of parts and of the bytes that modules define, whatever calls are made. Each law is ensured by a
+//! function that does nothing: a layer above that calls it has the law in its proof.
+
+ghost use Rattle.omf_model.specs.PatchLaws.{LowTwice, BothTwice, HighTwice, PatchedTwice, TwoPassesAreOne};
+ghost use Rattle.omf_model.specs.SoundModules.{SoundModulesKeepRules, CommonsByName, PartsOfOneStartAtZero};
+
+/// Adding a part's start to a reference and then a base is adding their sum: to a low byte, to a word, and to a high byte
+/// if one of the two is a multiple of 256; and so in the bytes of a content, for one fixup and for all of them together.
+pub fn adding_twice_is_adding_once()
+    ensures low { LowTwice }
+    ensures both { BothTwice }
+    ensures high { HighTwice }
+    ensures in_bytes { PatchedTwice }
+    ensures two_passes { TwoPassesAreOne }
+{}
+
+/// The rules that a module keeps, one by one: those of its commons, publics, contents, fixups and start. The fixups of a
+/// content, as patches, lie inside its bytes and share none of them.
+pub fn sound_modules_keep_rules()
+    ensures { SoundModulesKeepRules }
+{}
+
+/// What stands beside the name of a common in a list by names is what its id gives.
+pub fn commons_are_found_by_name()
+    ensures { CommonsByName }
+{}
+
+/// The parts of a module alone start where their segments do.
+pub fn parts_of_one_start_at_zero()
+    ensures { PartsOfOneStartAtZero }
+{}

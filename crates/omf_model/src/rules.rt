@@ -1,0 +1,166 @@
+//! The rules of a module, tested.
+
+ghost use Rattle.std.specs.Prelude.{◌≡◌, ◌+◌, length, IfOk};
+ghost use Rattle.std.specs.List.{list_all};
+ghost use Rattle.omf_model.specs.Segments.{has_common_id, has_segment, is_fixed_id, is_used, segment_in};
+ghost use Rattle.omf_model.specs.Place.{common_name};
+ghost use Rattle.omf_model.specs.Rules.{end_of, is_in_bounds, has_fitting, is_start, keeps_rules_but_for_fixups, keeps_fixup_rules};
+
+use crate::content::Content;
+use crate::duplicates::{are_commons, are_entries};
+use crate::marks::are_fitting;
+use crate::parts::Parts;
+use crate::segment::Segment;
+use crate::symbols::{Common, Public};
+use omf_core::segment_id::{ABSOLUTE, MEMORY, STACK, UNNAMED_COMMON};
+use std::alloc::{AllocError, Global};
+
+/// How many bytes one content record carries.
+const LONGEST_CONTENT: usize = 65531;
+
+/// Whether one of the commons has this id. It takes no memory.
+pub fn has_common_id(commons: &[Common], id: u8) -> bool
+    ensures { result ≡ has_common_id commons.now id }
+{
+    commons.iter().any(|c| c.id == id)
+}
+
+/// The name of the common of this id; it has no bytes if no common has the id.
+pub fn common_name(commons: &[Common], id: u8) -> &[u8]
+    ensures { result.now ≡ common_name commons.now id }
+{
+    for common in commons {
+        if common.id == id {
+            return common.name.bytes();
+        }
+    }
+    &[]
+}
+
+/// Whether every module has a segment of this id: absolute, CODE, DATA, STACK, MEMORY and the unnamed common.
+pub fn is_fixed_id(id: u8) -> bool
+    ensures { result ≡ is_fixed_id id }
+{
+    id <= MEMORY || id == UNNAMED_COMMON
+}
+
+/// Whether the id is one of a segment that the module has.
+pub fn has_segment(commons: &[Common], id: u8) -> bool
+    ensures { result ≡ has_segment commons.now id }
+{
+    is_fixed_id(id) || has_common_id(commons, id)
+}
+
+/// Whether a segment, or a part of one, has bytes or is paged.
+pub fn is_used(segment: Segment) -> bool
+    ensures { result ≡ is_used segment }
+{
+    0 < segment.length || segment.paged
+}
+
+/// The listed segment of this id, and an empty one if none is listed.
+pub fn segment_in(entries: &[(u8, Segment)], id: u8) -> Segment
+    ensures { result ≡ segment_in entries.now id }
+{
+    for entry in entries {
+        if entry.0 == id {
+            return entry.1;
+        }
+    }
+    Segment {
+        length: 0,
+        paged: false,
+    }
+}
+
+/// The end of a segment: its length, and for absolute bytes the end of memory.
+pub fn end_of(segments: &[(u8, Segment)], id: u8) -> usize
+    ensures { result ≡ end_of segments.now id }
+{
+    if id == ABSOLUTE {
+        65536
+    } else {
+        segment_in(segments, id).length as usize
+    }
+}
+
+fn is_in_bounds(segments: &[(u8, Segment)], commons: &[Common], content: &Content) -> bool
+    ensures { result ≡ is_in_bounds segments.now commons.now content.now }
+{
+    has_segment(commons, content.segment)
+        && content.segment != STACK
+        && content.bytes.len() <= LONGEST_CONTENT
+        && content.offset as usize + content.bytes.len() <= end_of(segments, content.segment)
+}
+
+/// Whether each content lies where it may.
+fn are_in_bounds(segments: &[(u8, Segment)], commons: &[Common], contents: &[Content]) -> bool
+    ensures { result ≡ list_all (is_in_bounds segments.now commons.now) contents.now }
+{
+    contents.iter().all(|c| is_in_bounds(segments, commons, c))
+}
+
+fn are_publics(commons: &[Common], publics: &[Public]) -> bool
+    ensures { result ≡ list_all (λ p. has_segment commons.now p.segment) publics.now }
+{
+    publics.iter().all(|p| has_segment(commons, p.segment))
+}
+
+fn is_start(commons: &[Common], start: Option<(u8, u16)>) -> bool
+    ensures { result ≡ is_start commons.now start }
+{
+    match start {
+        None => true,
+        Some(place) => has_segment(commons, place.0),
+    }
+}
+
+/// Whether the parts keep the rules that don't speak of references. It takes no memory.
+pub(crate) fn keeps_rules_but_for_fixups(parts: &Parts) -> bool
+    ensures { result ≡ keeps_rules_but_for_fixups parts.now }
+{
+    let commons = parts.commons.as_slice();
+    let segments = parts.segments.as_slice();
+    are_entries(commons, segments)
+        && are_commons(commons)
+        && are_publics(commons, &parts.publics)
+        && are_in_bounds(segments, commons, &parts.contents)
+        && is_start(commons, parts.start)
+}
+
+/// Whether the references of each content lie inside it, share no byte, and are to what is there.
+fn have_fitting(
+    alloc: Global,
+    commons: &[Common],
+    externals: usize,
+    contents: &[Content],
+) -> Result<bool, AllocError>
+    ensures { IfOk result (λ kept. kept ≡ list_all (has_fitting commons.now externals) contents.now) }
+{
+    for content in contents {
+        let size = content.bytes.len();
+        if !are_fitting(
+            alloc,
+            commons,
+            externals,
+            content.offset,
+            size,
+            &content.fixups,
+        )? {
+            return Ok(false);
+        }
+    }
+    Ok(true)
+}
+
+/// Whether the parts keep the rules of references.
+pub(crate) fn keeps_fixup_rules(alloc: Global, parts: &Parts) -> Result<bool, AllocError>
+    ensures { IfOk result (λ kept. kept ≡ keeps_fixup_rules parts.now) }
+{
+    have_fitting(
+        alloc,
+        &parts.commons,
+        parts.externals.len(),
+        &parts.contents,
+    )
+}

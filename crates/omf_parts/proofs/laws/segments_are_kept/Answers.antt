@@ -1,5 +1,0 @@
-use Rattle.omf_parts.proofs.CanonicalLemmas.{segments_kept, absolute_empty}
-use Rattle.omf_parts.proofs.laws.segments_are_kept.Goals as goal
-
-pub returns : goal.returns
-returns c = record { kept = segments_kept; absolute = absolute_empty }

@@ -1,5 +1,0 @@
-use Rattle.omf_parts.proofs.SoundLemmas.{rules_of}
-use Rattle.omf_parts.proofs.relocation_laws.sound_modules_keep_rules.Goals as goal
-
-pub returns : goal.returns
-returns c = rules_of
