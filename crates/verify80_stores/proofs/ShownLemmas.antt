@@ -1,6 +1,6 @@
 -- What is shown by one table, and by another one too.
-use Rattle.std.specs.Prelude.{◌≡◌, ◌≢◌, ◌⊎◌, ◌<◌, ◌+◌, ◌&&◌, ℕ, suc, Bool, true, false, List, [], ◌∷◌, Any, Option, Some, length, slice_get, slice_set, refl}
-use Rattle.std.proofs.Common.{subst, sym, ap, ◌∙◌, inl, inr, arith, get_or-set_other, true≢false}
+use Rattle.std.specs.Prelude.{◌≡◌, ◌≢◌, ◌⊎◌, ◌<◌, ◌+◌, ◌&&◌, ℕ, suc, Bool, true, false, List, [], ◌∷◌, Any, Option, Some, length, slice_set, refl}
+use Rattle.std.proofs.Common.{subst, sym, ◌∙◌, inl, inr, arith, get_or-set_other, true≢false}
 use Rattle.std.proofs.lemmas.List.{get_or-set_same, length-set}
 use Rattle.decode80.specs.declared.fetching.Fetched.{Fetched}
 use Rattle.image80.specs.Image.{Located}
@@ -11,16 +11,10 @@ use Rattle.verify80_stores.specs.Marks.{is_marked}
 use Rattle.verify80_stores.specs.Opening.{StaysIn}
 use Rattle.verify80_stores.specs.Runs.{IsKept}
 use Rattle.verify80_stores.specs.Listing.{AreOpenMarks, AreSpans, reached_at}
-use Rattle.verify80_stores.specs.Shown.{AreShown, IsShutAt, KeptTable}
+use Rattle.verify80_stores.specs.Shown.{AreShown, BothBelow, IsShutAt, KeptTable}
 use Rattle.verify80_stores.proofs.TableLemmas.{entry_within}
 use Rattle.verify80_stores.proofs.TallyLemmas.{marks_set}
 use Rattle.verify80_stores.proofs.VecLemmas.{nat_same}
-
--- marks that others have too, below an address
-pub record BothBelow (one other : List Bool) (n : ℕ) (marks : List Bool) : Type 0 where
-  pub whole : length marks ≡ 65536
-  pub marked : (at : ℕ) → is_marked marks at ≡ true → is_marked one at ≡ true
-  pub unmarked : (at : ℕ) → at < n → is_marked marks at ≡ false → (is_marked one at ≡ false) ⊎ (is_marked other at ≡ false)
 
 first_of : (a b : Bool) → (a && b) ≡ true → a ≡ true
 first_of true b h = refl
@@ -45,15 +39,15 @@ module _ (one other : List Bool) where
   both_more n marks b small is below = record {
     whole = length-set marks n b ∙ below.whole;
     marked = marks_set (λ k. is_marked one k ≡ true) marks n b below.whole small below.marked (λ so. first_of (is_marked one n) (is_marked other n) (sym is ∙ so));
-    unmarked = λ at less no. go at no (nat_same at n) (split at n less);
+    unmarked = λ at less none. go at none (nat_same at n) (split at n less);
   } where
     go : (at : ℕ) → is_marked (slice_set marks n b) at ≡ false → (at ≡ n) ⊎ (at ≢ n) → (at < n) ⊎ (at ≡ n) → (is_marked one at ≡ false) ⊎ (is_marked other at ≡ false)
-    go at no (inl same) less =
+    go at none (inl same) less =
         let it : is_marked (slice_set marks n b) n ≡ b = get_or-set_same marks n b false (let whole = below.whole in omega (arith, small, whole)) in
-        let so : is_marked (slice_set marks n b) n ≡ false = subst (λ k. is_marked (slice_set marks n b) k ≡ false) same no in
+        let so : is_marked (slice_set marks n b) n ≡ false = subst (λ k. is_marked (slice_set marks n b) k ≡ false) same none in
         subst (λ k. (is_marked one k ≡ false) ⊎ (is_marked other k ≡ false)) (sym same) (one_false (is_marked one n) (is_marked other n) (sym is ∙ sym it ∙ so))
-    go at no (inr apart) (inl less) = below.unmarked at less (sym (get_or-set_other marks n at b false apart) ∙ no)
-    go at no (inr apart) (inr same) = absurd (apart same)
+    go at none (inr apart) (inl less) = below.unmarked at less (sym (get_or-set_other marks n at b false apart) ∙ none)
+    go at none (inr apart) (inr same) = absurd (apart same)
 
 module _ (image : Located) (quiet : ℕ → Bool) (reached : List (Option Fetched)) where
   shut_by : (table : List Placed) (marks : List Bool) → AreOpenMarks image.regions reached table marks → (at : ℕ) → is_marked marks at ≡ false → IsShutAt image.regions reached table at
@@ -72,6 +66,9 @@ module _ (image : Located) (quiet : ℕ → Bool) (reached : List (Option Fetche
     are_spans = are_spans;
   }
 
+  abbrev Shut : (first : KeptTable image quiet) (others : List (KeptTable image quiet)) → ℕ → Type 0
+  Shut first others at = IsShutAt image.regions reached first.table at ⊎ Any (λ (other : KeptTable image quiet). IsShutAt image.regions reached other.table at) others
+
   -- and with another one
   pub shown_more : (table : List Placed) (marks before both : List Bool) (spans : List (Option Span)) → length reached ≡ 65536 → IsKept image quiet table → AreOpenMarks image.regions reached table marks →
       AreShown image quiet reached before spans → BothBelow before marks 65536 both → AreShown image quiet reached both spans
@@ -82,19 +79,16 @@ module _ (image : Located) (quiet : ℕ → Bool) (reached : List (Option Fetche
     leaves = λ at marked. shown.leaves at (below.marked at marked);
     are_spans = shown.are_spans;
   } where
-    abbrev Shut : ℕ → Type 0
-    Shut at = IsShutAt image.regions reached shown.first.table at ⊎ Any (λ (other : KeptTable image quiet). IsShutAt image.regions reached other.table at) (record { table = table; kept = kept } ∷ shown.others)
-
     in_memory : (at : ℕ) → (at < 65536) ⊎ ((at < 65536) → ⊥)
     in_memory at = grind arith
 
-    before_shut : (at : ℕ) → IsShutAt image.regions reached shown.first.table at ⊎ Any (λ (other : KeptTable image quiet). IsShutAt image.regions reached other.table at) shown.others → Shut at
+    before_shut : (at : ℕ) → Shut shown.first shown.others at → Shut shown.first (record { table = table; kept = kept } ∷ shown.others) at
     before_shut at (inl first) = inl first
     before_shut at (inr (k, x, inside, is, shut)) = inr (suc k, x, omega (arith, inside), is, shut)
 
-    stay : (at : ℕ) → is_marked both at ≡ false → (at < 65536) ⊎ ((at < 65536) → ⊥) → Shut at
+    stay : (at : ℕ) → is_marked both at ≡ false → (at < 65536) ⊎ ((at < 65536) → ⊥) → Shut shown.first (record { table = table; kept = kept } ∷ shown.others) at
     stay at unmarked (inr beyond) = inl (λ place placed found there here instr. absurd (beyond (let within = entry_within reached at found instr in omega (arith, within, whole))))
     stay at unmarked (inl small) = by (below.unmarked at small unmarked) where
-      by : (is_marked before at ≡ false) ⊎ (is_marked marks at ≡ false) → Shut at
+      by : (is_marked before at ≡ false) ⊎ (is_marked marks at ≡ false) → Shut shown.first (record { table = table; kept = kept } ∷ shown.others) at
       by (inl none) = before_shut at (shown.stays at none)
       by (inr none) = inr (0, record { table = table; kept = kept }, omega arith, refl, shut_by table marks are at none)

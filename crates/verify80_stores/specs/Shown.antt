@@ -1,5 +1,5 @@
 -- What tables of states that fit leave open of a program. (This project's own.)
-use Rattle.std.specs.Prelude.{◌≡◌, ◌⊎◌, ℕ, Bool, true, false, List, Any, Option, Some, slice_get}
+use Rattle.std.specs.Prelude.{◌≡◌, ◌⊎◌, ◌<◌, ℕ, Bool, true, false, List, Any, Option, Some, length, slice_get}
 use Rattle.decode80.specs.declared.fetching.Fetched.{Fetched}
 use Rattle.image80.specs.Image.{Located}
 use Rattle.image80.specs.Regions.{Areas}
@@ -10,6 +10,12 @@ use Rattle.verify80_stores.specs.Marks.{is_marked}
 use Rattle.verify80_stores.specs.Opening.{StaysIn}
 use Rattle.verify80_stores.specs.Runs.{IsKept}
 use Rattle.verify80_stores.specs.Listing.{AreSpans, IsLeftAt, reached_at}
+
+-- marks that others have too, below an address
+pub record BothBelow (one other : List Bool) (n : ℕ) (marks : List Bool) : Type 0 where
+  pub whole : length marks ≡ 65536
+  pub marked : (at : ℕ) → is_marked marks at ≡ true → is_marked one at ≡ true
+  pub unmarked : (at : ℕ) → at < n → is_marked marks at ≡ false → (is_marked one at ≡ false) ⊎ (is_marked other at ≡ false)
 
 -- a table to which all runs keep
 pub record KeptTable (image : Located) (quiet : ℕ → Bool) : Type 0 where

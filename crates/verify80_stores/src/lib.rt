@@ -24,6 +24,7 @@ mod listing;
 mod pointer;
 mod quiet;
 mod search;
+mod showing;
 mod spans;
 mod stack_pointer;
 mod states;

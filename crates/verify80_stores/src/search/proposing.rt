@@ -1,6 +1,6 @@
 //! A table of states is proposed.
 
-use crate::fitting::Placed;
+use crate::fitting::{CallReturns, Placed};
 use crate::search::compacting::{compact, narrow};
 use crate::search::landmarks::Landmarks;
 use crate::search::needs::Needs;
@@ -18,11 +18,13 @@ const LATE_STEPS: u32 = 4_000_000;
 /// How often the table is narrowed, if states were joined.
 const NARROWINGS: u32 = 3;
 
-/// A table of states, and for each of their ways a place of the table. The first hint is that of the start.
+/// A table of states, for each of their ways a place of the table, and the returns by which it was made. The first hint is that of the
+/// start.
 #[derive(Drop)]
 pub(crate) struct Proposal {
     pub table: Vec<Placed>,
     pub hints: Vec<u32>,
+    pub returns: CallReturns,
 }
 
 /// What is known at each address that the program may reach.

@@ -11,16 +11,16 @@ use Rattle.verify80_stores.specs.Calls.{returns_of}
 use Rattle.verify80_stores.specs.FittingTable.{AllFit}
 use Rattle.verify80_stores.proofs.CellLemmas.{quiet_is_data, knows_quieter}
 use Rattle.verify80_stores.proofs.TableLemmas.{fits_program}
-use Rattle.verify80_stores.proofs.finding.fitting_table.Goals as goal
+use Rattle.verify80_stores.proofs.showing.fitting_table.Goals as goal
 
 pub returns-then-fits : goal.returns-then-fits
 returns-then-fits c =
     let image = c.args.image.now in
     let quiet = is_quiet image.regions c.args.quiet.now in
     let code = c.args.code.now in
-    let returns = returns_of c.args.returns.now in
+    let returns = returns_of c.in_ok-table.field-0.returns in
     let reached = c.args.reached.now in
-    let table = c.args.table.items in
+    let table = c.in_ok-table.field-0.table.items in
     let start : Has table image.start anything =
     subst (λ (t : List Placed). Has t image.start anything) c.deref.ensures.value
     (subst (λ (i : Located). Has c.deref.result.now i.start anything) c.image.view_is (c.if-fits.ensures.start refl)) in

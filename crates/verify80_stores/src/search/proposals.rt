@@ -1,6 +1,5 @@
-//! Tables of states, one after the other. Nothing is promised of them: whoever uses one has to see that it fits.
+//! Tables of states are proposed, one after the other.
 
-use crate::fitting::{CallReturns, Placed};
 use crate::search::groups::Groups;
 use crate::search::program::ReachedProgram;
 use crate::search::proposing::{Proposal, propose, try_propose};
@@ -11,29 +10,36 @@ const STATES: [u32; 4] = [4352, 256, 32, 8];
 /// How often it is tried which procedures know where they return to.
 const TRIALS: usize = 3;
 
-/// A table of states, and the returns of procedures by which it was made.
-#[derive(Drop)]
-pub(crate) struct KeptProposal {
-    pub returns: CallReturns,
-    pub proposal: Proposal,
-}
-
-/// A table in which calls are told apart; `None` if none can be, or too many states would have to be followed.
-///
-/// At first each procedure is to know where it returns to, so that what its callers know is told apart. If states were joined, or words
-/// are too deep on the stack, some don't: nothing is known behind their calls.
+/// The table of a number from 0 to 3, if there is one: calls told apart or joined, and then both once more as if no address were quiet.
 ///
 /// # Errors
 /// `AllocError` only if memory runs out.
-pub(crate) fn propose_told_apart(
+pub(crate) fn propose_table(
     alloc: Global,
     program: ReachedProgram<'_>,
     groups: &Groups,
-) -> Result<Option<KeptProposal>, AllocError> {
+    number: usize,
+) -> Result<Option<Proposal>, AllocError> {
+    match number {
+        0 => propose_told_apart(alloc, program, groups),
+        1 => propose_joined(alloc, program, groups),
+        _ if !program.quiet.contains(&true) => Ok(None),
+        2 => propose_told_apart(alloc, program.without_quiet(), groups),
+        _ => propose_joined(alloc, program.without_quiet(), groups),
+    }
+}
+
+/// A table in which calls are told apart; `None` if none can be, or too many states would have to be followed.
+fn propose_told_apart(
+    alloc: Global,
+    program: ReachedProgram<'_>,
+    groups: &Groups,
+) -> Result<Option<Proposal>, AllocError> {
     for number in 0..STATES.len() {
         if let Some(most) = STATES.get(number) {
-            if let Some(found) = try_told_apart(alloc, program, groups, *most)? {
-                return Ok(Some(found));
+            let found = try_told_apart(alloc, program, groups, *most)?;
+            if found.is_some() {
+                return Ok(found);
             }
         }
     }
@@ -41,12 +47,15 @@ pub(crate) fn propose_told_apart(
 }
 
 /// The same with at most so many states at an address.
+///
+/// At first each procedure is to know where it returns to, so that what its callers know is told apart. If states were joined, or words
+/// are too deep on the stack, some don't: nothing is known behind their calls.
 fn try_told_apart(
     alloc: Global,
     program: ReachedProgram<'_>,
     groups: &Groups,
     most: u32,
-) -> Result<Option<KeptProposal>, AllocError> {
+) -> Result<Option<Proposal>, AllocError> {
     let mut knows = groups.called(alloc)?;
     for _ in 0..TRIALS {
         if !knows.contains(&true) {
@@ -66,21 +75,21 @@ fn try_told_apart(
             break;
         };
         if !groups.take_marks(program, &proposal.table, &mut knows) {
-            return Ok(Some(KeptProposal { returns, proposal }));
+            return Ok(Some(Proposal {
+                returns,
+                ..proposal
+            }));
         }
     }
     Ok(None)
 }
 
-/// A table in which no calls are told apart.
-///
-/// # Errors
-/// `AllocError` only if memory runs out.
-pub(crate) fn propose_joined(
+/// A table in which calls aren't told apart.
+fn propose_joined(
     alloc: Global,
     program: ReachedProgram<'_>,
     groups: &Groups,
-) -> Result<KeptProposal, AllocError> {
+) -> Result<Option<Proposal>, AllocError> {
     let returns = groups.returns(alloc, &[])?;
     let proposal = propose(
         alloc,
@@ -90,5 +99,8 @@ pub(crate) fn propose_joined(
             ..program
         },
     )?;
-    Ok(KeptProposal { returns, proposal })
+    Ok(Some(Proposal {
+        returns,
+        ..proposal
+    }))
 }
