@@ -19,14 +19,14 @@ use Rattle.verify80.specs.Starts.{NeverGoesWrongFromPowerOn}
 use Rattle.verify80.specs.Reached.{StandsOnWalk, StaysOnWalks}
 use Rattle.verify80.specs.Boards.{StaysInside, Executes, OnBoard, begins, disturbed, executed, Anywhere, KeepsPromise, MayStart}
 use Rattle.verify80.specs.Reached.{AreReached}
-use Rattle.verify80_stores.specs.declared.spans.span.Span.{Span}
-use Rattle.verify80_stores.specs.declared.fitting.fitting.Placed.{Placed}
-use Rattle.verify80_stores.specs.Bytes.{HoldsBytes, BytesStayBytes}
-use Rattle.verify80_stores.specs.Runs.{KeepsTo, KeepsToCalls, RunsKeepTo, IsKnown}
+use Rattle.verify80_states.specs.declared.spans.span.Span.{Span}
+use Rattle.verify80_states.specs.declared.fitting.fitting.Placed.{Placed}
+use Rattle.verify80_states.specs.Bytes.{HoldsBytes, BytesStayBytes}
+use Rattle.verify80_states.specs.Runs.{KeepsTo, KeepsToCalls, RunsKeepTo, IsKnown}
 use Rattle.verify80_stores.specs.declared.stores.OpenStore.{OpenStore}
 use Rattle.verify80_stores.specs.Pointers.{stores_by_pair}
 use Rattle.verify80_stores.specs.Stores.{GoesAsListed}
-use Rattle.verify80_stores.specs.Steps.{HasCode}
+use Rattle.verify80_states.specs.Steps.{HasCode}
 use Rattle.verify80_stores.specs.Listing.{AreKnown, AreAllBelow, AreOpenBelow, is_at, is_marked_at}
 use Rattle.verify80_stores.specs.Shown.{AreShown, KeptTable}
 use Rattle.verify80_stores.specs.Boards.{IsListedAt, KeepsWholePromise, PromiseHoldsOnBoards, PromiseHoldsOnQuietBoards, OnQuietBoard, is_quiet}

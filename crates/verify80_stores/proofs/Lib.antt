@@ -1,29 +1,11 @@
-pub mod ListLemmas
-pub mod EndLemmas
-pub mod TableLemmas
-pub mod VecLemmas
-pub mod TallyLemmas
-pub mod ShownLemmas
-pub mod StoreLemmas
+mod ListLemmas
+mod EndLemmas
+mod VecLemmas
+mod HullLemmas
+mod ReachedLemmas
+mod TallyLemmas
+mod ShownLemmas
+mod StoreLemmas
 mod BoardLemmas
-pub mod WatchedLemmas
-pub mod ArithmeticBounds
-pub mod RegisterBytes
-pub mod ByteLemmas
-pub mod FetchBounds
-pub mod StepBytes
-pub mod RunBytes
-pub mod SpanLemmas
-pub mod OutcomeLemmas
-pub mod StateLemmas
-mod CellReads
-pub mod FollowLemmas
-pub mod MemoryLemmas
-pub mod CellLemmas
-pub mod GivenLemmas
-pub mod InsideLemmas
-pub mod StepLemmas
-pub mod WayLemmas
-pub mod CallLemmas
-pub mod KeepLemmas
-pub mod StackLemmas
+mod WatchedLemmas
+mod StackLemmas

@@ -3,16 +3,21 @@ use Rattle.std.specs.Prelude.{◌≡◌, ◌≢◌, ◌⊎◌, ◌<◌, ◌+◌,
 use Rattle.std.proofs.Common.{subst, sym, ◌∙◌, inl, inr, arith, get_or-set_other, true≢false}
 use Rattle.std.proofs.lemmas.List.{get_or-set_same, length-set}
 use Rattle.decode80.specs.declared.fetching.Fetched.{Fetched}
+use Rattle.image80.specs.declared.range.Range.{Range}
+use Rattle.image80.specs.Range.{in_ranges}
+use Rattle.image80.specs.Regions.{Areas, in_data}
 use Rattle.image80.specs.Image.{Located}
 use Rattle.verify80.specs.Looking.{declared_targets}
-use Rattle.verify80_stores.specs.declared.spans.span.Span.{Span}
-use Rattle.verify80_stores.specs.declared.fitting.fitting.Placed.{Placed}
-use Rattle.verify80_stores.specs.Marks.{is_marked}
+use Rattle.verify80_states.specs.declared.spans.span.Span.{Span}
+use Rattle.verify80_states.specs.declared.fitting.fitting.Placed.{Placed}
+use Rattle.verify80_states.specs.Marks.{is_marked}
+use Rattle.verify80_stores.specs.Boards.{is_quiet}
 use Rattle.verify80_stores.specs.Opening.{StaysIn}
-use Rattle.verify80_stores.specs.Runs.{IsKept}
-use Rattle.verify80_stores.specs.Listing.{AreOpenMarks, AreSpans, reached_at}
+use Rattle.verify80_states.specs.Runs.{IsKept}
+use Rattle.verify80.specs.Reached.{found_at}
+use Rattle.verify80_stores.specs.Listing.{AreOpenMarks, AreSpans}
 use Rattle.verify80_stores.specs.Shown.{AreShown, BothBelow, IsShutAt, KeptTable}
-use Rattle.verify80_stores.proofs.TableLemmas.{entry_within}
+use Rattle.verify80_stores.proofs.ReachedLemmas.{entry_within}
 use Rattle.verify80_stores.proofs.TallyLemmas.{marks_set}
 use Rattle.verify80_stores.proofs.VecLemmas.{nat_same}
 
@@ -53,7 +58,7 @@ module _ (image : Located) (quiet : ℕ → Bool) (reached : List (Option Fetche
   shut_by : (table : List Placed) (marks : List Bool) → AreOpenMarks image.regions reached table marks → (at : ℕ) → is_marked marks at ≡ false → IsShutAt image.regions reached table at
   shut_by table marks are at unmarked place placed found there here instr =
       subst (λ n. StaysIn image.regions (declared_targets image.regions n) found.instr placed.state) here
-      (are.stays place placed found there (subst (λ n. reached_at reached n ≡ Some found) (sym here) instr) (subst (λ n. is_marked marks n ≡ false) (sym here) unmarked))
+      (are.stays place placed found there (subst (λ n. found_at reached n ≡ Some found) (sym here) instr) (subst (λ n. is_marked marks n ≡ false) (sym here) unmarked))
 
   -- what the first table shows
   pub shown_first : (table : List Placed) (marks : List Bool) (spans : List (Option Span)) → IsKept image quiet table → AreOpenMarks image.regions reached table marks → AreSpans reached table spans →
@@ -92,3 +97,7 @@ module _ (image : Located) (quiet : ℕ → Bool) (reached : List (Option Fetche
       by : (is_marked before at ≡ false) ⊎ (is_marked marks at ≡ false) → Shut shown.first (record { table = table; kept = kept } ∷ shown.others) at
       by (inl none) = before_shut at (shown.stays at none)
       by (inr none) = inr (0, record { table = table; kept = kept }, omega arith, refl, shut_by table marks are at none)
+
+-- quiet addresses are data
+pub quiet_is_data : (regions : Areas) (ranges : List Range) (at : ℕ) → is_quiet regions ranges at ≡ true → in_data regions at ≡ true
+quiet_is_data regions ranges at here = first_of (in_data regions at) (in_ranges ranges at) here

@@ -25,23 +25,24 @@ use Rattle.verify80.specs.Looking.{code_of, declared_targets, is_pchl}
 use Rattle.verify80.specs.Starts.{IsStart, IsWorldFrom, NeverGoesWrongFromPowerOn}
 use Rattle.verify80.specs.Reached.{StandsOnWalk, StaysOnWalks}
 use Rattle.verify80.specs.Reached.{AreReached}
-use Rattle.verify80_stores.specs.declared.spans.span.Span.{Span}
-use Rattle.verify80_stores.specs.declared.states.state.State.{State}
-use Rattle.verify80_stores.specs.declared.fitting.fitting.Placed.{Placed}
-use Rattle.verify80_stores.specs.Bytes.{HoldsBytes}
-use Rattle.verify80_stores.specs.Span.{Within}
-use Rattle.verify80_stores.specs.State.{HoldsRegisters}
-use Rattle.verify80_stores.specs.Following.{entry_in}
-use Rattle.verify80_stores.specs.Marks.{is_marked}
-use Rattle.verify80_stores.specs.Runs.{KeepsTo, RunsKeepTo}
+use Rattle.verify80_states.specs.declared.spans.span.Span.{Span}
+use Rattle.verify80_states.specs.declared.states.state.State.{State}
+use Rattle.verify80_states.specs.declared.fitting.fitting.Placed.{Placed}
+use Rattle.verify80_states.specs.Bytes.{HoldsBytes}
+use Rattle.verify80_states.specs.Span.{Within}
+use Rattle.verify80_states.specs.State.{HoldsRegisters}
+use Rattle.verify80_states.specs.Following.{entry_in}
+use Rattle.verify80_states.specs.Marks.{is_marked}
+use Rattle.verify80_states.specs.Runs.{KeepsTo, RunsKeepTo}
 use Rattle.verify80_stores.specs.Shown.{AreShown, IsShutAt, KeptTable}
 use Rattle.verify80_stores.specs.declared.stores.OpenStore.{OpenStore}
 use Rattle.verify80_stores.specs.Pointers.{stores_by_pair}
 use Rattle.verify80_stores.specs.Opening.{pointer_span, IsLeftOpen}
 use Rattle.verify80_stores.specs.Stores.{IsReachedAs, AreReachedAs, IsOpen, GoesAsListed, EndsAsListed, StoresGoAsListed, AreStoresOf}
-use Rattle.verify80_stores.specs.Listing.{AreAllBelow, AreOpenBelow, IsSpanned, IsLeftAt, IsListed, is_kind, is_at, is_marked_at, reached_at}
-use Rattle.verify80_stores.proofs.SpanLemmas.{inside_within}
-use Rattle.verify80_stores.proofs.TableLemmas.{there_if_reached, reached_if_there}
+use Rattle.verify80.specs.Reached.{found_at}
+use Rattle.verify80_stores.specs.Listing.{AreAllBelow, AreOpenBelow, IsSpanned, IsLeftAt, IsListed, is_kind, is_at, is_marked_at}
+use Rattle.verify80_stores.proofs.HullLemmas.{inside_within}
+use Rattle.verify80_stores.proofs.ReachedLemmas.{there_if_reached}
 
 -- an instruction that stores by a pair is such a store
 by_any_pair : (i : Instr) (s : State) (span : Span) → pointer_span i s ≡ Some span → stores_by_pair i ≡ true
@@ -204,7 +205,7 @@ module _ (image : Located) (bytes : ℕ) (quiet : ℕ → Bool) (reached : List 
     (open_below : AreOpenBelow reached marks spans 65536 stores) (each_jump : AreAllBelow (is_at is_pchl reached) 65536 jumps) (each_open_jump : AreAllBelow (is_marked_at is_pchl reached marks) 65536 open_jumps) where
   -- a world stands at an instruction that is reached
   record Here (w : World) (found : Fetched) : Type 0 where
-    there : reached_at reached w.machine.cpu.pc ≡ Some found
+    there : found_at reached w.machine.cpu.pc ≡ Some found
     small : w.machine.cpu.pc < 65536
 
   here_if : (w : World) (found : Fetched) → StandsOnWalk image w → fetched_by image.regions w ≡ Some found → Here w found
@@ -215,33 +216,33 @@ module _ (image : Located) (bytes : ℕ) (quiet : ℕ → Bool) (reached : List 
       record { there = there.there ∙ ap (λ (f : Fetched). Some f) (two ∙ one); small = omega (arith, there.within, whole) }
 
   -- it is marked as open, or it stays inside
-  marked_so : (kind : Instr → Bool) (at : ℕ) (found : Fetched) → reached_at reached at ≡ Some found → kind found.instr ≡ true → is_marked marks at ≡ true → is_marked_at kind reached marks at ≡ true
+  marked_so : (kind : Instr → Bool) (at : ℕ) (found : Fetched) → found_at reached at ≡ Some found → kind found.instr ≡ true → is_marked marks at ≡ true → is_marked_at kind reached marks at ≡ true
   marked_so kind at found there is marked =
       let here : is_at kind reached at ≡ true = ap (λ (o : Option Fetched). is_kind kind o) there ∙ is in
       rw (here, marked) refl
 
   -- what a world that keeps to a table does at an address that the table shows
-  shut_stores : (table : List Placed) (w : World) (found : Fetched) (address : ℕ) → KeepsTo image table w → reached_at reached w.machine.cpu.pc ≡ Some found → Contains (pointed_bytes found.instr w.machine.cpu.registers) address →
+  shut_stores : (table : List Placed) (w : World) (found : Fetched) (address : ℕ) → KeepsTo image table w → found_at reached w.machine.cpu.pc ≡ Some found → Contains (pointed_bytes found.instr w.machine.cpu.registers) address →
       IsShutAt image.regions reached table w.machine.cpu.pc → in_data image.regions address ≡ true
   shut_stores table w found address keep instr there shut =
       let points = points_by found.instr keep.placed.state w.machine.cpu.registers address keep.holds.registers there in
       (shut keep.place keep.placed found keep.there keep.at instr).stores points.span points.is address points.within
 
-  shut_jumps : (table : List Placed) (w : World) (found : Fetched) → KeepsTo image table w → reached_at reached w.machine.cpu.pc ≡ Some found → is_pchl found.instr ≡ true →
+  shut_jumps : (table : List Placed) (w : World) (found : Fetched) → KeepsTo image table w → found_at reached w.machine.cpu.pc ≡ Some found → is_pchl found.instr ≡ true →
       IsShutAt image.regions reached table w.machine.cpu.pc → Contains (declared_targets image.regions w.machine.cpu.pc) (hl_of w.machine.cpu.registers)
   shut_jumps table w found keep instr jump shut = (shut keep.place keep.placed found keep.there keep.at instr).jumps jump (hl_of w.machine.cpu.registers) keep.holds.registers.hl.words
 
   other_there : (w : World) (k : ℕ) (other : KeptTable image quiet) → KeepsToEach image quiet shown.first shown.others w → k < length shown.others → get_or shown.others k other ≡ other → KeepsTo image other.table w
   other_there w k other keep inside is = subst (λ (t : KeptTable image quiet). KeepsTo image t.table w) is (keep.others_too k other inside)
 
-  data_stores : (w : World) (found : Fetched) (address : ℕ) → KeepsToEach image quiet shown.first shown.others w → reached_at reached w.machine.cpu.pc ≡ Some found → Contains (pointed_bytes found.instr w.machine.cpu.registers) address → is_marked marks w.machine.cpu.pc ≡ false →
+  data_stores : (w : World) (found : Fetched) (address : ℕ) → KeepsToEach image quiet shown.first shown.others w → found_at reached w.machine.cpu.pc ≡ Some found → Contains (pointed_bytes found.instr w.machine.cpu.registers) address → is_marked marks w.machine.cpu.pc ≡ false →
       in_data image.regions address ≡ true
   data_stores w found address keep instr there unmarked = by (shown.stays w.machine.cpu.pc unmarked) where
     by : IsShutAt image.regions reached shown.first.table w.machine.cpu.pc ⊎ Any (λ other. IsShutAt image.regions reached other.table w.machine.cpu.pc) shown.others → in_data image.regions address ≡ true
     by (inl shut) = shut_stores shown.first.table w found address keep.first_too instr there shut
     by (inr (k, other, inside, is, shut)) = shut_stores other.table w found address (other_there w k other keep inside is) instr there shut
 
-  target_jumps : (w : World) (found : Fetched) → KeepsToEach image quiet shown.first shown.others w → reached_at reached w.machine.cpu.pc ≡ Some found → is_pchl found.instr ≡ true → is_marked marks w.machine.cpu.pc ≡ false →
+  target_jumps : (w : World) (found : Fetched) → KeepsToEach image quiet shown.first shown.others w → found_at reached w.machine.cpu.pc ≡ Some found → is_pchl found.instr ≡ true → is_marked marks w.machine.cpu.pc ≡ false →
       Contains (declared_targets image.regions w.machine.cpu.pc) (hl_of w.machine.cpu.registers)
   target_jumps w found keep instr jump unmarked = by (shown.stays w.machine.cpu.pc unmarked) where
     by : IsShutAt image.regions reached shown.first.table w.machine.cpu.pc ⊎ Any (λ other. IsShutAt image.regions reached other.table w.machine.cpu.pc) shown.others →
@@ -249,11 +250,11 @@ module _ (image : Located) (bytes : ℕ) (quiet : ℕ → Bool) (reached : List 
     by (inl shut) = shut_jumps shown.first.table w found keep.first_too instr jump shut
     by (inr (k, other, inside, is, shut)) = shut_jumps other.table w found (other_there w k other keep inside is) instr jump shut
 
-  spanned : (w : World) (found : Fetched) (keep : KeepsTo image shown.first.table w) (span : Span) → reached_at reached w.machine.cpu.pc ≡ Some found → pointer_span found.instr keep.placed.state ≡ Some span →
+  spanned : (w : World) (found : Fetched) (keep : KeepsTo image shown.first.table w) (span : Span) → found_at reached w.machine.cpu.pc ≡ Some found → pointer_span found.instr keep.placed.state ≡ Some span →
       IsSpanned spans w.machine.cpu.pc span
   spanned w found keep span there is =
       let at : keep.placed.at ≡ w.machine.cpu.pc = keep.at in
-      subst (λ n. IsSpanned spans n span) at (shown.are_spans keep.place keep.placed found span keep.there (subst (λ n. reached_at reached n ≡ Some found) (sym at) there) is)
+      subst (λ n. IsSpanned spans n span) at (shown.are_spans keep.place keep.placed found span keep.there (subst (λ n. found_at reached n ≡ Some found) (sym at) there) is)
 
   pub goes_if : (w : World) (found : Fetched) → StandsOnWalk image w → KeepsToEach image quiet shown.first shown.others w → fetched_by image.regions w ≡ Some found → (address : ℕ) →
       Contains (pointed_bytes found.instr w.machine.cpu.registers) address → GoesAsListed image.regions stores w.machine.cpu.pc address
@@ -334,10 +335,10 @@ module _ (image : Located) (bytes : ℕ) (quiet : ℕ → Bool) (reached : List 
   ends_so start begins held most w (Direct at) from stops proper = absurd proper
 
   -- what is listed is what walks reach
-  kind_there : (kind : Instr → Bool) (at : ℕ) (o : Option Fetched) → reached_at reached at ≡ o → is_kind kind o ≡ true → IsReachedAs (code_of image) kind at
+  kind_there : (kind : Instr → Bool) (at : ℕ) (o : Option Fetched) → found_at reached at ≡ o → is_kind kind o ≡ true → IsReachedAs (code_of image) kind at
   kind_there kind at None e is = cc
   kind_there kind at (Some found) e is =
-      let walk = reached_if_there (code_of image) reached are at found e in
+      let walk = are.found at found e in
       record { reached = walk.0; found = found; looked = walk.1; is = is }
 
   there_of_kind : (kind : Instr → Bool) (xs : List ℕ) → AreAllBelow (is_at kind reached) 65536 xs → (at : ℕ) → IsReachedAs (code_of image) kind at → Contains xs at
@@ -349,7 +350,7 @@ module _ (image : Located) (bytes : ℕ) (quiet : ℕ → Bool) (reached : List 
   all_of_kind : (kind : Instr → Bool) (xs : List ℕ) → AreAllBelow (is_at kind reached) 65536 xs → AreReachedAs (code_of image) kind xs
   all_of_kind kind xs below = record {
     ascending = below.ascending;
-    each = λ at. (λ there. kind_there kind at (reached_at reached at) refl (below.each at there).1, there_of_kind kind xs below at);
+    each = λ at. (λ there. kind_there kind at (found_at reached at) refl (below.each at there).1, there_of_kind kind xs below at);
   }
 
   first_of : (a b : Bool) → (a && b) ≡ true → a ≡ true
@@ -357,7 +358,7 @@ module _ (image : Located) (bytes : ℕ) (quiet : ℕ → Bool) (reached : List 
   first_of false b h = cc
 
   open_jump_there : (at : ℕ) → Contains open_jumps at → IsReachedAs (code_of image) is_pchl at
-  open_jump_there at there = kind_there is_pchl at (reached_at reached at) refl (first_of (is_at is_pchl reached at) (is_marked marks at) (each_open_jump.each at there).1)
+  open_jump_there at there = kind_there is_pchl at (found_at reached at) refl (first_of (is_at is_pchl reached at) (is_marked marks at) (each_open_jump.each at there).1)
 
   -- a state that leaves a store open shows an address of its whole span that is no data
   open_by : (store : OpenStore) (l : IsListed reached marks spans 65536 store) (left : IsLeftAt image.regions reached shown.first.table store.at) → left.found ≡ l.found → IsOpen image store
@@ -365,10 +366,10 @@ module _ (image : Located) (bytes : ℕ) (quiet : ℕ → Bool) (reached : List 
     go : IsLeftOpen image.regions left.found.instr left.placed.state → IsOpen image store
     go (inl may) =
         let at : left.placed.at ≡ store.at = left.here in
-        let whole_span = shown.are_spans left.place left.placed left.found may.span left.there (subst (λ n. reached_at reached n ≡ Some left.found) (sym at) left.instr) may.is in
+        let whole_span = shown.are_spans left.place left.placed left.found may.span left.there (subst (λ n. found_at reached n ≡ Some left.found) (sym at) left.instr) may.is in
         let mine : entry_in (slice_get spans store.at) ≡ Some whole_span.whole = subst (λ n. entry_in (slice_get spans n) ≡ Some whole_span.whole) at whole_span.there in
         let its : whole_span.whole ≡ store.span = (let e : entry_in (slice_get spans store.at) ≡ Some store.span = l.span in cc) in
-        let walk = reached_if_there (code_of image) reached are store.at l.found l.there in
+        let walk = are.found store.at l.found l.there in
         record {
           reached = walk.0;
           found = l.found;
@@ -386,7 +387,7 @@ module _ (image : Located) (bytes : ℕ) (quiet : ℕ → Bool) (reached : List 
   open_there : (store : OpenStore) → IsListed reached marks spans 65536 store → IsOpen image store
   open_there store l =
       let left = shown.leaves store.at l.marked in
-      open_by store l left (let f : reached_at reached store.at ≡ Some left.found = left.instr in let g : reached_at reached store.at ≡ Some l.found = l.there in let e : left.found ≡ l.found = cc in e)
+      open_by store l left (let f : found_at reached store.at ≡ Some left.found = left.instr in let g : found_at reached store.at ≡ Some l.found = l.there in let e : left.found ≡ l.found = cc in e)
 
   pub are_stores : AreStoresOf image addresses stores jumps open_jumps
   are_stores = record {

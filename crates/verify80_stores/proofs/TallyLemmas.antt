@@ -8,16 +8,17 @@ use Rattle.decode80.specs.declared.fetching.Fetched.{Fetched}
 use Rattle.image80.specs.Regions.{Areas, in_code}
 use Rattle.image80.specs.Image.{Located, memory_of}
 use Rattle.verify80.specs.Looking.{declared_targets}
-use Rattle.verify80_stores.specs.declared.spans.span.Span.{Span}
-use Rattle.verify80_stores.specs.declared.fitting.fitting.Placed.{Placed}
-use Rattle.verify80_stores.specs.Span.{IsInside}
-use Rattle.verify80_stores.specs.State.{anything}
-use Rattle.verify80_stores.specs.Following.{entry_in}
-use Rattle.verify80_stores.specs.Steps.{AreCodeBytes, code_in}
-use Rattle.verify80_stores.specs.Marks.{is_marked}
+use Rattle.verify80_states.specs.declared.spans.span.Span.{Span}
+use Rattle.verify80_states.specs.declared.fitting.fitting.Placed.{Placed}
+use Rattle.verify80_states.specs.Span.{IsInside}
+use Rattle.verify80_states.specs.State.{anything}
+use Rattle.verify80_states.specs.Following.{entry_in}
+use Rattle.verify80_states.specs.Steps.{AreCodeBytes, code_in}
+use Rattle.verify80_states.specs.Marks.{is_marked}
 use Rattle.verify80_stores.specs.Opening.{pointer_span, span_in, joined_span, StaysIn, IsLeftOpen}
-use Rattle.verify80_stores.specs.Listing.{AreOpenMarks, AreSpans, IsLeftAt, IsSpanned, SaysNothingAt, reached_at}
-use Rattle.verify80_stores.proofs.SpanLemmas.{hull_left, hull_right, inside_again, inside_itself}
+use Rattle.verify80.specs.Reached.{found_at}
+use Rattle.verify80_stores.specs.Listing.{AreOpenMarks, AreSpans, IsLeftAt, IsSpanned, SaysNothingAt}
+use Rattle.verify80_stores.proofs.HullLemmas.{hull_left, hull_right, inside_again, inside_itself}
 use Rattle.verify80_stores.proofs.VecLemmas.{nat_same, marked_here, marked_elsewhere, entry_here, entry_elsewhere}
 
 -- the bytes of code, one of which is set
@@ -41,13 +42,12 @@ code_there image regions memory at byte o is same bytes some =
     subst (λ (r : Areas). (in_code r at ≡ true) × (slice_index (memory_of image.chunks) at ≡ byte)) same
     (subst (λ (m : List ℕ). (in_code regions at ≡ true) × (slice_index m at ≡ byte)) bytes (code_go (in_code regions at) regions memory at byte refl (sym is ∙ some)))
 
--- a table that grows, the state at each address saying nothing
 split : (a n : ℕ) → a < n + 1 → (a < n) ⊎ (a ≡ n)
 split a n h = grind arith
 
 pub record Marks (regions : Areas) (reached : List (Option Fetched)) (table : List Placed) (n : ℕ) (marks : List Bool) : Type 0 where
   pub whole : length marks ≡ 65536
-  pub stays : (place : ℕ) (placed : Placed) (found : Fetched) → place < n → slice_get table place ≡ Some placed → reached_at reached placed.at ≡ Some found → is_marked marks placed.at ≡ false →
+  pub stays : (place : ℕ) (placed : Placed) (found : Fetched) → place < n → slice_get table place ≡ Some placed → found_at reached placed.at ≡ Some found → is_marked marks placed.at ≡ false →
       StaysIn regions (declared_targets regions placed.at) found.instr placed.state
   pub leaves : (at : ℕ) → is_marked marks at ≡ true → IsLeftAt regions reached table at
 
@@ -60,7 +60,7 @@ module _ (regions : Areas) (reached : List (Option Fetched)) (table : List Place
   }
 
   pub marks_open : (n : ℕ) (marks : List Bool) (e : Placed) → slice_get table n ≡ Some e → Marks regions reached table n marks → e.at < 65536 →
-      ((found : Fetched) × ((reached_at reached e.at ≡ Some found) × IsLeftOpen regions found.instr e.state)) → Marks regions reached table (n + 1) (slice_set marks e.at true)
+      ((found : Fetched) × ((found_at reached e.at ≡ Some found) × IsLeftOpen regions found.instr e.state)) → Marks regions reached table (n + 1) (slice_set marks e.at true)
   marks_open n marks e there below small left = record {
     whole = length-set marks e.at true ∙ below.whole;
     stays = λ place placed found less got_it instr unmarked. stay place placed found got_it instr unmarked (split place n less) (nat_same placed.at e.at);
@@ -69,7 +69,7 @@ module _ (regions : Areas) (reached : List (Option Fetched)) (table : List Place
     set_here : is_marked (slice_set marks e.at true) e.at ≡ true
     set_here = let whole = below.whole in marked_here marks e.at (omega (arith, whole, small))
 
-    stay : (place : ℕ) (placed : Placed) (found : Fetched) → slice_get table place ≡ Some placed → reached_at reached placed.at ≡ Some found → is_marked (slice_set marks e.at true) placed.at ≡ false →
+    stay : (place : ℕ) (placed : Placed) (found : Fetched) → slice_get table place ≡ Some placed → found_at reached placed.at ≡ Some found → is_marked (slice_set marks e.at true) placed.at ≡ false →
         (place < n) ⊎ (place ≡ n) → (placed.at ≡ e.at) ⊎ (placed.at ≢ e.at) → StaysIn regions (declared_targets regions placed.at) found.instr placed.state
     stay place placed found got_it instr unmarked less (inl same) =
         absurd (let h : is_marked (slice_set marks e.at true) e.at ≡ false = subst (λ k. is_marked (slice_set marks e.at true) k ≡ false) same unmarked in let g = set_here in cc (h, g))
@@ -78,22 +78,22 @@ module _ (regions : Areas) (reached : List (Option Fetched)) (table : List Place
         absurd (apart (ap (λ (p : Placed). p.at) (let h : slice_get table n ≡ Some placed = subst (λ k. slice_get table k ≡ Some placed) now got_it in let same : placed ≡ e = cc in same)))
 
     leave : (at : ℕ) → is_marked (slice_set marks e.at true) at ≡ true → (at ≡ e.at) ⊎ (at ≢ e.at) → IsLeftAt regions reached table at
-    leave at marked (inl same) = record { place = n; placed = e; found = left.0; there = there; here = sym same; instr = subst (λ k. reached_at reached k ≡ Some left.0) (sym same) left.1.0; leaves = left.1.1 }
+    leave at marked (inl same) = record { place = n; placed = e; found = left.0; there = there; here = sym same; instr = subst (λ k. found_at reached k ≡ Some left.0) (sym same) left.1.0; leaves = left.1.1 }
     leave at marked (inr apart) = below.leaves at (sym (marked_elsewhere marks e.at at apart) ∙ marked)
 
   pub marks_shut : (n : ℕ) (marks : List Bool) (e : Placed) → slice_get table n ≡ Some e → Marks regions reached table n marks →
-      ((found : Fetched) → reached_at reached e.at ≡ Some found → StaysIn regions (declared_targets regions e.at) found.instr e.state) → Marks regions reached table (n + 1) marks
+      ((found : Fetched) → found_at reached e.at ≡ Some found → StaysIn regions (declared_targets regions e.at) found.instr e.state) → Marks regions reached table (n + 1) marks
   marks_shut n marks e there below shut = record {
     whole = below.whole;
     stays = λ place placed found less got_it instr unmarked. stay place placed found got_it instr unmarked (split place n less);
     leaves = below.leaves;
   } where
-    stay : (place : ℕ) (placed : Placed) (found : Fetched) → slice_get table place ≡ Some placed → reached_at reached placed.at ≡ Some found → is_marked marks placed.at ≡ false →
+    stay : (place : ℕ) (placed : Placed) (found : Fetched) → slice_get table place ≡ Some placed → found_at reached placed.at ≡ Some found → is_marked marks placed.at ≡ false →
         (place < n) ⊎ (place ≡ n) → StaysIn regions (declared_targets regions placed.at) found.instr placed.state
     stay place placed found got_it instr unmarked (inl less) = below.stays place placed found less got_it instr unmarked
     stay place placed found got_it instr unmarked (inr now) =
         let same : e ≡ placed = (let h : slice_get table n ≡ Some placed = subst (λ k. slice_get table k ≡ Some placed) now got_it in cc) in
-        subst (λ (p : Placed). StaysIn regions (declared_targets regions p.at) found.instr p.state) same (shut found (subst (λ (p : Placed). reached_at reached p.at ≡ Some found) (sym same) instr))
+        subst (λ (p : Placed). StaysIn regions (declared_targets regions p.at) found.instr p.state) same (shut found (subst (λ (p : Placed). found_at reached p.at ≡ Some found) (sym same) instr))
 
   pub marks_all : (n : ℕ) (marks : List Bool) → length table ≤ n → Marks regions reached table n marks → AreOpenMarks regions reached table marks
   marks_all n marks enough below = record {
@@ -104,7 +104,7 @@ module _ (regions : Areas) (reached : List (Option Fetched)) (table : List Place
 -- the spans of the stores
 pub record Spans (reached : List (Option Fetched)) (table : List Placed) (n : ℕ) (spans : List (Option Span)) : Type 0 where
   pub whole : length spans ≡ 65536
-  pub each : (place : ℕ) (placed : Placed) (found : Fetched) (span : Span) → place < n → slice_get table place ≡ Some placed → reached_at reached placed.at ≡ Some found →
+  pub each : (place : ℕ) (placed : Placed) (found : Fetched) (span : Span) → place < n → slice_get table place ≡ Some placed → found_at reached placed.at ≡ Some found →
       pointer_span found.instr placed.state ≡ Some span → IsSpanned spans placed.at span
 
 joined_right : (o : Option Span) (span : Span) → IsInside span (joined_span o span)
@@ -124,7 +124,7 @@ module _ (reached : List (Option Fetched)) (table : List Placed) where
   abbrev pub spans_with : List (Option Span) → Placed → Span → List (Option Span)
   spans_with spans e new = slice_set spans e.at (Some (joined_span (entry_in (slice_get spans e.at)) new))
 
-  pub spans_more : (n : ℕ) (spans : List (Option Span)) (e : Placed) (new : Span) → slice_get table n ≡ Some e → Spans reached table n spans → e.at < 65536 → span_in (reached_at reached e.at) e.state ≡ Some new →
+  pub spans_more : (n : ℕ) (spans : List (Option Span)) (e : Placed) (new : Span) → slice_get table n ≡ Some e → Spans reached table n spans → e.at < 65536 → span_in (found_at reached e.at) e.state ≡ Some new →
       Spans reached table (n + 1) (slice_set spans e.at (Some (joined_span (entry_in (slice_get spans e.at)) new)))
   spans_more n spans e new there below small is_new = record {
     whole = length-set spans e.at (Some (joined_span (entry_in (slice_get spans e.at)) new)) ∙ below.whole;
@@ -133,7 +133,7 @@ module _ (reached : List (Option Fetched)) (table : List Placed) where
     here : entry_in (slice_get (spans_with spans e new) e.at) ≡ Some (joined_span (entry_in (slice_get spans e.at)) new)
     here = let whole = below.whole in entry_here spans e.at (Some (joined_span (entry_in (slice_get spans e.at)) new)) (omega (arith, whole, small))
 
-    go : (place : ℕ) (placed : Placed) (found : Fetched) (span : Span) → slice_get table place ≡ Some placed → reached_at reached placed.at ≡ Some found → pointer_span found.instr placed.state ≡ Some span →
+    go : (place : ℕ) (placed : Placed) (found : Fetched) (span : Span) → slice_get table place ≡ Some placed → found_at reached placed.at ≡ Some found → pointer_span found.instr placed.state ≡ Some span →
         (place < n) ⊎ (place ≡ n) → (placed.at ≡ e.at) ⊎ (placed.at ≢ e.at) → IsSpanned (spans_with spans e new) placed.at span
     go place placed found span got_it instr is (inl less) (inl same) =
         let old = subst (λ k. IsSpanned spans k span) same (below.each place placed found span less got_it instr is) in
@@ -148,8 +148,8 @@ module _ (reached : List (Option Fetched)) (table : List Placed) where
         record { whole = old.whole; there = entry_elsewhere spans e.at placed.at _ apart ∙ old.there; inside = old.inside }
     go place placed found span got_it instr is (inr now) at =
         let same : e ≡ placed = (let h : slice_get table n ≡ Some placed = subst (λ k. slice_get table k ≡ Some placed) now got_it in cc) in
-        let mine : span_in (reached_at reached e.at) e.state ≡ Some span =
-        subst (λ (p : Placed). span_in (reached_at reached p.at) p.state ≡ Some span) (sym same) (span_there (reached_at reached placed.at) found placed span instr is) in
+        let mine : span_in (found_at reached e.at) e.state ≡ Some span =
+        subst (λ (p : Placed). span_in (found_at reached p.at) p.state ≡ Some span) (sym same) (span_there (found_at reached placed.at) found placed span instr is) in
         let it : new ≡ span = cc in
         subst (λ (p : Placed). IsSpanned (spans_with spans e new) p.at span) same
         (record {
@@ -158,18 +158,18 @@ module _ (reached : List (Option Fetched)) (table : List Placed) where
           inside = subst (λ (s : Span). IsInside s (joined_span (entry_in (slice_get spans e.at)) new)) it (joined_right (entry_in (slice_get spans e.at)) new);
         })
 
-  pub spans_kept : (n : ℕ) (spans : List (Option Span)) (e : Placed) → slice_get table n ≡ Some e → Spans reached table n spans → span_in (reached_at reached e.at) e.state ≡ None → Spans reached table (n + 1) spans
+  pub spans_kept : (n : ℕ) (spans : List (Option Span)) (e : Placed) → slice_get table n ≡ Some e → Spans reached table n spans → span_in (found_at reached e.at) e.state ≡ None → Spans reached table (n + 1) spans
   spans_kept n spans e there below none = record {
     whole = below.whole;
     each = λ place placed found span less got_it instr is. go place placed found span got_it instr is (split place n less);
   } where
-    go : (place : ℕ) (placed : Placed) (found : Fetched) (span : Span) → slice_get table place ≡ Some placed → reached_at reached placed.at ≡ Some found → pointer_span found.instr placed.state ≡ Some span →
+    go : (place : ℕ) (placed : Placed) (found : Fetched) (span : Span) → slice_get table place ≡ Some placed → found_at reached placed.at ≡ Some found → pointer_span found.instr placed.state ≡ Some span →
         (place < n) ⊎ (place ≡ n) → IsSpanned spans placed.at span
     go place placed found span got_it instr is (inl less) = below.each place placed found span less got_it instr is
     go place placed found span got_it instr is (inr now) =
         let same : e ≡ placed = (let h : slice_get table n ≡ Some placed = subst (λ k. slice_get table k ≡ Some placed) now got_it in cc) in
-        let mine : span_in (reached_at reached e.at) e.state ≡ Some span =
-        subst (λ (p : Placed). span_in (reached_at reached p.at) p.state ≡ Some span) (sym same) (span_there (reached_at reached placed.at) found placed span instr is) in
+        let mine : span_in (found_at reached e.at) e.state ≡ Some span =
+        subst (λ (p : Placed). span_in (found_at reached p.at) p.state ≡ Some span) (sym same) (span_there (found_at reached placed.at) found placed span instr is) in
         absurd (cc (mine, none))
 
   pub spans_all : (n : ℕ) (spans : List (Option Span)) → length table ≤ n → Spans reached table n spans → AreSpans reached table spans
@@ -185,15 +185,3 @@ marks_set P marks at b whole small before here k is = go (nat_same k at) where
       let so : is_marked (slice_set marks at b) at ≡ true = subst (λ n. is_marked (slice_set marks at b) n ≡ true) same is in
       subst P (sym same) (here (sym it ∙ so))
   go (inr apart) = before k (sym (get_or-set_other marks at k b false apart) ∙ is)
-
--- states that say nothing, one more
-pub nothing_more : (table : List Placed) (e : Placed) (n : ℕ) → ((at : ℕ) → at < n → SaysNothingAt table at) → e.at ≡ n → e.state ≡ anything → (at : ℕ) → at < n + 1 → SaysNothingAt (table ++ e ∷ []) at
-nothing_more table e n below here nothing at less = go (split at n less) where
-  front : (xs : List Placed) (place : ℕ) (p : Placed) → slice_get xs place ≡ Some p → slice_get (xs ++ e ∷ []) place ≡ Some p
-  front [] place p h = cc
-  front (x ∷ xs) zero p h = h
-  front (x ∷ xs) (suc place) p h = front xs place p h
-
-  go : (at < n) ⊎ (at ≡ n) → SaysNothingAt (table ++ e ∷ []) at
-  go (inl before) = let says = below at before in record { place = says.place; placed = says.placed; there = front table says.place says.placed says.there; here = says.here; nothing = says.nothing }
-  go (inr now) = record { place = length table; placed = e; there = slice_get-last table e; here = here ∙ sym now; nothing = nothing }

@@ -1,27 +1,21 @@
 -- Vectors by address, read and written.
-use Rattle.std.specs.Prelude.{◌≡◌, ◌≢◌, ◌⊎◌, ℕ, zero, suc, ◌<◌, Bool, true, false, List, [], ◌∷◌, Option, None, Some, length, replicate, slice_get, slice_set, refl}
+use Rattle.std.specs.Prelude.{◌≡◌, ◌≢◌, ◌⊎◌, ℕ, zero, suc, ◌<◌, Bool, true, false, List, [], ◌∷◌, Option, None, Some, length, replicate, slice_get, slice_index_or, slice_set, refl}
 use Rattle.std.proofs.Common.{subst, sym, ◌∙◌, arith, get_or, get_or-set_other}
 use Rattle.std.proofs.lemmas.List.{get_or-set_same}
-use Rattle.verify80_stores.specs.Following.{entry_in}
-use Rattle.verify80_stores.specs.Marks.{is_marked}
-use Rattle.verify80_stores.proofs.TableLemmas.{same_entry}
+use Rattle.verify80_states.specs.Following.{entry_in}
+use Rattle.verify80_states.specs.Marks.{is_marked}
+
+-- two ways to read a table of entries
+same_entry : {A : Type 0} (table : List (Option A)) (at : ℕ) → entry_in (slice_get table at) ≡ slice_index_or table at None
+same_entry [] at = refl
+same_entry (entry ∷ table) zero = refl
+same_entry (entry ∷ table) (suc at) = same_entry table at
 
 -- an element that is got
-pub got : {A : Type 0} (xs : List A) (k : ℕ) (x : A) → slice_get xs k ≡ Some x → get_or xs k x ≡ x
-got [] k x h = cc
-got (y ∷ xs) zero x h = cc
-got (y ∷ xs) (suc k) x h = got xs k x h
-
 pub got_some : {A : Type 0} (xs : List A) (k : ℕ) (d : A) → k < length xs → slice_get xs k ≡ Some (get_or xs k d)
 got_some [] k d inside = absurd (omega arith)
 got_some (y ∷ xs) zero d inside = refl
 got_some (y ∷ xs) (suc k) d inside = got_some xs k d (omega (arith, inside))
-
--- what holds of the element that is read at a place holds of the one that is got there
-pub for_this : {A : Type 0} (P : A → Type 0) (xs : List A) (k : ℕ) (d x : A) → slice_get xs k ≡ Some x → P (get_or xs k d) → P x
-for_this P [] k d x h holds = cc
-for_this P (y ∷ xs) zero d x h holds = subst P (let same : y ≡ x = cc in same) holds
-for_this P (y ∷ xs) (suc k) d x h holds = for_this P xs k d x h holds
 
 -- marks, none of which is set, and one of which is
 pub none_marked : (count at : ℕ) → is_marked (replicate count false) at ≡ false

@@ -4,7 +4,7 @@ use Rattle.std.proofs.Common.{arith}
 use Rattle.image80.specs.Image.{Located, memory_of}
 use Rattle.machine80.specs.World.{world_at_start}
 use Rattle.verify80.specs.Soundness.{RunsBeginFromPowerOn}
-use Rattle.verify80_stores.specs.Bytes.{HasBytes, HoldsBytes}
+use Rattle.verify80_states.specs.Bytes.{HasBytes, HoldsBytes}
 use Rattle.verify80_stores.specs.declared.stores.OpenStore.{OpenStore}
 use Rattle.verify80_stores.specs.Stores.{AreStoresOf, WatchedRunsGoAsListed}
 

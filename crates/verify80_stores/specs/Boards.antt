@@ -9,7 +9,7 @@ use Rattle.machine80.specs.Step.{Machine}
 use Rattle.machine80.specs.World.{World}
 use Rattle.machine80.specs.Run.{world_of}
 use Rattle.verify80.specs.Boards.{Disturbs, Executes, MayStart, OnBoard, KeepsPromise}
-use Rattle.verify80_stores.specs.Bytes.{HoldsBytes}
+use Rattle.verify80_states.specs.Bytes.{HoldsBytes}
 use Rattle.verify80_stores.specs.declared.stores.OpenStore.{OpenStore}
 use Rattle.verify80_stores.specs.Stores.{GoesAsListed}
 

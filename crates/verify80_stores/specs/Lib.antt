@@ -2,19 +2,7 @@ pub mod Pointers
 pub mod Stores
 pub mod Boards
 pub mod StoresText
-pub mod Bytes
-pub mod Span
 -- what the crate's own functions promise one another: no public contract cites these
-pub mod Cells
-pub mod State
-pub mod Following
-pub mod Given
-pub mod Steps
-pub mod Marks
-pub mod Fitting
-pub mod Calls
-pub mod FittingTable
-pub mod Runs
 pub mod DataReach
 pub mod Kinds
 pub mod StackPointer

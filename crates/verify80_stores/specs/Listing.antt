@@ -8,15 +8,14 @@ use Rattle.machine80.specs.Step.{Machine}
 use Rattle.machine80.specs.World.{World}
 use Rattle.verify80.specs.Starts.{NeverGoesWrongFromPowerOn}
 use Rattle.verify80.specs.Boards.{Anywhere, Executes, IsGuarded, KeepsPromise, KeepsToWalks, MayStart, OnBoard}
-use Rattle.verify80.specs.Reached.{StaysOnWalks}
+use Rattle.verify80.specs.Reached.{StaysOnWalks, found_at}
 use Rattle.verify80.specs.Looking.{declared_targets}
-use Rattle.verify80_stores.specs.declared.spans.span.Span.{Span}
-use Rattle.verify80_stores.specs.declared.fitting.fitting.Placed.{Placed}
+use Rattle.verify80_states.specs.declared.spans.span.Span.{Span}
+use Rattle.verify80_states.specs.declared.fitting.fitting.Placed.{Placed}
 use Rattle.verify80_stores.specs.declared.stores.OpenStore.{OpenStore}
-use Rattle.verify80_stores.specs.Span.{IsInside}
-use Rattle.verify80_stores.specs.Following.{entry_in}
-use Rattle.verify80_stores.specs.Marks.{is_marked}
-use Rattle.verify80_stores.specs.State.{anything}
+use Rattle.verify80_states.specs.Span.{IsInside}
+use Rattle.verify80_states.specs.Following.{entry_in}
+use Rattle.verify80_states.specs.Marks.{is_marked}
 use Rattle.verify80_stores.specs.Pointers.{stores_by_pair}
 use Rattle.verify80_stores.specs.Opening.{pointer_span, StaysIn, IsLeftOpen}
 
@@ -30,17 +29,13 @@ pub record AreKnown (image : Located) (bytes : ℕ) : Type 0 where
   pub guarded : (start : Machine) → MayStart image start → (w v : World) → OnBoard image.regions Anywhere start w →
       (step : Executes image.regions Anywhere w v) → IsGuarded image.regions w.machine step.after
 
--- the instruction that is reached at an address
-abbrev pub reached_at : List (Option Fetched) → ℕ → Option Fetched
-reached_at reached at = entry_in (slice_get reached at)
-
 abbrev pub is_kind : (Instr → Bool) → Option Fetched → Bool
 is_kind kind None = false
 is_kind kind (Some found) = kind found.instr
 
 -- whether the instruction at an address is of a kind, and whether it also is marked
 abbrev pub is_at : (Instr → Bool) → List (Option Fetched) → ℕ → Bool
-is_at kind reached at = is_kind kind (reached_at reached at)
+is_at kind reached at = is_kind kind (found_at reached at)
 
 abbrev pub is_marked_at : (Instr → Bool) → List (Option Fetched) → (marks : List Bool) → ℕ → Bool
 is_marked_at kind reached marks at = is_at kind reached at && is_marked marks at
@@ -58,12 +53,12 @@ pub record IsLeftAt (regions : Areas) (reached : List (Option Fetched)) (table :
   pub found : Fetched
   pub there : slice_get table place ≡ Some placed
   pub here : placed.at ≡ at
-  pub instr : reached_at reached at ≡ Some found
+  pub instr : found_at reached at ≡ Some found
   pub leaves : IsLeftOpen regions found.instr placed.state
 
 -- marks for the addresses at which a state of the table leaves the instruction open
 pub record AreOpenMarks (regions : Areas) (reached : List (Option Fetched)) (table : List Placed) (marks : List Bool) : Type 0 where
-  pub stays : (place : ℕ) (placed : Placed) (found : Fetched) → slice_get table place ≡ Some placed → reached_at reached placed.at ≡ Some found →
+  pub stays : (place : ℕ) (placed : Placed) (found : Fetched) → slice_get table place ≡ Some placed → found_at reached placed.at ≡ Some found →
       is_marked marks placed.at ≡ false → StaysIn regions (declared_targets regions placed.at) found.instr placed.state
   pub leaves : (at : ℕ) → is_marked marks at ≡ true → IsLeftAt regions reached table at
 
@@ -76,13 +71,13 @@ pub record IsSpanned (spans : List (Option Span)) (at : ℕ) (span : Span) : Typ
 -- spans by address, that have the words of all that states of the table say of the stores there
 abbrev pub AreSpans : List (Option Fetched) → List Placed → List (Option Span) → Type 0
 AreSpans reached table spans = (place : ℕ) (placed : Placed) (found : Fetched) (span : Span) → slice_get table place ≡ Some placed →
-    reached_at reached placed.at ≡ Some found → pointer_span found.instr placed.state ≡ Some span → IsSpanned spans placed.at span
+    found_at reached placed.at ≡ Some found → pointer_span found.instr placed.state ≡ Some span → IsSpanned spans placed.at span
 
 -- an open store is that of its address: the instruction, which is marked, and its span
 pub record IsListed (reached : List (Option Fetched)) (marks : List Bool) (spans : List (Option Span)) (bound : ℕ) (store : OpenStore) : Type 0 where
   pub below : store.at < bound
   pub found : Fetched
-  pub there : reached_at reached store.at ≡ Some found
+  pub there : found_at reached store.at ≡ Some found
   pub instr : found.instr ≡ store.instr
   pub stores : stores_by_pair store.instr ≡ true
   pub marked : is_marked marks store.at ≡ true
@@ -94,11 +89,3 @@ pub record AreOpenBelow (reached : List (Option Fetched)) (marks : List Bool) (s
   pub each : All (IsListed reached marks spans bound) stores
   pub all : (at : ℕ) (span : Span) → at < bound → is_marked_at stores_by_pair reached marks at ≡ true →
       entry_in (slice_get spans at) ≡ Some span → Any (λ store. store.at ≡ at) stores
-
--- the state at an address says nothing
-pub record SaysNothingAt (table : List Placed) (at : ℕ) : Type 0 where
-  pub place : ℕ
-  pub placed : Placed
-  pub there : slice_get table place ≡ Some placed
-  pub here : placed.at ≡ at
-  pub nothing : placed.state ≡ anything

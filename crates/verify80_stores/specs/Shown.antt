@@ -4,12 +4,13 @@ use Rattle.decode80.specs.declared.fetching.Fetched.{Fetched}
 use Rattle.image80.specs.Image.{Located}
 use Rattle.image80.specs.Regions.{Areas}
 use Rattle.verify80.specs.Looking.{declared_targets}
-use Rattle.verify80_stores.specs.declared.spans.span.Span.{Span}
-use Rattle.verify80_stores.specs.declared.fitting.fitting.Placed.{Placed}
-use Rattle.verify80_stores.specs.Marks.{is_marked}
+use Rattle.verify80.specs.Reached.{found_at}
+use Rattle.verify80_states.specs.declared.spans.span.Span.{Span}
+use Rattle.verify80_states.specs.declared.fitting.fitting.Placed.{Placed}
+use Rattle.verify80_states.specs.Marks.{is_marked}
 use Rattle.verify80_stores.specs.Opening.{StaysIn}
-use Rattle.verify80_stores.specs.Runs.{IsKept}
-use Rattle.verify80_stores.specs.Listing.{AreSpans, IsLeftAt, reached_at}
+use Rattle.verify80_states.specs.Runs.{IsKept}
+use Rattle.verify80_stores.specs.Listing.{AreSpans, IsLeftAt}
 
 -- marks that others have too, below an address
 pub record BothBelow (one other : List Bool) (n : ℕ) (marks : List Bool) : Type 0 where
@@ -25,7 +26,7 @@ pub record KeptTable (image : Located) (quiet : ℕ → Bool) : Type 0 where
 -- each state that a table has at an address stores to data and jumps to a declared target
 abbrev pub IsShutAt : Areas → List (Option Fetched) → List Placed → (at : ℕ) → Type 0
 IsShutAt regions reached table at = (place : ℕ) (placed : Placed) (found : Fetched) → slice_get table place ≡ Some placed → placed.at ≡ at →
-    reached_at reached at ≡ Some found → StaysIn regions (declared_targets regions at) found.instr placed.state
+    found_at reached at ≡ Some found → StaysIn regions (declared_targets regions at) found.instr placed.state
 
 -- Marks and spans by address, for some tables that are kept. At each unmarked address one of them lets the instruction stay inside. One of
 -- them leaves the instruction open at each marked address: the spans are those of its states.

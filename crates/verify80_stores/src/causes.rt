@@ -1,11 +1,11 @@
 //! What sets the pair of a store or a jump that isn't shown to stay inside. This is advice: nothing is promised of it.
 
-use crate::fitting::CallReturns;
-use crate::search::{Groups, ReachedProgram};
 use crate::stores::Stores;
 use decode80::{Fetched, Flow, IndexPair, Instr, Pair, Storing};
 use std::alloc::{AllocError, Global};
 use verify80::{Vouched, find_reached};
+use verify80_proposals::{Groups, ReachedProgram};
+use verify80_states::CallReturns;
 
 /// How many steps back are taken in all, at most.
 const STEPS: usize = 1_000_000;

@@ -3,12 +3,12 @@
 ghost use Rattle.std.specs.Prelude.{◌≡◌, ◌+◌, ◌<◌, ◌≤◌, ℕ, true, false, IfOk, length};
 ghost use Rattle.image80.specs.Regions.{in_data};
 ghost use Rattle.image80.specs.RegionMap.{Maps};
-ghost use Rattle.verify80_stores.specs.Span.{Within};
+ghost use Rattle.verify80_states.specs.Span.{Within};
 ghost use Rattle.verify80_stores.specs.DataReach.{AreDataEnds, ReachesTo};
 
-use crate::spans::Span;
 use image80::{RegionMap, Regions};
 use std::alloc::{AllocError, Global};
+use verify80_states::Span;
 
 /// For each address the first one from there on that is not data, 65,536 if there is none.
 ///

@@ -3,16 +3,14 @@
 ghost use Rattle.std.specs.Prelude.{◌≡◌, [], IfOk, true};
 ghost use Rattle.image80.specs.Image.{memory_of};
 ghost use Rattle.verify80.specs.Boards.{SetsStack};
-ghost use Rattle.verify80_stores.specs.Bytes.{HasBytes};
+ghost use Rattle.verify80_states.specs.Bytes.{HasBytes};
 ghost use Rattle.verify80_stores.specs.Boards.{PromiseHoldsOnBoards, PromiseHoldsOnQuietBoards, is_quiet};
 ghost use Rattle.verify80_stores.specs.Stores.{AreStoresOf, WatchedRunsGoAsListed};
 ghost use Rattle.verify80_stores.specs.Listing.{AreKnown};
 
-use crate::fitting::fitting_states_hold;
 use crate::laws::watched_runs_go_as_listed;
 use crate::listing::{Kind, addresses_of, open_jumps, open_stores};
 use crate::showing::show;
-use crate::spans::bytes_stay_bytes;
 use crate::stack_pointer::sets_stack;
 use crate::stores::Stores;
 use image80::{Image, Range};
@@ -21,6 +19,7 @@ use verify80::{
     Vouched, accepted_images_stay_on_walks, find_reached, images_never_go_wrong_from_power_on,
     promise_is_kept_on_boards, walks_are_kept_on_boards,
 };
+use verify80_states::{bytes_stay_bytes, fitting_states_hold};
 
 /// Goes over a vouched image, and answers where its register-indirect stores may go. In the quiet ranges of data nobody but the program
 /// writes: what it has stored there is remembered.

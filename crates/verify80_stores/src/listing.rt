@@ -3,25 +3,23 @@
 ghost use Rattle.std.specs.Prelude.{◌≡◌, ◌⊎◌, ◌+◌, ◌<◌, ℕ, true, false, Some, Contains, IfOk, IfSome, IfNone, length, slice_get};
 ghost use Rattle.image80.specs.Regions.{in_data};
 ghost use Rattle.verify80.specs.Looking.{declared_targets, is_pchl};
-ghost use Rattle.verify80_stores.specs.declared.spans.span.Span.{Span};
-ghost use Rattle.verify80_stores.specs.Span.{Within};
-ghost use Rattle.verify80_stores.specs.Following.{entry_in};
+ghost use Rattle.verify80_states.specs.declared.spans.span.Span.{Span};
+ghost use Rattle.verify80_states.specs.Span.{Within};
+ghost use Rattle.verify80_states.specs.Following.{entry_in};
 ghost use Rattle.verify80_stores.specs.DataReach.{AreDataEnds};
-ghost use Rattle.verify80_stores.specs.Marks.{is_marked};
+ghost use Rattle.verify80_states.specs.Marks.{is_marked};
 ghost use Rattle.verify80_stores.specs.Pointers.{stores_by_pair};
 ghost use Rattle.verify80_stores.specs.Opening.{joined_span, span_in, StaysIn, IsLeftOpen};
 ghost use Rattle.verify80_stores.specs.Listing.{AreAllBelow, AreOpenBelow, AreOpenMarks, AreSpans, IsListed, is_at, is_marked_at, reached_at};
 ghost use Rattle.verify80_stores.specs.Kinds.{is_of};
 
 use crate::data_ends::{data_ends, is_all_data};
-use crate::fitting::{Placed, is_marked, reached_at, targets_at, unmarked};
 use crate::pointer::pointer_span;
-use crate::spans::Span;
-use crate::states::State;
 use crate::stores::OpenStore;
 use decode80::{Fetched, Instr, Storing};
 use image80::Regions;
 use std::alloc::{AllocError, Global};
+use verify80_states::{Placed, Span, State, is_marked, reached_at, targets_at, unmarked};
 
 /// The kinds of instructions that are listed.
 #[derive(Clone, Copy)]
@@ -155,9 +153,9 @@ fn is_left_open(
     placed: Placed,
 ) -> bool
     requires { AreDataEnds regions.now ends.now }
-    ensures stays { result ≡ false → (found : Fetched) → reached_at reached.now placed.at ≡ Some found →
+    ensures stays { result ≡ false → (found : Fetched) → found_at reached.now placed.at ≡ Some found →
         StaysIn regions.now (declared_targets regions.now placed.at) found.instr placed.state }
-    ensures leaves { result ≡ true → (found : Fetched) × ((reached_at reached.now placed.at ≡ Some found) × IsLeftOpen regions.now found.instr placed.state) }
+    ensures leaves { result ≡ true → (found : Fetched) × ((found_at reached.now placed.at ≡ Some found) × IsLeftOpen regions.now found.instr placed.state) }
     ensures address { placed.at < 65536 }
 {
     match reached_at(reached, placed.at) {
@@ -201,7 +199,7 @@ fn no_spans(alloc: Global, count: usize) -> Result<Vec<Option<Span>>, AllocError
 
 /// Where a state lets the instruction at its address store by a pair.
 fn span_of(reached: &[Option<Fetched>], placed: Placed) -> Option<Span>
-    ensures span { result ≡ span_in (reached_at reached.now placed.at) placed.state }
+    ensures span { result ≡ span_in (found_at reached.now placed.at) placed.state }
     ensures address { placed.at < 65536 }
 {
     let found = reached_at(reached, placed.at)?;

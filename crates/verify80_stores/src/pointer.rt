@@ -3,9 +3,8 @@
 ghost use Rattle.std.specs.Prelude.{◌≡◌};
 ghost use Rattle.verify80_stores.specs.Opening.{pointer_span};
 
-use crate::spans::Span;
-use crate::states::{State, index_words};
 use decode80::{Instr, Storing};
+use verify80_states::{Span, State, index_words};
 
 /// Where an instruction may store by a pair in a state; `None` if it stores by none.
 pub(crate) fn pointer_span(instr: Instr, state: State) -> Option<Span>

@@ -1,29 +1,24 @@
 //! What is shown of a program's register-indirect stores and jumps, by one table of states after the other.
 
-ghost use Rattle.std.specs.Prelude.{◌≡◌, ◌<◌, ℕ, true, All, IfOk, IfSome, length};
+ghost use Rattle.std.specs.Prelude.{◌≡◌, ℕ, true, IfOk, IfSome, length};
 ghost use Rattle.image80.specs.Regions.{AreRegions};
 ghost use Rattle.verify80.specs.Looking.{code_of};
 ghost use Rattle.verify80.specs.Reached.{AreReached};
 ghost use Rattle.verify80_stores.specs.Boards.{is_quiet};
-ghost use Rattle.verify80_stores.specs.State.{anything};
-ghost use Rattle.verify80_stores.specs.Marks.{is_marked};
-ghost use Rattle.verify80_stores.specs.Steps.{AreCodeBytes};
-ghost use Rattle.verify80_stores.specs.Runs.{IsKept};
+ghost use Rattle.verify80_states.specs.Marks.{is_marked};
+ghost use Rattle.verify80_states.specs.Steps.{AreCodeBytes};
+ghost use Rattle.verify80_states.specs.Runs.{IsKept};
 ghost use Rattle.verify80_stores.specs.Shown.{AreShown, BothBelow};
-ghost use Rattle.verify80_stores.specs.Listing.{SaysNothingAt};
 
 use crate::code_bytes::code_bytes;
-use crate::fitting::{CallReturns, Placed, fits, fitting_states_hold, is_marked, unmarked};
 use crate::listing::{open_marks, spans_of};
 use crate::quiet::mark_quiet;
-use crate::search::{Groups, Proposal, ReachedProgram, propose_table};
-use crate::spans::{Span, bytes_stay_bytes};
-use crate::states::State;
 use decode80::Fetched;
-use image80::laws::code_data_and_stack_are_apart;
 use image80::{Image, Range};
 use std::alloc::{AllocError, Global};
 use verify80::ProcRow;
+use verify80_proposals::{Groups, Proposal, ReachedProgram, propose_table};
+use verify80_states::{CallReturns, Placed, Span, anything, fits, is_marked, unmarked};
 
 /// How many tables are tried.
 const TABLES: usize = 4;
@@ -181,9 +176,7 @@ fn show_nothing(
     requires rules { AreRegions image.now.regions }
     ensures { IfOk result (λ s. AreShown image.now (is_quiet image.now.regions quiet.now) reached.now s.marks.items s.spans.items) }
 {
-    bytes_stay_bytes();
-    code_data_and_stack_are_apart();
-    let table = anything(alloc)?;
+    let table = anything(alloc, image, reached)?;
     show_with(alloc, image, reached, quiet, &table, None)
 }
 
@@ -203,43 +196,14 @@ fn fitting_table(
     requires marks { (at : ℕ) → is_marked marks.now at ≡ true → is_quiet image.now.regions quiet.now at ≡ true }
     ensures { IfSome result (λ table. IsKept image.now (is_quiet image.now.regions quiet.now) table.items) }
 {
-    fitting_states_hold();
     let Proposal {
         table,
         hints,
         returns,
     } = found?;
-    if fits(
-        &table,
-        &hints,
-        &returns,
-        code,
-        image.start,
-        &image.regions,
-        reached,
-        marks,
-    ) {
+    if fits(image, &table, &hints, &returns, code, reached, marks) {
         Some(table)
     } else {
         None
     }
-}
-
-/// A table of which the state at each address says nothing.
-///
-/// # Errors
-/// `AllocError` if memory runs out.
-fn anything(alloc: Global) -> Result<Vec<Placed>, AllocError>
-    ensures everywhere { IfOk result (λ table. (at : ℕ) → at < 65536 → SaysNothingAt table.items at) }
-    ensures nothing { IfOk result (λ table. All (λ placed. placed.state ≡ anything) table.items) }
-{
-    let mut table = Vec::with_capacity(alloc, 65_536)?;
-    for at in 0..65_536_usize {
-        table.push(Placed {
-            at: at as u16,
-            state: State::ANY,
-            hint: 0,
-        })?;
-    }
-    Ok(table)
 }

@@ -1,7 +1,7 @@
 //! What is found of a program's register-indirect stores.
 
-use crate::spans::Span;
 use decode80::Instr;
+use verify80_states::Span;
 
 /// The register-indirect stores of a program, and its jumps by PCHL, as far as its walks reach them. All lists are by address.
 #[derive(Debug, Drop)]

@@ -1,7 +1,7 @@
 use Rattle.std.proofs.Common.{rules, subst}
 use Rattle.image80.specs.Image.{Located, memory_of}
-use Rattle.verify80_stores.specs.Bytes.{HasBytes}
-use Rattle.verify80_stores.specs.Runs.{RunsKeepTo}
+use Rattle.verify80_states.specs.Bytes.{HasBytes}
+use Rattle.verify80_states.specs.Runs.{RunsKeepTo}
 use Rattle.verify80_stores.specs.Shown.{AreShown, KeptTable}
 use Rattle.verify80_stores.proofs.StoreLemmas.{are_stores}
 use Rattle.verify80_stores.specs.Boards.{is_quiet}

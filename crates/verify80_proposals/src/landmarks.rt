@@ -1,0 +1,234 @@
+//! The words to which spans grow.
+
+use crate::program::ReachedProgram;
+use decode80::Instr;
+use image80::RegionMap;
+use std::alloc::{AllocError, Global};
+use verify80_states::{ByteSpan, Cell, Cells, PairSpan, Span, State, Words};
+
+/// How often a state takes in others as they are.
+const JOINS: u32 = 4;
+/// How often it then grows from landmark to landmark, before it grows to any word: once for each page of memory and some more.
+const STEPS: u32 = 300;
+
+/// For each word the next landmark from it on, up and down: ends of data, of pages, and words that the program names.
+#[derive(Drop)]
+pub(crate) struct Landmarks {
+    up: Vec<u16>,
+    down: Vec<u16>,
+}
+
+impl Landmarks {
+    /// The landmarks of a program.
+    ///
+    /// # Errors
+    /// `AllocError` if memory runs out.
+    pub fn new(alloc: Global, program: ReachedProgram<'_>) -> Result<Landmarks, AllocError> {
+        let mut is_last = vec![in alloc; false; 65_536]?;
+        let mut is_first = vec![in alloc; false; 65_536]?;
+        mark_ends(alloc, program, &mut is_first, &mut is_last)?;
+        mark_names(program, &mut is_first, &mut is_last);
+        let mut landmarks = Landmarks {
+            up: vec![in alloc; u16::MAX; 65_536]?,
+            down: vec![in alloc; 0; 65_536]?,
+        };
+        landmarks.fill(&is_first, &is_last);
+        Ok(landmarks)
+    }
+
+    /// Notes the next landmark of each word.
+    fn fill(&mut self, is_first: &[bool], is_last: &[bool]) {
+        let mut first = 0;
+        let mut last = u16::MAX;
+        for number in 0..65_536_u32 {
+            let low = number as u16;
+            if is_set(is_first, low) {
+                first = low;
+            }
+            if let Some(place) = self.down.get_mut(usize::from(low)) {
+                *place = first;
+            }
+            let high = u16::MAX - low;
+            if is_set(is_last, high) {
+                last = high;
+            }
+            if let Some(place) = self.up.get_mut(usize::from(high)) {
+                *place = last;
+            }
+        }
+    }
+
+    /// The landmark at a word or above it.
+    fn above(&self, word: u16) -> u16 {
+        match self.up.get(usize::from(word)) {
+            Some(landmark) => *landmark,
+            None => u16::MAX,
+        }
+    }
+
+    /// The landmark at a word or below it.
+    fn below(&self, word: u16) -> u16 {
+        match self.down.get(usize::from(word)) {
+            Some(landmark) => *landmark,
+            None => 0,
+        }
+    }
+
+    /// A state with all that two states may be; an end that has moved so often goes on to a landmark.
+    pub fn grown(&self, old: State, new: State, growths: u32) -> State {
+        State {
+            a: self.grown_bytes(old.a, new.a, growths),
+            bc: self.grown_pair(old.bc, new.bc, growths),
+            de: self.grown_pair(old.de, new.de, growths),
+            hl: self.grown_pair(old.hl, new.hl, growths),
+            words: Words {
+                first: self.grown_word(old.words.first, new.words.first, growths),
+                second: self.grown_word(old.words.second, new.words.second, growths),
+                third: self.grown_word(old.words.third, new.words.third, growths),
+                fourth: self.grown_word(old.words.fourth, new.words.fourth, growths),
+            },
+            cells: Cells {
+                first: self.grown_cell(old.cells.first, new.cells.first, growths),
+                second: self.grown_cell(old.cells.second, new.cells.second, growths),
+                third: self.grown_cell(old.cells.third, new.cells.third, growths),
+                fourth: self.grown_cell(old.cells.fourth, new.cells.fourth, growths),
+                fifth: self.grown_cell(old.cells.fifth, new.cells.fifth, growths),
+                sixth: self.grown_cell(old.cells.sixth, new.cells.sixth, growths),
+                seventh: self.grown_cell(old.cells.seventh, new.cells.seventh, growths),
+                eighth: self.grown_cell(old.cells.eighth, new.cells.eighth, growths),
+            },
+            ..with_same_flags(old, new)
+        }
+    }
+
+    fn grown_bytes(&self, old: ByteSpan, new: ByteSpan, growths: u32) -> ByteSpan {
+        let first = old.first.min(new.first);
+        let last = old.last.max(new.last);
+        if growths < JOINS {
+            return ByteSpan { first, last };
+        }
+        ByteSpan {
+            first: if first == old.first { first } else { 0 },
+            last: if last == old.last { last } else { u8::MAX },
+        }
+    }
+
+    fn grown_cell(&self, old: Cell, new: Cell, growths: u32) -> Cell {
+        if old.at == new.at {
+            Cell {
+                at: old.at,
+                bytes: self.grown_bytes(old.bytes, new.bytes, growths),
+            }
+        } else {
+            Cell::ANY
+        }
+    }
+
+    fn grown_pair(&self, old: PairSpan, new: PairSpan, growths: u32) -> PairSpan {
+        PairSpan {
+            words: self.grown_words(old.words, new.words, growths),
+            low: self.grown_bytes(old.low, new.low, growths),
+        }
+    }
+
+    fn grown_word(&self, old: Option<Span>, new: Option<Span>, growths: u32) -> Option<Span> {
+        match (old, new) {
+            (Some(old), Some(new)) => Some(self.grown_words(old, new, growths)),
+            _ => None,
+        }
+    }
+
+    fn grown_words(&self, old: Span, new: Span, growths: u32) -> Span {
+        let hull = old.hull(new);
+        if growths < JOINS {
+            return hull;
+        }
+        let is_last_time = growths > STEPS;
+        let first = if hull.first == old.first {
+            old.first
+        } else if is_last_time {
+            0
+        } else {
+            self.below(hull.first)
+        };
+        let last = if hull.last == old.last {
+            old.last
+        } else if is_last_time {
+            u16::MAX
+        } else {
+            self.above(hull.last)
+        };
+        Span { first, last }
+    }
+}
+
+/// A state with the flags, the comparison and the copy that both have.
+fn with_same_flags(old: State, new: State) -> State {
+    State {
+        copy: if old.copy == new.copy {
+            old.copy
+        } else {
+            State::ANY.copy
+        },
+        zero: same_flag(old.zero, new.zero),
+        carry: same_flag(old.carry, new.carry),
+        sign: same_flag(old.sign, new.sign),
+        compared: if old.compared == new.compared {
+            old.compared
+        } else {
+            None
+        },
+        ..old
+    }
+}
+
+fn same_flag(old: Option<bool>, new: Option<bool>) -> Option<bool> {
+    if old == new { old } else { None }
+}
+
+fn is_set(marks: &[bool], word: u16) -> bool {
+    match marks.get(usize::from(word)) {
+        Some(mark) => *mark,
+        None => false,
+    }
+}
+
+fn set(marks: &mut [bool], word: u16) {
+    if let Some(place) = marks.get_mut(usize::from(word)) {
+        *place = true;
+    }
+}
+
+/// Marks the ends of data and of pages.
+fn mark_ends(
+    alloc: Global,
+    program: ReachedProgram<'_>,
+    is_first: &mut [bool],
+    is_last: &mut [bool],
+) -> Result<(), AllocError> {
+    let map = RegionMap::new(alloc, program.regions)?;
+    for number in 0..65_536_u32 {
+        let word = number as u16;
+        if word % 256 == 0 || (map.is_data(word) && !map.is_data(word.wrapping_sub(1))) {
+            set(is_first, word);
+        }
+        if word % 256 == 255 || (map.is_data(word) && !map.is_data(word.wrapping_add(1))) {
+            set(is_last, word);
+        }
+    }
+    Ok(())
+}
+
+/// Marks the words that LXI names, and those beside them.
+fn mark_names(program: ReachedProgram<'_>, is_first: &mut [bool], is_last: &mut [bool]) {
+    for number in 0..65_536_u32 {
+        if let Some(found) = program.at(number as u16) {
+            if let Instr::Lxi(_, word) = found.instr {
+                set(is_first, word);
+                set(is_first, word.wrapping_add(1));
+                set(is_last, word);
+                set(is_last, word.wrapping_sub(1));
+            }
+        }
+    }
+}

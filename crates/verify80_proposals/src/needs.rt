@@ -1,0 +1,386 @@
+//! What a later store, jump by HL or condition may depend on, at each address.
+
+use crate::program::ReachedProgram;
+use crate::slots::{
+    Slots, cell_parts, find_pointers, placed_cells, pointer_at, slots_before, stored_parts,
+};
+use crate::units::{Units, reduced};
+use decode80::{Fetched, Flow, Instr, Operand, Operation, Pair, Rotation, Storing};
+use std::alloc::{AllocError, Global};
+use verify80_states::State;
+
+/// How often the program is gone through, at most: then the rest is left as it is.
+const SWEEPS: usize = 32;
+
+/// What is needed of a state at an address: these parts of it, and these bytes of memory.
+#[derive(Clone, Copy, Debug, PartialEq, Eq)]
+struct Need {
+    parts: Units,
+    slots: Slots,
+}
+
+impl Need {
+    const NONE: Need = Need {
+        parts: Units::NONE,
+        slots: Slots::NONE,
+    };
+
+    /// What either needs.
+    fn and(self, other: Need) -> Need {
+        Need {
+            parts: self.parts.and(other.parts),
+            slots: self.slots.and(other.slots),
+        }
+    }
+
+    /// The same, and these parts.
+    fn with(self, parts: Units) -> Need {
+        Need {
+            parts: self.parts.and(parts),
+            slots: self.slots,
+        }
+    }
+}
+
+/// What is needed at each address, by address.
+#[derive(Drop)]
+pub(crate) struct Needs {
+    needs: Vec<Need>,
+    /// The bytes of memory that a state there names.
+    named: Vec<Slots>,
+}
+
+impl Needs {
+    /// What a program needs.
+    ///
+    /// # Errors
+    /// `AllocError` if memory runs out.
+    pub fn of(alloc: Global, program: ReachedProgram<'_>) -> Result<Needs, AllocError> {
+        let pointers = find_pointers(alloc, program)?;
+        let mut needs = vec![in alloc; Need::NONE; 65_536]?;
+        let mut behind = vec![in alloc; Need::NONE; 65_536]?;
+        for _ in 0..SWEEPS {
+            if !sweep(program, &pointers, &mut needs, &mut behind) {
+                break;
+            }
+        }
+        let named = named_by(alloc, program, &needs)?;
+        Ok(Needs { needs, named })
+    }
+
+    /// A state at an address with what is needed of it alone.
+    pub fn needed(&self, at: u16, state: State) -> State {
+        let need = need_at(&self.needs, at);
+        let named = match self.named.get(usize::from(at)) {
+            Some(slots) => *slots,
+            None => Slots::NONE,
+        };
+        let placed = State {
+            cells: placed_cells(state.cells, named),
+            ..state
+        };
+        reduced(placed, need.parts.and(cell_parts(need.slots)))
+    }
+}
+
+/// By address the bytes that a state names: those that are needed before the instruction, and at free places those that are needed after
+/// it, since it may store them.
+fn named_by(
+    alloc: Global,
+    program: ReachedProgram<'_>,
+    needs: &[Need],
+) -> Result<Vec<Slots>, AllocError> {
+    let mut named = vec![in alloc; Slots::NONE; 65_536]?;
+    for number in 0..65_536_u32 {
+        if let Some(found) = program.at(number as u16) {
+            let after = match found.instr.flow() {
+                Flow::Continues | Flow::Pushes | Flow::Pops | Flow::Exchanges => {
+                    need_at(needs, found.next).slots
+                }
+                _ => Slots::NONE,
+            };
+            if let Some(place) = named.get_mut(number as usize) {
+                *place = need_at(needs, number as u16).slots.or(after);
+            }
+        }
+    }
+    Ok(named)
+}
+
+/// Goes through the program once, from its end, and says whether something changed. `behind` has for each group what is needed behind the
+/// calls of its procedures, if these know where they return to.
+fn sweep(
+    program: ReachedProgram<'_>,
+    pointers: &[Option<u16>],
+    needs: &mut [Need],
+    behind: &mut [Need],
+) -> bool {
+    let mut is_changed = false;
+    for below in 0..65_536_u32 {
+        let at = (65_535 - below) as u16;
+        if let Some(found) = program.at(at) {
+            if let Flow::Calls(entry) | Flow::CallsIf(_, entry) = found.instr.flow() {
+                is_changed |= note_behind(program, behind, entry, need_at(needs, found.next));
+            }
+            let need = need_before(program, pointers, needs, behind, at, found);
+            if let Some(place) = needs.get_mut(usize::from(at)) {
+                if *place != need {
+                    *place = need;
+                    is_changed = true;
+                }
+            }
+        }
+    }
+    is_changed
+}
+
+/// Notes what is needed behind a call of the procedure at `entry`, and says whether that is more.
+fn note_behind(program: ReachedProgram<'_>, behind: &mut [Need], entry: u16, need: Need) -> bool {
+    match behind.get_mut(usize::from(program.group(entry))) {
+        Some(place) if program.returns.know_return(entry) => {
+            let before = *place;
+            *place = before.and(need);
+            *place != before
+        }
+        _ => false,
+    }
+}
+
+/// What is needed before a return that is taken.
+fn returned(program: ReachedProgram<'_>, behind: &[Need], at: u16) -> Need {
+    if !program.returns.know_return(at) {
+        return Need::NONE;
+    }
+    let need = need_at(behind, program.group(at));
+    let parts = need.parts;
+    Need {
+        parts: parts
+            .without(Units::WORDS)
+            .and(parts.deeper())
+            .and(Units::FIRST),
+        slots: need.slots,
+    }
+}
+
+/// What is needed at an address so far.
+fn need_at(needs: &[Need], at: u16) -> Need {
+    match needs.get(usize::from(at)) {
+        Some(need) => *need,
+        None => Need::NONE,
+    }
+}
+
+/// What is needed before an instruction.
+fn need_before(
+    program: ReachedProgram<'_>,
+    pointers: &[Option<u16>],
+    needs: &[Need],
+    behind: &[Need],
+    at: u16,
+    found: Fetched,
+) -> Need {
+    let Fetched { instr, next } = found;
+    match instr.flow() {
+        Flow::Halts => Need::NONE,
+        Flow::Returns => returned(program, behind, at),
+        Flow::Continues | Flow::Pushes | Flow::Pops | Flow::Exchanges => {
+            through(
+                program,
+                instr,
+                pointer_at(pointers, at),
+                need_at(needs, next),
+            )
+        }
+        Flow::Jumps(to) => need_at(needs, to),
+        Flow::JumpsIf(condition, to) => need_at(needs, next)
+            .and(need_at(needs, to))
+            .with(Units::of_condition(condition)),
+        Flow::ReturnsIf(condition) => need_at(needs, next)
+            .and(returned(program, behind, at))
+            .with(Units::of_condition(condition)),
+        Flow::Calls(to) => called(need_at(needs, to)),
+        Flow::CallsIf(condition, to) => called(need_at(needs, to))
+            .and(need_at(needs, next))
+            .with(Units::of_condition(condition)),
+        Flow::JumpsToHl => {
+            let mut need = Need::NONE.with(Units::HL);
+            for to in program.targets(at) {
+                need = need.and(need_at(needs, *to));
+            }
+            need
+        }
+    }
+}
+
+/// What is needed before a call, given what its callee needs.
+fn called(need: Need) -> Need {
+    let parts = need.parts;
+    Need {
+        parts: parts.without(Units::WORDS).and(parts.shallower()),
+        slots: need.slots,
+    }
+}
+
+/// What is needed before an instruction that goes on, given what is needed after it.
+fn through(program: ReachedProgram<'_>, instr: Instr, pointer: Option<u16>, need: Need) -> Need {
+    let pointed = match instr.storing() {
+        Storing::ThroughHl => Units::HL,
+        Storing::Through(pair) => Units::of_index_pair(pair),
+        Storing::Nowhere | Storing::Byte(_) | Storing::Word(_) => Units::NONE,
+    };
+    Need {
+        parts: moved_through(instr, need.parts)
+            .and(pointed)
+            .and(stored_parts(instr, pointer, need.slots)),
+        slots: slots_before(program, instr, pointer, need.parts, need.slots),
+    }
+}
+
+/// Those that INR and DCR write.
+const COUNTED: Units = Units(1664);
+/// Those that DAD, the rotations, STC and CMC write.
+const CARRIED: Units = Units(1280);
+
+/// The same without what the instruction stores.
+fn moved_through(instr: Instr, need: Units) -> Units {
+    match instr {
+        Instr::Mov(to, from) => copied(need, Units::of(to), Units::of(from)),
+        Instr::Load(to) => copied(need, Units::of(to), Units::HL),
+        Instr::Mvi(to, _) => copied(need, Units::of(to), Units::NONE),
+        Instr::Inr(register) | Instr::Dcr(register) => {
+            let counts = need.has(Units::of(register).and(Units::ZERO).and(Units::SIGN));
+            let rest = need.without(COUNTED);
+            if counts {
+                rest.and(Units::of(register))
+            } else {
+                rest
+            }
+        }
+        Instr::InrMemory | Instr::DcrMemory => {
+            let rest = need.without(COUNTED);
+            if need.has(Units::ZERO.and(Units::SIGN)) {
+                rest.and(Units::HL)
+            } else {
+                rest
+            }
+        }
+        Instr::Lxi(Pair::Sp, _) | Instr::Sphl => need.without(Units::WORDS),
+        Instr::Lxi(pair, _) => need.without(Units::of_pair(pair)),
+        Instr::Inx(Pair::Sp) | Instr::Dcx(Pair::Sp) => need.without(Units::WORDS),
+        // The low half is followed with the high one: a carry goes from one to the other.
+        Instr::Inx(pair) | Instr::Dcx(pair) if need.has(Units::of_pair(pair)) => {
+            need.and(Units::of_pair(pair))
+        }
+        Instr::Dad(pair) => {
+            let adds = need.has(Units::HL.and(Units::CARRY));
+            let rest = need.without(CARRIED);
+            if adds {
+                rest.and(Units::HL).and(Units::of_pair(pair))
+            } else {
+                rest
+            }
+        }
+        Instr::Operate(operation, operand) => operated(operation, operand, need),
+        Instr::Rotate(rotation) => rotated(rotation, need),
+        Instr::Daa => need.without(Units::FLAGS.and(Units::A)),
+        Instr::Cma => need.without(Units::TEST),
+        Instr::Stc => need.without(CARRIED),
+        Instr::Cmc => need.without(Units::TEST),
+        Instr::Ldax(pair) => copied(need, Units::A, Units::of_index_pair(pair)),
+        Instr::Lda(_) | Instr::In(_) => copied(need, Units::A, Units::NONE),
+        Instr::Lhld(_) => need.without(Units::HL),
+        Instr::Xchg => exchanged(need),
+        Instr::Push(pair) => {
+            let rest = need.without(Units::WORDS).and(need.shallower());
+            if need.has(Units::FIRST) {
+                rest.and(Units::of_stack_pair(pair))
+            } else {
+                rest
+            }
+        }
+        Instr::Pop(pair) => {
+            let written = Units::of_stack_pair(pair);
+            let rest = need
+                .without(Units::WORDS)
+                .without(written)
+                .and(need.deeper());
+            if need.has(written) {
+                rest.and(Units::FIRST)
+            } else {
+                rest
+            }
+        }
+        Instr::Xthl => {
+            let rest = need.without(Units::FIRST.and(Units::HL));
+            let word = if need.has(Units::HL) {
+                Units::FIRST
+            } else {
+                Units::NONE
+            };
+            let pair = if need.has(Units::FIRST) {
+                Units::HL
+            } else {
+                Units::NONE
+            };
+            rest.and(word).and(pair)
+        }
+        _ => need,
+    }
+}
+
+/// What is needed before something is copied.
+fn copied(need: Units, to: Units, from: Units) -> Units {
+    let rest = if to == Units::A {
+        need.without(Units::A.and(Units::TEST))
+    } else {
+        need.without(to)
+    };
+    if need.has(to) { rest.and(from) } else { rest }
+}
+
+/// What is needed before DE and HL are exchanged.
+fn exchanged(need: Units) -> Units {
+    let both = Units(120);
+    let from_de = Units((need.0 & 24) * 4);
+    let from_hl = Units((need.0 & 96) / 4);
+    need.without(both).and(from_de).and(from_hl)
+}
+
+/// What is needed before an operation on A.
+fn operated(operation: Operation, operand: Operand, need: Units) -> Units {
+    let read = match operand {
+        Operand::Register(register) => Units::of(register),
+        Operand::Memory => Units::HL,
+        Operand::Immediate(_) => Units::NONE,
+    };
+    let asks = need.has(Units::FLAGS);
+    let (rest, asks) = match operation {
+        Operation::Compare => (need.without(Units::FLAGS), asks),
+        _ => (
+            need.without(Units::FLAGS.and(Units::A)),
+            asks || need.has(Units::A),
+        ),
+    };
+    if !asks {
+        return rest;
+    }
+    match operation {
+        Operation::ExclusiveOr | Operation::Subtract if read == Units::A => rest,
+        Operation::AddCarry | Operation::SubtractBorrow => {
+            rest.and(Units::A).and(read).and(Units::CARRY)
+        }
+        _ => rest.and(Units::A).and(read),
+    }
+}
+
+/// What is needed before a rotation.
+fn rotated(rotation: Rotation, need: Units) -> Units {
+    let rest = need.without(CARRIED);
+    if !need.has(Units::A) {
+        return rest;
+    }
+    match rotation {
+        Rotation::Left | Rotation::Right => rest,
+        Rotation::LeftThroughCarry | Rotation::RightThroughCarry => rest.and(Units::CARRY),
+    }
+}

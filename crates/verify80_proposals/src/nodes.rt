@@ -1,0 +1,443 @@
+//! The states that are known so far, by address.
+
+use crate::landmarks::Landmarks;
+use crate::needs::Needs;
+use crate::units::{PARTS, Units, are_alike, value_of};
+use std::alloc::{AllocError, Global};
+use verify80_states::State;
+
+/// No state.
+pub(crate) const NOWHERE: u32 = u32::MAX;
+/// How many states an address has, at most: a loop of 4,096 turns is walked through.
+const STATES: u32 = 4352;
+/// How many it has, at most, once some of them are no longer distinguished.
+const JOINED: u32 = 256;
+/// How many lists the states are in, by what they say.
+const LISTS: usize = 524_288;
+/// How many of the states that came to an address last are looked at for one that says no more than another.
+const NEWEST: usize = 32;
+/// How many states there are in all before each address has fewer.
+const MANY: usize = 200_000;
+/// How many it has then.
+const FEWER: u32 = 16;
+/// How many states there are in all before each address has one.
+const TOO_MANY: usize = 300_000;
+
+/// The place of a number.
+pub(crate) fn place_of(number: usize) -> u32 {
+    u32::try_from(number).unwrap_or(NOWHERE)
+}
+
+/// A state at an address.
+#[derive(Clone, Copy)]
+pub(crate) struct Node {
+    pub at: u16,
+    pub state: State,
+    /// How often it has taken in another.
+    pub growths: u32,
+    /// The next state at this address.
+    pub next: u32,
+    /// The next state in the same list.
+    pub next_listed: u32,
+    /// The state that has taken this one in: itself, if none has.
+    pub taken_by: u32,
+    pub is_waiting: bool,
+    /// Where its hints begin, once it has any.
+    pub hint: u32,
+}
+
+/// The states at one address.
+#[derive(Clone, Copy)]
+struct Group {
+    first: u32,
+    count: u32,
+    /// The state that says nothing, if there is one.
+    nothing: u32,
+    /// The parts by which they are no longer distinguished.
+    joined: Units,
+}
+
+/// The states that are known so far, and those from which others have still to be followed.
+#[derive(Drop)]
+pub(crate) struct Nodes {
+    nodes: Vec<Node>,
+    groups: Vec<Group>,
+    /// The first state of each list.
+    lists: Vec<u32>,
+    waiting: Vec<u32>,
+    needs: Needs,
+    landmarks: Landmarks,
+    /// Whether each address is to have one state from now on.
+    is_late: bool,
+    /// How many states an address has, at most.
+    most: u32,
+}
+
+impl Nodes {
+    /// No states.
+    ///
+    /// # Errors
+    /// `AllocError` if memory runs out.
+    pub fn new(alloc: Global, needs: Needs, landmarks: Landmarks) -> Result<Nodes, AllocError> {
+        let none = Group {
+            first: NOWHERE,
+            count: 0,
+            nothing: NOWHERE,
+            joined: Units::NONE,
+        };
+        Ok(Nodes {
+            nodes: Vec::new(alloc),
+            groups: vec![in alloc; none; 65_536]?,
+            lists: vec![in alloc; NOWHERE; LISTS]?,
+            waiting: Vec::new(alloc),
+            needs,
+            landmarks,
+            is_late: false,
+            most: STATES,
+        })
+    }
+
+    /// How many states there are, with those that were taken in.
+    pub fn len(&self) -> usize {
+        self.nodes.len()
+    }
+
+    /// From now on each address has so many states, at most.
+    pub fn keep(&mut self, most: u32) {
+        self.most = most;
+    }
+
+    /// From now on each address has one state, and spans grow at once to any word.
+    pub fn hurry(&mut self) {
+        self.is_late = true;
+    }
+
+    /// A state, if there is one at a place.
+    pub fn get(&self, place: u32) -> Option<Node> {
+        match self.nodes.get(place as usize) {
+            Some(node) => Some(*node),
+            None => None,
+        }
+    }
+
+    /// What is needed of a state at an address.
+    fn needed(&self, at: u16, state: State) -> State {
+        self.needs.needed(at, state)
+    }
+
+    /// Notes where the hints of a state begin.
+    pub fn set_hint(&mut self, place: u32, hint: u32) {
+        if let Some(node) = self.nodes.get_mut(place as usize) {
+            node.hint = hint;
+        }
+    }
+
+    /// A state from which others have still to be followed.
+    pub fn next_waiting(&mut self) -> Option<u32> {
+        let place = self.waiting.pop()?;
+        if let Some(node) = self.nodes.get_mut(place as usize) {
+            node.is_waiting = false;
+        }
+        Some(place)
+    }
+
+    /// The state that has a state now.
+    pub fn holder(&self, place: u32) -> u32 {
+        let mut holder = place;
+        for _ in 0..self.nodes.len() {
+            match self.get(holder) {
+                Some(node) if node.taken_by != holder => holder = node.taken_by,
+                _ => break,
+            }
+        }
+        holder
+    }
+
+    /// The place of a state at an address that says no more than this one: one that is there, or one that is made.
+    ///
+    /// # Errors
+    /// `AllocError` if memory runs out.
+    pub fn enter(&mut self, alloc: Global, at: u16, state: State) -> Result<u32, AllocError> {
+        let state = self.needed(at, state);
+        if let Some(place) = self.find_around(at, state) {
+            return Ok(place);
+        }
+        let group = self.group(at);
+        if group.count >= self.most(at) && group.joined != Units::ALL {
+            self.join_some(alloc, at)?;
+        }
+        let joined = self.group(at).joined;
+        if joined != Units::NONE {
+            if let Some(place) = self.find_alike(at, state, joined) {
+                self.grow(place, state)?;
+                return Ok(place);
+            }
+        }
+        self.append(at, state)
+    }
+
+    /// How many states an address has now, at most.
+    fn most(&self, at: u16) -> u32 {
+        if self.is_late {
+            1
+        } else if self.nodes.len() < MANY {
+            if self.group(at).joined == Units::NONE {
+                self.most
+            } else {
+                JOINED.min(self.most)
+            }
+        } else if self.nodes.len() < TOO_MANY {
+            FEWER
+        } else {
+            1
+        }
+    }
+
+    /// The states at an address.
+    fn group(&self, at: u16) -> Group {
+        match self.groups.get(usize::from(at)) {
+            Some(group) => *group,
+            None => Group {
+                first: NOWHERE,
+                count: 0,
+                nothing: NOWHERE,
+                joined: Units::NONE,
+            },
+        }
+    }
+
+    /// Sets the states at an address.
+    fn set_group(&mut self, at: u16, group: Group) {
+        if let Some(place) = self.groups.get_mut(usize::from(at)) {
+            *place = group;
+        }
+    }
+
+    /// A state at an address that says no more than this one, if one is found: the one that says nothing, the same one, or one of those
+    /// that came last.
+    fn find_around(&self, at: u16, state: State) -> Option<u32> {
+        let group = self.group(at);
+        if group.nothing != NOWHERE {
+            return Some(self.holder(group.nothing));
+        }
+        if let Some(place) = self.find_same(at, state) {
+            return Some(self.holder(place));
+        }
+        let mut place = group.first;
+        for _ in 0..NEWEST {
+            let node = self.get(place)?;
+            if state.is_inside(node.state) {
+                return Some(place);
+            }
+            place = node.next;
+        }
+        None
+    }
+
+    /// The same state at the address.
+    fn find_same(&self, at: u16, state: State) -> Option<u32> {
+        let mut place = *self.lists.get(list_of(at, state))?;
+        for _ in 0..self.nodes.len() {
+            let node = self.get(place)?;
+            if node.at == at && node.state == state {
+                return Some(place);
+            }
+            place = node.next_listed;
+        }
+        None
+    }
+
+    /// A state at an address that differs from this one in none but these parts.
+    fn find_alike(&self, at: u16, state: State, joined: Units) -> Option<u32> {
+        let parts = Units::ALL.without(joined);
+        let mut place = self.group(at).first;
+        for _ in 0..self.nodes.len() {
+            let node = self.get(place)?;
+            if are_alike(node.state, state, parts) {
+                return Some(place);
+            }
+            place = node.next;
+        }
+        None
+    }
+
+    /// Appends a state, from which others have to be followed.
+    fn append(&mut self, at: u16, state: State) -> Result<u32, AllocError> {
+        let place = place_of(self.nodes.len());
+        let group = self.group(at);
+        let next_listed = self.put_first(list_of(at, state), place);
+        self.nodes.push(Node {
+            at,
+            state,
+            growths: 0,
+            next: group.first,
+            next_listed,
+            taken_by: place,
+            is_waiting: true,
+            hint: NOWHERE,
+        })?;
+        self.set_group(
+            at,
+            Group {
+                first: place,
+                count: group.count.saturating_add(1),
+                nothing: if state == self.needed(at, State::ANY) {
+                    place
+                } else {
+                    group.nothing
+                },
+                joined: group.joined,
+            },
+        );
+        self.waiting.push(place)?;
+        Ok(place)
+    }
+
+    /// Puts a state first in a list, and gives the one that was first.
+    fn put_first(&mut self, list: usize, place: u32) -> u32 {
+        match self.lists.get_mut(list) {
+            Some(first) => {
+                let next = *first;
+                *first = place;
+                next
+            }
+            None => NOWHERE,
+        }
+    }
+
+    /// A state takes in another, and others have to be followed from it again.
+    fn grow(&mut self, place: u32, state: State) -> Result<(), AllocError> {
+        let Some(node) = self.nodes.get_mut(place as usize) else {
+            return Ok(());
+        };
+        let growths = if self.is_late { u32::MAX } else { node.growths };
+        node.state = self.landmarks.grown(node.state, state, growths);
+        node.growths = node.growths.saturating_add(1);
+        let was_waiting = node.is_waiting;
+        node.is_waiting = true;
+        if !was_waiting {
+            self.waiting.push(place)?;
+        }
+        Ok(())
+    }
+
+    /// No longer tells apart the states at an address by the part that tells the most of them apart, until there are few enough.
+    fn join_some(&mut self, alloc: Global, at: u16) -> Result<(), AllocError> {
+        if self.most(at) == 1 {
+            return self.join_by(at, Units::ALL);
+        }
+        for _ in 0..PARTS {
+            if self.group(at).joined != Units::NONE && self.group(at).count < self.most(at) {
+                break;
+            }
+            let part = self.part_that_tells_most(alloc, at)?;
+            self.join_by(at, part)?;
+        }
+        Ok(())
+    }
+
+    /// The part of which the states at an address have the most values, of those by which they are still distinguished; of two, the one
+    /// whose pair has lost its other half: the rest of a count tells no more than the count did.
+    fn part_that_tells_most(&self, alloc: Global, at: u16) -> Result<Units, AllocError> {
+        let joined = self.group(at).joined;
+        let mut most = 0;
+        let mut best = Units::ALL;
+        for part in 0..PARTS {
+            let unit = Units::numbered(part);
+            if !joined.has(unit) {
+                let count = self.count_values(alloc, at, part)?;
+                if count > most || count == most && joined.partners().has(unit) {
+                    most = count;
+                    best = unit;
+                }
+            }
+        }
+        Ok(best)
+    }
+
+    /// How many values a part has in the states at an address.
+    fn count_values(&self, alloc: Global, at: u16, part: usize) -> Result<usize, AllocError> {
+        let mut values = Vec::new(alloc);
+        let mut place = self.group(at).first;
+        for _ in 0..self.nodes.len() {
+            let Some(node) = self.get(place) else {
+                break;
+            };
+            values.push(value_of(node.state, part))?;
+            place = node.next;
+        }
+        values.sort_unstable();
+        values.dedup();
+        Ok(values.len())
+    }
+
+    /// Joins the states at an address that only these parts and those before tell apart.
+    fn join_by(&mut self, at: u16, part: Units) -> Result<(), AllocError> {
+        let group = self.group(at);
+        let joined = group.joined.and(part);
+        self.set_group(
+            at,
+            Group {
+                first: NOWHERE,
+                count: 0,
+                nothing: group.nothing,
+                joined,
+            },
+        );
+        let mut place = group.first;
+        for _ in 0..self.nodes.len() {
+            let Some(node) = self.get(place) else {
+                break;
+            };
+            self.regroup(at, place, node.state, joined)?;
+            place = node.next;
+        }
+        Ok(())
+    }
+
+    /// Puts a state back at its address, or into one from which these parts alone tell it apart.
+    fn regroup(
+        &mut self,
+        at: u16,
+        place: u32,
+        state: State,
+        joined: Units,
+    ) -> Result<(), AllocError> {
+        match self.find_alike(at, state, joined) {
+            Some(holder) => {
+                if let Some(node) = self.nodes.get_mut(place as usize) {
+                    node.taken_by = holder;
+                }
+                if let Some(node) = self.nodes.get_mut(holder as usize) {
+                    node.growths = 0;
+                }
+                self.grow(holder, state)
+            }
+            None => {
+                let group = self.group(at);
+                if let Some(node) = self.nodes.get_mut(place as usize) {
+                    node.next = group.first;
+                }
+                self.set_group(
+                    at,
+                    Group {
+                        first: place,
+                        count: group.count.saturating_add(1),
+                        nothing: group.nothing,
+                        joined,
+                    },
+                );
+                Ok(())
+            }
+        }
+    }
+}
+
+/// The list of a state.
+fn list_of(at: u16, state: State) -> usize {
+    let mut sum = u32::from(at);
+    for part in 0..PARTS {
+        sum = sum.wrapping_mul(0x9E37_79B1) ^ value_of(state, part);
+    }
+    (sum.wrapping_mul(0x9E37_79B1) / 8192) as usize % LISTS
+}

@@ -1,0 +1,219 @@
+//! The bytes of memory that a state may know, at each address: each has a place of its own among eight, that of its address modulo 8.
+
+use crate::program::ReachedProgram;
+use crate::units::Units;
+use decode80::{Fetched, Flow, Instr, Operand, Pair};
+use std::alloc::{AllocError, Global};
+use verify80_states::{ByteSpan, Cell, Cells};
+
+/// How many bytes a state may know.
+pub(crate) const SLOTS: usize = 8;
+/// No address.
+const NONE: u16 = u16::MAX;
+
+/// The addresses of the bytes that are known, or are to be known: one for each place.
+#[derive(Clone, Copy, Debug, PartialEq, Eq)]
+pub(crate) struct Slots([u16; SLOTS]);
+
+impl Slots {
+    pub const NONE: Slots = Slots([NONE; SLOTS]);
+
+    /// The address at a place, if it has one.
+    pub fn at(self, place: usize) -> Option<u16> {
+        match self.0.get(place) {
+            Some(address) if *address != NONE => Some(*address),
+            _ => None,
+        }
+    }
+
+    /// Whether an address has its place.
+    pub fn has(self, address: u16) -> bool {
+        self.at(place_of(address)) == Some(address)
+    }
+
+    /// These, and an address too, if its place is free or has a greater one.
+    pub fn with(self, address: u16) -> Slots {
+        let Slots(mut slots) = self;
+        if let Some(slot) = slots.get_mut(place_of(address)) {
+            if address < *slot {
+                *slot = address;
+            }
+        }
+        Slots(slots)
+    }
+
+    /// These without an address.
+    pub fn without(self, address: u16) -> Slots {
+        let Slots(mut slots) = self;
+        if let Some(slot) = slots.get_mut(place_of(address)) {
+            if address == *slot {
+                *slot = NONE;
+            }
+        }
+        Slots(slots)
+    }
+
+    /// Those of both: of two at a place the lower.
+    pub fn and(self, other: Slots) -> Slots {
+        let mut both = self;
+        for place in 0..SLOTS {
+            if let Some(address) = other.at(place) {
+                both = both.with(address);
+            }
+        }
+        both
+    }
+
+    /// These, and those of others at places that are free.
+    pub fn or(self, other: Slots) -> Slots {
+        let mut both = self;
+        for place in 0..SLOTS {
+            if let (None, Some(address)) = (self.at(place), other.at(place)) {
+                both = both.with(address);
+            }
+        }
+        both
+    }
+}
+
+/// The place of an address.
+fn place_of(address: u16) -> usize {
+    usize::from(address % 8)
+}
+
+/// The word that HL is known to be before the instruction at each address, where an LXI H stands before it in one piece of code.
+///
+/// # Errors
+/// `AllocError` if memory runs out.
+pub(crate) fn find_pointers(
+    alloc: Global,
+    program: ReachedProgram<'_>,
+) -> Result<Vec<Option<u16>>, AllocError> {
+    let mut pointers = vec![in alloc; None; 65_536]?;
+    for number in 0..65_536_u32 {
+        if let Some(found) = program.at(number as u16) {
+            let before = pointer_at(&pointers, number as u16);
+            if let Some(after) = pointer_after(found, before) {
+                if let Some(place) = pointers.get_mut(usize::from(found.next)) {
+                    *place = Some(after);
+                }
+            }
+        }
+    }
+    Ok(pointers)
+}
+
+/// The word that HL is known to be before an address.
+pub(crate) fn pointer_at(pointers: &[Option<u16>], at: u16) -> Option<u16> {
+    match pointers.get(usize::from(at)) {
+        Some(pointer) => *pointer,
+        None => None,
+    }
+}
+
+/// The same behind an instruction that goes on.
+fn pointer_after(found: Fetched, before: Option<u16>) -> Option<u16> {
+    let facts = found.instr.facts();
+    match (found.instr, facts.flow) {
+        (Instr::Lxi(Pair::Hl, word), _) => Some(word),
+        (Instr::Inx(Pair::Hl), _) => Some(before?.wrapping_add(1)),
+        (Instr::Dcx(Pair::Hl), _) => Some(before?.wrapping_sub(1)),
+        (_, Flow::Continues | Flow::Pushes | Flow::Pops | Flow::JumpsIf(_, _) | Flow::ReturnsIf(_))
+            if !facts.writes.includes(Pair::Hl) => before,
+        _ => None,
+    }
+}
+
+/// The bytes that are to be known before an instruction, given those that are to be known after it, and which parts of a state.
+pub(crate) fn slots_before(
+    program: ReachedProgram<'_>,
+    instr: Instr,
+    pointer: Option<u16>,
+    parts: Units,
+    after: Slots,
+) -> Slots {
+    let counted = Units::ZERO.and(Units::SIGN);
+    match instr {
+        Instr::Sta(address) => after.without(address),
+        Instr::Shld(address) => after.without(address).without(address.wrapping_add(1)),
+        Instr::Store(_) | Instr::MviMemory(_) => match pointer {
+            Some(address) => after.without(address),
+            None => after,
+        },
+        Instr::Lda(address) if parts.has(Units::A.and(Units::TEST)) => {
+            program.with_quiet(after, address)
+        }
+        Instr::Lhld(address) if parts.has(Units::HL) => {
+            let after = program.with_quiet(after, address);
+            program.with_quiet(after, address.wrapping_add(1))
+        }
+        Instr::Load(to) if parts.has(Units::of(to)) => with_pointed(program, after, pointer),
+        Instr::InrMemory | Instr::DcrMemory if parts.has(counted) => {
+            with_pointed(program, after, pointer)
+        }
+        Instr::Operate(_, Operand::Memory) if parts.has(Units::A.and(Units::FLAGS)) => {
+            with_pointed(program, after, pointer)
+        }
+        _ => after,
+    }
+}
+
+/// These bytes, and the one at a known address.
+fn with_pointed(program: ReachedProgram<'_>, slots: Slots, pointer: Option<u16>) -> Slots {
+    match pointer {
+        Some(address) => program.with_quiet(slots, address),
+        None => slots,
+    }
+}
+
+/// The registers of which an instruction stores a byte that is to be known after it.
+pub(crate) fn stored_parts(instr: Instr, pointer: Option<u16>, after: Slots) -> Units {
+    match instr {
+        Instr::Sta(address) if after.has(address) => Units::A,
+        Instr::Shld(address) if after.has(address) || after.has(address.wrapping_add(1)) => {
+            Units::HL
+        }
+        Instr::Store(register) => match pointer {
+            Some(address) if after.has(address) => Units::of(register),
+            _ => Units::NONE,
+        },
+        _ => Units::NONE,
+    }
+}
+
+/// The bits of the cells that have an address.
+pub(crate) fn cell_parts(slots: Slots) -> Units {
+    let mut parts = Units::NONE;
+    for place in 0..SLOTS {
+        if slots.at(place).is_some() {
+            parts = parts.and(Units::cell(place));
+        }
+    }
+    parts
+}
+
+/// The cells of these addresses: what is known of others is forgotten.
+pub(crate) fn placed_cells(cells: Cells, slots: Slots) -> Cells {
+    Cells {
+        first: placed_cell(cells.first, slots.at(0)),
+        second: placed_cell(cells.second, slots.at(1)),
+        third: placed_cell(cells.third, slots.at(2)),
+        fourth: placed_cell(cells.fourth, slots.at(3)),
+        fifth: placed_cell(cells.fifth, slots.at(4)),
+        sixth: placed_cell(cells.sixth, slots.at(5)),
+        seventh: placed_cell(cells.seventh, slots.at(6)),
+        eighth: placed_cell(cells.eighth, slots.at(7)),
+    }
+}
+
+/// A cell of an address, if there is one.
+fn placed_cell(cell: Cell, address: Option<u16>) -> Cell {
+    match address {
+        None => Cell::ANY,
+        Some(at) if cell.at == at => cell,
+        Some(at) => Cell {
+            at,
+            bytes: ByteSpan::ANY,
+        },
+    }
+}

@@ -1,0 +1,307 @@
+//! The parts of a state, by which it is cut down, and distinguished from others.
+
+use decode80::{Condition, IndexPair, Pair, Register, StackPair};
+use verify80_states::{ByteSpan, Cell, Cells, PairSpan, Span, State, Words};
+
+/// A set of parts of a state: a bit for each.
+#[derive(Clone, Copy, Debug, PartialEq, Eq)]
+pub(crate) struct Units(pub u32);
+
+impl Units {
+    pub const NONE: Units = Units(0);
+
+    pub const A: Units = Units(1);
+
+    pub const B: Units = Units(2);
+
+    pub const C: Units = Units(4);
+
+    pub const D: Units = Units(8);
+
+    pub const E: Units = Units(16);
+
+    pub const H: Units = Units(32);
+
+    pub const L: Units = Units(64);
+
+    pub const HL: Units = Units(96);
+
+    pub const ZERO: Units = Units(128);
+
+    pub const CARRY: Units = Units(256);
+
+    pub const SIGN: Units = Units(512);
+    /// What A was compared with last, and A with it.
+    pub const TEST: Units = Units(1024);
+
+    /// The flags that an operation on A writes, and the comparison.
+    pub const FLAGS: Units = Units(1920);
+
+    pub const FIRST: Units = Units(2048);
+
+    pub const SECOND: Units = Units(4096);
+
+    pub const THIRD: Units = Units(8192);
+
+    pub const FOURTH: Units = Units(16384);
+    /// The words on the stack.
+    pub const WORDS: Units = Units(30720);
+
+    /// Bytes of memory: a bit for each place that a cell may have.
+    pub const CELLS: Units = Units(8_355_840);
+
+    pub const ALL: Units = Units(8_388_607);
+
+    /// The part of a number below 23.
+    pub fn numbered(part: usize) -> Units {
+        let mut bit = 1_u32;
+        for _ in 0..part.min(22) {
+            bit = bit.wrapping_mul(2);
+        }
+        Units(bit)
+    }
+
+    /// The byte of memory whose cell has a place below 8.
+    pub fn cell(place: usize) -> Units {
+        Units::numbered(place.min(7) + 15)
+    }
+
+    /// The parts of both.
+    pub fn and(self, other: Units) -> Units {
+        Units(self.0 | other.0)
+    }
+
+    /// These parts without others.
+    pub fn without(self, other: Units) -> Units {
+        Units(self.0 & (other.0 ^ Units::ALL.0))
+    }
+
+    /// Whether one of these parts is among the others.
+    pub fn has(self, other: Units) -> bool {
+        self.0 & other.0 != 0
+    }
+
+    /// A register.
+    pub fn of(register: Register) -> Units {
+        match register {
+            Register::A => Units::A,
+            Register::B => Units::B,
+            Register::C => Units::C,
+            Register::D => Units::D,
+            Register::E => Units::E,
+            Register::H => Units::H,
+            Register::L => Units::L,
+        }
+    }
+
+    /// Both halves of a pair.
+    pub fn of_pair(pair: Pair) -> Units {
+        match pair {
+            Pair::Bc => Units(6),
+            Pair::De => Units(24),
+            Pair::Hl => Units::HL,
+            Pair::Sp => Units::NONE,
+        }
+    }
+
+    /// The registers of a pair that is pushed.
+    pub fn of_stack_pair(pair: StackPair) -> Units {
+        match pair {
+            StackPair::Bc => Units(6),
+            StackPair::De => Units(24),
+            StackPair::Hl => Units::HL,
+            StackPair::Psw => Units::A,
+        }
+    }
+
+    /// The registers of a pair that points.
+    pub fn of_index_pair(pair: IndexPair) -> Units {
+        match pair {
+            IndexPair::Bc => Units(6),
+            IndexPair::De => Units(24),
+        }
+    }
+
+    /// The other halves of the pairs of which these parts have one.
+    pub fn partners(self) -> Units {
+        Units((self.0 & 42) * 2 | (self.0 & 84) / 2)
+    }
+
+    /// What a condition asks.
+    pub fn of_condition(condition: Condition) -> Units {
+        match condition {
+            Condition::Zero | Condition::NonZero => Units::ZERO.and(Units::TEST),
+            Condition::Carry | Condition::NoCarry => Units::CARRY.and(Units::TEST),
+            Condition::Plus | Condition::Minus => Units::SIGN,
+            Condition::ParityOdd | Condition::ParityEven => Units::NONE,
+        }
+    }
+
+    /// The words when one is popped: those that were below it before.
+    pub fn deeper(self) -> Units {
+        Units((self.0 & Units::WORDS.0) * 2 & Units::WORDS.0)
+    }
+
+    /// The words when one is pushed.
+    pub fn shallower(self) -> Units {
+        Units((self.0 & Units::WORDS.0) / 2 & Units::WORDS.0)
+    }
+}
+
+/// Whether two states agree in these parts.
+pub(crate) fn are_alike(one: State, other: State, parts: Units) -> bool {
+    let keeps_a = parts.has(Units::A.and(Units::TEST));
+    (!keeps_a || one.a == other.a && one.copy == other.copy)
+        && are_pairs_alike(one.bc, other.bc, parts.has(Units::B), parts.has(Units::C))
+        && are_pairs_alike(one.de, other.de, parts.has(Units::D), parts.has(Units::E))
+        && are_pairs_alike(one.hl, other.hl, parts.has(Units::H), parts.has(Units::L))
+        && (!parts.has(Units::ZERO) || one.zero == other.zero)
+        && (!parts.has(Units::CARRY) || one.carry == other.carry)
+        && (!parts.has(Units::SIGN) || one.sign == other.sign)
+        && (!parts.has(Units::TEST) || one.compared == other.compared)
+        && (!parts.has(Units::FIRST) || one.words.first == other.words.first)
+        && (!parts.has(Units::SECOND) || one.words.second == other.words.second)
+        && (!parts.has(Units::THIRD) || one.words.third == other.words.third)
+        && (!parts.has(Units::FOURTH) || one.words.fourth == other.words.fourth)
+        && reduced_cells(one.cells, parts) == reduced_cells(other.cells, parts)
+}
+
+/// Whether two pairs agree in these halves.
+fn are_pairs_alike(one: PairSpan, other: PairSpan, high: bool, low: bool) -> bool {
+    match (high, low) {
+        (true, true) => one == other,
+        (true, false) => one.high() == other.high(),
+        (false, true) => one.low == other.low,
+        (false, false) => true,
+    }
+}
+
+/// A state of which only these parts are known.
+pub(crate) fn reduced(state: State, parts: Units) -> State {
+    let keeps_a = parts.has(Units::A.and(Units::TEST));
+    State {
+        a: if keeps_a { state.a } else { ByteSpan::ANY },
+        bc: reduced_pair(state.bc, parts.has(Units::B), parts.has(Units::C)),
+        de: reduced_pair(state.de, parts.has(Units::D), parts.has(Units::E)),
+        hl: reduced_pair(state.hl, parts.has(Units::H), parts.has(Units::L)),
+        copy: if keeps_a { state.copy } else { Register::A },
+        zero: if parts.has(Units::ZERO) {
+            state.zero
+        } else {
+            None
+        },
+        carry: if parts.has(Units::CARRY) {
+            state.carry
+        } else {
+            None
+        },
+        sign: if parts.has(Units::SIGN) {
+            state.sign
+        } else {
+            None
+        },
+        compared: if parts.has(Units::TEST) {
+            state.compared
+        } else {
+            None
+        },
+        words: Words {
+            first: reduced_word(state.words.first, parts.has(Units::FIRST)),
+            second: reduced_word(state.words.second, parts.has(Units::SECOND)),
+            third: reduced_word(state.words.third, parts.has(Units::THIRD)),
+            fourth: reduced_word(state.words.fourth, parts.has(Units::FOURTH)),
+        },
+        cells: reduced_cells(state.cells, parts),
+    }
+}
+
+/// Cells of which only these parts are known: each keeps its address.
+fn reduced_cells(cells: Cells, parts: Units) -> Cells {
+    Cells {
+        first: reduced_cell(cells.first, parts.has(Units::cell(0))),
+        second: reduced_cell(cells.second, parts.has(Units::cell(1))),
+        third: reduced_cell(cells.third, parts.has(Units::cell(2))),
+        fourth: reduced_cell(cells.fourth, parts.has(Units::cell(3))),
+        fifth: reduced_cell(cells.fifth, parts.has(Units::cell(4))),
+        sixth: reduced_cell(cells.sixth, parts.has(Units::cell(5))),
+        seventh: reduced_cell(cells.seventh, parts.has(Units::cell(6))),
+        eighth: reduced_cell(cells.eighth, parts.has(Units::cell(7))),
+    }
+}
+
+/// A cell of which its bytes are to be known or not.
+fn reduced_cell(cell: Cell, is_kept: bool) -> Cell {
+    Cell {
+        at: cell.at,
+        bytes: if is_kept { cell.bytes } else { ByteSpan::ANY },
+    }
+}
+
+/// A pair of which only these halves are known.
+fn reduced_pair(pair: PairSpan, high: bool, low: bool) -> PairSpan {
+    match (high, low) {
+        (true, true) => pair,
+        (true, false) => PairSpan::of_halves(pair.high(), ByteSpan::ANY),
+        (false, true) => PairSpan::of_halves(ByteSpan::ANY, pair.low),
+        (false, false) => PairSpan::ANY,
+    }
+}
+
+/// A word, if it is to be known.
+fn reduced_word(word: Option<Span>, is_kept: bool) -> Option<Span> {
+    if is_kept { word } else { None }
+}
+
+/// How many parts there are.
+pub(crate) const PARTS: usize = 23;
+
+/// A part of a state as a number, by which states are distinguished; parts are numbered as their bits are.
+pub(crate) fn value_of(state: State, part: usize) -> u32 {
+    match part {
+        0 => byte_value(state.a),
+        1 => byte_value(state.bc.high()),
+        2 => byte_value(state.bc.low),
+        3 => byte_value(state.de.high()),
+        4 => byte_value(state.de.low),
+        5 => byte_value(state.hl.high()),
+        6 => byte_value(state.hl.low),
+        7 => flag_value(state.zero),
+        8 => flag_value(state.carry),
+        9 => flag_value(state.sign),
+        10 => match state.compared {
+            Some(byte) => u32::from(byte),
+            None => 256,
+        },
+        11 => word_value(state.words.first),
+        12 => word_value(state.words.second),
+        13 => word_value(state.words.third),
+        14 => word_value(state.words.fourth),
+        15 => byte_value(state.cells.first.bytes),
+        16 => byte_value(state.cells.second.bytes),
+        17 => byte_value(state.cells.third.bytes),
+        18 => byte_value(state.cells.fourth.bytes),
+        19 => byte_value(state.cells.fifth.bytes),
+        20 => byte_value(state.cells.sixth.bytes),
+        21 => byte_value(state.cells.seventh.bytes),
+        _ => byte_value(state.cells.eighth.bytes),
+    }
+}
+
+fn byte_value(span: ByteSpan) -> u32 {
+    256 * u32::from(span.first) + u32::from(span.last)
+}
+
+fn flag_value(flag: Option<bool>) -> u32 {
+    match flag {
+        None => 2,
+        Some(true) => 1,
+        Some(false) => 0,
+    }
+}
+
+fn word_value(word: Option<Span>) -> u32 {
+    match word {
+        None => 65535,
+        Some(span) => 65536 * u32::from(span.first) + u32::from(span.last),
+    }
+}

@@ -1,0 +1,217 @@
+-- What is known of bytes of memory, along stores and where it is read.
+use Rattle.std.specs.Prelude.{◌≡◌, ◌≢◌, ◌<◌, ◌&&◌, ℕ, ◌/◌, ◌%◌, Bool, true, false, List, [], ◌∷◌, Option, None, nat_le, length, slice_index, slice_set, refl, if◌then◌else◌}
+use Rattle.std.proofs.Common.{subst, sym, ap, ◌∙◌, arith, get_or, inl, inr}
+use Rattle.std.proofs.lemmas.Bool.Decides.{nat_tests}
+use Rattle.std.proofs.lemmas.List.{get_or-set_same, length-set}
+use Rattle.decode80.specs.declared.instr.Instr.{Instr}
+use Rattle.decode80.specs.declared.instr.Instr.TheVariants.{Store, MviMemory, InrMemory, DcrMemory, Stax, Sta, Shld, Push, Call, CallIf, Rst, Xthl}
+use Rattle.decode80.specs.declared.pair.IndexPair.{IndexPair}
+use Rattle.decode80.specs.declared.pair.IndexPair.TheVariants.{Bc as IndexBc, De as IndexDe}
+use Rattle.decode80.specs.Fetch.{ahead, behind}
+use Rattle.decode80.specs.Spelling.{HasOperandInRange}
+use Rattle.image80.specs.Range.{in_range}
+use Rattle.image80.specs.Regions.{Areas, in_data}
+use Rattle.machine80.specs.declared.registers.Registers.{Registers}
+use Rattle.machine80.specs.declared.cpu.Cpu.{Cpu}
+use Rattle.machine80.specs.declared.end.End.TheVariants.{Direct, Stack, StoreOutside}
+use Rattle.machine80.specs.Arithmetic.{byte_answer, increment_answer, decrement_answer}
+use Rattle.machine80.specs.Flags.{holds as holds_of}
+use Rattle.machine80.specs.Cpu.{hl_of, index_pair_of}
+use Rattle.machine80.specs.Effects.{byte_in, push_bytes, stores, stored}
+use Rattle.machine80.specs.Step.{guard, first_outside, ends_at}
+use Rattle.verify80_states.specs.declared.spans.span.Span.{Span}
+use Rattle.verify80_states.specs.declared.spans.byte_span.ByteSpan.{ByteSpan}
+use Rattle.verify80_states.specs.declared.states.cells.Cell.{Cell}
+use Rattle.verify80_states.specs.declared.states.cells.Cells.{Cells}
+use Rattle.verify80_states.specs.declared.states.state.State.{State}
+use Rattle.verify80_states.specs.Bytes.{HasBytes, AreBytes}
+use Rattle.verify80_states.specs.Span.{Within, ByteWithin, any_byte, byte_alone, word_alone, is_alone, next_byte, previous_byte}
+use Rattle.verify80_states.specs.Span.{high_of as high_bytes}
+use Rattle.verify80_states.specs.Cells.{HoldsCell, HoldsCells, IsCellInside, AreCellsInside, IsQuietCell, AreQuietCells, any_cell, no_cells, stored_cell, stored_cells}
+use Rattle.verify80_states.specs.State.{HoldsRegisters, byte_of}
+use Rattle.verify80_states.specs.declared.fitting.fitting.Placed.{Placed}
+use Rattle.verify80_states.specs.Fitting.{KnowsQuiet}
+use Rattle.verify80_states.specs.Steps.{ReadsCode}
+use Rattle.verify80_states.specs.Following.{loaded, index_words, cells_after}
+use Rattle.verify80_states.proofs.ByteLemmas.{byte_at as memory_byte, stored_bytes}
+use Rattle.verify80_states.proofs.RegisterBytes.{bc_is_word, de_is_word, hl_is_word}
+use Rattle.verify80_states.proofs.ArithmeticBounds.{ahead_is_word}
+use Rattle.verify80_states.proofs.SpanLemmas.{any_byte_within, alone_within, high_within, next_byte_within, previous_byte_within, byte_inside_within}
+use Rattle.verify80_states.proofs.StepBytes.{one_store}
+use Rattle.verify80_states.proofs.StateLemmas.{byte_holds}
+use Rattle.verify80_states.proofs.FollowLemmas.{loaded_within, index_within}
+use Rattle.verify80_states.proofs.MemoryLemmas.{Ground, stack_apart, passed_two, one_stored, two_stored}
+
+-- cells around others
+around : (c d : Cell) (memory : List ℕ) → HasBytes memory → IsCellInside c d → HoldsCell c memory → HoldsCell d memory
+around c d memory bytes (inl any) holds = subst (λ (s : ByteSpan). ByteWithin s (byte_in memory d.at)) (sym any) (any_byte_within (byte_in memory d.at) (memory_byte memory d.at bytes))
+around c d memory bytes (inr inside) holds =
+    subst (λ n. ByteWithin d.bytes (byte_in memory n)) inside.0 (byte_inside_within c.bytes d.bytes (byte_in memory c.at) inside.1 holds)
+
+pub cells_around : (cells others : Cells) (memory : List ℕ) → HasBytes memory → AreCellsInside cells others → HoldsCells cells memory → HoldsCells others memory
+cells_around cells others memory bytes inside holds = record {
+  first = around cells.first others.first memory bytes inside.first holds.first;
+  second = around cells.second others.second memory bytes inside.second holds.second;
+  third = around cells.third others.third memory bytes inside.third holds.third;
+  fourth = around cells.fourth others.fourth memory bytes inside.fourth holds.fourth;
+  fifth = around cells.fifth others.fifth memory bytes inside.fifth holds.fifth;
+  sixth = around cells.sixth others.sixth memory bytes inside.sixth holds.sixth;
+  seventh = around cells.seventh others.seventh memory bytes inside.seventh holds.seventh;
+  eighth = around cells.eighth others.eighth memory bytes inside.eighth holds.eighth;
+}
+
+pub any_cell_holds : (memory : List ℕ) → HasBytes memory → HoldsCell any_cell memory
+any_cell_holds memory bytes = any_byte_within (byte_in memory 0) (memory_byte memory 0 bytes)
+
+pub none_hold : (memory : List ℕ) → HasBytes memory → HoldsCells no_cells memory
+none_hold memory bytes =
+    let any = any_cell_holds memory bytes in
+    record { first = any; second = any; third = any; fourth = any; fifth = any; sixth = any; seventh = any; eighth = any }
+
+-- cells of quiet addresses stay where the bytes of these do
+beside : (quiet : ℕ → Bool) (m m' : List ℕ) (c : Cell) → ((at : ℕ) → quiet at ≡ true → slice_index m' at ≡ slice_index m at) → HasBytes m' → IsQuietCell quiet c → HoldsCell c m → HoldsCell c m'
+beside quiet m m' c same bytes (inl any) holds = subst (λ (s : ByteSpan). ByteWithin s (byte_in m' c.at)) (sym any) (any_byte_within (byte_in m' c.at) (memory_byte m' c.at bytes))
+beside quiet m m' c same bytes (inr here) holds = subst (λ n. ByteWithin c.bytes n) (sym (same c.at here)) holds
+
+pub cells_beside : (quiet : ℕ → Bool) (m m' : List ℕ) (cells : Cells) → ((at : ℕ) → quiet at ≡ true → slice_index m' at ≡ slice_index m at) → HasBytes m' → AreQuietCells quiet cells → HoldsCells cells m → HoldsCells cells m'
+cells_beside quiet m m' cells same bytes are holds = record {
+  first = beside quiet m m' cells.first same bytes are.first holds.first;
+  second = beside quiet m m' cells.second same bytes are.second holds.second;
+  third = beside quiet m m' cells.third same bytes are.third holds.third;
+  fourth = beside quiet m m' cells.fourth same bytes are.fourth holds.fourth;
+  fifth = beside quiet m m' cells.fifth same bytes are.fifth holds.fifth;
+  sixth = beside quiet m m' cells.sixth same bytes are.sixth holds.sixth;
+  seventh = beside quiet m m' cells.seventh same bytes are.seventh holds.seventh;
+  eighth = beside quiet m m' cells.eighth same bytes are.eighth holds.eighth;
+}
+
+-- addresses that are quiet are others that are
+quieter : (quiet other : ℕ → Bool) (c : Cell) → ((at : ℕ) → quiet at ≡ true → other at ≡ true) → IsQuietCell quiet c → IsQuietCell other c
+quieter quiet other c more (inl any) = inl any
+quieter quiet other c more (inr here) = inr (more c.at here)
+
+pub cells_quieter : (quiet other : ℕ → Bool) (cells : Cells) → ((at : ℕ) → quiet at ≡ true → other at ≡ true) → AreQuietCells quiet cells → AreQuietCells other cells
+cells_quieter quiet other cells more are = record {
+  first = quieter quiet other cells.first more are.first;
+  second = quieter quiet other cells.second more are.second;
+  third = quieter quiet other cells.third more are.third;
+  fourth = quieter quiet other cells.fourth more are.fourth;
+  fifth = quieter quiet other cells.fifth more are.fifth;
+  sixth = quieter quiet other cells.sixth more are.sixth;
+  seventh = quieter quiet other cells.seventh more are.seventh;
+  eighth = quieter quiet other cells.eighth more are.eighth;
+}
+
+pub none_quiet : (quiet : ℕ → Bool) → AreQuietCells quiet no_cells
+none_quiet quiet = record { first = inl refl; second = inl refl; third = inl refl; fourth = inl refl; fifth = inl refl; sixth = inl refl; seventh = inl refl; eighth = inl refl }
+
+-- a byte is stored
+by_cell : (c d : Cell) (m : List ℕ) → c ≡ d → HoldsCell d m → HoldsCell c m
+by_cell c d m same holds = subst (λ (x : Cell). HoldsCell x m) (sym same) holds
+
+alone_at : (at : Span) (n b : ℕ) → (nat_le at.first n && nat_le n at.last) ≡ true → is_alone at ≡ true → Within at b → n ≡ b
+alone_at at n b inside alone there = let above = there.above in let below = there.below in grind (arith, nat_tests)
+
+apart_from : (at : Span) (n b : ℕ) → (nat_le at.first n && nat_le n at.last) ≡ false → Within at b → n ≢ b
+apart_from at n b outside there = λ e. let above = there.above in let below = there.below in grind (arith, nat_tests)
+
+module _ (at : Span) (bytes : ByteSpan) (m : List ℕ) (b x : ℕ) (whole : length m ≡ 65536) (small : b < 65536) (held : HasBytes (stored m ((b, x) ∷ []))) (there : Within at b) (is : ByteWithin bytes x) where
+  cell_stored_by : (c : Cell) (inside alone : Bool) → (nat_le at.first c.at && nat_le c.at at.last) ≡ inside → is_alone at ≡ alone → HoldsCell c m → HoldsCell (stored_cell at bytes c) (stored m ((b, x) ∷ []))
+  cell_stored_by c true true inside alone holds =
+      let same = alone_at at c.at b inside alone there in
+      by_cell (stored_cell at bytes c) (record { at = c.at; bytes = bytes }) (stored m ((b, x) ∷ [])) (rw (inside, alone) refl)
+      (subst (λ n. ByteWithin bytes n) (sym (ap (λ n. slice_index (stored m ((b, x) ∷ [])) n) same ∙ get_or-set_same m b x 0 (omega (arith, small, whole)))) is)
+  cell_stored_by c true false inside alone holds =
+      by_cell (stored_cell at bytes c) (record { at = c.at; bytes = any_byte }) (stored m ((b, x) ∷ [])) (rw (inside, alone) refl)
+      (any_byte_within (byte_in (stored m ((b, x) ∷ [])) c.at) (memory_byte (stored m ((b, x) ∷ [])) c.at held))
+  cell_stored_by c false alone inside alone_is holds =
+      by_cell (stored_cell at bytes c) c (stored m ((b, x) ∷ [])) (rw inside refl)
+      (subst (λ n. ByteWithin c.bytes n) (sym (one_stored m c.at b x (apart_from at c.at b inside there))) holds)
+
+  cell_is_stored : (c : Cell) → HoldsCell c m → HoldsCell (stored_cell at bytes c) (stored m ((b, x) ∷ []))
+  cell_is_stored c holds = cell_stored_by c (nat_le at.first c.at && nat_le c.at at.last) (is_alone at) refl refl holds
+
+  cells_are_stored : (cells : Cells) → HoldsCells cells m → HoldsCells (stored_cells at bytes cells) (stored m ((b, x) ∷ []))
+  cells_are_stored cells holds = record {
+    first = cell_is_stored cells.first holds.first;
+    second = cell_is_stored cells.second holds.second;
+    third = cell_is_stored cells.third holds.third;
+    fourth = cell_is_stored cells.fourth holds.fourth;
+    fifth = cell_is_stored cells.fifth holds.fifth;
+    sixth = cell_is_stored cells.sixth holds.sixth;
+    seventh = cell_is_stored cells.seventh holds.seventh;
+    eighth = cell_is_stored cells.eighth holds.eighth;
+  }
+
+word_within : (n : ℕ) → Within (word_alone n) n
+word_within n = record { above = omega arith; below = omega arith }
+
+pointed_is_word : (r : Registers) (pair : IndexPair) → AreBytes r → index_pair_of r pair < 65536
+pointed_is_word r IndexBc bytes = bc_is_word r bytes
+pointed_is_word r IndexDe bytes = de_is_word r bytes
+
+counted_up : (s : ByteSpan) (byte : ℕ) (r : Registers) → byte < 256 → ByteWithin s byte → ByteWithin (next_byte s) (increment_answer byte r.flags).value
+unfolding increment_answer byte_answer
+counted_up s byte r small inside = next_byte_within s byte small inside
+
+counted_down : (s : ByteSpan) (byte : ℕ) (r : Registers) → byte < 256 → ByteWithin s byte → ByteWithin (previous_byte s) (decrement_answer byte r.flags).value
+unfolding decrement_answer byte_answer
+counted_down s byte r small inside = previous_byte_within s byte small inside
+
+-- cells after an instruction: what is pushed or exchanged on the stack isn't data
+module _ (regions : Areas) (ground : Ground regions) (code : List (Option ℕ)) (m : List ℕ) (reads : ReadsCode code m) (held : HasBytes m) (whole : length m ≡ 65536) where
+  not_on_stack : (a b : ℕ) → in_data regions a ≡ true → in_range regions.stack b ≡ true → a ≢ b
+  not_on_stack a b data_there stack_there = λ e. stack_apart regions b a ground stack_there data_there (sym e)
+
+  on_stack : (cells : Cells) (b c x y : ℕ) → (in_range regions.stack b ≡ true) × (in_range regions.stack c ≡ true) → HasBytes (stored m ((b, x) ∷ (c, y) ∷ [])) → AreQuietCells (in_data regions) cells → HoldsCells cells m →
+      HoldsCells cells (stored m ((b, x) ∷ (c, y) ∷ []))
+  on_stack cells b c x y there bytes are holds =
+      cells_beside (in_data regions) m (stored m ((b, x) ∷ (c, y) ∷ [])) cells (λ at here. two_stored m at b c x y (not_on_stack at b here there.0) (not_on_stack at c here there.1)) bytes are holds
+
+  maybe_on_stack : (t : Bool) (cells : Cells) (sp high low : ℕ) →
+      ends_at (first_outside (in_range regions.stack) (if t then behind sp 1 ∷ behind sp 2 ∷ [] else [])) Stack (ends_at None Direct (ends_at None StoreOutside None)) ≡ None →
+      HasBytes (stored m (if t then push_bytes sp high low else [])) → AreQuietCells (in_data regions) cells → HoldsCells cells m → HoldsCells cells (stored m (if t then push_bytes sp high low else []))
+  maybe_on_stack true cells sp high low pass bytes are holds = on_stack cells (behind sp 1) (behind sp 2) high low (passed_two (in_range regions.stack) (behind sp 1) (behind sp 2) Stack _ pass) bytes are holds
+  maybe_on_stack false cells sp high low pass bytes are holds = holds
+
+  pub cells_changed : (i : Instr) (next : ℕ) (cpu : Cpu) (s : State) → guard regions i cpu ≡ None → HasOperandInRange i → AreBytes cpu.registers → HasBytes (stored m (stores i next m cpu)) → AreQuietCells (in_data regions) s.cells →
+      HoldsRegisters s cpu.registers → HoldsCells s.cells m → HoldsCells (cells_after code i s) (stored m (stores i next m cpu))
+  cells_changed (Store r) next cpu s pass small bytes after are holds cells =
+      cells_are_stored s.hl.words (byte_of s r) m (hl_of cpu.registers) _ whole (hl_is_word cpu.registers bytes) after holds.hl.words (byte_holds s cpu.registers r bytes holds) s.cells cells
+  cells_changed (MviMemory byte) next cpu s pass small bytes after are holds cells =
+      cells_are_stored s.hl.words (byte_alone byte) m (hl_of cpu.registers) byte whole (hl_is_word cpu.registers bytes) after holds.hl.words (alone_within byte) s.cells cells
+  cells_changed InrMemory next cpu s pass small bytes after are holds cells =
+      let byte = byte_in m (hl_of cpu.registers) in
+      let there = loaded_within code s.cells m s.hl.words (hl_of cpu.registers) reads cells held holds.hl.words in
+      cells_are_stored s.hl.words (next_byte (loaded code s.cells s.hl.words)) m (hl_of cpu.registers) _ whole (hl_is_word cpu.registers bytes) after holds.hl.words
+      (counted_up (loaded code s.cells s.hl.words) byte cpu.registers (memory_byte m (hl_of cpu.registers) held) there) s.cells cells
+  cells_changed DcrMemory next cpu s pass small bytes after are holds cells =
+      let byte = byte_in m (hl_of cpu.registers) in
+      let there = loaded_within code s.cells m s.hl.words (hl_of cpu.registers) reads cells held holds.hl.words in
+      cells_are_stored s.hl.words (previous_byte (loaded code s.cells s.hl.words)) m (hl_of cpu.registers) _ whole (hl_is_word cpu.registers bytes) after holds.hl.words
+      (counted_down (loaded code s.cells s.hl.words) byte cpu.registers (memory_byte m (hl_of cpu.registers) held) there) s.cells cells
+  cells_changed (Stax pair) next cpu s pass small bytes after are holds cells =
+      cells_are_stored (index_words s pair) s.a m (index_pair_of cpu.registers pair) cpu.registers.a whole (pointed_is_word cpu.registers pair bytes) after (index_within s cpu.registers pair holds) holds.a s.cells cells
+  cells_changed (Sta w) next cpu s pass small bytes after are holds cells =
+      cells_are_stored (word_alone w) s.a m w cpu.registers.a whole small after (word_within w) holds.a s.cells cells
+  cells_changed (Shld w) next cpu s pass small bytes after are holds cells =
+      let first : HasBytes (stored m ((w, cpu.registers.l) ∷ [])) = stored_bytes ((w, cpu.registers.l) ∷ []) m (one_store w cpu.registers.l bytes.l) held in
+      let low = cells_are_stored (word_alone w) s.hl.low m w cpu.registers.l whole small first (word_within w) holds.hl.low s.cells cells in
+      let size : length (slice_set m w cpu.registers.l) ≡ 65536 = length-set m w cpu.registers.l ∙ whole in
+      cells_are_stored (word_alone (ahead w 1)) (high_bytes s.hl.words) (slice_set m w cpu.registers.l) (ahead w 1) cpu.registers.h size (ahead_is_word w 1) after (word_within (ahead w 1))
+      (high_within s.hl.words cpu.registers.h cpu.registers.l bytes.l holds.hl.words) (stored_cells (word_alone w) s.hl.low s.cells) low
+  cells_changed (Push pair) next cpu s pass small bytes after are holds cells =
+      on_stack s.cells (behind cpu.sp 1) (behind cpu.sp 2) _ _ (passed_two (in_range regions.stack) (behind cpu.sp 1) (behind cpu.sp 2) Stack _ pass) after are cells
+  cells_changed (Call w) next cpu s pass small bytes after are holds cells =
+      on_stack s.cells (behind cpu.sp 1) (behind cpu.sp 2) _ _ (passed_two (in_range regions.stack) (behind cpu.sp 1) (behind cpu.sp 2) Stack _ pass) after are cells
+  cells_changed (Rst n) next cpu s pass small bytes after are holds cells =
+      on_stack s.cells (behind cpu.sp 1) (behind cpu.sp 2) _ _ (passed_two (in_range regions.stack) (behind cpu.sp 1) (behind cpu.sp 2) Stack _ pass) after are cells
+  cells_changed Xthl next cpu s pass small bytes after are holds cells =
+      on_stack s.cells cpu.sp (ahead cpu.sp 1) _ _ (passed_two (in_range regions.stack) cpu.sp (ahead cpu.sp 1) Stack _ pass) after are cells
+  cells_changed (CallIf c w) next cpu s pass small bytes after are holds cells =
+      maybe_on_stack (holds_of c cpu.registers.flags) s.cells cpu.sp (next / 256) (next % 256) pass after are cells
+  cells_changed i next cpu s pass small bytes after are holds cells = cells
+
+-- a table that knows marked addresses alone knows quiet ones alone
+pub knows_quieter : (quiet other : ℕ → Bool) (table : List Placed) → ((at : ℕ) → quiet at ≡ true → other at ≡ true) → KnowsQuiet quiet table → KnowsQuiet other table
+knows_quieter quiet other table more knows = λ k d inside. cells_quieter quiet other (get_or table k d).state.cells more (knows k d inside)

@@ -1,0 +1,55 @@
+-- What is fetched from bytes has an operand in its range.
+use Rattle.std.specs.Prelude.{◌≡◌, ◌<◌, ℕ, Bool, true, false, Option, None, Some, Result, Ok, Err, slice_index, refl, if◌then◌else◌}
+use Rattle.std.specs.Result.{result_ok}
+use Rattle.std.proofs.Common.{subst}
+use Rattle.decode80.specs.declared.instr.Instr.{Instr}
+use Rattle.decode80.specs.declared.fetching.Fetched.{Fetched}
+use Rattle.decode80.specs.declared.fetching.FetchFault.{FetchFault}
+use Rattle.decode80.specs.declared.fetching.FetchFault.TheVariants.{Outside}
+use Rattle.decode80.specs.Decoded.{decoded}
+use Rattle.decode80.specs.Spelling.{HasOperandInRange}
+use Rattle.decode80.specs.Fetch.{ahead, all_code, admitted_if_used, fetch as fetch_in}
+use Rattle.image80.specs.Regions.{in_code}
+use Rattle.machine80.specs.Step.{fetch}
+use Rattle.verify80_states.specs.Bytes.{IsByte, IsBounded, FetchedOperandsAreBounded}
+use Rattle.verify80_states.proofs.ArithmeticBounds.{ahead_is_word}
+use Rattle.verify80_states.proofs.ByteLemmas.{byte_at}
+
+-- what decode80 says of decoded operands
+abbrev pub DecodesInRange : Type 0
+DecodesInRange = (first second third : ℕ) → second < 256 → third < 256 → (i : Instr) (n : ℕ) → decoded first second third ≡ Some (i, n) → HasOperandInRange i
+
+abbrev BoundedIfFetched : Result Fetched FetchFault → Type 0
+BoundedIfFetched (Ok found) = IsBounded found
+BoundedIfFetched (Err fault) = Unit {0}
+
+admitted_bounded : (t : Bool) (address : ℕ) (found : Instr × ℕ) → HasOperandInRange found.0 →
+    BoundedIfFetched (if t then Ok (record { instr = found.0; next = ahead address found.1 }) else Err Outside)
+admitted_bounded true address found small = record { operand = small; next = ahead_is_word address found.1 }
+admitted_bounded false address found small = tt
+
+used_bounded : (code : ℕ → Bool) (address : ℕ) (o : Option (Instr × ℕ)) → ((i : Instr) (n : ℕ) → o ≡ Some (i, n) → HasOperandInRange i) → BoundedIfFetched (admitted_if_used code address o)
+used_bounded code address None small = tt
+used_bounded code address (Some found) small = admitted_bounded (all_code code address found.1) address found (small found.0 found.1 refl)
+
+code_bounded : (t : Bool) (r : Result Fetched FetchFault) → BoundedIfFetched r → BoundedIfFetched (if t then r else Err Outside)
+code_bounded true r bounded = bounded
+code_bounded false r bounded = tt
+
+fetched_bounded : DecodesInRange → (code : ℕ → Bool) (held : ℕ → ℕ) → ((a : ℕ) → IsByte (held a)) → (address : ℕ) → BoundedIfFetched (fetch_in code held address)
+unfolding fetch_in
+fetched_bounded law code held bytes address = code_bounded (code address) _
+    (used_bounded code address (decoded (held address) (held (ahead address 1)) (held (ahead address 2)))
+    (λ i n is. law (held address) (held (ahead address 1)) (held (ahead address 2)) (bytes (ahead address 1)) (bytes (ahead address 2)) i n is))
+
+fetched_only : (r : Result Fetched FetchFault) (found : Fetched) → BoundedIfFetched r → result_ok r ≡ Some found → IsBounded found
+fetched_only (Ok x) found bounded is =
+    let same : x ≡ found = cc in
+    subst IsBounded same bounded
+fetched_only (Err fault) found bounded is = cc
+
+pub operands_bounded : DecodesInRange → FetchedOperandsAreBounded
+unfolding fetch
+operands_bounded law = λ regions memory address found bytes is.
+    fetched_only (fetch_in (in_code regions) (λ place. slice_index memory place) address) found
+    (fetched_bounded law (in_code regions) (λ place. slice_index memory place) (λ a. byte_at memory a bytes) address) is

@@ -1,0 +1,477 @@
+-- Registers and flags at each kind of instruction.
+use Rattle.std.specs.Prelude.{◌≡◌, ◌<◌, ◌==◌, [], ℕ, ◌+◌, ◌-◌, ◌*◌, ◌/◌, ◌%◌, Bool, true, false, not, List, Option, None, Some, nat_lt, bit_and, bit_or, bit_xor, refl}
+use Rattle.std.proofs.Common.{arith, sym, ap}
+use Rattle.std.proofs.lemmas.Bool.Decides.{nat_tests}
+use Rattle.std.specs.Int.Bits.{and_self, or_self, xor_self}
+use Rattle.decode80.specs.declared.register.Register.{Register}
+use Rattle.decode80.specs.declared.register.Register.TheVariants.{A, B, C, D, E, H, L}
+use Rattle.decode80.specs.declared.pair.Pair.TheVariants.{Bc, De, Hl, Sp}
+use Rattle.decode80.specs.declared.pair.StackPair.TheVariants.{Bc as StackBc, De as StackDe, Hl as StackHl, Psw}
+use Rattle.decode80.specs.declared.pair.IndexPair.{IndexPair}
+use Rattle.decode80.specs.declared.pair.IndexPair.TheVariants.{Bc as IndexBc, De as IndexDe}
+use Rattle.decode80.specs.declared.instr.Instr.{Instr}
+use Rattle.decode80.specs.declared.instr.Instr.TheVariants.{Mov, Load, Mvi, Lxi, Dad, Inx, Dcx, Inr, InrMemory, Dcr, DcrMemory, Operate, Pop, Ldax, Lhld, Lda, Rotate, Daa, Cma, Stc, Cmc, Xthl, Xchg, In}
+use Rattle.decode80.specs.declared.operation.Operation.{Operation}
+use Rattle.decode80.specs.declared.operation.Operation.TheVariants.{Add, AddCarry, Subtract, SubtractBorrow, And, ExclusiveOr, Or, Compare}
+use Rattle.decode80.specs.declared.operation.Operand.{Operand}
+use Rattle.decode80.specs.declared.operation.Operand.TheVariants.{Register as InRegister, Memory, Immediate}
+use Rattle.decode80.specs.declared.rotation.Rotation.{Rotation}
+use Rattle.decode80.specs.declared.rotation.Rotation.TheVariants.{Left, Right, LeftThroughCarry, RightThroughCarry}
+use Rattle.decode80.specs.Fetch.{ahead, behind}
+use Rattle.decode80.specs.Spelling.{HasOperandInRange}
+use Rattle.image80.specs.Regions.{Areas}
+use Rattle.machine80.specs.declared.flags.Flags.{Flags}
+use Rattle.machine80.specs.declared.registers.Registers.{Registers}
+use Rattle.machine80.specs.declared.cpu.Cpu.{Cpu}
+use Rattle.machine80.specs.Flags.{bit_of, flags_of_result, flags_from}
+use Rattle.machine80.specs.Arithmetic.{byte_answer, sum_answer, difference_answer, operation_answer, increment_answer, decrement_answer, decimal_answer, rotation_answer, pair_sum, pair_sum_flags, complement_of, carry_set, carry_turned}
+use Rattle.machine80.specs.Cpu.{word, register_of, with_register, hl_of, index_pair_of}
+use Rattle.machine80.specs.Effects.{byte_in, word_in, operand_of, changed}
+use Rattle.verify80_states.specs.declared.spans.span.Span.{Span}
+use Rattle.verify80_states.specs.declared.spans.byte_span.ByteSpan.{ByteSpan}
+use Rattle.verify80_states.specs.declared.spans.byte_span.Outcome.{Outcome}
+use Rattle.verify80_states.specs.declared.states.state.State.{State}
+use Rattle.verify80_states.specs.Bytes.{HasBytes, AreBytes}
+use Rattle.verify80_states.specs.Span.{Within, ByteWithin, IsKnown, any_word, any_byte, word_alone, byte_alone, is_alone, is_byte_alone, next_span, previous_span, next_byte, previous_byte, sum_span, high_of, operated, doubled, rotated, complemented, uncarried}
+use Rattle.verify80_states.specs.State.{HoldsRegisters, HoldsWord, HoldsWords, Compares, compared_with, byte_of, with_byte, with_words, with_outcome}
+use Rattle.verify80_states.specs.Steps.{ReadsCode}
+use Rattle.verify80_states.specs.declared.states.cells.Cells.{Cells}
+use Rattle.verify80_states.specs.Cells.{HoldsCells}
+use Rattle.verify80_states.proofs.CellReads.{read_within}
+use Rattle.verify80_states.specs.Following.{known_word, loaded_at, loaded, loaded_word, moved, counted, resulted, tested, is_accumulator, operand_bytes, after_operation, added_carry, turned, exchanged, index_words, registers_after}
+use Rattle.verify80_states.proofs.ByteLemmas.{byte_at as memory_byte}
+use Rattle.verify80_states.proofs.ArithmeticBounds.{decimal_is_byte}
+use Rattle.verify80_states.proofs.RegisterBytes.{register_is_byte}
+use Rattle.verify80_states.proofs.SpanLemmas.{any_word_within, any_byte_within, alone_within, high_within, joined_within, next_within, previous_within, next_byte_within, previous_byte_within, sum_within, sum_any, carries}
+use Rattle.verify80_states.proofs.OutcomeLemmas.{Makes, result_of, carry_of, operated_makes, is_first, by_span}
+use Rattle.verify80_states.proofs.StateLemmas.{words_hold, byte_holds, with_byte_holds, bc_written_holds, de_written_holds, hl_written_holds, with_words_holds, outcome_holds, carry_holds, any_flags_hold, compared_holds, copy_holds}
+
+-- what is read
+word_small : (h l : ℕ) → h < 256 → l < 256 → word h l < 65536
+word_small h l high low = omega arith
+
+word_first : (s : Span) (n : ℕ) → is_alone s ≡ true → Within s n → s.first ≡ n
+word_first s n alone inside = grind (arith, nat_tests)
+
+loaded_go : (code : List (Option ℕ)) (cells : Cells) (memory : List ℕ) (s : Span) (n : ℕ) (b : Bool) → is_alone s ≡ b → ReadsCode code memory → HoldsCells cells memory → HasBytes memory → Within s n → ByteWithin (loaded code cells s) (byte_in memory n)
+loaded_go code cells memory s n true alone reads holds bytes inside =
+    by_span (loaded code cells s) (loaded_at code cells s.first) (byte_in memory n) (rw alone refl)
+    (rw (word_first s n alone inside) (read_within code cells memory n reads holds bytes))
+loaded_go code cells memory s n false alone reads holds bytes inside =
+    by_span (loaded code cells s) any_byte (byte_in memory n) (rw alone refl) (any_byte_within (byte_in memory n) (memory_byte memory n bytes))
+
+pub loaded_within : (code : List (Option ℕ)) (cells : Cells) (memory : List ℕ) (s : Span) (n : ℕ) → ReadsCode code memory → HoldsCells cells memory → HasBytes memory → Within s n → ByteWithin (loaded code cells s) (byte_in memory n)
+loaded_within code cells memory s n reads holds bytes inside = loaded_go code cells memory s n (is_alone s) refl reads holds bytes inside
+
+popped_within : (regions : Areas) (o : Option Span) (memory : List ℕ) (sp : ℕ) → HoldsWord regions o memory sp → HasBytes memory → Within (known_word o) (word_in memory sp)
+popped_within regions None memory sp holds bytes =
+    any_word_within (word_in memory sp) (word_small _ _ (memory_byte memory (ahead sp 1) bytes) (memory_byte memory sp bytes))
+popped_within regions (Some span) memory sp holds bytes = holds.within
+
+-- a register is copied
+copied : (r : Registers) (from : Register) → register_of (with_register r A (register_of r from)) from ≡ register_of r from
+copied r A = refl
+copied r B = refl
+copied r C = refl
+copied r D = refl
+copied r E = refl
+copied r H = refl
+copied r L = refl
+
+moved_holds : (s : State) (r : Registers) (to from : Register) → AreBytes r → HoldsRegisters s r → HoldsRegisters (moved to from s) (with_register r to (register_of r from))
+moved_holds s r A from bytes holds =
+    copy_holds (with_byte s A (byte_of s from)) (with_register r A (register_of r from)) from
+    (with_byte_holds s r A (byte_of s from) (register_of r from) bytes holds (byte_holds s r from bytes holds)) (copied r from)
+moved_holds s r B A bytes holds = copy_holds (with_byte s B s.a) (with_register r B r.a) B (with_byte_holds s r B s.a r.a bytes holds holds.a) refl
+moved_holds s r C A bytes holds = copy_holds (with_byte s C s.a) (with_register r C r.a) C (with_byte_holds s r C s.a r.a bytes holds holds.a) refl
+moved_holds s r D A bytes holds = copy_holds (with_byte s D s.a) (with_register r D r.a) D (with_byte_holds s r D s.a r.a bytes holds holds.a) refl
+moved_holds s r E A bytes holds = copy_holds (with_byte s E s.a) (with_register r E r.a) E (with_byte_holds s r E s.a r.a bytes holds holds.a) refl
+moved_holds s r H A bytes holds = copy_holds (with_byte s H s.a) (with_register r H r.a) H (with_byte_holds s r H s.a r.a bytes holds holds.a) refl
+moved_holds s r L A bytes holds = copy_holds (with_byte s L s.a) (with_register r L r.a) L (with_byte_holds s r L s.a r.a bytes holds holds.a) refl
+moved_holds s r B from bytes holds = with_byte_holds s r B (byte_of s from) (register_of r from) bytes holds (byte_holds s r from bytes holds)
+moved_holds s r C from bytes holds = with_byte_holds s r C (byte_of s from) (register_of r from) bytes holds (byte_holds s r from bytes holds)
+moved_holds s r D from bytes holds = with_byte_holds s r D (byte_of s from) (register_of r from) bytes holds (byte_holds s r from bytes holds)
+moved_holds s r E from bytes holds = with_byte_holds s r E (byte_of s from) (register_of r from) bytes holds (byte_holds s r from bytes holds)
+moved_holds s r H from bytes holds = with_byte_holds s r H (byte_of s from) (register_of r from) bytes holds (byte_holds s r from bytes holds)
+moved_holds s r L from bytes holds = with_byte_holds s r L (byte_of s from) (register_of r from) bytes holds (byte_holds s r from bytes holds)
+
+-- flags stay with the register that is written
+kept_flags : (r : Registers) (to : Register) (byte : ℕ) → (with_register r to byte).flags ≡ r.flags
+kept_flags r A byte = refl
+kept_flags r B byte = refl
+kept_flags r C byte = refl
+kept_flags r D byte = refl
+kept_flags r E byte = refl
+kept_flags r H byte = refl
+kept_flags r L byte = refl
+
+counted_holds : (s : State) (r : Registers) (to : Register) (span : ByteSpan) (byte : ℕ) (half : Bool) → AreBytes r → HoldsRegisters s r → ByteWithin span byte →
+    HoldsRegisters (counted to span s) (record (with_register r to byte) { flags = flags_of_result byte half r.flags.carry })
+counted_holds s r to span byte half bytes holds inside =
+    outcome_holds (with_byte s to span) (with_register r to byte) (record { value = span; carry = s.carry }) byte half r.flags.carry
+    (with_byte_holds s r to span byte bytes holds inside) (record { value = inside; carry = holds.carry })
+
+counts_up : (s : State) (r : Registers) (to : Register) → AreBytes r → HoldsRegisters s r → (let answer = increment_answer (register_of r to) r.flags in
+    HoldsRegisters (counted to (next_byte (byte_of s to)) s) (record (with_register r to answer.value) { flags = answer.flags }))
+unfolding increment_answer byte_answer
+counts_up s r to bytes holds = counted_holds s r to (next_byte (byte_of s to)) ((register_of r to + 1) % 256) _ bytes holds
+    (next_byte_within (byte_of s to) (register_of r to) (register_is_byte r to bytes) (byte_holds s r to bytes holds))
+
+counts_down : (s : State) (r : Registers) (to : Register) → AreBytes r → HoldsRegisters s r → (let answer = decrement_answer (register_of r to) r.flags in
+    HoldsRegisters (counted to (previous_byte (byte_of s to)) s) (record (with_register r to answer.value) { flags = answer.flags }))
+unfolding decrement_answer byte_answer
+counts_down s r to bytes holds = counted_holds s r to (previous_byte (byte_of s to)) ((register_of r to + 255) % 256) _ bytes holds
+    (previous_byte_within (byte_of s to) (register_of r to) (register_is_byte r to bytes) (byte_holds s r to bytes holds))
+
+memory_up : (s : State) (r : Registers) (span : ByteSpan) (byte : ℕ) → HoldsRegisters s r → byte < 256 → ByteWithin span byte →
+    HoldsRegisters (with_outcome s (record { value = next_byte span; carry = s.carry })) (record r { flags = (increment_answer byte r.flags).flags })
+unfolding increment_answer byte_answer
+memory_up s r span byte holds small inside = outcome_holds s r (record { value = next_byte span; carry = s.carry }) ((byte + 1) % 256) _ r.flags.carry holds
+    (record { value = next_byte_within span byte small inside; carry = holds.carry })
+
+memory_down : (s : State) (r : Registers) (span : ByteSpan) (byte : ℕ) → HoldsRegisters s r → byte < 256 → ByteWithin span byte →
+    HoldsRegisters (with_outcome s (record { value = previous_byte span; carry = s.carry })) (record r { flags = (decrement_answer byte r.flags).flags })
+unfolding decrement_answer byte_answer
+memory_down s r span byte holds small inside = outcome_holds s r (record { value = previous_byte span; carry = s.carry }) ((byte + 255) % 256) _ r.flags.carry holds
+    (record { value = previous_byte_within span byte small inside; carry = holds.carry })
+
+-- operations on A
+resulted_holds : (s : State) (r : Registers) (out : Outcome) (byte : ℕ) (half full : Bool) → AreBytes r → HoldsRegisters s r → Makes out byte full →
+    HoldsRegisters (resulted out s) (record r { a = byte; flags = flags_of_result byte half full })
+resulted_holds s r out byte half full bytes holds makes =
+    outcome_holds (with_byte s A out.value) (record r { a = byte }) out byte half full (with_byte_holds s r A out.value byte bytes holds makes.value) makes
+
+none_below : (n : ℕ) → false ≡ nat_lt n 0
+none_below n = grind (arith, nat_tests)
+
+tested_holds : (s : State) (r : Registers) (half : Bool) → HoldsRegisters s (record r { flags = flags_of_result r.a half false }) → HoldsRegisters (tested s) (record r { flags = flags_of_result r.a half false })
+unfolding flags_of_result
+tested_holds s r half holds = compared_holds s (record r { flags = flags_of_result r.a half false }) (Some 0) holds (refl, none_below r.a)
+
+logical_holds : (s : State) (r : Registers) (out : Outcome) (byte : ℕ) (half : Bool) → AreBytes r → HoldsRegisters s r → Makes out byte false →
+    HoldsRegisters (tested (resulted out s)) (record r { a = byte; flags = flags_of_result byte half false })
+logical_holds s r out byte half bytes holds makes = tested_holds (resulted out s) (record r { a = byte }) half (resulted_holds s r out byte half false bytes holds makes)
+
+same_test : (p q : Bool) → (p ≡ true → q ≡ true) → (p ≡ false → q ≡ false) → p ≡ q
+same_test true q first second = sym (first refl)
+same_test false q first second = sym (second refl)
+
+compares : (t : ByteSpan) (r : Registers) (v : ℕ) (half : Bool) (b : Bool) → is_byte_alone t ≡ b → r.a < 256 → v < 256 → ByteWithin t v →
+    Compares (compared_with t) r.a (flags_of_result ((256 + r.a - (v + 0)) % 256) half (nat_lt r.a (v + 0)))
+unfolding flags_of_result
+compares t r v half true alone small other inside =
+    let same : t.first ≡ v = is_first t v alone inside in
+    rw alone (
+      same_test ((256 + r.a - (v + 0)) % 256 == 0) (r.a == t.first) (λ h. grind (arith, nat_tests)) (λ h. grind (arith, nat_tests)),
+      same_test (nat_lt r.a (v + 0)) (nat_lt r.a t.first) (λ h. grind (arith, nat_tests)) (λ h. grind (arith, nat_tests)),
+    )
+compares t r v half false alone small other inside = rw alone tt
+
+module _ (s : State) (r : Registers) (t : ByteSpan) (v : ℕ) (bytes : AreBytes r) (small : v < 256) (holds : HoldsRegisters s r) (inside : ByteWithin t v) where
+  abbrev Done : Operation → Bool → Type 0
+  Done o itself = let answer = operation_answer o r.a v r.flags in HoldsRegisters (after_operation o itself t s) (record r { a = answer.value; flags = answer.flags })
+
+  plain : (o : Operation) → Makes (operated o s.a t s.carry) (result_of o r.a v r.flags) (carry_of o r.a v r.flags)
+  plain o = operated_makes o s.a t s.carry r.a v r.flags bytes.a small holds.a inside holds.carry
+
+  add_holds : (itself : Bool) → Done Add itself
+  unfolding operation_answer sum_answer byte_answer
+  add_holds itself = resulted_holds s r (operated Add s.a t s.carry) ((r.a + v + 0) % 256) _ (nat_lt 255 (r.a + v + 0)) bytes holds (plain Add)
+
+  add_carry_holds : (itself : Bool) → Done AddCarry itself
+  unfolding operation_answer sum_answer byte_answer
+  add_carry_holds itself =
+      resulted_holds s r (operated AddCarry s.a t s.carry) ((r.a + v + bit_of r.flags.carry) % 256) _ (nat_lt 255 (r.a + v + bit_of r.flags.carry)) bytes holds (plain AddCarry)
+
+  subtract_holds : Done Subtract false
+  unfolding operation_answer difference_answer byte_answer
+  subtract_holds = resulted_holds s r (operated Subtract s.a t s.carry) ((256 + r.a - (v + 0)) % 256) _ (nat_lt r.a (v + 0)) bytes holds (plain Subtract)
+
+  borrow_holds : (itself : Bool) → Done SubtractBorrow itself
+  unfolding operation_answer difference_answer byte_answer
+  borrow_holds itself =
+      resulted_holds s r (operated SubtractBorrow s.a t s.carry) ((256 + r.a - (v + bit_of r.flags.carry)) % 256) _ (nat_lt r.a (v + bit_of r.flags.carry)) bytes holds (plain SubtractBorrow)
+
+  and_holds : Done And false
+  unfolding operation_answer byte_answer
+  and_holds = logical_holds s r (operated And s.a t s.carry) (bit_and r.a v) _ bytes holds (plain And)
+
+  or_holds : Done Or false
+  unfolding operation_answer byte_answer
+  or_holds = logical_holds s r (operated Or s.a t s.carry) (bit_or r.a v) _ bytes holds (plain Or)
+
+  xor_holds : Done ExclusiveOr false
+  unfolding operation_answer byte_answer
+  xor_holds = logical_holds s r (operated ExclusiveOr s.a t s.carry) (bit_xor r.a v) _ bytes holds (plain ExclusiveOr)
+
+  compare_holds : (itself : Bool) → Done Compare itself
+  unfolding operation_answer difference_answer byte_answer
+  compare_holds itself =
+      compared_holds _ (record r { flags = flags_of_result ((256 + r.a - (v + 0)) % 256) _ (nat_lt r.a (v + 0)) }) (compared_with t)
+      (outcome_holds s r (operated Compare s.a t s.carry) ((256 + r.a - (v + 0)) % 256) _ (nat_lt r.a (v + 0)) holds (plain Compare))
+      (compares t r v _ (is_byte_alone t) refl bytes.a small inside)
+
+-- an operation on A and itself
+module _ (s : State) (r : Registers) (t : ByteSpan) (bytes : AreBytes r) (holds : HoldsRegisters s r) where
+  same_a : (half : Bool) → HoldsRegisters (after_operation And true t s) (record r { a = r.a; flags = flags_of_result r.a half false })
+  same_a half = tested_holds _ r half (outcome_holds s r (uncarried s.a) r.a half false holds (record { value = holds.a; carry = refl }))
+
+  itself_and : (let answer = operation_answer And r.a r.a r.flags in HoldsRegisters (after_operation And true t s) (record r { a = answer.value; flags = answer.flags }))
+  unfolding operation_answer byte_answer
+  itself_and = rw (and_self r.a) (same_a _)
+
+  itself_or : (let answer = operation_answer Or r.a r.a r.flags in HoldsRegisters (after_operation Or true t s) (record r { a = answer.value; flags = answer.flags }))
+  unfolding operation_answer byte_answer
+  itself_or = rw (or_self r.a) (same_a _)
+
+  cleared : (half : Bool) → HoldsRegisters (after_operation ExclusiveOr true t s) (record r { a = 0; flags = flags_of_result 0 half false })
+  cleared half = logical_holds s r (uncarried (byte_alone 0)) 0 half bytes holds (record { value = alone_within 0; carry = refl })
+
+  itself_xor : (let answer = operation_answer ExclusiveOr r.a r.a r.flags in HoldsRegisters (after_operation ExclusiveOr true t s) (record r { a = answer.value; flags = answer.flags }))
+  unfolding operation_answer byte_answer
+  itself_xor = rw (xor_self r.a) (cleared _)
+
+  nothing_left : (256 + r.a - (r.a + 0)) % 256 ≡ 0
+  nothing_left = omega arith
+
+  nothing_borrowed : nat_lt r.a (r.a + 0) ≡ false
+  nothing_borrowed = grind (arith, nat_tests)
+
+  itself_subtract : (let answer = operation_answer Subtract r.a r.a r.flags in HoldsRegisters (after_operation Subtract true t s) (record r { a = answer.value; flags = answer.flags }))
+  unfolding operation_answer difference_answer byte_answer
+  itself_subtract = rw (nothing_left, nothing_borrowed) (cleared _)
+
+operates : (o : Operation) (itself : Bool) (s : State) (r : Registers) (t : ByteSpan) (v : ℕ) → AreBytes r → v < 256 → HoldsRegisters s r → ByteWithin t v → (itself ≡ true → v ≡ r.a) →
+    (let answer = operation_answer o r.a v r.flags in HoldsRegisters (after_operation o itself t s) (record r { a = answer.value; flags = answer.flags }))
+operates Compare itself s r t v bytes small holds inside same = compare_holds s r t v bytes small holds inside itself
+operates Add itself s r t v bytes small holds inside same = add_holds s r t v bytes small holds inside itself
+operates AddCarry itself s r t v bytes small holds inside same = add_carry_holds s r t v bytes small holds inside itself
+operates SubtractBorrow itself s r t v bytes small holds inside same = borrow_holds s r t v bytes small holds inside itself
+operates And false s r t v bytes small holds inside same = and_holds s r t v bytes small holds inside
+operates Or false s r t v bytes small holds inside same = or_holds s r t v bytes small holds inside
+operates ExclusiveOr false s r t v bytes small holds inside same = xor_holds s r t v bytes small holds inside
+operates Subtract false s r t v bytes small holds inside same = subtract_holds s r t v bytes small holds inside
+operates And true s r t v bytes small holds inside same = rw (same refl) (itself_and s r t bytes holds)
+operates Or true s r t v bytes small holds inside same = rw (same refl) (itself_or s r t bytes holds)
+operates ExclusiveOr true s r t v bytes small holds inside same = rw (same refl) (itself_xor s r t bytes holds)
+operates Subtract true s r t v bytes small holds inside same = rw (same refl) (itself_subtract s r t bytes holds)
+
+is_itself : (operand : Operand) (memory : List ℕ) (r : Registers) → is_accumulator operand ≡ true → operand_of operand memory r ≡ r.a
+is_itself (InRegister A) memory r is = refl
+is_itself (InRegister B) memory r is = cc
+is_itself (InRegister C) memory r is = cc
+is_itself (InRegister D) memory r is = cc
+is_itself (InRegister E) memory r is = cc
+is_itself (InRegister H) memory r is = cc
+is_itself (InRegister L) memory r is = cc
+is_itself Memory memory r is = cc
+is_itself (Immediate byte) memory r is = cc
+
+-- rotations
+doubled_within : (s : ByteSpan) (a : ℕ) (b : Bool) → ByteWithin s a → a < 256 → (nat_lt s.last 128 ≡ b) → ByteWithin (doubled s) (a * 2 % 256 + a / 128)
+doubled_within s a b inside small is = record { above = grind (arith, nat_tests); below = grind (arith, nat_tests) }
+
+doubled_plain : (s : ByteSpan) (a : ℕ) → ByteWithin s a → a < 256 → ByteWithin (doubled s) (a * 2 % 256)
+doubled_plain s a inside small = record { above = grind (arith, nat_tests); below = grind (arith, nat_tests) }
+
+left_go : (s : ByteSpan) (a : ℕ) (f : Flags) (known : Option Bool) (b : Bool) → is_byte_alone s ≡ b → ByteWithin s a → a < 256 → ByteWithin (rotated Left s known) (a * 2 % 256 + a / 128)
+left_go s a f known true alone inside small =
+    by_span (rotated Left s known) (byte_alone (s.first * 2 % 256 + s.first / 128)) _ (rw alone refl) (rw (is_first s a alone inside) (alone_within (a * 2 % 256 + a / 128)))
+left_go s a f known false alone inside small = by_span (rotated Left s known) (doubled s) _ (rw alone refl) (doubled_within s a (nat_lt s.last 128) inside small refl)
+
+right_go : (s : ByteSpan) (a : ℕ) (known : Option Bool) (b : Bool) → is_byte_alone s ≡ b → ByteWithin s a → a < 256 → ByteWithin (rotated Right s known) (a / 2 + a % 2 * 128)
+right_go s a known true alone inside small =
+    by_span (rotated Right s known) (byte_alone (s.first / 2 + s.first % 2 * 128)) _ (rw alone refl) (rw (is_first s a alone inside) (alone_within (a / 2 + a % 2 * 128)))
+right_go s a known false alone inside small = by_span (rotated Right s known) any_byte _ (rw alone refl) (any_byte_within (a / 2 + a % 2 * 128) (omega arith))
+
+through_clear : (s : ByteSpan) (a : ℕ) (b : Bool) → is_byte_alone s ≡ b → ByteWithin s a → a < 256 → ByteWithin (rotated LeftThroughCarry s (Some false)) (a * 2 % 256 + 0)
+through_clear s a true alone inside small =
+    by_span (rotated LeftThroughCarry s (Some false)) (byte_alone (s.first * 2 % 256)) _ (rw alone refl) (rw (is_first s a alone inside) (record { above = omega arith; below = omega arith }))
+through_clear s a false alone inside small =
+    let twice = doubled_plain s a inside small in
+    by_span (rotated LeftThroughCarry s (Some false)) (doubled s) _ (rw alone refl) (record { above = (let h = twice.above in omega (arith, h)); below = (let h = twice.below in omega (arith, h)) })
+
+through_set : (s : ByteSpan) (a : ℕ) (b : Bool) → is_byte_alone s ≡ b → ByteWithin s a → a < 256 → ByteWithin (rotated LeftThroughCarry s (Some true)) (a * 2 % 256 + 1)
+through_set s a true alone inside small =
+    by_span (rotated LeftThroughCarry s (Some true)) (byte_alone (s.first * 2 % 256 + 1)) _ (rw alone refl) (rw (is_first s a alone inside) (alone_within (a * 2 % 256 + 1)))
+through_set s a false alone inside small = by_span (rotated LeftThroughCarry s (Some true)) any_byte _ (rw alone refl) (any_byte_within (a * 2 % 256 + 1) (omega arith))
+
+through_left : (s : ByteSpan) (a : ℕ) (known : Option Bool) (carry : Bool) → IsKnown known carry → ByteWithin s a → a < 256 → ByteWithin (rotated LeftThroughCarry s known) (a * 2 % 256 + bit_of carry)
+unfolding bit_of
+through_left s a None true is inside small = any_byte_within (a * 2 % 256 + 1) (omega arith)
+through_left s a None false is inside small = any_byte_within (a * 2 % 256 + 0) (omega arith)
+through_left s a (Some true) true is inside small = through_set s a (is_byte_alone s) refl inside small
+through_left s a (Some false) false is inside small = through_clear s a (is_byte_alone s) refl inside small
+through_left s a (Some true) false is inside small = cc
+through_left s a (Some false) true is inside small = cc
+
+through_right : (s : ByteSpan) (a : ℕ) (known : Option Bool) (carry : Bool) → IsKnown known carry → ByteWithin s a → a < 256 → ByteWithin (rotated RightThroughCarry s known) (a / 2 + bit_of carry * 128)
+unfolding bit_of
+through_right s a None true is inside small = any_byte_within (a / 2 + 1 * 128) (omega arith)
+through_right s a None false is inside small = any_byte_within (a / 2 + 0 * 128) (omega arith)
+through_right s a (Some true) true is inside small = record { above = omega arith; below = omega arith }
+through_right s a (Some false) false is inside small = record { above = omega arith; below = omega arith }
+through_right s a (Some true) false is inside small = cc
+through_right s a (Some false) true is inside small = cc
+
+rotates : (n : Rotation) (s : State) (r : Registers) → AreBytes r → HoldsRegisters s r → (let answer = rotation_answer n r.a r.flags in
+    HoldsRegisters (registers_after [] (Rotate n) s) (record r { a = answer.value; flags = answer.flags }))
+unfolding rotation_answer
+rotates Left s r bytes holds = carry_holds _ (record r { a = r.a * 2 % 256 + r.a / 128 }) None _ (with_byte_holds s r A _ _ bytes holds (left_go s.a r.a r.flags s.carry (is_byte_alone s.a) refl holds.a bytes.a)) tt
+rotates Right s r bytes holds = carry_holds _ (record r { a = r.a / 2 + r.a % 2 * 128 }) None _ (with_byte_holds s r A _ _ bytes holds (right_go s.a r.a s.carry (is_byte_alone s.a) refl holds.a bytes.a)) tt
+rotates LeftThroughCarry s r bytes holds =
+    carry_holds _ (record r { a = r.a * 2 % 256 + bit_of r.flags.carry }) None _ (with_byte_holds s r A _ _ bytes holds (through_left s.a r.a s.carry r.flags.carry holds.carry holds.a bytes.a)) tt
+rotates RightThroughCarry s r bytes holds =
+    carry_holds _ (record r { a = r.a / 2 + bit_of r.flags.carry * 128 }) None _ (with_byte_holds s r A _ _ bytes holds (through_right s.a r.a s.carry r.flags.carry holds.carry holds.a bytes.a)) tt
+
+-- the other kinds
+adjusts : (s : State) (r : Registers) → AreBytes r → HoldsRegisters s r → (let answer = decimal_answer r.a r.flags in HoldsRegisters (registers_after [] Daa s) (record r { a = answer.value; flags = answer.flags }))
+adjusts s r bytes holds =
+    let byte = (decimal_answer r.a r.flags).value in
+    any_flags_hold (with_byte s A any_byte) (record r { a = byte }) (decimal_answer r.a r.flags).flags
+    (with_byte_holds s r A any_byte byte bytes holds (any_byte_within byte (decimal_is_byte r.a r.flags)))
+
+complements : (s : State) (r : Registers) → AreBytes r → HoldsRegisters s r → HoldsRegisters (registers_after [] Cma s) (record r { a = complement_of r.a })
+unfolding complement_of
+complements s r bytes holds =
+    let inside = holds.a in
+    with_byte_holds s r A (complemented s.a) (255 - r.a) bytes holds (record { above = omega (arith, inside.above, inside.below); below = omega (arith, inside.above, inside.below) })
+
+sets_carry : (s : State) (r : Registers) → HoldsRegisters s r → HoldsRegisters (registers_after [] Stc s) (record r { flags = carry_set r.flags })
+unfolding carry_set
+sets_carry s r holds = carry_holds s r (Some true) true holds refl
+
+turn : (o : Option Bool) (b : Bool) → IsKnown o b → IsKnown (turned o) (not b)
+turn None b is = tt
+turn (Some known) b is = ap (λ (x : Bool). not x) is
+
+turns_carry : (s : State) (r : Registers) → HoldsRegisters s r → HoldsRegisters (registers_after [] Cmc s) (record r { flags = carry_turned r.flags })
+unfolding carry_turned
+turns_carry s r holds = carry_holds s r (turned s.carry) (not r.flags.carry) holds (turn s.carry r.flags.carry holds.carry)
+
+exchanges_copy : (copy : Register) (r : Registers) → register_of r copy ≡ r.a → register_of (record r { d = r.h; e = r.l; h = r.d; l = r.e }) (exchanged copy) ≡ r.a
+exchanges_copy A r same = same
+exchanges_copy B r same = same
+exchanges_copy C r same = same
+exchanges_copy D r same = same
+exchanges_copy E r same = same
+exchanges_copy H r same = same
+exchanges_copy L r same = same
+
+-- pairs are counted and added
+pub index_within : (s : State) (r : Registers) (pair : IndexPair) → HoldsRegisters s r → Within (index_words s pair) (index_pair_of r pair)
+index_within s r IndexBc holds = holds.bc.words
+index_within s r IndexDe holds = holds.de.words
+
+up_within : (s : Span) (n : ℕ) → n < 65536 → Within s n → Within (next_span s) (ahead n 1)
+unfolding ahead
+up_within s n small inside = next_within s n small inside
+
+down_within : (s : Span) (n : ℕ) → n < 65536 → Within s n → Within (previous_span s) (behind n 1)
+unfolding behind
+down_within s n small inside = previous_within s n small inside
+
+adds : (s : State) (cpu : Cpu) (span : Span) (n : ℕ) (known : Option Bool) → AreBytes cpu.registers → HoldsRegisters s cpu.registers → Within (sum_span s.hl.words span) ((hl_of cpu.registers + n) % 65536) →
+    IsKnown known (nat_lt 65535 (hl_of cpu.registers + n)) → (let sum = pair_sum (hl_of cpu.registers) n in
+    HoldsRegisters (record (with_words s Hl (sum_span s.hl.words span)) { carry = known; compared = None })
+    (record cpu.registers { h = sum / 256; l = sum % 256; flags = pair_sum_flags (hl_of cpu.registers) n cpu.registers.flags }))
+unfolding pair_sum pair_sum_flags
+adds s cpu span n known bytes holds inside carry =
+    let sum = (hl_of cpu.registers + n) % 65536 in
+    carry_holds (with_words s Hl (sum_span s.hl.words span)) (record cpu.registers { h = sum / 256; l = sum % 256 }) known (nat_lt 65535 (hl_of cpu.registers + n))
+    (with_words_holds s cpu Hl (sum_span s.hl.words span) sum holds inside) carry
+
+module _ (code : List (Option ℕ)) (memory : List ℕ) (reads : ReadsCode code memory) (held : HasBytes memory) where
+  loads : (s : State) (r : Registers) (to : Register) (span : Span) (at : ℕ) → AreBytes r → HoldsRegisters s r → HoldsCells s.cells memory → Within span at → HoldsRegisters (with_byte s to (loaded code s.cells span)) (with_register r to (byte_in memory at))
+  loads s r to span at bytes holds cells inside = with_byte_holds s r to (loaded code s.cells span) (byte_in memory at) bytes holds (loaded_within code s.cells memory span at reads cells held inside)
+
+  operand_within : (operand : Operand) (s : State) (r : Registers) → AreBytes r → HoldsRegisters s r → HoldsCells s.cells memory → ByteWithin (operand_bytes code operand s) (operand_of operand memory r)
+  operand_within (InRegister register) s r bytes holds cells = byte_holds s r register bytes holds
+  operand_within Memory s r bytes holds cells = loaded_within code s.cells memory s.hl.words (hl_of r) reads cells held holds.hl.words
+  operand_within (Immediate byte) s r bytes holds cells = alone_within byte
+
+  operand_small : (o : Operation) (operand : Operand) (r : Registers) → HasOperandInRange (Operate o operand) → AreBytes r → operand_of operand memory r < 256
+  operand_small o (InRegister register) r small bytes = register_is_byte r register bytes
+  operand_small o Memory r small bytes = memory_byte memory (hl_of r) held
+  operand_small o (Immediate byte) r small bytes = small
+
+  pub changed_registers : (regions : Areas) (i : Instr) (cpu : Cpu) (s : State) → HasOperandInRange i → AreBytes cpu.registers → HoldsRegisters s cpu.registers → HoldsWords regions s.words memory cpu.sp → HoldsCells s.cells memory →
+      HoldsRegisters (registers_after code i s) (changed i memory cpu).registers
+  changed_registers regions (Mov to from) cpu s small bytes holds words cells = moved_holds s cpu.registers to from bytes holds
+  changed_registers regions (Load to) cpu s small bytes holds words cells = loads s cpu.registers to s.hl.words (hl_of cpu.registers) bytes holds cells holds.hl.words
+  changed_registers regions (Mvi to byte) cpu s small bytes holds words cells = with_byte_holds s cpu.registers to (byte_alone byte) byte bytes holds (alone_within byte)
+  changed_registers regions (Inr to) cpu s small bytes holds words cells = counts_up s cpu.registers to bytes holds
+  changed_registers regions (Dcr to) cpu s small bytes holds words cells = counts_down s cpu.registers to bytes holds
+  changed_registers regions InrMemory cpu s small bytes holds words cells =
+      memory_up s cpu.registers (loaded code s.cells s.hl.words) (byte_in memory (hl_of cpu.registers)) holds (memory_byte memory (hl_of cpu.registers) held)
+      (loaded_within code s.cells memory s.hl.words (hl_of cpu.registers) reads cells held holds.hl.words)
+  changed_registers regions DcrMemory cpu s small bytes holds words cells =
+      memory_down s cpu.registers (loaded code s.cells s.hl.words) (byte_in memory (hl_of cpu.registers)) holds (memory_byte memory (hl_of cpu.registers) held)
+      (loaded_within code s.cells memory s.hl.words (hl_of cpu.registers) reads cells held holds.hl.words)
+  changed_registers regions (Lxi pair n) cpu s small bytes holds words cells = with_words_holds s cpu pair (word_alone n) n holds (record { above = omega arith; below = omega arith })
+  changed_registers regions (Inx Bc) cpu s small bytes holds words cells =
+      with_words_holds s cpu Bc (next_span s.bc.words) _ holds (up_within s.bc.words _ (word_small cpu.registers.b cpu.registers.c bytes.b bytes.c) holds.bc.words)
+  changed_registers regions (Inx De) cpu s small bytes holds words cells =
+      with_words_holds s cpu De (next_span s.de.words) _ holds (up_within s.de.words _ (word_small cpu.registers.d cpu.registers.e bytes.d bytes.e) holds.de.words)
+  changed_registers regions (Inx Hl) cpu s small bytes holds words cells =
+      with_words_holds s cpu Hl (next_span s.hl.words) _ holds (up_within s.hl.words _ (word_small cpu.registers.h cpu.registers.l bytes.h bytes.l) holds.hl.words)
+  changed_registers regions (Inx Sp) cpu s small bytes holds words cells = holds
+  changed_registers regions (Dcx Bc) cpu s small bytes holds words cells =
+      with_words_holds s cpu Bc (previous_span s.bc.words) _ holds (down_within s.bc.words _ (word_small cpu.registers.b cpu.registers.c bytes.b bytes.c) holds.bc.words)
+  changed_registers regions (Dcx De) cpu s small bytes holds words cells =
+      with_words_holds s cpu De (previous_span s.de.words) _ holds (down_within s.de.words _ (word_small cpu.registers.d cpu.registers.e bytes.d bytes.e) holds.de.words)
+  changed_registers regions (Dcx Hl) cpu s small bytes holds words cells =
+      with_words_holds s cpu Hl (previous_span s.hl.words) _ holds (down_within s.hl.words _ (word_small cpu.registers.h cpu.registers.l bytes.h bytes.l) holds.hl.words)
+  changed_registers regions (Dcx Sp) cpu s small bytes holds words cells = holds
+  changed_registers regions (Dad Bc) cpu s small bytes holds words cells = adds s cpu s.bc.words _ (added_carry s Bc) bytes holds
+      (sum_within s.hl.words s.bc.words _ _ (word_small cpu.registers.h cpu.registers.l bytes.h bytes.l) (word_small cpu.registers.b cpu.registers.c bytes.b bytes.c) holds.hl.words holds.bc.words)
+      (carries s.hl.words s.bc.words _ _ holds.hl.words holds.bc.words)
+  changed_registers regions (Dad De) cpu s small bytes holds words cells = adds s cpu s.de.words _ (added_carry s De) bytes holds
+      (sum_within s.hl.words s.de.words _ _ (word_small cpu.registers.h cpu.registers.l bytes.h bytes.l) (word_small cpu.registers.d cpu.registers.e bytes.d bytes.e) holds.hl.words holds.de.words)
+      (carries s.hl.words s.de.words _ _ holds.hl.words holds.de.words)
+  changed_registers regions (Dad Hl) cpu s small bytes holds words cells = adds s cpu s.hl.words _ (added_carry s Hl) bytes holds
+      (sum_within s.hl.words s.hl.words _ _ (word_small cpu.registers.h cpu.registers.l bytes.h bytes.l) (word_small cpu.registers.h cpu.registers.l bytes.h bytes.l) holds.hl.words holds.hl.words)
+      (carries s.hl.words s.hl.words _ _ holds.hl.words holds.hl.words)
+  changed_registers regions (Dad Sp) cpu s small bytes holds words cells = adds s cpu any_word cpu.sp None bytes holds
+      (sum_any s.hl.words (hl_of cpu.registers) _ (word_small cpu.registers.h cpu.registers.l bytes.h bytes.l) (omega arith) holds.hl.words) tt
+  changed_registers regions (Operate o operand) cpu s small bytes holds words cells =
+      operates o (is_accumulator operand) s cpu.registers (operand_bytes code operand s) (operand_of operand memory cpu.registers) bytes (operand_small o operand cpu.registers small bytes) holds
+      (operand_within operand s cpu.registers bytes holds cells) (is_itself operand memory cpu.registers)
+  changed_registers regions (Rotate rotation) cpu s small bytes holds words cells = rotates rotation s cpu.registers bytes holds
+  changed_registers regions Daa cpu s small bytes holds words cells = adjusts s cpu.registers bytes holds
+  changed_registers regions Cma cpu s small bytes holds words cells = complements s cpu.registers bytes holds
+  changed_registers regions Stc cpu s small bytes holds words cells = sets_carry s cpu.registers holds
+  changed_registers regions Cmc cpu s small bytes holds words cells = turns_carry s cpu.registers holds
+  changed_registers regions (Ldax pair) cpu s small bytes holds words cells = loads s cpu.registers A (index_words s pair) (index_pair_of cpu.registers pair) bytes holds cells (index_within s cpu.registers pair holds)
+  changed_registers regions (Lda address) cpu s small bytes holds words cells =
+      with_byte_holds s cpu.registers A (loaded_at code s.cells address) (byte_in memory address) bytes holds (read_within code s.cells memory address reads cells held)
+  changed_registers regions (Lhld address) cpu s small bytes holds words cells =
+      hl_written_holds s cpu.registers (loaded_word code s.cells address) (byte_in memory (ahead address 1)) (byte_in memory address) holds
+      (words_hold (loaded_word code s.cells address) (byte_in memory (ahead address 1)) (byte_in memory address) (memory_byte memory address held)
+      (joined_within (loaded_at code s.cells (ahead address 1)) (loaded_at code s.cells address) (byte_in memory (ahead address 1)) (byte_in memory address)
+      (read_within code s.cells memory (ahead address 1) reads cells held) (read_within code s.cells memory address reads cells held)))
+  changed_registers regions Xchg cpu s small bytes holds words cells = record {
+    a = holds.a;
+    bc = holds.bc;
+    de = holds.hl;
+    hl = holds.de;
+    copy = exchanges_copy s.copy cpu.registers holds.copy;
+    zero = holds.zero;
+    carry = holds.carry;
+    sign = holds.sign;
+    compared = holds.compared;
+  }
+  changed_registers regions (Pop StackBc) cpu s small bytes holds words cells = bc_written_holds s cpu.registers (known_word s.words.first) _ _ holds
+      (words_hold (known_word s.words.first) _ _ (memory_byte memory cpu.sp held) (popped_within regions s.words.first memory cpu.sp words.first held))
+  changed_registers regions (Pop StackDe) cpu s small bytes holds words cells = de_written_holds s cpu.registers (known_word s.words.first) _ _ holds
+      (words_hold (known_word s.words.first) _ _ (memory_byte memory cpu.sp held) (popped_within regions s.words.first memory cpu.sp words.first held))
+  changed_registers regions (Pop StackHl) cpu s small bytes holds words cells = hl_written_holds s cpu.registers (known_word s.words.first) _ _ holds
+      (words_hold (known_word s.words.first) _ _ (memory_byte memory cpu.sp held) (popped_within regions s.words.first memory cpu.sp words.first held))
+  changed_registers regions (Pop Psw) cpu s small bytes holds words cells =
+      any_flags_hold (with_byte s A (high_of (known_word s.words.first))) (record cpu.registers { a = byte_in memory (ahead cpu.sp 1) }) (flags_from (byte_in memory cpu.sp))
+      (with_byte_holds s cpu.registers A (high_of (known_word s.words.first)) (byte_in memory (ahead cpu.sp 1)) bytes holds
+      (high_within (known_word s.words.first) _ (byte_in memory cpu.sp) (memory_byte memory cpu.sp held) (popped_within regions s.words.first memory cpu.sp words.first held)))
+  changed_registers regions Xthl cpu s small bytes holds words cells = hl_written_holds s cpu.registers (known_word s.words.first) _ _ holds
+      (words_hold (known_word s.words.first) _ _ (memory_byte memory cpu.sp held) (popped_within regions s.words.first memory cpu.sp words.first held))
+  changed_registers regions (In port) cpu s small bytes holds words cells = with_byte_holds s cpu.registers A any_byte cpu.registers.a bytes holds (any_byte_within cpu.registers.a bytes.a)
+  changed_registers regions i cpu s small bytes holds words cells = holds

@@ -1,0 +1,72 @@
+-- What a state says, one says that is around it.
+use Rattle.std.specs.Prelude.{◌≡◌, ℕ, Bool, List, Option, None, Some, refl}
+use Rattle.std.proofs.Common.{subst}
+use Rattle.decode80.specs.declared.register.Register.{Register}
+use Rattle.decode80.specs.declared.register.Register.TheVariants.{A, B, C, D, E, H, L}
+use Rattle.decode80.specs.Fetch.{ahead}
+use Rattle.image80.specs.Regions.{Areas}
+use Rattle.machine80.specs.declared.registers.Registers.{Registers}
+use Rattle.machine80.specs.Cpu.{word, register_of}
+use Rattle.machine80.specs.Step.{Machine}
+use Rattle.verify80_states.specs.declared.spans.span.Span.{Span}
+use Rattle.verify80_states.specs.declared.states.state.PairSpan.{PairSpan}
+use Rattle.verify80_states.specs.declared.states.state.Words.{Words}
+use Rattle.verify80_states.specs.declared.states.state.State.{State}
+use Rattle.verify80_states.specs.Bytes.{HasBytes}
+use Rattle.verify80_states.specs.Span.{IsKnown}
+use Rattle.verify80_states.specs.State.{Holds, HoldsPair, HoldsWord, HoldsWords, Compares, IsPairInside, IsFlagInside, IsComparisonInside, IsCopyInside, IsWordInside, AreWordsInside, IsStateInside}
+use Rattle.verify80_states.proofs.SpanLemmas.{inside_within, byte_inside_within}
+use Rattle.verify80_states.proofs.CellLemmas.{cells_around}
+
+pair_around : (p q : PairSpan) (h l : ℕ) → IsPairInside p q → HoldsPair p h l → HoldsPair q h l
+pair_around p q h l inside holds = record { words = inside_within p.words q.words (word h l) inside.words holds.words; low = byte_inside_within p.low q.low l inside.low holds.low }
+
+flag_around : (o u : Option Bool) (truth : Bool) → IsFlagInside o u → IsKnown o truth → IsKnown u truth
+flag_around o None truth inside holds = tt
+flag_around o (Some b) truth inside holds = subst (λ (x : Option Bool). IsKnown x truth) inside holds
+
+comparison_around : (o u : Option ℕ) (r : Registers) → IsComparisonInside o u → Compares o r.a r.flags → Compares u r.a r.flags
+comparison_around o None r inside holds = tt
+comparison_around o (Some n) r inside holds = subst (λ (x : Option ℕ). Compares x r.a r.flags) inside holds
+
+copy_around : (c d : Register) (r : Registers) → IsCopyInside c d → register_of r c ≡ r.a → register_of r d ≡ r.a
+copy_around c A r inside same = refl
+copy_around c B r inside same = subst (λ (x : Register). register_of r x ≡ r.a) inside same
+copy_around c C r inside same = subst (λ (x : Register). register_of r x ≡ r.a) inside same
+copy_around c D r inside same = subst (λ (x : Register). register_of r x ≡ r.a) inside same
+copy_around c E r inside same = subst (λ (x : Register). register_of r x ≡ r.a) inside same
+copy_around c H r inside same = subst (λ (x : Register). register_of r x ≡ r.a) inside same
+copy_around c L r inside same = subst (λ (x : Register). register_of r x ≡ r.a) inside same
+
+word_around : (regions : Areas) (o u : Option Span) (memory : List ℕ) (at : ℕ) → IsWordInside o u → HoldsWord regions o memory at → HoldsWord regions u memory at
+word_around regions o None memory at inside holds = tt
+word_around regions None (Some t) memory at inside holds = absurd inside
+word_around regions (Some s) (Some t) memory at inside holds = record { low = holds.low; high = holds.high; within = inside_within s t _ inside holds.within }
+
+words_around : (regions : Areas) (w v : Words) (memory : List ℕ) (sp : ℕ) → AreWordsInside w v → HoldsWords regions w memory sp → HoldsWords regions v memory sp
+words_around regions w v memory sp inside holds = record {
+  first = word_around regions w.first v.first memory sp inside.first holds.first;
+  second = word_around regions w.second v.second memory (ahead sp 2) inside.second holds.second;
+  third = word_around regions w.third v.third memory (ahead sp 4) inside.third holds.third;
+  fourth = word_around regions w.fourth v.fourth memory (ahead sp 6) inside.fourth holds.fourth;
+}
+
+pub state_around : (regions : Areas) (s t : State) (m : Machine) → HasBytes m.memory → IsStateInside s t → Holds regions s m → Holds regions t m
+state_around regions s t m bytes inside holds =
+    let r = m.cpu.registers in
+    let h = holds.registers in
+    record {
+      registers = record {
+        a = byte_inside_within s.a t.a r.a inside.registers.a h.a;
+        bc = pair_around s.bc t.bc r.b r.c inside.registers.bc h.bc;
+        de = pair_around s.de t.de r.d r.e inside.registers.de h.de;
+        hl = pair_around s.hl t.hl r.h r.l inside.registers.hl h.hl;
+        copy = copy_around s.copy t.copy r inside.copy h.copy;
+        zero = flag_around s.zero t.zero r.flags.zero inside.zero h.zero;
+        carry = flag_around s.carry t.carry r.flags.carry inside.carry h.carry;
+        sign = flag_around s.sign t.sign r.flags.sign inside.sign h.sign;
+        compared = comparison_around s.compared t.compared r inside.compared h.compared;
+      };
+      words = words_around regions s.words t.words m.memory m.cpu.sp inside.words holds.words;
+      cells = cells_around s.cells t.cells m.memory bytes inside.cells holds.cells;
+    }

@@ -1,0 +1,362 @@
+-- Runs keep to a table that fits.
+use Rattle.std.specs.Prelude.{◌≡◌, ◌⊎◌, ℕ, zero, suc, Bool, true, false, List, [], Option, None, Some, Ok, IsSome, drop, length, slice_get, slice_index, refl, if◌then◌else◌}
+use Rattle.std.proofs.Common.{subst, sym, ap, ◌∙◌, inl, inr, arith, true≢false}
+use Rattle.std.proofs.lemmas.Bool.Decides.{nat_tests}
+use Rattle.std.proofs.lemmas.Option.{get_or_from_slice_get, slice_get_within}
+use Rattle.decode80.specs.declared.condition.Condition.{Condition}
+use Rattle.decode80.specs.declared.instr.Instr.TheVariants.{Pchl}
+use Rattle.decode80.specs.declared.fetching.Fetched.{Fetched}
+use Rattle.decode80.specs.declared.flow.Flow.{Flow}
+use Rattle.decode80.specs.declared.flow.Flow.TheVariants.{Continues, Jumps, JumpsIf, JumpsToHl, Calls, CallsIf, Returns, ReturnsIf, Pushes, Pops, Exchanges, Halts}
+use Rattle.decode80.specs.Facts.{flow}
+use Rattle.image80.specs.Regions.{Areas, in_data, targets_at}
+use Rattle.image80.specs.Image.{Located}
+use Rattle.machine80.specs.declared.cpu.Cpu.{Cpu}
+use Rattle.machine80.specs.Flags.{holds as holds_of}
+use Rattle.machine80.specs.Cpu.{hl_of}
+use Rattle.machine80.specs.Effects.{goes_to, target, word_in}
+use Rattle.machine80.specs.Step.{Machine, Turn, Next, Stop, fetch, step_of}
+use Rattle.machine80.specs.World.{World, world_at, turn_at, next_world, following, world_after, places_by, places_then, refuses, returns, is_return_taken, fetched_by, FetchesInside, IsNewest}
+use Rattle.machine80.specs.Run.{world_of}
+use Rattle.verify80.specs.Looking.{code_of, declared_targets}
+use Rattle.verify80.specs.Starts.{IsStart, IsWorldFrom, NeverGoesWrongFromPowerOn}
+use Rattle.verify80.specs.Reached.{IsReached, StandsOnWalk, StaysOnWalks}
+use Rattle.verify80.specs.Boards.{LeavesProgram, with_memory}
+use Rattle.verify80_states.specs.declared.spans.span.Span.{Span}
+use Rattle.verify80_states.specs.declared.states.state.State.{State}
+use Rattle.verify80_states.specs.declared.fitting.fitting.Placed.{Placed}
+use Rattle.verify80_states.specs.Bytes.{AreBytes, HoldsBytes, BytesStayBytes, FetchedOperandsAreBounded, MemoryKeepsItsLength}
+use Rattle.verify80_states.specs.Span.{Within}
+use Rattle.verify80_states.specs.Cells.{AreQuietCells}
+use Rattle.verify80_states.specs.State.{Holds, HoldsWord, anything}
+use Rattle.verify80_states.specs.Following.{state_after}
+use Rattle.verify80_states.specs.Given.{given}
+use Rattle.verify80_states.specs.Steps.{is_taken, ReadsCode, AreCodeBytes, HasCode}
+use Rattle.verify80_states.specs.Fitting.{Has, HasAfter, FitsBy, KnowsQuiet}
+use Rattle.verify80_states.specs.Calls.{AccountsFor, ReturnFacts, KeepsCalls, KnowsReturn, KnowsReturnIf, KnowsReturnsOf, Owes, none}
+use Rattle.verify80_states.specs.FittingTable.{Fits}
+use Rattle.verify80_states.specs.Runs.{KeepsTo, KeepsToCalls, IsKnown, IsKept}
+use Rattle.verify80_states.proofs.StateLemmas.{anything_holds}
+use Rattle.verify80_states.proofs.MemoryLemmas.{Ground, none_hold, words_stay}
+use Rattle.verify80_states.proofs.CellLemmas.{cells_beside, cells_quieter, none_hold as no_cells_hold}
+use Rattle.verify80_states.proofs.CallLemmas.{owed_on, owed_return, returned_places, returns_here}
+use Rattle.verify80_states.proofs.GivenLemmas.{given_holds}
+use Rattle.verify80_states.proofs.InsideLemmas.{state_around}
+use Rattle.verify80_states.proofs.StepLemmas.{passed, step_state, step_code}
+use Rattle.verify80_states.proofs.WayLemmas.{GoesOn, Leads, executes}
+
+world_or : World → Option World → World
+world_or otherwise None = otherwise
+world_or otherwise (Some w) = w
+
+world_in : {w v : World} → Some w ≡ Some v → w ≡ v
+unfolding world_or
+world_in {w} h = ap (world_or w) h
+
+-- machines hold bytes
+module _ (stay : BytesStayBytes) where
+  turned_bytes : (regions : Areas) (refused : Bool) (w after : World) (t : Turn) (places : List ℕ) → HoldsBytes w.machine → step_of regions refused w.machine ≡ t → world_after t places ≡ Some after → HoldsBytes after.machine
+  turned_bytes regions refused w after (Next m) places bytes e h = subst (λ (x : World). HoldsBytes x.machine) (world_in h) (stay regions refused w.machine m bytes e)
+  turned_bytes regions refused w after (Stop end) places bytes e h = cc
+
+  next_bytes : (regions : Areas) (most : Option ℕ) (w after : World) → HoldsBytes w.machine → next_world regions most w ≡ Some after → HoldsBytes after.machine
+  next_bytes regions most w after bytes h =
+      turned_bytes regions (refuses most w.machine.outputs) w after (turn_at regions most w)
+      (places_then (fetch regions w.machine.memory w.machine.cpu.pc) w.machine.cpu.registers.flags w.places) bytes refl h
+
+  mutual_bytes : (regions : Areas) (most : Option ℕ) (w : World) (o : Option World) → ((v : World) → o ≡ Some v → HoldsBytes v.machine) → following regions most o ≡ Some w → HoldsBytes w.machine
+  mutual_bytes regions most w None before h = cc
+  mutual_bytes regions most w (Some v) before h = next_bytes regions most v w (before v refl) h
+
+  pub run_bytes : (regions : Areas) (start : Machine) (most : Option ℕ) (n : ℕ) (w : World) → HoldsBytes start → world_at regions most (world_of start) n ≡ Some w → HoldsBytes w.machine
+  run_bytes regions start most zero w bytes h = subst (λ (x : World). HoldsBytes x.machine) (world_in h) bytes
+  run_bytes regions start most (suc n) w bytes h =
+      mutual_bytes regions most w (world_at regions most (world_of start) n) (λ v e. run_bytes regions start most n v bytes e) h
+
+-- the table has a state that holds
+pub record Meets (regions : Areas) (table : List Placed) (to : ℕ) (m : Machine) : Type 0 where
+  pub state : State
+  pub has : Has table to state
+  pub holds : Holds regions state m
+
+-- what a state owes where its flow leads, it has there
+module _ (regions : Areas) (targets : List ℕ) (table : List Placed) (after : Bool → State → State) (m there : Machine) (bytes : AreBytes m.cpu.registers) where
+  abbrev pub Follows : Flow → Type 0
+  Follows w = (t : State) → Holds regions t m → AreQuietCells (in_data regions) t.cells → Holds regions (after (is_taken w m.cpu.registers.flags) t) there
+
+  at_once : (next to : ℕ) (s : State) → to ≡ next → Has table next s → Holds regions s there → Meets regions table to there
+  at_once next to s same has holds = record { state = s; has = subst (λ n. Has table n s) (sym same) has; holds = holds }
+
+  by_condition : (taken : Bool) (left : Option State) (t : State) (to address : ℕ) → left ≡ Some t → HasAfter table address (after taken) left → to ≡ address → Holds regions (after taken t) there → Meets regions table to there
+  by_condition taken left t to address is has same holds =
+      at_once address to (after taken t) same (subst (λ (o : Option State). HasAfter table address (after taken) o) is has) holds
+
+  if_given : (condition : Condition) (taken : Bool) (s : State) (to address : ℕ) → AreQuietCells (in_data regions) s.cells → Holds regions s m → holds_of condition m.cpu.registers.flags ≡ taken → HasAfter table address (after taken) (given condition taken s) → to ≡ address →
+      ((t : State) → Holds regions t m → AreQuietCells (in_data regions) t.cells → Holds regions (after taken t) there) → Meets regions table to there
+  if_given condition taken s to address are holds is has same follow =
+      let left = given_holds condition taken s m.cpu.registers bytes holds.registers is in
+      by_condition taken (given condition taken s) left.left to address left.is has same
+      (follow left.left (record { registers = left.holds; words = rw left.words holds.words; cells = rw left.cells holds.cells }) (rw left.cells are))
+
+  with_taken : (w : Flow) (taken : Bool) → is_taken w m.cpu.registers.flags ≡ taken → Follows w → (t : State) → Holds regions t m → AreQuietCells (in_data regions) t.cells → Holds regions (after taken t) there
+  with_taken w taken is follow t holds are = subst (λ b. Holds regions (after b t) there) is (follow t holds are)
+
+  pub arrives : (w : Flow) (s : State) (next to : ℕ) → FitsBy targets table after s next w → Leads w m.cpu.registers.flags targets next (hl_of m.cpu.registers) to → Follows w → AreQuietCells (in_data regions) s.cells → Holds regions s m →
+      Meets regions table to there
+  arrives Continues s next to fits leads follow are holds = at_once next to (after false s) leads fits (follow s holds are)
+  arrives Pushes s next to fits leads follow are holds = at_once next to (after false s) leads fits (follow s holds are)
+  arrives Pops s next to fits leads follow are holds = at_once next to (after false s) leads fits (follow s holds are)
+  arrives Exchanges s next to fits leads follow are holds = at_once next to (after false s) leads fits (follow s holds are)
+  arrives (Jumps address) s next to fits leads follow are holds = at_once address to (after false s) leads fits (follow s holds are)
+  arrives (JumpsIf condition address) s next to fits (inl way) follow are holds = if_given condition true s to address are holds way.0 fits.0 way.1 (with_taken (JumpsIf condition address) true way.0 follow)
+  arrives (JumpsIf condition address) s next to fits (inr way) follow are holds = if_given condition false s to next are holds way.0 fits.1 way.1 (with_taken (JumpsIf condition address) false way.0 follow)
+  arrives JumpsToHl s next to fits leads follow are holds =
+      at_once to to (after false s) refl (fits to leads.0 (subst (λ n. Within s.hl.words n) (sym leads.1) holds.registers.hl.words)) (follow s holds are)
+  arrives (Calls address) s next to fits leads follow are holds = at_once address to (after true s) leads fits (follow s holds are)
+  arrives (CallsIf condition address) s next to fits (inl way) follow are holds = if_given condition true s to address are holds way.0 fits.0 way.1 (with_taken (CallsIf condition address) true way.0 follow)
+  arrives (CallsIf condition address) s next to fits (inr way) follow are holds = if_given condition false s to next are holds way.0 fits.1 way.1 (with_taken (CallsIf condition address) false way.0 follow)
+  arrives Returns s next to fits leads follow are holds = absurd leads
+  arrives (ReturnsIf condition) s next to fits leads follow are holds = if_given condition false s to next are holds leads.0 fits leads.1 (with_taken (ReturnsIf condition) false leads.0 follow)
+  arrives Halts s next to fits leads follow are holds = absurd leads
+
+  -- a return that is taken goes where the state says, if it knows that
+  back_to : (t : State) → KnowsReturn table (after true) t → Holds regions t m → Holds regions (after true t) there → Meets regions table (word_in m.memory m.cpu.sp) there
+  back_to t knows before now = record { state = after true t; has = subst (λ n. Has table n (after true t)) place knows.has; holds = now } where
+    pushed_there : HoldsWord regions (Some knows.span) m.memory m.cpu.sp
+    pushed_there = subst (λ (o : Option Span). HoldsWord regions o m.memory m.cpu.sp) knows.first before.words.first
+
+    place : knows.span.first ≡ word_in m.memory m.cpu.sp
+    place = let above = pushed_there.within.above in let below = pushed_there.within.below in let alone = knows.alone in grind (arith, nat_tests)
+
+  pub arrives_back : (w : Flow) (s : State) → is_return_taken w m.cpu.registers.flags ≡ true → KnowsReturnsOf table (after true) s w → Follows w → AreQuietCells (in_data regions) s.cells → Holds regions s m →
+      Meets regions table (word_in m.memory m.cpu.sp) there
+  arrives_back Returns s taken knows follow are holds = back_to s knows holds (follow s holds are)
+  arrives_back (ReturnsIf condition) s taken knows follow are holds =
+      let left = given_holds condition true s m.cpu.registers bytes holds.registers taken in
+      let here : Holds regions left.left m = record { registers = left.holds; words = rw left.words holds.words; cells = rw left.cells holds.cells } in
+      back_to left.left (subst (λ (o : Option State). KnowsReturnIf table (after true) o) left.is knows) here (with_taken (ReturnsIf condition) true taken follow left.left here (rw left.cells are))
+  arrives_back Continues s taken knows follow are holds = absurd (true≢false (sym taken))
+  arrives_back Pushes s taken knows follow are holds = absurd (true≢false (sym taken))
+  arrives_back Pops s taken knows follow are holds = absurd (true≢false (sym taken))
+  arrives_back Exchanges s taken knows follow are holds = absurd (true≢false (sym taken))
+  arrives_back (Jumps to) s taken knows follow are holds = absurd (true≢false (sym taken))
+  arrives_back (JumpsIf condition to) s taken knows follow are holds = absurd (true≢false (sym taken))
+  arrives_back JumpsToHl s taken knows follow are holds = absurd (true≢false (sym taken))
+  arrives_back (Calls to) s taken knows follow are holds = absurd (true≢false (sym taken))
+  arrives_back (CallsIf condition to) s taken knows follow are holds = absurd (true≢false (sym taken))
+  arrives_back Halts s taken knows follow are holds = absurd (true≢false (sym taken))
+
+-- a return that is taken goes to the word on top of the stack
+back_if : (b : Bool) (word next : ℕ) → b ≡ true → (if b then word else next) ≡ word
+back_if true word next taken = refl
+back_if false word next taken = absurd (true≢false (sym taken))
+
+return_target : (w : Flow) (next : ℕ) (memory : List ℕ) (cpu : Cpu) → is_return_taken w cpu.registers.flags ≡ true → goes_to w next memory cpu ≡ word_in memory cpu.sp
+return_target Returns next memory cpu taken = refl
+return_target (ReturnsIf condition) next memory cpu taken = back_if (holds_of condition cpu.registers.flags) (word_in memory cpu.sp) next taken
+return_target Continues next memory cpu taken = absurd (true≢false (sym taken))
+return_target Pushes next memory cpu taken = absurd (true≢false (sym taken))
+return_target Pops next memory cpu taken = absurd (true≢false (sym taken))
+return_target Exchanges next memory cpu taken = absurd (true≢false (sym taken))
+return_target (Jumps to) next memory cpu taken = absurd (true≢false (sym taken))
+return_target (JumpsIf condition to) next memory cpu taken = absurd (true≢false (sym taken))
+return_target JumpsToHl next memory cpu taken = absurd (true≢false (sym taken))
+return_target (Calls to) next memory cpu taken = absurd (true≢false (sym taken))
+return_target (CallsIf condition to) next memory cpu taken = absurd (true≢false (sym taken))
+return_target Halts next memory cpu taken = absurd (true≢false (sym taken))
+
+-- a state that says nothing holds of any machine
+pub nothing_holds : (regions : Areas) (ground : Ground regions) (m : Machine) → HoldsBytes m → Holds regions anything m
+nothing_holds regions ground m bytes = record { registers = anything_holds m.cpu.registers bytes.registers; words = none_hold regions ground m.memory m.cpu.sp; cells = no_cells_hold m.memory bytes.memory }
+
+-- what a table knows of quiet addresses, each of its states does
+pub known_there : (quiet : ℕ → Bool) (table : List Placed) (place : ℕ) (placed : Placed) → KnowsQuiet quiet table → slice_get table place ≡ Some placed → AreQuietCells quiet placed.state.cells
+known_there quiet table place placed knows there =
+    subst (λ (p : Placed). AreQuietCells quiet p.state.cells) (get_or_from_slice_get table place placed placed there) (knows place placed (slice_get_within table place placed there))
+
+-- a step leaves the image's code as it is
+pub code_stays : (image : Located) (ground : Ground image.regions) (refused : Bool) (m after : Machine) (found : Fetched) → fetch image.regions m.memory m.cpu.pc ≡ Some found → step_of image.regions refused m ≡ Next after →
+    HasCode image m.memory → HasCode image after.memory
+code_stays image ground refused m after found fetched step code a here = step_code image.regions ground [] refused m after found a fetched step here ∙ code a here
+
+-- what devices write leaves the words on the stack, the code and what is known of quiet addresses
+pub still_keeps : (image : Located) (ground : Ground image.regions) (quiet : ℕ → Bool) (table : List Placed) (w : World) (memory : List ℕ) → KnowsQuiet quiet table → LeavesProgram image.regions w.machine.memory memory →
+    ((at : ℕ) → quiet at ≡ true → slice_index memory at ≡ slice_index w.machine.memory at) → KeepsTo image table w → KeepsTo image table (with_memory w memory)
+still_keeps image ground quiet table w memory knows leaves stays k = record {
+  place = k.place;
+  placed = k.placed;
+  there = k.there;
+  at = k.at;
+  holds = record {
+    registers = k.holds.registers;
+    words = words_stay image.regions ground k.placed.state.words w.machine.memory memory w.machine.cpu.sp leaves.stack k.holds.words;
+    cells = cells_beside quiet w.machine.memory memory k.placed.state.cells stays leaves.bytes (known_there quiet table k.place k.placed knows k.there) k.holds.cells;
+  };
+  code = λ address here. leaves.code address here ∙ k.code address here;
+  whole = leaves.size ∙ k.whole;
+}
+
+module _ (image : Located) (quiet : ℕ → Bool) (bytes : List (Option ℕ)) (returning : ReturnFacts) (table : List Placed) (ground : Ground image.regions) (are_code : AreCodeBytes image bytes) (quiet_data : (at : ℕ) → quiet at ≡ true → in_data image.regions at ≡ true) (fits : Fits quiet (code_of image) bytes returning table)
+    (bounded : FetchedOperandsAreBounded) (length_stays : MemoryKeepsItsLength) where
+  keeps_by : (w : World) (s : State) → Has table w.machine.cpu.pc s → HoldsBytes w.machine → Holds image.regions s w.machine → HasCode image w.machine.memory → length w.machine.memory ≡ 65536 → KeepsTo image table w
+  keeps_by w s has held holds code whole = record {
+    place = has.place;
+    placed = has.placed;
+    there = has.there;
+    at = has.at;
+    holds = state_around image.regions s has.placed.state w.machine held.memory has.inside holds;
+    code = code;
+    whole = whole;
+  }
+
+  -- what the table knows of memory is known of data
+  quiet_in_data : (place : ℕ) (placed : Placed) → slice_get table place ≡ Some placed → AreQuietCells (in_data image.regions) placed.state.cells
+  quiet_in_data place placed there = cells_quieter quiet (in_data image.regions) placed.state.cells quiet_data (known_there quiet table place placed fits.knows there)
+
+  -- what a walk finds where a world stands is what its next step fetches, and a PCHL there has declared targets
+  declared_at : (w : World) (known : IsKnown image w) (found : Fetched) → fetched_by image.regions w ≡ Some found → found.instr ≡ Pchl → IsSome (targets_at image.regions w.machine.cpu.pc)
+  declared_at w known found fetched is =
+      let inside : FetchesInside image.regions w = known.inside in
+      let same : inside.found ≡ found = (let f : fetched_by image.regions w ≡ Some inside.found = inside.fetched in cc) in
+      inside.declared (ap (λ (x : Fetched). x.instr) same ∙ is)
+
+  -- the bytes that the table knows are those that are read
+  reads_code : (memory : List ℕ) → HasCode image memory → ReadsCode bytes memory
+  reads_code memory code at byte is = let known = are_code at byte is in code at known.0 ∙ known.1
+
+  module _ (refused : Bool) (w after : World) (found : Fetched) (fetched : fetched_by image.regions w ≡ Some found) (reached : IsReached (code_of image) w.machine.cpu.pc) (looked : (code_of image).look w.machine.cpu.pc ≡ Ok found)
+      (keeps : KeepsToCalls image returning table w) (before : HoldsBytes w.machine) (now : HoldsBytes after.machine) (step : step_of image.regions refused w.machine ≡ Next after.machine)
+      (newer : after.places ≡ places_then (fetched_by image.regions w) w.machine.cpu.registers.flags w.places) where
+    -- the state that holds
+    abbrev holding : State
+    holding = keeps.keeps.placed.state
+
+    reached_here : IsReached (code_of image) keeps.keeps.placed.at
+    reached_here = subst (λ n. IsReached (code_of image) n) (sym keeps.keeps.at) reached
+
+    looked_here : (code_of image).look keeps.keeps.placed.at ≡ Ok found
+    looked_here = subst (λ n. (code_of image).look n ≡ Ok found) (sym keeps.keeps.at) looked
+
+    calls : KeepsCalls returning bytes table w.machine.cpu.pc holding found
+    calls = subst (λ n. KeepsCalls returning bytes table n holding found) keeps.keeps.at (fits.calls keeps.keeps.place keeps.keeps.placed found keeps.keeps.there reached_here looked_here)
+
+    accounts : AccountsFor returning (declared_targets image.regions w.machine.cpu.pc) w.machine.cpu.pc found.next (flow found.instr)
+    accounts = fits.accounts w.machine.cpu.pc found reached looked
+
+    places_now : after.places ≡ places_by (flow found.instr) found.next w.machine.cpu.registers.flags w.places
+    places_now = newer ∙ ap (λ (o : Option Fetched). places_then o w.machine.cpu.registers.flags w.places) fetched
+
+    code_now : HasCode image after.machine.memory
+    code_now = code_stays image ground refused w.machine after.machine found fetched step keeps.keeps.code
+
+    whole_now : length after.machine.memory ≡ 65536
+    whole_now = length_stays image.regions refused w.machine after.machine step ∙ keeps.keeps.whole
+
+    -- what the instruction makes of a state holds after the step
+    abbrev follows : Follows image.regions (declared_targets image.regions w.machine.cpu.pc) table (λ taken t. state_after bytes found.instr taken found.next t) w.machine after.machine before.registers (flow found.instr)
+    follows = λ t holds are.
+        let bound = bounded image.regions w.machine.memory w.machine.cpu.pc found before.memory fetched in
+        step_state image.regions ground bytes refused w.machine after.machine found t bound.operand before now keeps.keeps.whole (reads_code w.machine.memory keeps.keeps.code) are fetched step holds
+
+    -- a return brings what its state says, or leads to where nothing is said
+    brings : (to : ℕ) → after.machine.cpu.pc ≡ to → to ≡ word_in w.machine.memory w.machine.cpu.sp → is_return_taken (flow found.instr) w.machine.cpu.registers.flags ≡ true →
+        (returning.known w.machine.cpu.pc ≡ true) ⊎ Has table to anything → KeepsTo image table after
+    brings to at word taken (inl so) =
+        let meets = arrives_back image.regions (declared_targets image.regions w.machine.cpu.pc) table (λ taken t. state_after bytes found.instr taken found.next t) w.machine after.machine before.registers
+        (flow found.instr) holding taken (calls.known so) follows (quiet_in_data keeps.keeps.place keeps.keeps.placed keeps.keeps.there) keeps.keeps.holds in
+        keeps_by after meets.state (subst (λ n. Has table n meets.state) (sym (at ∙ word)) meets.has) now meets.holds code_now whole_now
+    brings to at word taken (inr has) =
+        keeps_by after anything (subst (λ n. Has table n anything) (sym at) has) now (nothing_holds image.regions ground after.machine now) code_now whole_now
+
+    returned : (to : ℕ) → after.machine.cpu.pc ≡ to → to ≡ word_in w.machine.memory w.machine.cpu.sp → IsNewest to w.places → is_return_taken (flow found.instr) w.machine.cpu.registers.flags ≡ true → KeepsToCalls image returning table after
+    returned to at word newest taken =
+        let may = returns_here returning (declared_targets image.regions w.machine.cpu.pc) w.machine.cpu.pc found.next (flow found.instr) w.machine.cpu.registers.flags accounts taken in
+        let r = owed_return returning table (returning.may w.machine.cpu.pc) (returning.known w.machine.cpu.pc) w.places to newest.0 may newest.1 keeps.owes in
+        let older : after.places ≡ newest.0 = places_now ∙ returned_places (flow found.instr) found.next w.machine.cpu.registers.flags w.places taken ∙ ap (λ (l : List ℕ). drop 1 l) newest.1 in
+        record {
+          keeps = brings to at word taken r.has;
+          owes = subst (λ n. Owes returning table (returning.may n) (returning.known n) after.places) (sym at)
+              (subst (λ (l : List ℕ). Owes returning table (returning.may to) (returning.known to) l) (sym older) r.rest);
+        }
+
+    -- any other step brings what the state after it says
+    gone : Leads (flow found.instr) w.machine.cpu.registers.flags (declared_targets image.regions w.machine.cpu.pc) found.next (hl_of w.machine.cpu.registers) after.machine.cpu.pc → KeepsToCalls image returning table after
+    gone way =
+        let fit = fits.entries keeps.keeps.place keeps.keeps.placed found keeps.keeps.there reached_here looked_here in
+        let fit_here = subst (λ n. FitsBy (declared_targets image.regions n) table (λ taken t. state_after bytes found.instr taken found.next t) holding found.next (flow found.instr)) keeps.keeps.at fit in
+        let meets = arrives image.regions (declared_targets image.regions w.machine.cpu.pc) table (λ taken t. state_after bytes found.instr taken found.next t) w.machine after.machine before.registers
+        (flow found.instr) holding found.next after.machine.cpu.pc fit_here way
+        follows (quiet_in_data keeps.keeps.place keeps.keeps.placed keeps.keeps.there) keeps.keeps.holds in
+        let owes = owed_on returning table (declared_targets image.regions w.machine.cpu.pc) w.machine.cpu.pc found.next (hl_of w.machine.cpu.registers) after.machine.cpu.pc
+        w.machine.cpu.registers.flags w.places keeps.owes (flow found.instr) accounts calls.behind way in
+        record {
+          keeps = keeps_by after meets.state meets.has now meets.holds code_now whole_now;
+          owes = subst (λ (l : List ℕ). Owes returning table (returning.may after.machine.cpu.pc) (returning.known after.machine.cpu.pc) l) (sym places_now) owes;
+        }
+
+    either_way : IsKnown image w → GoesOn image.regions found.instr found.next w.machine after.machine → KeepsToCalls image returning table after
+    either_way known goes = by goes.way where
+      by : ((returns found.instr w.machine.cpu.registers.flags ≡ true) × (after.machine.cpu.pc ≡ target found.instr found.next w.machine.memory w.machine.cpu))
+          ⊎ Leads (flow found.instr) w.machine.cpu.registers.flags (declared_targets image.regions w.machine.cpu.pc) found.next (hl_of w.machine.cpu.registers) after.machine.cpu.pc →
+          KeepsToCalls image returning table after
+      by (inl taken) =
+          returned (target found.instr found.next w.machine.memory w.machine.cpu) taken.1 (return_target (flow found.instr) found.next w.machine.memory w.machine.cpu taken.0) (known.returning found fetched taken.0) taken.0
+      by (inr way) = gone way
+
+  -- a step keeps to the table, and so does a start
+  pub is_kept : IsKept image quiet table
+  is_kept = record {
+    returns = returning;
+    starts = λ start pc code whole held stands. record {
+      keeps = keeps_by (world_of start) anything (subst (λ n. Has table n anything) (sym pc) fits.start) held (nothing_holds image.regions ground start held) code whole;
+      owes = none (returning.may start.cpu.pc) (returning.known start.cpu.pc) [] refl;
+    };
+    steps = λ refused w after known on before now keeps step newer.
+        let stands : StandsOnWalk image w = known.stands in
+        let pass = passed image.regions refused w.machine after.machine stands.found stands.fetched step in
+        either_way refused w after stands.found stands.fetched stands.reached stands.looked keeps before now step newer known
+        (executes image.regions refused stands.found.instr stands.found.next w.machine after.machine (declared_at w known stands.found stands.fetched) pass.executed);
+    disturbed = λ w memory leaves stays keeps. record { keeps = still_keeps image ground quiet table w memory fits.knows leaves stays keeps.keeps; owes = keeps.owes };
+  }
+
+-- runs keep to a table that is kept
+module _ (image : Located) (bytes : ℕ) (quiet : ℕ → Bool) (table : List Placed) (sound : NeverGoesWrongFromPowerOn image bytes) (walks : StaysOnWalks image) (kept : IsKept image quiet table) (stay : BytesStayBytes)
+    (start : Machine) (begins : IsStart image start) (start_bytes : HoldsBytes start) (most : Option ℕ) where
+  known_at : (w : World) → IsWorldFrom image start most w → IsKnown image w
+  known_at w from = record {
+    stands = walks.stands start begins most w from;
+    returning = λ found fetched taken. sound.returning start begins most w found from fetched taken;
+    inside = sound.fetches_and_stores start begins most w from;
+  }
+
+  abbrev Keeps : World → Type 0
+  Keeps w = KeepsToCalls image kept.returns table w
+
+  stepped : (w after : World) (t : Turn) (places : List ℕ) → IsWorldFrom image start most w → IsWorldFrom image start most after → Keeps w → HoldsBytes w.machine → HoldsBytes after.machine → turn_at image.regions most w ≡ t →
+      places ≡ places_then (fetched_by image.regions w) w.machine.cpu.registers.flags w.places → world_after t places ≡ Some after → Keeps after
+  stepped w after (Stop e) places from next keeps before now h newer is = cc
+  stepped w after (Next m) places from next keeps before now h newer is =
+      let same : m ≡ after.machine = ap (λ (x : World). x.machine) (world_in is) in
+      let there : places ≡ after.places = ap (λ (x : World). x.places) (world_in is) in
+      kept.steps (refuses most w.machine.outputs) w after (known_at w from) (known_at after next).stands before now keeps (h ∙ ap (λ (x : Machine). Next x) same) (sym there ∙ newer)
+
+  next_keeps : (w after : World) → IsWorldFrom image start most w → IsWorldFrom image start most after → Keeps w → HoldsBytes w.machine → next_world image.regions most w ≡ Some after → Keeps after
+  next_keeps w after from next keeps held h =
+      stepped w after (turn_at image.regions most w)
+      (places_then (fetch image.regions w.machine.memory w.machine.cpu.pc) w.machine.cpu.registers.flags w.places)
+      from next keeps held (next_bytes stay image.regions most w after held h) refl refl h
+
+  followed_keeps : (n : ℕ) (w : World) (o : Option World) → world_at image.regions most (world_of start) n ≡ o → ((v : World) → o ≡ Some v → Keeps v) → following image.regions most o ≡ Some w → Keeps w
+  followed_keeps n w None at before h = cc
+  followed_keeps n w (Some v) at before h =
+      next_keeps v w (record { steps = n; is = at }) (record { steps = suc n; is = ap (λ (o : Option World). following image.regions most o) at ∙ h })
+      (before v refl) (run_bytes stay image.regions start most n v start_bytes at) h
+
+  keeps_at : (n : ℕ) (w : World) → world_at image.regions most (world_of start) n ≡ Some w → Keeps w
+  keeps_at zero w h =
+      subst Keeps (world_in h)
+      (kept.starts start begins.pc begins.code begins.whole start_bytes (known_at (world_of start) (record { steps = 0; is = refl })).stands)
+  keeps_at (suc n) w h = followed_keeps n w (world_at image.regions most (world_of start) n) refl (λ v e. keeps_at n v e) h
+
+  pub run_keeps : (w : World) → IsWorldFrom image start most w → KeepsTo image table w
+  run_keeps w from = (keeps_at from.steps w from.is).keeps

@@ -1,0 +1,357 @@
+-- The memory after a step: code stays, and the words on the stack are as the state has them.
+use Rattle.std.specs.Prelude.{◌≡◌, ◌≢◌, ◌<◌, ◌≤◌, ℕ, ◌+◌, ◌/◌, ◌%◌, Bool, true, false, not, List, [], ◌∷◌, Option, None, Some, length, slice_index, slice_set, refl, if◌then◌else◌}
+use Rattle.std.proofs.Common.{subst, sym, ap, ◌∙◌, arith, cond, get_or-set_other, true≢false}
+use Rattle.std.proofs.lemmas.List.{get_or-set_same, length-set}
+use Rattle.std.proofs.lemmas.List.Elements.{All-contains, Contains-append_left, Contains-append_right, Contains-push}
+use Rattle.std.proofs.lemmas.Bool.Decides.{nat_tests}
+use Rattle.decode80.specs.declared.instr.Instr.{Instr}
+use Rattle.decode80.specs.declared.instr.Instr.TheVariants.{Store, MviMemory, InrMemory, DcrMemory, Stax, Sta, Shld, Push, Pop, Call, CallIf, Ret, ReturnIf, Rst, Xthl, Lxi, Inx, Dcx, Sphl}
+use Rattle.decode80.specs.declared.pair.Pair.TheVariants.{Bc, De, Hl, Sp}
+use Rattle.decode80.specs.declared.pair.StackPair.{StackPair}
+use Rattle.decode80.specs.declared.pair.StackPair.TheVariants.{Bc as StackBc, De as StackDe, Hl as StackHl, Psw}
+use Rattle.decode80.specs.Facts.{flow}
+use Rattle.decode80.specs.Fetch.{ahead, behind}
+use Rattle.image80.specs.Range.{in_range, IsInMemory}
+use Rattle.image80.specs.Regions.{Areas, AreRegions, all_ranges, in_code, in_data}
+use Rattle.machine80.specs.declared.registers.Registers.{Registers}
+use Rattle.machine80.specs.declared.cpu.Cpu.{Cpu}
+use Rattle.machine80.specs.declared.end.End.{End}
+use Rattle.machine80.specs.declared.end.End.TheVariants.{Direct, Stack, StoreOutside}
+use Rattle.machine80.specs.Flags.{holds as holds_of, flags_byte}
+use Rattle.machine80.specs.Cpu.{word, high_of, low_of}
+use Rattle.machine80.specs.Effects.{push_bytes, stores, stored, changed}
+use Rattle.machine80.specs.Step.{guard, first_outside, ends_at}
+use Rattle.verify80_states.specs.declared.spans.span.Span.{Span}
+use Rattle.verify80_states.specs.declared.states.state.Words.{Words}
+use Rattle.verify80_states.specs.declared.states.state.State.{State}
+use Rattle.verify80_states.specs.Span.{Within, word_alone}
+use Rattle.verify80_states.specs.State.{HoldsRegisters, HoldsWord, HoldsWords, IsOnStack, no_words, pushed, popped}
+use Rattle.verify80_states.specs.Following.{pushed_words, called, returned, words_after}
+use Rattle.verify80_states.specs.Steps.{is_taken}
+use Rattle.verify80_states.proofs.ArithmeticBounds.{flags_are_byte}
+
+-- the rules of regions: code, data and stack share no address, and the stack is in memory
+pub record Ground (regions : Areas) : Type 0 where
+  pub code_or_data : (a : ℕ) → in_code regions a ≡ true → in_data regions a ≡ false
+  pub code_or_stack : (a : ℕ) → in_code regions a ≡ true → in_range regions.stack a ≡ false
+  pub data_or_stack : (a : ℕ) → in_data regions a ≡ true → in_range regions.stack a ≡ false
+  pub stack_ends : regions.stack.first + regions.stack.length ≤ 65536
+
+pub ground_of : ((areas : Areas) (a : ℕ) → AreRegions areas → in_code areas a ≡ true → in_data areas a ≡ false) →
+    ((areas : Areas) (a : ℕ) → AreRegions areas → in_code areas a ≡ true → in_range areas.stack a ≡ false) →
+    ((areas : Areas) (a : ℕ) → AreRegions areas → in_data areas a ≡ true → in_range areas.stack a ≡ false) →
+    (regions : Areas) → AreRegions regions → Ground regions
+ground_of code_or_data code_or_stack data_or_stack regions rules = record {
+  code_or_data = λ a. code_or_data regions a rules;
+  code_or_stack = λ a. code_or_stack regions a rules;
+  data_or_stack = λ a. data_or_stack regions a rules;
+  stack_ends =
+      (All-contains IsInMemory (all_ranges regions) regions.stack rules.in_memory
+      (Contains-append_right regions.code (regions.stack ∷ regions.data_ranges) regions.stack
+      (Contains-append_left (regions.stack ∷ []) regions.data_ranges regions.stack (Contains-push [] regions.stack)))).«end»;
+}
+
+small_on_stack : (regions : Areas) (a : ℕ) → Ground regions → in_range regions.stack a ≡ true → a < 65536
+small_on_stack regions a ground stack = let ends = ground.stack_ends in grind (arith, nat_tests, ends, stack)
+
+-- what is stored to data isn't on the stack
+pub stack_apart : (regions : Areas) (a b : ℕ) → Ground regions → in_range regions.stack a ≡ true → in_data regions b ≡ true → a ≢ b
+stack_apart regions a b ground stack data_there = λ e. true≢false (sym stack ∙ ap (in_range regions.stack) e ∙ ground.data_or_stack b data_there)
+
+-- an address that the guard lets pass is inside
+passed_test : (t : Bool) (b : ℕ) (others : Option ℕ) (at : ℕ → End) (rest : Option End) → ends_at (cond (not t) (Some b) others) at rest ≡ None → t ≡ true
+passed_test true b others at rest h = refl
+passed_test false b others at rest h = cc
+
+passed_rest : (t : Bool) (b : ℕ) (others : Option ℕ) (at : ℕ → End) (rest : Option End) → ends_at (cond (not t) (Some b) others) at rest ≡ None → ends_at others at rest ≡ None
+passed_rest true b others at rest h = h
+passed_rest false b others at rest h = cc
+
+passed : (within : ℕ → Bool) (b : ℕ) (at : ℕ → End) (rest : Option End) → ends_at (first_outside within (b ∷ [])) at rest ≡ None → within b ≡ true
+passed within b at rest h = passed_test (within b) b None at rest h
+
+pub passed_two : (within : ℕ → Bool) (b c : ℕ) (at : ℕ → End) (rest : Option End) → ends_at (first_outside within (b ∷ c ∷ [])) at rest ≡ None → (within b ≡ true) × (within c ≡ true)
+passed_two within b c at rest h =
+    let others : Option ℕ = first_outside within (c ∷ []) in
+    (passed_test (within b) b others at rest h, passed within c at rest (passed_rest (within b) b others at rest h))
+
+-- stores, one and two
+pub one_stored : (m : List ℕ) (a b x : ℕ) → a ≢ b → slice_index (stored m ((b, x) ∷ [])) a ≡ slice_index m a
+one_stored m a b x h = get_or-set_other m b a x 0 h
+
+pub two_stored : (m : List ℕ) (a b c x y : ℕ) → a ≢ b → a ≢ c → slice_index (stored m ((b, x) ∷ (c, y) ∷ [])) a ≡ slice_index m a
+two_stored m a b c x y h k = get_or-set_other (slice_set m b x) c a y 0 k ∙ get_or-set_other m b a x 0 h
+
+-- the bytes outside data and outside the stack stay, and those of the stack unless a word is pushed or exchanged there
+module _ (regions : Areas) (ground : Ground regions) where
+  -- code stays
+  not_data : (a b : ℕ) → in_code regions a ≡ true → in_data regions b ≡ true → a ≢ b
+  not_data a b code data_there = λ e. true≢false (sym data_there ∙ ap (in_data regions) (sym e) ∙ ground.code_or_data a code)
+
+  not_stack : (a b : ℕ) → in_code regions a ≡ true → in_range regions.stack b ≡ true → a ≢ b
+  not_stack a b code stack_there = λ e. true≢false (sym stack_there ∙ ap (in_range regions.stack) (sym e) ∙ ground.code_or_stack a code)
+
+  code_one : (m : List ℕ) (a b x : ℕ) → in_code regions a ≡ true → in_data regions b ≡ true → slice_index (stored m ((b, x) ∷ [])) a ≡ slice_index m a
+  code_one m a b x code there = one_stored m a b x (not_data a b code there)
+
+  code_two : (m : List ℕ) (a b c x y : ℕ) → in_code regions a ≡ true → (in_range regions.stack b ≡ true) × (in_range regions.stack c ≡ true) → slice_index (stored m ((b, x) ∷ (c, y) ∷ [])) a ≡ slice_index m a
+  code_two m a b c x y code there = two_stored m a b c x y (not_stack a b code there.0) (not_stack a c code there.1)
+
+  code_if : (t : Bool) (m : List ℕ) (a sp high low : ℕ) → in_code regions a ≡ true →
+      ends_at (first_outside (in_range regions.stack) (if t then behind sp 1 ∷ behind sp 2 ∷ [] else [])) Stack (ends_at None Direct (ends_at None StoreOutside None)) ≡ None →
+      slice_index (stored m (if t then push_bytes sp high low else [])) a ≡ slice_index m a
+  code_if true m a sp high low code pass = code_two m a (behind sp 1) (behind sp 2) high low code (passed_two (in_range regions.stack) (behind sp 1) (behind sp 2) Stack _ pass)
+  code_if false m a sp high low code pass = refl
+
+  pub code_kept : (i : Instr) (next : ℕ) (m : List ℕ) (cpu : Cpu) (a : ℕ) → guard regions i cpu ≡ None → in_code regions a ≡ true → slice_index (stored m (stores i next m cpu)) a ≡ slice_index m a
+  code_kept (Store r) next m cpu a pass code = code_one m a _ _ code (passed (in_data regions) _ StoreOutside None pass)
+  code_kept (MviMemory b) next m cpu a pass code = code_one m a _ _ code (passed (in_data regions) _ StoreOutside None pass)
+  code_kept InrMemory next m cpu a pass code = code_one m a _ _ code (passed (in_data regions) _ StoreOutside None pass)
+  code_kept DcrMemory next m cpu a pass code = code_one m a _ _ code (passed (in_data regions) _ StoreOutside None pass)
+  code_kept (Stax p) next m cpu a pass code = code_one m a _ _ code (passed (in_data regions) _ StoreOutside None pass)
+  code_kept (Sta w) next m cpu a pass code = code_one m a w cpu.registers.a code (passed (in_data regions) w Direct None pass)
+  code_kept (Shld w) next m cpu a pass code =
+      let both : (in_data regions w ≡ true) × (in_data regions (ahead w 1) ≡ true) = passed_two (in_data regions) w (ahead w 1) Direct None pass in
+      two_stored m a w (ahead w 1) cpu.registers.l cpu.registers.h (not_data a w code both.0) (not_data a (ahead w 1) code both.1)
+  code_kept (Push p) next m cpu a pass code = code_two m a (behind cpu.sp 1) (behind cpu.sp 2) _ _ code (passed_two (in_range regions.stack) (behind cpu.sp 1) (behind cpu.sp 2) Stack _ pass)
+  code_kept (Call w) next m cpu a pass code = code_two m a (behind cpu.sp 1) (behind cpu.sp 2) _ _ code (passed_two (in_range regions.stack) (behind cpu.sp 1) (behind cpu.sp 2) Stack _ pass)
+  code_kept (CallIf c w) next m cpu a pass code = code_if (holds_of c cpu.registers.flags) m a cpu.sp (next / 256) (next % 256) code pass
+  code_kept (Rst n) next m cpu a pass code = code_two m a (behind cpu.sp 1) (behind cpu.sp 2) _ _ code (passed_two (in_range regions.stack) (behind cpu.sp 1) (behind cpu.sp 2) Stack _ pass)
+  code_kept Xthl next m cpu a pass code = code_two m a cpu.sp (ahead cpu.sp 1) _ _ code (passed_two (in_range regions.stack) cpu.sp (ahead cpu.sp 1) Stack _ pass)
+  code_kept i next m cpu a pass code = refl
+
+  -- words stay where the bytes of the stack do
+  abbrev SameStack : List ℕ → List ℕ → Type 0
+  SameStack m m' = (a : ℕ) → in_range regions.stack a ≡ true → slice_index m' a ≡ slice_index m a
+
+  pub word_moved : (o : Option Span) (m m' : List ℕ) (at at' : ℕ) → (in_range regions.stack at ≡ true → at ≡ at') →
+      (in_range regions.stack at ≡ true → in_range regions.stack (ahead at 1) ≡ true → (slice_index m' at ≡ slice_index m at) × (slice_index m' (ahead at 1) ≡ slice_index m (ahead at 1))) →
+      HoldsWord regions o m at → HoldsWord regions o m' at'
+  word_moved None m m' at at' place same holds = tt
+  word_moved (Some span) m m' at at' place same holds =
+      let bytes = same holds.low holds.high in
+      subst (λ n. IsOnStack regions span m' n) (place holds.low)
+      (record { low = holds.low; high = holds.high; within = subst (λ n. Within span n) (let one = bytes.0 in let two = bytes.1 in cc (one, two)) holds.within })
+
+  pub words_stay : (w : Words) (m m' : List ℕ) (sp : ℕ) → SameStack m m' → HoldsWords regions w m sp → HoldsWords regions w m' sp
+  words_stay w m m' sp same holds = record {
+    first = stay w.first sp holds.first;
+    second = stay w.second (ahead sp 2) holds.second;
+    third = stay w.third (ahead sp 4) holds.third;
+    fourth = stay w.fourth (ahead sp 6) holds.fourth;
+  } where
+    stay : (o : Option Span) (at : ℕ) → HoldsWord regions o m at → HoldsWord regions o m' at
+    stay o at h = word_moved o m m' at at (λ low. refl) (λ low high. (same at low, same (ahead at 1) high)) h
+
+  pub none_hold : (m : List ℕ) (sp : ℕ) → HoldsWords regions no_words m sp
+  none_hold m sp = record { first = tt; second = tt; third = tt; fourth = tt }
+
+  -- a word is pushed
+  top_low : (sp : ℕ) → ahead (behind sp 2) 1 ≡ behind sp 1
+  unfolding ahead behind
+  top_low sp = omega arith
+
+  top_second : (sp : ℕ) → sp < 65536 → sp ≡ ahead (behind sp 2) 2
+  unfolding ahead behind
+  top_second sp small = omega arith
+
+  top_third : (sp : ℕ) → ahead sp 2 ≡ ahead (behind sp 2) 4
+  unfolding ahead behind
+  top_third sp = omega arith
+
+  top_fourth : (sp : ℕ) → ahead sp 4 ≡ ahead (behind sp 2) 6
+  unfolding ahead behind
+  top_fourth sp = omega arith
+
+  top_apart : (sp k : ℕ) → k < 6 → (ahead sp k ≢ behind sp 1) × (ahead sp k ≢ behind sp 2)
+  unfolding ahead behind
+  top_apart sp k small = (λ e. absurd (omega (arith, e, small)), λ e. absurd (omega (arith, e, small)))
+
+  sp_apart : (sp : ℕ) → sp < 65536 → (sp ≢ behind sp 1) × (sp ≢ behind sp 2)
+  unfolding behind
+  sp_apart sp small = (λ e. absurd (omega (arith, e, small)), λ e. absurd (omega (arith, e, small)))
+
+  next_byte : (sp k : ℕ) → ahead (ahead sp k) 1 ≡ ahead sp (k + 1)
+  unfolding ahead
+  next_byte sp k = omega arith
+
+  low_apart : (sp : ℕ) → behind sp 1 ≢ behind sp 2
+  unfolding behind
+  low_apart sp = λ e. absurd (omega (arith, e))
+
+  behind_small : (sp n : ℕ) → behind sp n < 65536
+  unfolding behind
+  behind_small sp n = omega arith
+
+  module _ (m : List ℕ) (sp high low : ℕ) (whole : length m ≡ 65536) where
+    abbrev after : List ℕ
+    after = stored m (push_bytes sp high low)
+
+    pushed_low : slice_index after (behind sp 2) ≡ low
+    pushed_low = get_or-set_same (slice_set m (behind sp 1) high) (behind sp 2) low 0 (let size = length-set m (behind sp 1) high in let small = behind_small sp 2 in omega (arith, size, small, whole))
+
+    pushed_high : slice_index after (behind sp 1) ≡ high
+    pushed_high =
+        get_or-set_other (slice_set m (behind sp 1) high) (behind sp 2) (behind sp 1) low 0 (low_apart sp)
+        ∙ get_or-set_same m (behind sp 1) high 0 (let small = behind_small sp 1 in omega (arith, small, whole))
+
+    deep_word : (o : Option Span) (k : ℕ) (at' : ℕ) → k < 5 → ahead sp k ≡ at' → HoldsWord regions o m (ahead sp k) → HoldsWord regions o after at'
+    deep_word o k at' small place holds =
+        word_moved o m after (ahead sp k) at' (λ low_in. place)
+        (λ low_in high_in. (kept k (omega arith), subst (λ n. slice_index after n ≡ slice_index m n) (sym (next_byte sp k)) (kept (k + 1) (omega arith)))) holds where
+          kept : (j : ℕ) → j < 6 → slice_index after (ahead sp j) ≡ slice_index m (ahead sp j)
+          kept j less = let apart = top_apart sp j less in two_stored m (ahead sp j) (behind sp 1) (behind sp 2) high low apart.0 apart.1
+
+    first_word : (o : Option Span) → HoldsWord regions o m sp → HoldsWord regions o after (ahead (behind sp 2) 2)
+    first_word o holds =
+        word_moved o m after sp (ahead (behind sp 2) 2) (λ low_in. top_second sp (small_on_stack regions sp ground low_in))
+        (λ low_in high_in.
+        let apart = sp_apart sp (small_on_stack regions sp ground low_in) in
+        let next = top_apart sp 1 (omega arith) in
+        (two_stored m sp (behind sp 1) (behind sp 2) high low apart.0 apart.1, two_stored m (ahead sp 1) (behind sp 1) (behind sp 2) high low next.0 next.1)) holds
+
+    pub words_pushed : (w : Words) (span : Span) → (in_range regions.stack (behind sp 1) ≡ true) × (in_range regions.stack (behind sp 2) ≡ true) → Within span (word high low) → HoldsWords regions w m sp →
+        HoldsWords regions (pushed w (Some span)) after (behind sp 2)
+    words_pushed w span there inside holds = record {
+      first = record {
+        low = there.1;
+        high = subst (λ n. in_range regions.stack n ≡ true) (sym (top_low sp)) there.0;
+        within = subst (λ n. Within span n) (let one = top_low sp in let two = pushed_high in let three = pushed_low in cc (one, two, three)) inside;
+      };
+      second = first_word w.first holds.first;
+      third = deep_word w.second 2 (ahead (behind sp 2) 4) (omega arith) (top_third sp) holds.second;
+      fourth = deep_word w.third 4 (ahead (behind sp 2) 6) (omega arith) (top_fourth sp) holds.third;
+    }
+
+  -- a word is popped
+  pop_third : (sp : ℕ) → ahead sp 4 ≡ ahead (ahead sp 2) 2
+  unfolding ahead
+  pop_third sp = omega arith
+
+  pop_fourth : (sp : ℕ) → ahead sp 6 ≡ ahead (ahead sp 2) 4
+  unfolding ahead
+  pop_fourth sp = omega arith
+
+  words_popped : (w : Words) (m : List ℕ) (sp : ℕ) → HoldsWords regions w m sp → HoldsWords regions (popped w) m (ahead sp 2)
+  words_popped w m sp holds = record {
+    first = holds.second;
+    second = subst (λ n. HoldsWord regions w.third m n) (pop_third sp) holds.third;
+    third = subst (λ n. HoldsWord regions w.fourth m n) (pop_fourth sp) holds.fourth;
+    fourth = tt;
+  }
+
+  -- a word is exchanged
+  sp_first : (sp k : ℕ) → sp < 65536 → 2 ≤ k → k < 8 → (ahead sp k ≢ sp) × (ahead sp k ≢ ahead sp 1)
+  unfolding ahead
+  sp_first sp k small more less = (λ e. absurd (omega (arith, e, small, more, less)), λ e. absurd (omega (arith, e, small, more, less)))
+
+  ahead_one : (sp : ℕ) → sp < 65536 → sp ≢ ahead sp 1
+  unfolding ahead
+  ahead_one sp small = λ e. absurd (omega (arith, e, small))
+
+  ahead_small : (sp n : ℕ) → ahead sp n < 65536
+  unfolding ahead
+  ahead_small sp n = omega arith
+
+  module _ (m : List ℕ) (sp high low : ℕ) (whole : length m ≡ 65536) (low_in : in_range regions.stack sp ≡ true) (high_in : in_range regions.stack (ahead sp 1) ≡ true) where
+    abbrev exchanged : List ℕ
+    exchanged = stored m ((sp, low) ∷ (ahead sp 1, high) ∷ [])
+
+    sp_small : sp < 65536
+    sp_small = small_on_stack regions sp ground low_in
+
+    exchanged_low : slice_index exchanged sp ≡ low
+    exchanged_low =
+        get_or-set_other (slice_set m sp low) (ahead sp 1) sp high 0 (ahead_one sp sp_small)
+        ∙ get_or-set_same m sp low 0 (let small = sp_small in omega (arith, small, whole))
+
+    exchanged_high : slice_index exchanged (ahead sp 1) ≡ high
+    exchanged_high = get_or-set_same (slice_set m sp low) (ahead sp 1) high 0 (let size = length-set m sp low in let small = ahead_small sp 1 in omega (arith, size, small, whole))
+
+    below_word : (o : Option Span) (k : ℕ) → 2 ≤ k → k < 7 → HoldsWord regions o m (ahead sp k) → HoldsWord regions o exchanged (ahead sp k)
+    below_word o k more less holds =
+        word_moved o m exchanged (ahead sp k) (ahead sp k) (λ in_stack. refl)
+        (λ one two. (kept k more (omega arith), subst (λ n. slice_index exchanged n ≡ slice_index m n) (sym (next_byte sp k)) (kept (k + 1) (omega arith) (omega arith)))) holds where
+          kept : (j : ℕ) → 2 ≤ j → j < 8 → slice_index exchanged (ahead sp j) ≡ slice_index m (ahead sp j)
+          kept j from small = let apart = sp_first sp j sp_small from small in two_stored m (ahead sp j) sp (ahead sp 1) low high apart.0 apart.1
+
+    words_exchanged : (w : Words) (span : Span) → Within span (word high low) → HoldsWords regions w m sp → HoldsWords regions (record w { first = Some span }) exchanged sp
+    words_exchanged w span inside holds = record {
+      first = record { low = low_in; high = high_in; within = subst (λ n. Within span n) (let one = exchanged_high in let two = exchanged_low in cc (one, two)) inside };
+      second = below_word w.second 2 (omega arith) (omega arith) holds.second;
+      third = below_word w.third 4 (omega arith) (omega arith) holds.third;
+      fourth = below_word w.fourth 6 (omega arith) (omega arith) holds.fourth;
+    }
+
+  -- a store to data leaves the stack
+  stack_one : (m : List ℕ) (b x : ℕ) → in_data regions b ≡ true → SameStack m (stored m ((b, x) ∷ []))
+  stack_one m b x there a stack = one_stored m a b x (stack_apart regions a b ground stack there)
+
+  stack_two : (m : List ℕ) (b c x y : ℕ) → (in_data regions b ≡ true) × (in_data regions c ≡ true) → SameStack m (stored m ((b, x) ∷ (c, y) ∷ []))
+  stack_two m b c x y there a stack = two_stored m a b c x y (stack_apart regions a b ground stack there.0) (stack_apart regions a c ground stack there.1)
+
+  -- the word that PUSH pushes
+  psw_within : (s : State) (r : Registers) → HoldsRegisters s r → Within (pushed_words s Psw) (word r.a (flags_byte r.flags))
+  psw_within s r holds = let a = holds.a in let f = flags_are_byte r.flags in record { above = omega (arith, a.above, f); below = omega (arith, a.below, f) }
+
+  pushed_within : (s : State) (r : Registers) (pair : StackPair) → HoldsRegisters s r → Within (pushed_words s pair) (word (high_of r pair) (low_of r pair))
+  pushed_within s r StackBc holds = holds.bc.words
+  pushed_within s r StackDe holds = holds.de.words
+  pushed_within s r StackHl holds = holds.hl.words
+  pushed_within s r Psw holds = psw_within s r holds
+
+  next_within : (next : ℕ) → Within (word_alone next) (word (next / 256) (next % 256))
+  next_within next = record { above = omega arith; below = omega arith }
+
+  module _ (m : List ℕ) (whole : length m ≡ 65536) where
+    maybe_push : (t taken : Bool) (next sp : ℕ) (w : Words) → t ≡ taken →
+        ends_at (first_outside (in_range regions.stack) (if t then behind sp 1 ∷ behind sp 2 ∷ [] else [])) Stack (ends_at None Direct (ends_at None StoreOutside None)) ≡ None → HoldsWords regions w m sp →
+        HoldsWords regions (called taken next w) (stored m (if t then push_bytes sp (next / 256) (next % 256) else [])) (if t then behind sp 2 else sp)
+    maybe_push true true next sp w same pass holds =
+        words_pushed m sp (next / 256) (next % 256) whole w (word_alone next) (passed_two (in_range regions.stack) (behind sp 1) (behind sp 2) Stack _ pass) (next_within next) holds
+    maybe_push false false next sp w same pass holds = holds
+    maybe_push true false next sp w same pass holds = cc
+    maybe_push false true next sp w same pass holds = cc
+
+    maybe_return : (t : Bool) (w : Words) (sp : ℕ) → HoldsWords regions w m sp → HoldsWords regions (returned t w) m (if t then ahead sp 2 else sp)
+    maybe_return true w sp holds = words_popped w m sp holds
+    maybe_return false w sp holds = holds
+
+    pub words_changed : (i : Instr) (next : ℕ) (cpu : Cpu) (s : State) → guard regions i cpu ≡ None → HoldsRegisters s cpu.registers → HoldsWords regions s.words m cpu.sp →
+        HoldsWords regions (words_after i (is_taken (flow i) cpu.registers.flags) next s) (stored m (stores i next m cpu)) (changed i m cpu).sp
+    words_changed (Store r) next cpu s pass holds words = words_stay s.words m _ cpu.sp (stack_one m _ _ (passed (in_data regions) _ StoreOutside None pass)) words
+    words_changed (MviMemory b) next cpu s pass holds words = words_stay s.words m _ cpu.sp (stack_one m _ _ (passed (in_data regions) _ StoreOutside None pass)) words
+    words_changed InrMemory next cpu s pass holds words = words_stay s.words m _ cpu.sp (stack_one m _ _ (passed (in_data regions) _ StoreOutside None pass)) words
+    words_changed DcrMemory next cpu s pass holds words = words_stay s.words m _ cpu.sp (stack_one m _ _ (passed (in_data regions) _ StoreOutside None pass)) words
+    words_changed (Stax p) next cpu s pass holds words = words_stay s.words m _ cpu.sp (stack_one m _ _ (passed (in_data regions) _ StoreOutside None pass)) words
+    words_changed (Sta w) next cpu s pass holds words = words_stay s.words m _ cpu.sp (stack_one m w cpu.registers.a (passed (in_data regions) w Direct None pass)) words
+    words_changed (Shld w) next cpu s pass holds words =
+        words_stay s.words m _ cpu.sp (stack_two m w (ahead w 1) cpu.registers.l cpu.registers.h (passed_two (in_data regions) w (ahead w 1) Direct None pass)) words
+    words_changed (Push pair) next cpu s pass holds words =
+        words_pushed m cpu.sp (high_of cpu.registers pair) (low_of cpu.registers pair) whole s.words (pushed_words s pair)
+        (passed_two (in_range regions.stack) (behind cpu.sp 1) (behind cpu.sp 2) Stack _ pass) (pushed_within s cpu.registers pair holds) words
+    words_changed (Pop pair) next cpu s pass holds words = words_popped s.words m cpu.sp words
+    words_changed Xthl next cpu s pass holds words =
+        let both : (in_range regions.stack cpu.sp ≡ true) × (in_range regions.stack (ahead cpu.sp 1) ≡ true) = passed_two (in_range regions.stack) cpu.sp (ahead cpu.sp 1) Stack _ pass in
+        words_exchanged m cpu.sp cpu.registers.h cpu.registers.l whole both.0 both.1 s.words s.hl.words holds.hl.words words
+    words_changed (Call w) next cpu s pass holds words =
+        words_pushed m cpu.sp (next / 256) (next % 256) whole s.words (word_alone next) (passed_two (in_range regions.stack) (behind cpu.sp 1) (behind cpu.sp 2) Stack _ pass) (next_within next) words
+    words_changed (Rst n) next cpu s pass holds words =
+        words_pushed m cpu.sp (next / 256) (next % 256) whole s.words (word_alone next) (passed_two (in_range regions.stack) (behind cpu.sp 1) (behind cpu.sp 2) Stack _ pass) (next_within next) words
+    words_changed (CallIf c w) next cpu s pass holds words = maybe_push (holds_of c cpu.registers.flags) (holds_of c cpu.registers.flags) next cpu.sp s.words refl pass words
+    words_changed Ret next cpu s pass holds words = words_popped s.words m cpu.sp words
+    words_changed (ReturnIf c) next cpu s pass holds words = maybe_return (holds_of c cpu.registers.flags) s.words cpu.sp words
+    words_changed (Lxi Bc n) next cpu s pass holds words = words
+    words_changed (Lxi De n) next cpu s pass holds words = words
+    words_changed (Lxi Hl n) next cpu s pass holds words = words
+    words_changed (Lxi Sp n) next cpu s pass holds words = none_hold m _
+    words_changed (Inx Bc) next cpu s pass holds words = words
+    words_changed (Inx De) next cpu s pass holds words = words
+    words_changed (Inx Hl) next cpu s pass holds words = words
+    words_changed (Inx Sp) next cpu s pass holds words = none_hold m _
+    words_changed (Dcx Bc) next cpu s pass holds words = words
+    words_changed (Dcx De) next cpu s pass holds words = words
+    words_changed (Dcx Hl) next cpu s pass holds words = words
+    words_changed (Dcx Sp) next cpu s pass holds words = none_hold m _
+    words_changed Sphl next cpu s pass holds words = none_hold m _
+    words_changed i next cpu s pass holds words = words

@@ -1,0 +1,95 @@
+-- Registers and pairs of bytes, read and written.
+use Rattle.std.specs.Prelude.{ℕ, ◌/◌, ◌%◌}
+use Rattle.decode80.specs.declared.register.Register.{Register}
+use Rattle.decode80.specs.declared.register.Register.TheVariants.{A, B, C, D, E, H, L}
+use Rattle.decode80.specs.declared.pair.Pair.{Pair}
+use Rattle.decode80.specs.declared.pair.Pair.TheVariants.{Bc, De, Hl, Sp}
+use Rattle.decode80.specs.declared.pair.StackPair.{StackPair}
+use Rattle.decode80.specs.declared.pair.StackPair.TheVariants.{Bc as StackBc, De as StackDe, Hl as StackHl, Psw}
+use Rattle.decode80.specs.declared.pair.IndexPair.TheVariants.{Bc as IndexBc, De as IndexDe}
+use Rattle.machine80.specs.declared.flags.Flags.{Flags}
+use Rattle.machine80.specs.declared.registers.Registers.{Registers}
+use Rattle.machine80.specs.declared.cpu.Cpu.{Cpu}
+use Rattle.machine80.specs.Cpu.{register_of, with_register, hl_of, pair_of, with_pair, index_pair_of, high_of, low_of, with_stack_pair}
+use Rattle.verify80_states.specs.Bytes.{IsByte, IsWord, AreBytes}
+use Rattle.verify80_states.proofs.ArithmeticBounds.{word_of_bytes, high_byte, low_byte, flags_are_byte}
+
+-- read
+pub register_is_byte : (r : Registers) (from : Register) → AreBytes r → IsByte (register_of r from)
+register_is_byte r A bytes = bytes.a
+register_is_byte r B bytes = bytes.b
+register_is_byte r C bytes = bytes.c
+register_is_byte r D bytes = bytes.d
+register_is_byte r E bytes = bytes.e
+register_is_byte r H bytes = bytes.h
+register_is_byte r L bytes = bytes.l
+
+pub bc_is_word : (r : Registers) → AreBytes r → IsWord (index_pair_of r IndexBc)
+bc_is_word r bytes = word_of_bytes r.b r.c bytes.b bytes.c
+
+pub de_is_word : (r : Registers) → AreBytes r → IsWord (index_pair_of r IndexDe)
+de_is_word r bytes = word_of_bytes r.d r.e bytes.d bytes.e
+
+pub hl_is_word : (r : Registers) → AreBytes r → IsWord (hl_of r)
+hl_is_word r bytes = word_of_bytes r.h r.l bytes.h bytes.l
+
+pub pair_is_word : (cpu : Cpu) (pair : Pair) → AreBytes cpu.registers → IsWord cpu.sp → IsWord (pair_of cpu pair)
+pair_is_word cpu Bc bytes sp = bc_is_word cpu.registers bytes
+pair_is_word cpu De bytes sp = de_is_word cpu.registers bytes
+pair_is_word cpu Hl bytes sp = hl_is_word cpu.registers bytes
+pair_is_word cpu Sp bytes sp = sp
+
+pub high_is_byte : (r : Registers) (pair : StackPair) → AreBytes r → IsByte (high_of r pair)
+high_is_byte r StackBc bytes = bytes.b
+high_is_byte r StackDe bytes = bytes.d
+high_is_byte r StackHl bytes = bytes.h
+high_is_byte r Psw bytes = bytes.a
+
+pub low_is_byte : (r : Registers) (pair : StackPair) → AreBytes r → IsByte (low_of r pair)
+low_is_byte r StackBc bytes = bytes.c
+low_is_byte r StackDe bytes = bytes.e
+low_is_byte r StackHl bytes = bytes.l
+low_is_byte r Psw bytes = flags_are_byte r.flags
+
+-- written; flags are no bytes of their own
+pub flags_written : (r : Registers) (f : Flags) → AreBytes r → AreBytes (record r { flags = f })
+flags_written r f bytes = record { a = bytes.a; b = bytes.b; c = bytes.c; d = bytes.d; e = bytes.e; h = bytes.h; l = bytes.l }
+
+pub accumulator_written : (r : Registers) (byte : ℕ) (f : Flags) → IsByte byte → AreBytes r → AreBytes (record r { a = byte; flags = f })
+accumulator_written r byte f small bytes = record { a = small; b = bytes.b; c = bytes.c; d = bytes.d; e = bytes.e; h = bytes.h; l = bytes.l }
+
+pub bc_written : (r : Registers) (high low : ℕ) → IsByte high → IsByte low → AreBytes r → AreBytes (record r { b = high; c = low })
+bc_written r high low h l bytes = record { a = bytes.a; b = h; c = l; d = bytes.d; e = bytes.e; h = bytes.h; l = bytes.l }
+
+pub de_written : (r : Registers) (high low : ℕ) → IsByte high → IsByte low → AreBytes r → AreBytes (record r { d = high; e = low })
+de_written r high low h l bytes = record { a = bytes.a; b = bytes.b; c = bytes.c; d = h; e = l; h = bytes.h; l = bytes.l }
+
+pub hl_written : (r : Registers) (high low : ℕ) → IsByte high → IsByte low → AreBytes r → AreBytes (record r { h = high; l = low })
+hl_written r high low h l bytes = record { a = bytes.a; b = bytes.b; c = bytes.c; d = bytes.d; e = bytes.e; h = h; l = l }
+
+pub register_written : (r : Registers) (to : Register) (byte : ℕ) → IsByte byte → AreBytes r → AreBytes (with_register r to byte)
+register_written r A byte small bytes = accumulator_written r byte r.flags small bytes
+register_written r B byte small bytes = bc_written r byte r.c small bytes.c bytes
+register_written r C byte small bytes = bc_written r r.b byte bytes.b small bytes
+register_written r D byte small bytes = de_written r byte r.e small bytes.e bytes
+register_written r E byte small bytes = de_written r r.d byte bytes.d small bytes
+register_written r H byte small bytes = hl_written r byte r.l small bytes.l bytes
+register_written r L byte small bytes = hl_written r r.h byte bytes.h small bytes
+
+pub pair_written : (cpu : Cpu) (pair : Pair) (n : ℕ) → IsWord n → AreBytes cpu.registers → AreBytes (with_pair cpu pair n).registers
+pair_written cpu Bc n small bytes = bc_written cpu.registers (n / 256) (n % 256) (high_byte n small) (low_byte n) bytes
+pair_written cpu De n small bytes = de_written cpu.registers (n / 256) (n % 256) (high_byte n small) (low_byte n) bytes
+pair_written cpu Hl n small bytes = hl_written cpu.registers (n / 256) (n % 256) (high_byte n small) (low_byte n) bytes
+pair_written cpu Sp n small bytes = bytes
+
+pub sp_written : (cpu : Cpu) (pair : Pair) (n : ℕ) → IsWord n → IsWord cpu.sp → IsWord (with_pair cpu pair n).sp
+sp_written cpu Bc n small sp = sp
+sp_written cpu De n small sp = sp
+sp_written cpu Hl n small sp = sp
+sp_written cpu Sp n small sp = small
+
+pub stack_pair_written : (r : Registers) (pair : StackPair) (high low : ℕ) → IsByte high → IsByte low → AreBytes r → AreBytes (with_stack_pair r pair high low)
+stack_pair_written r StackBc high low h l bytes = bc_written r high low h l bytes
+stack_pair_written r StackDe high low h l bytes = de_written r high low h l bytes
+stack_pair_written r StackHl high low h l bytes = hl_written r high low h l bytes
+stack_pair_written r Psw high low h l bytes = record { a = h; b = bytes.b; c = bytes.c; d = bytes.d; e = bytes.e; h = bytes.h; l = bytes.l }

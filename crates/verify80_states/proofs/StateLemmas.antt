@@ -1,0 +1,458 @@
+-- What a state says when registers and flags are written.
+use Rattle.std.specs.Prelude.{◌≡◌, ◌<◌, ◌==◌, ℕ, ◌/◌, ◌%◌, Bool, true, false, Option, Some, nat_lt, nat_le, refl}
+use Rattle.std.proofs.Common.{arith, subst, sym}
+use Rattle.std.proofs.lemmas.Bool.Decides.{nat_tests}
+use Rattle.decode80.specs.declared.register.Register.{Register}
+use Rattle.decode80.specs.declared.register.Register.TheVariants.{A, B, C, D, E, H, L}
+use Rattle.decode80.specs.declared.pair.Pair.{Pair}
+use Rattle.decode80.specs.declared.pair.Pair.TheVariants.{Bc, De, Hl, Sp}
+use Rattle.machine80.specs.declared.flags.Flags.{Flags}
+use Rattle.machine80.specs.declared.registers.Registers.{Registers}
+use Rattle.machine80.specs.declared.cpu.Cpu.{Cpu}
+use Rattle.machine80.specs.Flags.{flags_of_result}
+use Rattle.machine80.specs.Cpu.{word, register_of, with_register, with_pair}
+use Rattle.verify80_states.specs.declared.spans.span.Span.{Span}
+use Rattle.verify80_states.specs.declared.spans.byte_span.ByteSpan.{ByteSpan}
+use Rattle.verify80_states.specs.declared.spans.byte_span.Outcome.{Outcome}
+use Rattle.verify80_states.specs.declared.states.state.PairSpan.{PairSpan}
+use Rattle.verify80_states.specs.declared.states.state.State.{State}
+use Rattle.verify80_states.specs.Bytes.{AreBytes}
+use Rattle.verify80_states.specs.Span.{Within, ByteWithin, IsKnown, any_byte, high_of, joined, zero_of, sign_of}
+use Rattle.verify80_states.specs.State.{HoldsPair, HoldsRegisters, Compares, any_pair, anything, pair_of_words, pair_of_halves, byte_of, copy_without, copy_outside, with_byte, with_words, with_outcome, with_carry, with_any_flags, cut_high, cut_low, cut_copy, cut}
+use Rattle.verify80_states.proofs.SpanLemmas.{high_within, low_within, joined_within, any_word_within, any_byte_within, meet_within, meet_bytes_within, known_if}
+use Rattle.verify80_states.proofs.OutcomeLemmas.{Makes}
+
+-- pairs
+pub words_hold : (span : Span) (h l : ℕ) → l < 256 → Within span (word h l) → HoldsPair (pair_of_words span) h l
+words_hold span h l small inside = record { words = inside; low = low_within span h l small inside }
+
+pub halves_hold : (high low : ByteSpan) (h l : ℕ) → ByteWithin high h → ByteWithin low l → HoldsPair (pair_of_halves high low) h l
+halves_hold high low h l first second = record { words = joined_within high low h l first second; low = second }
+
+pub high_holds : (p : PairSpan) (h l : ℕ) → l < 256 → HoldsPair p h l → ByteWithin (high_of p.words) h
+high_holds p h l small holds = high_within p.words h l small holds.words
+
+-- a word that is put into a pair
+split_word : (span : Span) (n : ℕ) → Within span n → Within span (word (n / 256) (n % 256))
+split_word span n inside = record { above = omega arith; below = omega arith }
+
+pub split_holds : (span : Span) (n : ℕ) → Within span n → HoldsPair (pair_of_words span) (n / 256) (n % 256)
+split_holds span n inside = words_hold span (n / 256) (n % 256) (omega arith) (split_word span n inside)
+
+-- a register's byte
+pub byte_holds : (s : State) (r : Registers) (register : Register) → AreBytes r → HoldsRegisters s r → ByteWithin (byte_of s register) (register_of r register)
+byte_holds s r A bytes holds = holds.a
+byte_holds s r B bytes holds = high_holds s.bc r.b r.c bytes.c holds.bc
+byte_holds s r C bytes holds = holds.bc.low
+byte_holds s r D bytes holds = high_holds s.de r.d r.e bytes.e holds.de
+byte_holds s r E bytes holds = holds.de.low
+byte_holds s r H bytes holds = high_holds s.hl r.h r.l bytes.l holds.hl
+byte_holds s r L bytes holds = holds.hl.low
+
+-- the copy of A when a register is written
+copy_stays : (to copy : Register) (r : Registers) (byte : ℕ) → register_of r copy ≡ r.a → register_of (with_register r to byte) (copy_without to copy) ≡ (with_register r to byte).a
+copy_stays A copy r byte same = refl
+copy_stays B B r byte same = refl
+copy_stays B A r byte same = same
+copy_stays B C r byte same = same
+copy_stays B D r byte same = same
+copy_stays B E r byte same = same
+copy_stays B H r byte same = same
+copy_stays B L r byte same = same
+copy_stays C C r byte same = refl
+copy_stays C A r byte same = same
+copy_stays C B r byte same = same
+copy_stays C D r byte same = same
+copy_stays C E r byte same = same
+copy_stays C H r byte same = same
+copy_stays C L r byte same = same
+copy_stays D D r byte same = refl
+copy_stays D A r byte same = same
+copy_stays D B r byte same = same
+copy_stays D C r byte same = same
+copy_stays D E r byte same = same
+copy_stays D H r byte same = same
+copy_stays D L r byte same = same
+copy_stays E E r byte same = refl
+copy_stays E A r byte same = same
+copy_stays E B r byte same = same
+copy_stays E C r byte same = same
+copy_stays E D r byte same = same
+copy_stays E H r byte same = same
+copy_stays E L r byte same = same
+copy_stays H H r byte same = refl
+copy_stays H A r byte same = same
+copy_stays H B r byte same = same
+copy_stays H C r byte same = same
+copy_stays H D r byte same = same
+copy_stays H E r byte same = same
+copy_stays H L r byte same = same
+copy_stays L L r byte same = refl
+copy_stays L A r byte same = same
+copy_stays L B r byte same = same
+copy_stays L C r byte same = same
+copy_stays L D r byte same = same
+copy_stays L E r byte same = same
+copy_stays L H r byte same = same
+
+-- a register is written
+pub with_byte_holds : (s : State) (r : Registers) (to : Register) (span : ByteSpan) (byte : ℕ) → AreBytes r → HoldsRegisters s r → ByteWithin span byte →
+    HoldsRegisters (with_byte s to span) (with_register r to byte)
+with_byte_holds s r A span byte bytes holds inside = record {
+  a = inside;
+  bc = holds.bc;
+  de = holds.de;
+  hl = holds.hl;
+  copy = refl;
+  zero = holds.zero;
+  carry = holds.carry;
+  sign = holds.sign;
+  compared = tt;
+}
+with_byte_holds s r B span byte bytes holds inside = record {
+  a = holds.a;
+  bc = halves_hold span s.bc.low byte r.c inside holds.bc.low;
+  de = holds.de;
+  hl = holds.hl;
+  copy = copy_stays B s.copy r byte holds.copy;
+  zero = holds.zero;
+  carry = holds.carry;
+  sign = holds.sign;
+  compared = holds.compared;
+}
+with_byte_holds s r C span byte bytes holds inside = record {
+  a = holds.a;
+  bc = halves_hold (high_of s.bc.words) span r.b byte (high_holds s.bc r.b r.c bytes.c holds.bc) inside;
+  de = holds.de;
+  hl = holds.hl;
+  copy = copy_stays C s.copy r byte holds.copy;
+  zero = holds.zero;
+  carry = holds.carry;
+  sign = holds.sign;
+  compared = holds.compared;
+}
+with_byte_holds s r D span byte bytes holds inside = record {
+  a = holds.a;
+  bc = holds.bc;
+  de = halves_hold span s.de.low byte r.e inside holds.de.low;
+  hl = holds.hl;
+  copy = copy_stays D s.copy r byte holds.copy;
+  zero = holds.zero;
+  carry = holds.carry;
+  sign = holds.sign;
+  compared = holds.compared;
+}
+with_byte_holds s r E span byte bytes holds inside = record {
+  a = holds.a;
+  bc = holds.bc;
+  de = halves_hold (high_of s.de.words) span r.d byte (high_holds s.de r.d r.e bytes.e holds.de) inside;
+  hl = holds.hl;
+  copy = copy_stays E s.copy r byte holds.copy;
+  zero = holds.zero;
+  carry = holds.carry;
+  sign = holds.sign;
+  compared = holds.compared;
+}
+with_byte_holds s r H span byte bytes holds inside = record {
+  a = holds.a;
+  bc = holds.bc;
+  de = holds.de;
+  hl = halves_hold span s.hl.low byte r.l inside holds.hl.low;
+  copy = copy_stays H s.copy r byte holds.copy;
+  zero = holds.zero;
+  carry = holds.carry;
+  sign = holds.sign;
+  compared = holds.compared;
+}
+with_byte_holds s r L span byte bytes holds inside = record {
+  a = holds.a;
+  bc = holds.bc;
+  de = holds.de;
+  hl = halves_hold (high_of s.hl.words) span r.h byte (high_holds s.hl r.h r.l bytes.l holds.hl) inside;
+  copy = copy_stays L s.copy r byte holds.copy;
+  zero = holds.zero;
+  carry = holds.carry;
+  sign = holds.sign;
+  compared = holds.compared;
+}
+
+-- the copy of A when a pair is written
+bc_copy : (copy : Register) (r : Registers) (high low : ℕ) → register_of r copy ≡ r.a → register_of (record r { b = high; c = low }) (copy_outside Bc copy) ≡ r.a
+bc_copy B r high low same = refl
+bc_copy C r high low same = refl
+bc_copy A r high low same = same
+bc_copy D r high low same = same
+bc_copy E r high low same = same
+bc_copy H r high low same = same
+bc_copy L r high low same = same
+
+de_copy : (copy : Register) (r : Registers) (high low : ℕ) → register_of r copy ≡ r.a → register_of (record r { d = high; e = low }) (copy_outside De copy) ≡ r.a
+de_copy D r high low same = refl
+de_copy E r high low same = refl
+de_copy A r high low same = same
+de_copy B r high low same = same
+de_copy C r high low same = same
+de_copy H r high low same = same
+de_copy L r high low same = same
+
+hl_copy : (copy : Register) (r : Registers) (high low : ℕ) → register_of r copy ≡ r.a → register_of (record r { h = high; l = low }) (copy_outside Hl copy) ≡ r.a
+hl_copy H r high low same = refl
+hl_copy L r high low same = refl
+hl_copy A r high low same = same
+hl_copy B r high low same = same
+hl_copy C r high low same = same
+hl_copy D r high low same = same
+hl_copy E r high low same = same
+
+-- a pair is written
+pub bc_written_holds : (s : State) (r : Registers) (span : Span) (high low : ℕ) → HoldsRegisters s r → HoldsPair (pair_of_words span) high low → HoldsRegisters (with_words s Bc span) (record r { b = high; c = low })
+bc_written_holds s r span high low holds pair = record {
+  a = holds.a;
+  bc = pair;
+  de = holds.de;
+  hl = holds.hl;
+  copy = bc_copy s.copy r high low holds.copy;
+  zero = holds.zero;
+  carry = holds.carry;
+  sign = holds.sign;
+  compared = holds.compared;
+}
+
+pub de_written_holds : (s : State) (r : Registers) (span : Span) (high low : ℕ) → HoldsRegisters s r → HoldsPair (pair_of_words span) high low → HoldsRegisters (with_words s De span) (record r { d = high; e = low })
+de_written_holds s r span high low holds pair = record {
+  a = holds.a;
+  bc = holds.bc;
+  de = pair;
+  hl = holds.hl;
+  copy = de_copy s.copy r high low holds.copy;
+  zero = holds.zero;
+  carry = holds.carry;
+  sign = holds.sign;
+  compared = holds.compared;
+}
+
+pub hl_written_holds : (s : State) (r : Registers) (span : Span) (high low : ℕ) → HoldsRegisters s r → HoldsPair (pair_of_words span) high low → HoldsRegisters (with_words s Hl span) (record r { h = high; l = low })
+hl_written_holds s r span high low holds pair = record {
+  a = holds.a;
+  bc = holds.bc;
+  de = holds.de;
+  hl = pair;
+  copy = hl_copy s.copy r high low holds.copy;
+  zero = holds.zero;
+  carry = holds.carry;
+  sign = holds.sign;
+  compared = holds.compared;
+}
+
+pub with_words_holds : (s : State) (cpu : Cpu) (pair : Pair) (span : Span) (n : ℕ) → HoldsRegisters s cpu.registers → Within span n → HoldsRegisters (with_words s pair span) (with_pair cpu pair n).registers
+with_words_holds s cpu Bc span n holds inside = bc_written_holds s cpu.registers span (n / 256) (n % 256) holds (split_holds span n inside)
+with_words_holds s cpu De span n holds inside = de_written_holds s cpu.registers span (n / 256) (n % 256) holds (split_holds span n inside)
+with_words_holds s cpu Hl span n holds inside = hl_written_holds s cpu.registers span (n / 256) (n % 256) holds (split_holds span n inside)
+with_words_holds s cpu Sp span n holds inside = holds
+
+-- flags of a result
+known_by : (o : Option Bool) (b : Bool) (truth : Bool) → o ≡ Some b → truth ≡ b → IsKnown o truth
+known_by o b truth is same = known_if b o truth is same
+
+zero_known : (s : ByteSpan) (n : ℕ) → ByteWithin s n → IsKnown (zero_of s) (n == 0)
+zero_known s n inside = go (nat_lt 0 s.first) (s.last == 0) refl refl where
+  go : (a b : Bool) → nat_lt 0 s.first ≡ a → (s.last == 0) ≡ b → IsKnown (zero_of s) (n == 0)
+  go true b low high = known_by (zero_of s) false (n == 0) (rw low refl) (grind (arith, nat_tests))
+  go false true low high = known_by (zero_of s) true (n == 0) (rw (low, high) refl) (grind (arith, nat_tests))
+  go false false low high = rw (low, high) tt
+
+sign_known : (s : ByteSpan) (n : ℕ) → ByteWithin s n → IsKnown (sign_of s) (nat_le 128 n)
+sign_known s n inside = go (nat_lt s.last 128) (nat_le 128 s.first) refl refl where
+  go : (a b : Bool) → nat_lt s.last 128 ≡ a → nat_le 128 s.first ≡ b → IsKnown (sign_of s) (nat_le 128 n)
+  go true b low high = known_by (sign_of s) false (nat_le 128 n) (rw low refl) (grind (arith, nat_tests))
+  go false true low high = known_by (sign_of s) true (nat_le 128 n) (rw (low, high) refl) (grind (arith, nat_tests))
+  go false false low high = rw (low, high) tt
+
+pub outcome_holds : (s : State) (r : Registers) (out : Outcome) (byte : ℕ) (half full : Bool) → HoldsRegisters s r → Makes out byte full →
+    HoldsRegisters (with_outcome s out) (record r { flags = flags_of_result byte half full })
+unfolding flags_of_result
+outcome_holds s r out byte half full holds makes = record {
+  a = holds.a;
+  bc = holds.bc;
+  de = holds.de;
+  hl = holds.hl;
+  copy = copy_same s.copy holds.copy;
+  zero = zero_known out.value byte makes.value;
+  carry = makes.carry;
+  sign = sign_known out.value byte makes.value;
+  compared = tt;
+} where
+  copy_same : (copy : Register) → register_of r copy ≡ r.a → register_of (record r { flags = flags_of_result byte half full }) copy ≡ r.a
+  copy_same A same = refl
+  copy_same B same = same
+  copy_same C same = same
+  copy_same D same = same
+  copy_same E same = same
+  copy_same H same = same
+  copy_same L same = same
+
+-- other flags
+flags_copy : (copy : Register) (r : Registers) (f : Flags) → register_of r copy ≡ r.a → register_of (record r { flags = f }) copy ≡ r.a
+flags_copy A r f same = refl
+flags_copy B r f same = same
+flags_copy C r f same = same
+flags_copy D r f same = same
+flags_copy E r f same = same
+flags_copy H r f same = same
+flags_copy L r f same = same
+
+pub carry_holds : (s : State) (r : Registers) (known : Option Bool) (carry : Bool) → HoldsRegisters s r → IsKnown known carry →
+    HoldsRegisters (with_carry s known) (record r { flags = record r.flags { carry = carry } })
+carry_holds s r known carry holds is = record {
+  a = holds.a;
+  bc = holds.bc;
+  de = holds.de;
+  hl = holds.hl;
+  copy = flags_copy s.copy r (record r.flags { carry = carry }) holds.copy;
+  zero = holds.zero;
+  carry = is;
+  sign = holds.sign;
+  compared = tt;
+}
+
+pub any_flags_hold : (s : State) (r : Registers) (f : Flags) → HoldsRegisters s r → HoldsRegisters (with_any_flags s) (record r { flags = f })
+any_flags_hold s r f holds = record {
+  a = holds.a;
+  bc = holds.bc;
+  de = holds.de;
+  hl = holds.hl;
+  copy = flags_copy s.copy r f holds.copy;
+  zero = tt;
+  carry = tt;
+  sign = tt;
+  compared = tt;
+}
+
+-- a comparison is known
+pub compared_holds : (s : State) (r : Registers) (compared : Option ℕ) → HoldsRegisters s r → Compares compared r.a r.flags → HoldsRegisters (record s { compared = compared }) r
+compared_holds s r compared holds is = record {
+  a = holds.a;
+  bc = holds.bc;
+  de = holds.de;
+  hl = holds.hl;
+  copy = holds.copy;
+  zero = holds.zero;
+  carry = holds.carry;
+  sign = holds.sign;
+  compared = is;
+}
+
+-- another register is known to have A's byte
+pub copy_holds : (s : State) (r : Registers) (copy : Register) → HoldsRegisters s r → register_of r copy ≡ r.a → HoldsRegisters (record s { copy = copy }) r
+copy_holds s r copy holds same = record {
+  a = holds.a;
+  bc = holds.bc;
+  de = holds.de;
+  hl = holds.hl;
+  copy = same;
+  zero = holds.zero;
+  carry = holds.carry;
+  sign = holds.sign;
+  compared = holds.compared;
+}
+
+-- bytes of a pair are cut
+cut_high_holds : (p : PairSpan) (span : ByteSpan) (h l : ℕ) → l < 256 → HoldsPair p h l → ByteWithin span h → HoldsPair (cut_high p span) h l
+cut_high_holds p span h l small holds inside = record {
+  words = meet_within p.words (joined span any_byte) (word h l) holds.words (joined_within span any_byte h l inside (any_byte_within l small));
+  low = holds.low;
+}
+
+cut_low_holds : (p : PairSpan) (span : ByteSpan) (h l : ℕ) → l < 256 → HoldsPair p h l → ByteWithin span l → HoldsPair (cut_low p span) h l
+cut_low_holds p span h l small holds inside =
+    let low = meet_bytes_within p.low span l holds.low inside in
+    record {
+      words = meet_within p.words (joined (high_of p.words) (cut_low p span).low) (word h l) holds.words (joined_within (high_of p.words) (cut_low p span).low h l (high_holds p h l small holds) low);
+      low = low;
+    }
+
+bc_is : (s : State) (r : Registers) (p : PairSpan) → HoldsRegisters s r → HoldsPair p r.b r.c → HoldsRegisters (record s { bc = p }) r
+bc_is s r p holds pair = record {
+  a = holds.a;
+  bc = pair;
+  de = holds.de;
+  hl = holds.hl;
+  copy = holds.copy;
+  zero = holds.zero;
+  carry = holds.carry;
+  sign = holds.sign;
+  compared = holds.compared;
+}
+
+de_is : (s : State) (r : Registers) (p : PairSpan) → HoldsRegisters s r → HoldsPair p r.d r.e → HoldsRegisters (record s { de = p }) r
+de_is s r p holds pair = record {
+  a = holds.a;
+  bc = holds.bc;
+  de = pair;
+  hl = holds.hl;
+  copy = holds.copy;
+  zero = holds.zero;
+  carry = holds.carry;
+  sign = holds.sign;
+  compared = holds.compared;
+}
+
+hl_is : (s : State) (r : Registers) (p : PairSpan) → HoldsRegisters s r → HoldsPair p r.h r.l → HoldsRegisters (record s { hl = p }) r
+hl_is s r p holds pair = record {
+  a = holds.a;
+  bc = holds.bc;
+  de = holds.de;
+  hl = pair;
+  copy = holds.copy;
+  zero = holds.zero;
+  carry = holds.carry;
+  sign = holds.sign;
+  compared = holds.compared;
+}
+
+cut_copy_holds : (s : State) (r : Registers) (copy : Register) (span : ByteSpan) → AreBytes r → HoldsRegisters s r → ByteWithin span (register_of r copy) → HoldsRegisters (cut_copy s copy span) r
+cut_copy_holds s r A span bytes holds inside = holds
+cut_copy_holds s r B span bytes holds inside = bc_is s r (cut_high s.bc span) holds (cut_high_holds s.bc span r.b r.c bytes.c holds.bc inside)
+cut_copy_holds s r C span bytes holds inside = bc_is s r (cut_low s.bc span) holds (cut_low_holds s.bc span r.b r.c bytes.c holds.bc inside)
+cut_copy_holds s r D span bytes holds inside = de_is s r (cut_high s.de span) holds (cut_high_holds s.de span r.d r.e bytes.e holds.de inside)
+cut_copy_holds s r E span bytes holds inside = de_is s r (cut_low s.de span) holds (cut_low_holds s.de span r.d r.e bytes.e holds.de inside)
+cut_copy_holds s r H span bytes holds inside = hl_is s r (cut_high s.hl span) holds (cut_high_holds s.hl span r.h r.l bytes.l holds.hl inside)
+cut_copy_holds s r L span bytes holds inside = hl_is s r (cut_low s.hl span) holds (cut_low_holds s.hl span r.h r.l bytes.l holds.hl inside)
+
+a_is : (s : State) (r : Registers) (span : ByteSpan) → HoldsRegisters s r → ByteWithin span r.a → HoldsRegisters (record s { a = span }) r
+a_is s r span holds inside = record {
+  a = inside;
+  bc = holds.bc;
+  de = holds.de;
+  hl = holds.hl;
+  copy = holds.copy;
+  zero = holds.zero;
+  carry = holds.carry;
+  sign = holds.sign;
+  compared = holds.compared;
+}
+
+pub cut_holds : (s : State) (r : Registers) (span : ByteSpan) → AreBytes r → HoldsRegisters s r → ByteWithin span r.a → HoldsRegisters (cut s span) r
+cut_holds s r span bytes holds inside =
+    a_is (cut_copy s s.copy span) r _ (cut_copy_holds s r s.copy span bytes holds (subst (λ n. ByteWithin span n) (sym holds.copy) inside))
+    (meet_bytes_within s.a span r.a holds.a inside)
+
+-- bytes make registers of which anything holds
+word_small : (h l : ℕ) → h < 256 → l < 256 → word h l < 65536
+word_small h l high low = omega arith
+
+any_pair_holds : (h l : ℕ) → h < 256 → l < 256 → HoldsPair any_pair h l
+any_pair_holds h l high low = record { words = any_word_within (word h l) (word_small h l high low); low = any_byte_within l low }
+
+pub anything_holds : (r : Registers) → AreBytes r → HoldsRegisters anything r
+anything_holds r bytes = record {
+  a = any_byte_within r.a bytes.a;
+  bc = any_pair_holds r.b r.c bytes.b bytes.c;
+  de = any_pair_holds r.d r.e bytes.d bytes.e;
+  hl = any_pair_holds r.h r.l bytes.h bytes.l;
+  copy = refl;
+  zero = tt;
+  carry = tt;
+  sign = tt;
+  compared = tt;
+}

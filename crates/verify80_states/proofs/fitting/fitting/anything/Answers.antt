@@ -1,0 +1,20 @@
+use Rattle.std.proofs.Common.{◌≡◌, refl, arith}
+use Rattle.std.proofs.lemmas.List.Elements.{All-push}
+use Rattle.verify80_states.specs.declared.fitting.fitting.Placed.{Placed}
+use Rattle.verify80_states.specs.State.{anything}
+use Rattle.verify80_states.proofs.MemoryLemmas.{ground_of}
+use Rattle.verify80_states.proofs.TableLemmas.{nothing_is_kept, nothing_more}
+use Rattle.verify80_states.proofs.fitting.fitting.anything.Goals as goal
+
+pub loop-at-preserved : goal.loop-at-preserved
+loop-at-preserved c = record {
+  everywhere = rw c.in_ok-push.ensures.items (nothing_more c.loop-at.table.items _ c.loop-at.at c.loop-at.invariant.everywhere refl refl);
+  nothing = rw c.in_ok-push.ensures.items (All-push (λ (p : Placed). p.state ≡ anything) c.loop-at.table.items _ c.loop-at.invariant.nothing refl);
+}
+
+pub returns : goal.returns
+returns c quiet =
+    let image = c.args.image.now in
+    let apart = c.code_data_and_stack_are_apart.ensures in
+    nothing_is_kept image quiet c.args.reached.now c.loop-at.table.items c.requires.reached c.requires.whole (ground_of apart.code_or_data apart.code_or_stack apart.data_or_stack image.regions c.requires.rules)
+    c.bytes_stay_bytes.ensures.length (λ at less. c.loop-at.invariant.everywhere at (let enough = c.loop-at-test.false in omega (arith, enough, less))) c.loop-at.invariant.nothing

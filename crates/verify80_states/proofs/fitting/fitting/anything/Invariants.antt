@@ -1,0 +1,11 @@
+use Rattle.std.proofs.Common.{◌≡◌, ℕ, ◌<◌}
+use Rattle.std.specs.Prelude.{All}
+use Rattle.verify80_states.specs.State.{anything}
+use Rattle.verify80_states.specs.FittingTable.{SaysNothingAt}
+use Rattle.verify80_states.proofs.fitting.fitting.anything.Given as goal
+
+abbrev pub invariant-loop-at : goal.invariant-loop-at
+invariant-loop-at l = record {
+  everywhere : (at : ℕ) → at < l.at → SaysNothingAt l.table.items at;
+  nothing : All (λ placed. placed.state ≡ anything) l.table.items;
+}

@@ -1,0 +1,14 @@
+use Rattle.std.proofs.Common.{rules}
+use Rattle.verify80_states.proofs.states.state.State.is_inside.Goals as goal
+
+pub returns-then-are_inside : goal.returns-then-are_inside
+returns-then-are_inside c is = record {
+  registers = search rules;
+  copy = search rules;
+  zero = search rules;
+  carry = search rules;
+  sign = search rules;
+  compared = search rules;
+  words = search rules;
+  cells = search rules;
+}

@@ -1,0 +1,96 @@
+-- Whether the procedure that runs at an address may still return, and where to; and what is owed to open calls: behind one whose callee may
+-- return the table has a state that says nothing, unless the callee's states know where they return to. (This project's own.)
+use Rattle.std.specs.Prelude.{◌≡◌, ◌⊎◌, ℕ, Bool, true, false, List, ◌∷◌, [], Contains, Option, None, Some}
+use Rattle.decode80.specs.declared.flow.Flow.{Flow}
+use Rattle.decode80.specs.declared.flow.Flow.TheVariants.{Continues, Jumps, JumpsIf, JumpsToHl, Calls, CallsIf, Returns, ReturnsIf, Pushes, Pops, Exchanges, Halts}
+use Rattle.decode80.specs.declared.fetching.Fetched.{Fetched}
+use Rattle.decode80.specs.Facts.{flow}
+use Rattle.verify80_states.specs.declared.spans.span.Span.{Span}
+use Rattle.verify80_states.specs.declared.fitting.calls.CallReturns.{CallReturns}
+use Rattle.verify80_states.specs.declared.fitting.fitting.Placed.{Placed}
+use Rattle.verify80_states.specs.declared.states.state.State.{State}
+use Rattle.verify80_states.specs.Span.{is_alone}
+use Rattle.verify80_states.specs.State.{anything}
+use Rattle.verify80_states.specs.Following.{state_after}
+use Rattle.verify80_states.specs.Given.{given}
+use Rattle.verify80_states.specs.Marks.{is_marked}
+use Rattle.verify80_states.specs.Fitting.{Has, CallsEntry}
+
+-- from each address on, until the procedure returns: whether it may return, and whether each of its returns goes to an address that the
+-- state there knows
+pub record ReturnFacts : Type 0 where
+  pub may : (at : ℕ) → Bool
+  pub known : (at : ℕ) → Bool
+
+-- nothing returns
+abbrev pub no_returns : ReturnFacts
+no_returns = record { may = λ at. false; known = λ at. false }
+
+-- those that are kept by address
+abbrev pub returns_of : CallReturns → ReturnFacts
+returns_of calls = record { may = is_marked calls.may_return.items; known = is_marked calls.know_return.items }
+
+-- a return that may come from an address on may come from another on
+pub record IsWithin (returns : ReturnFacts) (at to : ℕ) : Type 0 where
+  pub may : returns.may to ≡ true → returns.may at ≡ true
+  pub known : returns.known at ≡ true → returns.known to ≡ true
+
+-- so it is behind a call, if its callee may return
+abbrev pub AccountsForCall : ReturnFacts → (at entry next : ℕ) → Type 0
+AccountsForCall returns at entry next = returns.may entry ≡ true → IsWithin returns at next
+
+-- and wherever an instruction leads, if its address accounts for it
+abbrev pub AccountsFor : ReturnFacts → (targets : List ℕ) → (at next : ℕ) → Flow → Type 0
+AccountsFor returns targets at next Continues = IsWithin returns at next
+AccountsFor returns targets at next Pushes = IsWithin returns at next
+AccountsFor returns targets at next Pops = IsWithin returns at next
+AccountsFor returns targets at next Exchanges = IsWithin returns at next
+AccountsFor returns targets at next (Jumps to) = IsWithin returns at to
+AccountsFor returns targets at next (JumpsIf condition to) = IsWithin returns at to × IsWithin returns at next
+AccountsFor returns targets at next JumpsToHl = (to : ℕ) → Contains targets to → IsWithin returns at to
+AccountsFor returns targets at next (Calls to) = AccountsForCall returns at to next
+AccountsFor returns targets at next (CallsIf condition to) = AccountsForCall returns at to next × IsWithin returns at next
+AccountsFor returns targets at next Returns = returns.may at ≡ true
+AccountsFor returns targets at next (ReturnsIf condition) = (returns.may at ≡ true) × IsWithin returns at next
+AccountsFor returns targets at next Halts = Unit {0}
+
+-- a state knows where a return goes, and the table has there what the return makes of it: `after` is that
+pub record KnowsReturn (table : List Placed) (after : State → State) (s : State) : Type 0 where
+  pub span : Span
+  pub first : s.words.first ≡ Some span
+  pub alone : is_alone span ≡ true
+  pub has : Has table span.first (after s)
+
+abbrev pub KnowsReturnIf : List Placed → (after : State → State) → Option State → Type 0
+KnowsReturnIf table after None = Unit {0}
+KnowsReturnIf table after (Some s) = KnowsReturn table after s
+
+abbrev pub KnowsReturnsOf : List Placed → (after : State → State) → State → Flow → Type 0
+KnowsReturnsOf table after s Returns = KnowsReturn table after s
+KnowsReturnsOf table after s (ReturnsIf condition) = KnowsReturnIf table after (given condition true s)
+KnowsReturnsOf table after s Continues = Unit {0}
+KnowsReturnsOf table after s Pushes = Unit {0}
+KnowsReturnsOf table after s Pops = Unit {0}
+KnowsReturnsOf table after s Exchanges = Unit {0}
+KnowsReturnsOf table after s (Jumps to) = Unit {0}
+KnowsReturnsOf table after s (JumpsIf condition to) = Unit {0}
+KnowsReturnsOf table after s JumpsToHl = Unit {0}
+KnowsReturnsOf table after s (Calls to) = Unit {0}
+KnowsReturnsOf table after s (CallsIf condition to) = Unit {0}
+KnowsReturnsOf table after s Halts = Unit {0}
+
+-- if a state's instruction is a call whose callee may return, the table has a state that says nothing behind it, unless the callee's states
+-- know where they return to; and if this state is to know that, it does
+pub record KeepsCalls (returns : ReturnFacts) (bytes : List (Option ℕ)) (table : List Placed) (at : ℕ) (s : State) (found : Fetched) : Type 0 where
+  pub behind : (entry : ℕ) → CallsEntry (flow found.instr) entry → returns.may entry ≡ true → returns.known entry ≡ false →
+      Has table found.next anything
+  pub known : returns.known at ≡ true → KnowsReturnsOf table (λ t. state_after bytes found.instr true found.next t) s (flow found.instr)
+
+-- What is owed to open calls, the newest first, where a return may still come or not, and its state knows where it goes or not: behind the
+-- call the table has a state that says nothing, or it is known where the return goes; and so on for the older calls. If no return is to
+-- come, nothing is owed.
+pub data Owes (returns : ReturnFacts) (table : List Placed) : (may known : Bool) → (places : List ℕ) → Type 0 where
+  never : (may known : Bool) (places : List ℕ) → may ≡ false → Owes returns table may known places
+  none : (may known : Bool) (places : List ℕ) → places ≡ [] → Owes returns table may known places
+  waits : (may known : Bool) (places : List ℕ) (place : ℕ) (older : List ℕ) → places ≡ place ∷ older → (known ≡ true) ⊎ Has table place anything →
+      Owes returns table (returns.may place) (returns.known place) older → Owes returns table may known places

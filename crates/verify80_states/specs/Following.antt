@@ -1,0 +1,208 @@
+-- What becomes of a state at each instruction. (The registers and flags that each instruction writes are those of the Intel 8080
+-- Microcomputer Systems User's Manual, chapter 4; that spans are followed is this project's own.)
+use Rattle.std.specs.Prelude.{◌+◌, ◌*◌, ℕ, Bool, true, false, not, List, Option, None, Some, slice_get, if◌then◌else◌}
+use Rattle.decode80.specs.declared.register.Register.{Register}
+use Rattle.decode80.specs.declared.register.Register.TheVariants.{A, B, C, D, E, H, L}
+use Rattle.decode80.specs.declared.pair.Pair.{Pair}
+use Rattle.decode80.specs.declared.pair.Pair.TheVariants.{Bc, De, Hl, Sp}
+use Rattle.decode80.specs.declared.pair.StackPair.{StackPair}
+use Rattle.decode80.specs.declared.pair.StackPair.TheVariants.{Bc as StackBc, De as StackDe, Hl as StackHl, Psw}
+use Rattle.decode80.specs.declared.pair.IndexPair.{IndexPair}
+use Rattle.decode80.specs.declared.pair.IndexPair.TheVariants.{Bc as IndexBc, De as IndexDe}
+use Rattle.decode80.specs.declared.instr.Instr.{Instr}
+use Rattle.decode80.specs.declared.instr.Instr.TheVariants.{Mov, Load, Mvi, Lxi, Dad, Inx, Dcx, Inr, InrMemory, Dcr, DcrMemory, Operate, Store, MviMemory, Call, CallIf, Ret, ReturnIf, Rst, Push, Pop, Stax, Ldax, Shld, Lhld, Sta, Lda, Rotate, Daa, Cma, Stc, Cmc, Xthl, Xchg, Sphl, In}
+use Rattle.decode80.specs.declared.operation.Operation.{Operation}
+use Rattle.decode80.specs.declared.operation.Operation.TheVariants.{Add, AddCarry, Subtract, SubtractBorrow, And, ExclusiveOr, Or, Compare}
+use Rattle.decode80.specs.declared.operation.Operand.{Operand}
+use Rattle.decode80.specs.declared.operation.Operand.TheVariants.{Register as InRegister, Memory, Immediate}
+use Rattle.decode80.specs.Fetch.{ahead}
+use Rattle.verify80_states.specs.declared.spans.span.Span.{Span}
+use Rattle.verify80_states.specs.declared.spans.byte_span.ByteSpan.{ByteSpan}
+use Rattle.verify80_states.specs.declared.spans.byte_span.Outcome.{Outcome}
+use Rattle.verify80_states.specs.declared.states.cells.Cells.{Cells}
+use Rattle.verify80_states.specs.declared.states.state.Words.{Words}
+use Rattle.verify80_states.specs.declared.states.state.State.{State}
+use Rattle.verify80_states.specs.Span.{any_word, any_byte, word_alone, byte_alone, is_alone, next_span, previous_span, next_byte, previous_byte, sum_span, sum_carries, high_of, joined, operated, rotated, complemented, uncarried}
+use Rattle.verify80_states.specs.Cells.{bytes_at, stored_cells}
+use Rattle.verify80_states.specs.State.{byte_of, words_of, with_byte, with_words, with_outcome, with_carry, with_any_flags, compared_with, no_words, pushed, popped}
+
+-- what stands in a table at an address, if anything does
+abbrev pub entry_in : {A : Type 0} → Option (Option A) → Option A
+entry_in None = None
+entry_in (Some entry) = entry
+
+-- the byte of code at an address, if code is there, in a table of these by address
+abbrev pub byte_at : List (Option ℕ) → ℕ → Option ℕ
+byte_at code at = entry_in (slice_get code at)
+
+-- a byte of code, if code is there, or what is known otherwise; and what is known of a word
+abbrev pub code_or : Option ℕ → (otherwise : ByteSpan) → ByteSpan
+code_or None otherwise = otherwise
+code_or (Some byte) otherwise = byte_alone byte
+
+abbrev pub known_word : Option Span → Span
+known_word None = any_word
+known_word (Some span) = span
+
+-- a byte that is read at an address: only code and cells are known; one where a pair points to, and a word at an address
+abbrev pub loaded_at : List (Option ℕ) → Cells → ℕ → ByteSpan
+loaded_at code cells at = code_or (byte_at code at) (bytes_at cells at)
+
+abbrev pub loaded : List (Option ℕ) → Cells → Span → ByteSpan
+loaded code cells at = if is_alone at then loaded_at code cells at.first else any_byte
+
+abbrev pub loaded_word : List (Option ℕ) → Cells → ℕ → Span
+loaded_word code cells address = joined (loaded_at code cells (ahead address 1)) (loaded_at code cells address)
+
+-- a register is copied; one of them may be A
+abbrev pub moved : (to from : Register) → State → State
+moved A from s = record (with_byte s A (byte_of s from)) { copy = from }
+moved to A s = record (with_byte s to s.a) { copy = to }
+moved to from s = with_byte s to (byte_of s from)
+
+-- a register and Z and S are written, and CY stays
+abbrev pub counted : Register → ByteSpan → State → State
+counted register byte s = with_outcome (with_byte s register byte) (record { value = byte; carry = s.carry })
+
+-- a result comes into A; of bits Z and CY are as if it was compared with 0
+abbrev pub resulted : Outcome → State → State
+resulted out s = with_outcome (with_byte s A out.value) out
+
+abbrev pub tested : State → State
+tested s = record s { compared = Some 0 }
+
+abbrev pub is_accumulator : Operand → Bool
+is_accumulator (InRegister A) = true
+is_accumulator (InRegister register) = false
+is_accumulator Memory = false
+is_accumulator (Immediate byte) = false
+
+abbrev pub operand_bytes : List (Option ℕ) → Operand → State → ByteSpan
+operand_bytes code (InRegister register) s = byte_of s register
+operand_bytes code Memory s = loaded code s.cells s.hl.words
+operand_bytes code (Immediate byte) s = byte_alone byte
+
+-- an operation on A and a byte; `itself` if that is A
+abbrev pub after_operation : Operation → (itself : Bool) → ByteSpan → State → State
+after_operation Compare itself byte s = record (with_outcome s (operated Compare s.a byte s.carry)) { compared = compared_with byte }
+after_operation And true byte s = tested (with_outcome s (uncarried s.a))
+after_operation Or true byte s = tested (with_outcome s (uncarried s.a))
+after_operation ExclusiveOr true byte s = tested (resulted (uncarried (byte_alone 0)) s)
+after_operation Subtract true byte s = tested (resulted (uncarried (byte_alone 0)) s)
+after_operation And false byte s = tested (resulted (operated And s.a byte s.carry) s)
+after_operation Or false byte s = tested (resulted (operated Or s.a byte s.carry) s)
+after_operation ExclusiveOr false byte s = tested (resulted (operated ExclusiveOr s.a byte s.carry) s)
+after_operation Subtract false byte s = resulted (operated Subtract s.a byte s.carry) s
+after_operation Add itself byte s = resulted (operated Add s.a byte s.carry) s
+after_operation AddCarry itself byte s = resulted (operated AddCarry s.a byte s.carry) s
+after_operation SubtractBorrow itself byte s = resulted (operated SubtractBorrow s.a byte s.carry) s
+
+-- the carry of DAD: nothing is known of SP
+abbrev pub added_carry : State → Pair → Option Bool
+added_carry s Bc = sum_carries s.hl.words s.bc.words
+added_carry s De = sum_carries s.hl.words s.de.words
+added_carry s Hl = sum_carries s.hl.words s.hl.words
+added_carry s Sp = None
+
+abbrev pub turned : Option Bool → Option Bool
+turned None = None
+turned (Some carry) = Some (not carry)
+
+abbrev pub exchanged : Register → Register
+exchanged D = H
+exchanged E = L
+exchanged H = D
+exchanged L = E
+exchanged A = A
+exchanged B = B
+exchanged C = C
+
+abbrev pub exchanged_pairs : State → State
+exchanged_pairs s = record s { de = s.hl; hl = s.de; copy = exchanged s.copy }
+
+abbrev pub index_words : State → IndexPair → Span
+index_words s IndexBc = s.bc.words
+index_words s IndexDe = s.de.words
+
+abbrev pub popped_to : StackPair → Span → State → State
+popped_to StackBc span s = with_words s Bc span
+popped_to StackDe span s = with_words s De span
+popped_to StackHl span s = with_words s Hl span
+popped_to Psw span s = with_any_flags (with_byte s A (high_of span))
+
+-- registers and flags after an instruction
+abbrev pub registers_after : (code : List (Option ℕ)) → Instr → State → State
+registers_after code (Mov to from) s = moved to from s
+registers_after code (Load to) s = with_byte s to (loaded code s.cells s.hl.words)
+registers_after code (Mvi to byte) s = with_byte s to (byte_alone byte)
+registers_after code (Inr register) s = counted register (next_byte (byte_of s register)) s
+registers_after code (Dcr register) s = counted register (previous_byte (byte_of s register)) s
+registers_after code InrMemory s = with_outcome s (record { value = next_byte (loaded code s.cells s.hl.words); carry = s.carry })
+registers_after code DcrMemory s = with_outcome s (record { value = previous_byte (loaded code s.cells s.hl.words); carry = s.carry })
+registers_after code (Lxi pair n) s = with_words s pair (word_alone n)
+registers_after code (Inx pair) s = with_words s pair (next_span (words_of s pair))
+registers_after code (Dcx pair) s = with_words s pair (previous_span (words_of s pair))
+registers_after code (Dad pair) s = with_carry (with_words s Hl (sum_span s.hl.words (words_of s pair))) (added_carry s pair)
+registers_after code (Operate operation operand) s = after_operation operation (is_accumulator operand) (operand_bytes code operand s) s
+registers_after code (Rotate rotation) s = with_carry (with_byte s A (rotated rotation s.a s.carry)) None
+registers_after code Daa s = with_any_flags (with_byte s A any_byte)
+registers_after code Cma s = with_byte s A (complemented s.a)
+registers_after code Stc s = with_carry s (Some true)
+registers_after code Cmc s = with_carry s (turned s.carry)
+registers_after code (Ldax pair) s = with_byte s A (loaded code s.cells (index_words s pair))
+registers_after code (Lda address) s = with_byte s A (loaded_at code s.cells address)
+registers_after code (In port) s = with_byte s A any_byte
+registers_after code (Lhld address) s = with_words s Hl (loaded_word code s.cells address)
+registers_after code Xchg s = exchanged_pairs s
+registers_after code (Pop pair) s = popped_to pair (known_word s.words.first) s
+registers_after code Xthl s = with_words s Hl (known_word s.words.first)
+registers_after code instr s = s
+
+-- the word that is pushed: PSW is A and the flags
+abbrev pub pushed_words : State → StackPair → Span
+pushed_words s StackBc = s.bc.words
+pushed_words s StackDe = s.de.words
+pushed_words s StackHl = s.hl.words
+pushed_words s Psw = record { first = 256 * s.a.first; last = 256 * s.a.last + 255 }
+
+-- a call that is taken pushes the address after it
+abbrev pub called : (taken : Bool) → (next : ℕ) → Words → Words
+called true next w = pushed w (Some (word_alone next))
+called false next w = w
+
+-- a return that is taken pops it
+abbrev pub returned : (taken : Bool) → Words → Words
+returned true w = popped w
+returned false w = w
+
+-- the words on the stack after an instruction at which the processor goes the other way or not
+abbrev pub words_after : Instr → (taken : Bool) → (next : ℕ) → State → Words
+words_after (Push pair) taken next s = pushed s.words (Some (pushed_words s pair))
+words_after (Pop pair) taken next s = popped s.words
+words_after Xthl taken next s = record s.words { first = Some s.hl.words }
+words_after (Call to) taken next s = called taken next s.words
+words_after (CallIf condition to) taken next s = called taken next s.words
+words_after (Rst number) taken next s = called taken next s.words
+words_after Ret taken next s = popped s.words
+words_after (ReturnIf condition) taken next s = returned taken s.words
+words_after (Lxi Sp n) taken next s = no_words
+words_after (Inx Sp) taken next s = no_words
+words_after (Dcx Sp) taken next s = no_words
+words_after Sphl taken next s = no_words
+words_after instr taken next s = s.words
+
+-- the bytes of memory that are known after an instruction: what is pushed isn't stored to them
+abbrev pub cells_after : (code : List (Option ℕ)) → Instr → State → Cells
+cells_after code (Store register) s = stored_cells s.hl.words (byte_of s register) s.cells
+cells_after code (MviMemory byte) s = stored_cells s.hl.words (byte_alone byte) s.cells
+cells_after code InrMemory s = stored_cells s.hl.words (next_byte (loaded code s.cells s.hl.words)) s.cells
+cells_after code DcrMemory s = stored_cells s.hl.words (previous_byte (loaded code s.cells s.hl.words)) s.cells
+cells_after code (Stax pair) s = stored_cells (index_words s pair) s.a s.cells
+cells_after code (Sta address) s = stored_cells (word_alone address) s.a s.cells
+cells_after code (Shld address) s =
+    stored_cells (word_alone (ahead address 1)) (high_of s.hl.words) (stored_cells (word_alone address) s.hl.low s.cells)
+cells_after code instr s = s.cells
+
+-- all of it
+abbrev pub state_after : (code : List (Option ℕ)) → Instr → (taken : Bool) → (next : ℕ) → State → State
+state_after code instr taken next s = record (registers_after code instr s) { words = words_after instr taken next s; cells = cells_after code instr s }

@@ -1,0 +1,12 @@
+pub mod Bytes
+pub mod Span
+pub mod Cells
+pub mod State
+pub mod Following
+pub mod Given
+pub mod Steps
+pub mod Marks
+pub mod Fitting
+pub mod Calls
+pub mod FittingTable
+pub mod Runs

@@ -1,0 +1,247 @@
+-- What is known of a machine at an instruction: what its registers may hold, some of its flags, what was compared last, the words on top
+-- of its stack, and bytes of memory; and what becomes of that when registers, flags and words are written. (The registers and flags are those of the
+-- Intel 8080 Microcomputer Systems User's Manual, chapter 4; that they are followed by spans is this project's own.)
+use Rattle.std.specs.Prelude.{◌≡◌, ◌==◌, ℕ, Bool, true, List, Option, None, Some, nat_lt, if◌then◌else◌}
+use Rattle.decode80.specs.declared.register.Register.{Register}
+use Rattle.decode80.specs.declared.register.Register.TheVariants.{A, B, C, D, E, H, L}
+use Rattle.decode80.specs.declared.pair.Pair.{Pair}
+use Rattle.decode80.specs.declared.pair.Pair.TheVariants.{Bc, De, Hl, Sp}
+use Rattle.decode80.specs.Fetch.{ahead}
+use Rattle.image80.specs.Range.{in_range}
+use Rattle.image80.specs.Regions.{Areas}
+use Rattle.machine80.specs.declared.flags.Flags.{Flags}
+use Rattle.machine80.specs.declared.registers.Registers.{Registers}
+use Rattle.machine80.specs.Cpu.{word, register_of}
+use Rattle.machine80.specs.Effects.{word_in}
+use Rattle.machine80.specs.Step.{Machine}
+use Rattle.verify80_states.specs.declared.spans.span.Span.{Span}
+use Rattle.verify80_states.specs.declared.spans.byte_span.ByteSpan.{ByteSpan}
+use Rattle.verify80_states.specs.declared.spans.byte_span.Outcome.{Outcome}
+use Rattle.verify80_states.specs.declared.states.state.PairSpan.{PairSpan}
+use Rattle.verify80_states.specs.declared.states.state.Words.{Words}
+use Rattle.verify80_states.specs.declared.states.state.State.{State}
+use Rattle.verify80_states.specs.Span.{Within, ByteWithin, IsInside, IsByteInside, IsKnown, any_word, any_byte, is_byte_alone, meet, meet_bytes, high_of, low_of, joined, zero_of, sign_of}
+use Rattle.verify80_states.specs.Cells.{HoldsCells, AreCellsInside, no_cells}
+
+-- the word of a pair is one of its words, and its low byte one of its low bytes
+pub record HoldsPair (p : PairSpan) (h l : ℕ) : Type 0 where
+  pub words : Within p.words (word h l)
+  pub low : ByteWithin p.low l
+
+-- Z says whether A is a number, and CY whether it is below that
+abbrev pub Compares : Option ℕ → (a : ℕ) → Flags → Type 0
+Compares None a flags = Unit {0}
+Compares (Some n) a flags = (flags.zero ≡ (a == n)) × (flags.carry ≡ nat_lt a n)
+
+-- what a state says of registers and flags: A also has the byte of the register that it was copied from, or to
+pub record HoldsRegisters (s : State) (r : Registers) : Type 0 where
+  pub a : ByteWithin s.a r.a
+  pub bc : HoldsPair s.bc r.b r.c
+  pub de : HoldsPair s.de r.d r.e
+  pub hl : HoldsPair s.hl r.h r.l
+  pub copy : register_of r s.copy ≡ r.a
+  pub zero : IsKnown s.zero r.flags.zero
+  pub carry : IsKnown s.carry r.flags.carry
+  pub sign : IsKnown s.sign r.flags.sign
+  pub compared : Compares s.compared r.a r.flags
+
+-- a word of a span lies at an address, both of its bytes on the stack
+pub record IsOnStack (regions : Areas) (span : Span) (memory : List ℕ) (at : ℕ) : Type 0 where
+  pub low : in_range regions.stack at ≡ true
+  pub high : in_range regions.stack (ahead at 1) ≡ true
+  pub within : Within span (word_in memory at)
+
+abbrev pub HoldsWord : Areas → Option Span → List ℕ → (at : ℕ) → Type 0
+HoldsWord regions None memory at = Unit {0}
+HoldsWord regions (Some span) memory at = IsOnStack regions span memory at
+
+-- what a state says of the words from the stack pointer on
+pub record HoldsWords (regions : Areas) (w : Words) (memory : List ℕ) (sp : ℕ) : Type 0 where
+  pub first : HoldsWord regions w.first memory sp
+  pub second : HoldsWord regions w.second memory (ahead sp 2)
+  pub third : HoldsWord regions w.third memory (ahead sp 4)
+  pub fourth : HoldsWord regions w.fourth memory (ahead sp 6)
+
+-- what a state says of a machine
+pub record Holds (regions : Areas) (s : State) (m : Machine) : Type 0 where
+  pub registers : HoldsRegisters s m.cpu.registers
+  pub words : HoldsWords regions s.words m.memory m.cpu.sp
+  pub cells : HoldsCells s.cells m.memory
+
+-- a state says nothing that another doesn't
+pub record IsPairInside (inner outer : PairSpan) : Type 0 where
+  pub words : IsInside inner.words outer.words
+  pub low : IsByteInside inner.low outer.low
+
+abbrev pub IsFlagInside : (inner outer : Option Bool) → Type 0
+IsFlagInside inner None = Unit {0}
+IsFlagInside inner (Some b) = inner ≡ Some b
+
+abbrev pub IsComparisonInside : (inner outer : Option ℕ) → Type 0
+IsComparisonInside inner None = Unit {0}
+IsComparisonInside inner (Some n) = inner ≡ Some n
+
+abbrev pub IsCopyInside : (inner outer : Register) → Type 0
+IsCopyInside inner A = Unit {0}
+IsCopyInside inner outer = inner ≡ outer
+
+abbrev pub IsWordInside : (inner outer : Option Span) → Type 0
+IsWordInside inner None = Unit {0}
+IsWordInside None (Some t) = ⊥
+IsWordInside (Some s) (Some t) = IsInside s t
+
+pub record AreWordsInside (inner outer : Words) : Type 0 where
+  pub first : IsWordInside inner.first outer.first
+  pub second : IsWordInside inner.second outer.second
+  pub third : IsWordInside inner.third outer.third
+  pub fourth : IsWordInside inner.fourth outer.fourth
+
+pub record AreRegistersInside (inner outer : State) : Type 0 where
+  pub a : IsByteInside inner.a outer.a
+  pub bc : IsPairInside inner.bc outer.bc
+  pub de : IsPairInside inner.de outer.de
+  pub hl : IsPairInside inner.hl outer.hl
+
+pub record IsStateInside (inner outer : State) : Type 0 where
+  pub registers : AreRegistersInside inner outer
+  pub copy : IsCopyInside inner.copy outer.copy
+  pub zero : IsFlagInside inner.zero outer.zero
+  pub carry : IsFlagInside inner.carry outer.carry
+  pub sign : IsFlagInside inner.sign outer.sign
+  pub compared : IsComparisonInside inner.compared outer.compared
+  pub words : AreWordsInside inner.words outer.words
+  pub cells : AreCellsInside inner.cells outer.cells
+
+-- nothing is known
+abbrev pub any_pair : PairSpan
+any_pair = record { words = any_word; low = any_byte }
+
+abbrev pub no_words : Words
+no_words = record { first = None; second = None; third = None; fourth = None }
+
+abbrev pub anything : State
+anything = record {
+  a = any_byte;
+  bc = any_pair;
+  de = any_pair;
+  hl = any_pair;
+  copy = A;
+  zero = None;
+  carry = None;
+  sign = None;
+  compared = None;
+  words = no_words;
+  cells = no_cells;
+}
+
+-- a pair of these words, and one of these halves
+abbrev pub pair_of_words : Span → PairSpan
+pair_of_words span = record { words = span; low = low_of span }
+
+abbrev pub pair_of_halves : (high low : ByteSpan) → PairSpan
+pair_of_halves high low = record { words = joined high low; low = low }
+
+-- what a register may hold
+abbrev pub byte_of : State → Register → ByteSpan
+byte_of s A = s.a
+byte_of s B = high_of s.bc.words
+byte_of s C = s.bc.low
+byte_of s D = high_of s.de.words
+byte_of s E = s.de.low
+byte_of s H = high_of s.hl.words
+byte_of s L = s.hl.low
+
+-- what a pair may be: nothing is known of SP
+abbrev pub words_of : State → Pair → Span
+words_of s Bc = s.bc.words
+words_of s De = s.de.words
+words_of s Hl = s.hl.words
+words_of s Sp = any_word
+
+-- the copy of A when a register is written, and when a pair is
+abbrev pub copy_without : Register → (copy : Register) → Register
+copy_without A copy = A
+copy_without B B = A
+copy_without B copy = copy
+copy_without C C = A
+copy_without C copy = copy
+copy_without D D = A
+copy_without D copy = copy
+copy_without E E = A
+copy_without E copy = copy
+copy_without H H = A
+copy_without H copy = copy
+copy_without L L = A
+copy_without L copy = copy
+
+abbrev pub copy_outside : Pair → (copy : Register) → Register
+copy_outside Bc B = A
+copy_outside Bc C = A
+copy_outside Bc copy = copy
+copy_outside De D = A
+copy_outside De E = A
+copy_outside De copy = copy
+copy_outside Hl H = A
+copy_outside Hl L = A
+copy_outside Hl copy = copy
+copy_outside Sp copy = copy
+
+-- a register is written: the other half of its pair stays
+abbrev pub with_byte : State → Register → ByteSpan → State
+with_byte s A byte = record s { a = byte; copy = A; compared = None }
+with_byte s B byte = record s { bc = pair_of_halves byte s.bc.low; copy = copy_without B s.copy }
+with_byte s C byte = record s { bc = pair_of_halves (high_of s.bc.words) byte; copy = copy_without C s.copy }
+with_byte s D byte = record s { de = pair_of_halves byte s.de.low; copy = copy_without D s.copy }
+with_byte s E byte = record s { de = pair_of_halves (high_of s.de.words) byte; copy = copy_without E s.copy }
+with_byte s H byte = record s { hl = pair_of_halves byte s.hl.low; copy = copy_without H s.copy }
+with_byte s L byte = record s { hl = pair_of_halves (high_of s.hl.words) byte; copy = copy_without L s.copy }
+
+-- a pair is written
+abbrev pub with_words : State → Pair → Span → State
+with_words s Bc span = record s { bc = pair_of_words span; copy = copy_outside Bc s.copy }
+with_words s De span = record s { de = pair_of_words span; copy = copy_outside De s.copy }
+with_words s Hl span = record s { hl = pair_of_words span; copy = copy_outside Hl s.copy }
+with_words s Sp span = s
+
+-- the flags are those of a result
+abbrev pub with_outcome : State → Outcome → State
+with_outcome s out = record s { zero = zero_of out.value; sign = sign_of out.value; carry = out.carry; compared = None }
+
+-- A was compared with bytes: if that is one, with that
+abbrev pub compared_with : ByteSpan → Option ℕ
+compared_with byte = if is_byte_alone byte then Some byte.first else None
+
+-- the carry alone is written
+abbrev pub with_carry : State → Option Bool → State
+with_carry s carry = record s { carry = carry; compared = None }
+
+-- the flags are whatever they are
+abbrev pub with_any_flags : State → State
+with_any_flags s = record s { zero = None; carry = None; sign = None; compared = None }
+
+-- a register is known to hold one of these bytes too
+abbrev pub cut_high : PairSpan → ByteSpan → PairSpan
+cut_high p byte = record p { words = meet p.words (joined byte any_byte) }
+
+abbrev pub cut_low : PairSpan → ByteSpan → PairSpan
+cut_low p byte = record { words = meet p.words (joined (high_of p.words) (meet_bytes p.low byte)); low = meet_bytes p.low byte }
+
+abbrev pub cut_copy : State → Register → ByteSpan → State
+cut_copy s A byte = s
+cut_copy s B byte = record s { bc = cut_high s.bc byte }
+cut_copy s C byte = record s { bc = cut_low s.bc byte }
+cut_copy s D byte = record s { de = cut_high s.de byte }
+cut_copy s E byte = record s { de = cut_low s.de byte }
+cut_copy s H byte = record s { hl = cut_high s.hl byte }
+cut_copy s L byte = record s { hl = cut_low s.hl byte }
+
+-- A is known to hold one of these bytes too, and so is the register that has its byte
+abbrev pub cut : State → ByteSpan → State
+cut s byte = record (cut_copy s s.copy byte) { a = meet_bytes s.a byte }
+
+-- a word is pushed, and one is popped
+abbrev pub pushed : Words → Option Span → Words
+pushed w span = record { first = span; second = w.first; third = w.second; fourth = w.third }
+
+abbrev pub popped : Words → Words
+popped w = record { first = w.second; second = w.third; third = w.fourth; fourth = None }

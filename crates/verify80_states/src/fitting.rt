@@ -1,0 +1,18 @@
+//! A table of states that fits a program, which all runs of the program keep to.
+//!
+//! | Item | What it is |
+//! |---|---|
+//! | [`Placed`] | a state at an address |
+//! | [`fits`] | whether a table fits |
+//! | [`CallReturns`] | whether the procedure at each address may still return, and where to |
+//! | [`fitting_states_hold`] | runs keep to a table that fits, as a contract |
+
+mod calls;
+mod fitting;
+mod laws;
+mod marks;
+
+pub use calls::CallReturns;
+pub use fitting::{Placed, anything, fits, reached_at, targets_at};
+pub use laws::fitting_states_hold;
+pub use marks::{is_marked, unmarked};

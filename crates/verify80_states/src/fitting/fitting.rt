@@ -1,0 +1,366 @@
+//! Whether a table of states fits a program.
+
+ghost use Rattle.std.specs.Prelude.{◌≡◌, ◌<◌, ℕ, Bool, true, false, Contains, IfOk, Some, length, slice_get};
+ghost use Rattle.decode80.specs.declared.fetching.Fetched.{Fetched};
+ghost use Rattle.decode80.specs.Facts.{flow};
+ghost use Rattle.image80.specs.Regions.{AreRegions, in_data};
+ghost use Rattle.verify80.specs.Looking.{code_of, declared_targets};
+ghost use Rattle.verify80.specs.Reached.{AreReached, found_at};
+ghost use Rattle.verify80_states.specs.declared.fitting.fitting.Placed.{Placed};
+ghost use Rattle.verify80_states.specs.Span.{Within};
+ghost use Rattle.verify80_states.specs.State.{anything};
+ghost use Rattle.verify80_states.specs.Following.{state_after};
+ghost use Rattle.verify80_states.specs.Marks.{is_marked};
+ghost use Rattle.verify80_states.specs.Steps.{AreCodeBytes};
+ghost use Rattle.verify80_states.specs.Fitting.{CallsEntry, Has, HasAfter, FitsAt, KnowsQuiet};
+ghost use Rattle.verify80_states.specs.Calls.{AccountsFor, KeepsCalls, KnowsReturn, KnowsReturnsOf, returns_of};
+ghost use Rattle.verify80_states.specs.FittingTable.{AllFit};
+ghost use Rattle.verify80_states.specs.Runs.{IsKept};
+
+use crate::fitting::calls::CallReturns;
+use crate::fitting::laws::fitting_states_hold;
+use crate::spans::{Span, bytes_stay_bytes};
+use crate::states::{State, given, state_after};
+use decode80::{Fetched, Flow};
+use image80::laws::code_data_and_stack_are_apart;
+use image80::{Image, Regions};
+use std::alloc::{AllocError, Global};
+
+/// A state at an address.
+#[derive(Clone, Copy, Debug)]
+pub struct Placed {
+    pub at: u16,
+    pub state: State,
+    /// Where its hints begin: for each way on the place of a state that says no more.
+    pub hint: u32,
+}
+
+/// A table of states for a program: its hints, and what is known of the program.
+#[derive(Clone, Copy)]
+pub(crate) struct Fit<'a> {
+    /// The states.
+    pub table: &'a [Placed],
+    /// For each way on from each state the place of one that says no more.
+    pub hints: &'a [u32],
+    /// Whether procedures return, and know where to.
+    pub returns: &'a CallReturns,
+    /// By address the bytes of code.
+    pub code: &'a [Option<u8>],
+    /// The regions, with the targets of each PCHL.
+    pub regions: &'a Regions,
+    /// By address the instructions that are reached.
+    pub reached: &'a [Option<Fetched>],
+}
+
+impl Fit<'_> {
+    /// Whether the state at the place that a hint names stands at an address, and says no more than this one.
+    fn has(&self, hint: u32, to: u16, state: State) -> bool
+        ensures { result ≡ true → Has self.now.table.now to state }
+    {
+        match self.hints.get(hint as usize) {
+            Some(place) => has_at(self.table, *place, to, state),
+            None => false,
+        }
+    }
+
+    /// Whether it does of what an instruction makes of a state, if there is one.
+    fn has_after(
+        &self,
+        hint: u32,
+        to: u16,
+        found: Fetched,
+        taken: bool,
+        left: Option<State>,
+    ) -> bool
+        ensures { result ≡ true → HasAfter self.now.table.now to (λ t. state_after self.now.code.now found.instr taken found.next t) left }
+    {
+        match left {
+            None => true,
+            Some(state) => self.has(hint, to, self.after(found, taken, state)),
+        }
+    }
+
+    /// What an instruction makes of a state.
+    fn after(&self, found: Fetched, taken: bool, state: State) -> State
+        ensures { result ≡ state_after self.now.code.now found.instr taken found.next state }
+    {
+        state_after(self.code, found.instr, taken, found.next, state)
+    }
+
+    /// Whether the table has a state at each of these targets that HL may be.
+    fn has_at_each(&self, hint: u32, targets: &[u16], hl: Span, state: State) -> bool
+        ensures { result ≡ true → (to : ℕ) → Contains targets.now to → Within hl to → Has self.now.table.now to state }
+    {
+        let mut next = hint;
+        for to in targets {
+            if hl.first <= *to && *to <= hl.last && !self.has(next, *to, state) {
+                return false;
+            }
+            next = next.saturating_add(1);
+        }
+        true
+    }
+
+    /// Whether a state fits the instruction there.
+    fn state_fits(&self, targets: &[u16], placed: Placed, found: Fetched) -> bool
+        ensures { result ≡ true → FitsAt self.now.code.now targets.now self.now.table.now placed.state found }
+    {
+        let Placed { at: _, state, hint } = placed;
+        let Fetched { instr, next } = found;
+        let second = hint.saturating_add(1);
+        match instr.flow() {
+            Flow::Continues | Flow::Pushes | Flow::Pops | Flow::Exchanges => {
+                self.has(hint, next, self.after(found, false, state))
+            }
+            Flow::Jumps(to) => self.has(hint, to, self.after(found, false, state)),
+            Flow::JumpsIf(condition, to) | Flow::CallsIf(condition, to) => {
+                self.has_after(hint, to, found, true, given(condition, true, state))
+                    && self.has_after(second, next, found, false, given(condition, false, state))
+            }
+            Flow::JumpsToHl => self.has_at_each(
+                hint,
+                targets,
+                state.hl.words,
+                self.after(found, false, state),
+            ),
+            Flow::Calls(to) => self.has(hint, to, self.after(found, true, state)),
+            Flow::ReturnsIf(condition) => {
+                self.has_after(hint, next, found, false, given(condition, false, state))
+            }
+            Flow::Returns | Flow::Halts => true,
+        }
+    }
+
+    /// Whether the table has a state wherever the program begins, goes on and returns to.
+    fn leads_on(&self, start: u16) -> bool
+        ensures start { result ≡ true → Has self.now.table.now start anything }
+        ensures fit { result ≡ true → AllFit self.now.regions.now self.now.code.now (returns_of self.now.returns.now) self.now.reached.now self.now.table.now }
+    {
+        self.has(0, start, State::ANY) && self.goes_on()
+    }
+
+    /// Whether it has one wherever the program goes on and returns to.
+    fn goes_on(&self) -> bool
+        ensures { result ≡ true → AllFit self.now.regions.now self.now.code.now (returns_of self.now.returns.now) self.now.reached.now self.now.table.now }
+    {
+        self.all_account() && self.all_fit()
+    }
+
+    /// Whether each address accounts for what may come where its instruction leads.
+    fn all_account(&self) -> bool
+        ensures { result ≡ true → (at : ℕ) (found : Fetched) → at < 65536 → found_at self.now.reached.now at ≡ Some found →
+            AccountsFor (returns_of self.now.returns.now) (declared_targets self.now.regions.now at) at found.next (flow found.instr) }
+    {
+        for at in 0..65_536_usize {
+            if !self.accounts_at(at as u16) {
+                return false;
+            }
+        }
+        true
+    }
+
+    /// Whether one address does, if an instruction is reached there.
+    fn accounts_at(&self, at: u16) -> bool
+        ensures { result ≡ true → (found : Fetched) → found_at self.now.reached.now at ≡ Some found →
+            AccountsFor (returns_of self.now.returns.now) (declared_targets self.now.regions.now at) at found.next (flow found.instr) }
+    {
+        match reached_at(self.reached, at) {
+            Some(found) => self
+                .returns
+                .accounts_for(targets_at(self.regions, at), at, found),
+            None => true,
+        }
+    }
+
+    /// Whether each state fits, and keeps to what its address accounts for.
+    fn all_fit(&self) -> bool
+        ensures entries { result ≡ true → (place : ℕ) (placed : Placed) (found : Fetched) → slice_get self.now.table.now place ≡ Some placed →
+            found_at self.now.reached.now placed.at ≡ Some found →
+            FitsAt self.now.code.now (declared_targets self.now.regions.now placed.at) self.now.table.now placed.state found }
+        ensures calls { result ≡ true → (place : ℕ) (placed : Placed) (found : Fetched) → slice_get self.now.table.now place ≡ Some placed →
+            found_at self.now.reached.now placed.at ≡ Some found →
+            KeepsCalls (returns_of self.now.returns.now) self.now.code.now self.now.table.now placed.at placed.state found }
+    {
+        for placed in self.table {
+            if !self.placed_fits(*placed) {
+                return false;
+            }
+        }
+        true
+    }
+
+    /// Whether one state does, if an instruction is reached there.
+    fn placed_fits(&self, placed: Placed) -> bool
+        ensures entries { result ≡ true → (found : Fetched) → found_at self.now.reached.now placed.at ≡ Some found →
+            FitsAt self.now.code.now (declared_targets self.now.regions.now placed.at) self.now.table.now placed.state found }
+        ensures calls { result ≡ true → (found : Fetched) → found_at self.now.reached.now placed.at ≡ Some found →
+            KeepsCalls (returns_of self.now.returns.now) self.now.code.now self.now.table.now placed.at placed.state found }
+    {
+        match reached_at(self.reached, placed.at) {
+            Some(found) => {
+                self.state_fits(targets_at(self.regions, placed.at), placed, found)
+                    && self.keeps_calls(placed, found)
+            }
+            None => true,
+        }
+    }
+
+    /// Whether the table has what comes behind a call or a return of a state.
+    fn keeps_calls(&self, placed: Placed, found: Fetched) -> bool
+        ensures { result ≡ true → KeepsCalls (returns_of self.now.returns.now) self.now.code.now self.now.table.now placed.at placed.state found }
+    {
+        self.keeps_behind(placed, found) && self.keeps_returns(placed, found)
+    }
+
+    /// Whether a state knows where a return goes, and the table has there what the return makes of it, if the states at its address are to.
+    fn keeps_returns(&self, placed: Placed, found: Fetched) -> bool
+        ensures { result ≡ true → (returns_of self.now.returns.now).known placed.at ≡ true →
+            KnowsReturnsOf self.now.table.now (λ t. state_after self.now.code.now found.instr true found.next t) placed.state (flow found.instr) }
+    {
+        if !self.returns.know_return(placed.at) {
+            return true;
+        }
+        match found.instr.flow() {
+            Flow::Returns => self.knows_return(placed.hint, found, placed.state),
+            Flow::ReturnsIf(condition) => match given(condition, true, placed.state) {
+                Some(left) => self.knows_return(placed.hint.saturating_add(1), found, left),
+                None => true,
+            },
+            _ => true,
+        }
+    }
+
+    /// Whether a state does at a return that is taken.
+    fn knows_return(&self, hint: u32, found: Fetched, state: State) -> bool
+        ensures { result ≡ true → KnowsReturn self.now.table.now (λ t. state_after self.now.code.now found.instr true found.next t) state }
+    {
+        match state.words.first {
+            Some(span) => {
+                span.is_alone() && self.has(hint, span.first, self.after(found, true, state))
+            }
+            None => false,
+        }
+    }
+
+    /// Whether behind a call whose callee may return, to where its states don't know, the table has a state that says nothing.
+    fn keeps_behind(&self, placed: Placed, found: Fetched) -> bool
+        ensures { result ≡ true → (entry : ℕ) → CallsEntry (flow found.instr) entry → (returns_of self.now.returns.now).may entry ≡ true →
+            (returns_of self.now.returns.now).known entry ≡ false → Has self.now.table.now found.next anything }
+    {
+        let Fetched { instr, next } = found;
+        match instr.flow() {
+            Flow::Calls(entry) => self.has_behind(placed.hint.saturating_add(1), entry, next),
+            Flow::CallsIf(_, entry) => self.has_behind(placed.hint.saturating_add(2), entry, next),
+            _ => true,
+        }
+    }
+
+    /// Whether it has one behind a call of the procedure at `entry`.
+    fn has_behind(&self, hint: u32, entry: u16, next: u16) -> bool
+        ensures { result ≡ true → (returns_of self.now.returns.now).may entry ≡ true → (returns_of self.now.returns.now).known entry ≡ false →
+            Has self.now.table.now next anything }
+    {
+        !self.returns.may_return(entry)
+            || self.returns.know_return(entry)
+            || self.has(hint, next, State::ANY)
+    }
+}
+
+/// Whether a table of states fits an image whose walks reach these instructions, and whose procedures return so; something is known of the
+/// bytes at quiet addresses alone. The first of the hints is that of the start. Then all runs keep to the table.
+pub fn fits(
+    image: &Image,
+    table: &[Placed],
+    hints: &[u32],
+    returns: &CallReturns,
+    code: &[Option<u8>],
+    reached: &[Option<Fetched>],
+    quiet: &[bool],
+) -> bool
+    requires reached { AreReached (code_of image.now) reached.now }
+    requires whole { length reached.now ≡ 65536 }
+    requires rules { AreRegions image.now.regions }
+    requires code { AreCodeBytes image.now code.now }
+    ensures { result ≡ true → (is_quiet : ℕ → Bool) → ((at : ℕ) → is_marked quiet.now at ≡ true → is_quiet at ≡ true) →
+        ((at : ℕ) → is_quiet at ≡ true → in_data image.now.regions at ≡ true) → IsKept image.now is_quiet table.now }
+{
+    fitting_states_hold();
+    let fit = Fit {
+        table,
+        hints,
+        returns,
+        code,
+        regions: &image.regions,
+        reached,
+    };
+    all_know_quiet(table, quiet) && fit.leads_on(image.start)
+}
+
+/// A table that fits each image: its state at each address says nothing.
+///
+/// # Errors
+/// `AllocError` if memory runs out.
+pub fn anything(
+    alloc: Global,
+    image: &Image,
+    reached: &[Option<Fetched>],
+) -> Result<Vec<Placed>, AllocError>
+    requires reached { AreReached (code_of image.now) reached.now }
+    requires whole { length reached.now ≡ 65536 }
+    requires rules { AreRegions image.now.regions }
+    ensures { IfOk result (λ table. (is_quiet : ℕ → Bool) → IsKept image.now is_quiet table.items) }
+{
+    bytes_stay_bytes();
+    code_data_and_stack_are_apart();
+    let mut table = Vec::with_capacity(alloc, 65_536)?;
+    for at in 0..65_536_usize {
+        table.push(Placed {
+            at: at as u16,
+            state: State::ANY,
+            hint: 0,
+        })?;
+    }
+    Ok(table)
+}
+
+/// Whether the state at a place of the table stands at an address, and says no more than this one.
+fn has_at(table: &[Placed], place: u32, to: u16, state: State) -> bool
+    ensures { result ≡ true → Has table.now to state }
+{
+    match table.get(place as usize) {
+        Some(placed) => placed.at == to && state.is_inside(placed.state),
+        None => false,
+    }
+}
+
+/// Whether a table knows bytes of quiet addresses alone.
+fn all_know_quiet(table: &[Placed], quiet: &[bool]) -> bool
+    ensures { result ≡ true → KnowsQuiet (is_marked quiet.now) table.now }
+{
+    for placed in table {
+        if !placed.state.cells.are_quiet(quiet) {
+            return false;
+        }
+    }
+    true
+}
+
+/// The instruction that is reached at an address.
+pub fn reached_at(reached: &[Option<Fetched>], at: u16) -> Option<Fetched>
+    ensures { result ≡ found_at reached.now at }
+{
+    match reached.get(usize::from(at)) {
+        Some(found) => *found,
+        None => None,
+    }
+}
+
+/// The targets that are declared for an address.
+pub fn targets_at(regions: &Regions, at: u16) -> &[u16]
+    ensures { result.now ≡ declared_targets regions.now at }
+{
+    match regions.targets(at) {
+        Some(targets) => targets,
+        None => &[],
+    }
+}

@@ -1,0 +1,28 @@
+//! States of a machine, by spans, and tables of them that fit a program.
+//!
+//! Proved: what holds of a state before an instruction holds of what the instruction makes of it; each run keeps to a table that fits.
+//!
+//! | Item | What it is |
+//! |---|---|
+//! | [`Span`], [`ByteSpan`] | the words, and the bytes, from a first to a last one |
+//! | [`State`], [`PairSpan`], [`Words`], [`Cells`], [`Cell`] | what registers, flags, the words on top of the stack and some bytes of memory may be |
+//! | [`state_after`] | what they may be after an instruction |
+//! | [`given`] | what a condition says of them |
+//! | [`Placed`] | a state at an address: a table is a list of these |
+//! | [`CallReturns`] | whether the procedure at each address may still return, and where to |
+//! | [`fits`] | whether a table fits an image |
+//! | [`anything`] | a table that fits each image |
+//! | [`fitting_states_hold`] | runs keep to a table that fits, as a contract |
+//! | [`bytes_stay_bytes`] | a machine's registers and memory hold bytes, as a contract |
+#![tactic(auto)]
+
+mod fitting;
+mod spans;
+mod states;
+
+pub use fitting::{
+    CallReturns, Placed, anything, fits, fitting_states_hold, is_marked, reached_at, targets_at,
+    unmarked,
+};
+pub use spans::{ByteSpan, Span, bytes_stay_bytes};
+pub use states::{Cell, Cells, PairSpan, State, Words, given, index_words, state_after};

@@ -1,0 +1,110 @@
+//! What a condition says of a state.
+
+ghost use Rattle.std.specs.Prelude.{◌≡◌};
+ghost use Rattle.verify80_states.specs.Given.{if_same, zero_bytes, carry_bytes, cut_to, given_zero, given_carry, given_sign, given};
+
+use crate::spans::ByteSpan;
+use crate::states::state::State;
+use decode80::Condition;
+
+/// A state that is left if a known flag is as it is wanted.
+fn if_same(known: bool, wanted: bool, state: State) -> Option<State>
+    ensures { result ≡ if_same known wanted state }
+{
+    match (known, wanted) {
+        (true, true) | (false, false) => Some(state),
+        (true, false) | (false, true) => None,
+    }
+}
+
+/// The bytes of A that are left if Z is as it is wanted.
+fn zero_bytes(compared: Option<u8>, wanted: bool, a: ByteSpan) -> Option<ByteSpan>
+    ensures { result ≡ zero_bytes compared wanted a }
+{
+    match (compared, wanted) {
+        (None, _) => Some(a),
+        (Some(byte), true) => a.only(byte),
+        (Some(byte), false) => a.without(byte),
+    }
+}
+
+/// The bytes of A that are left if CY is as it is wanted.
+fn carry_bytes(compared: Option<u8>, wanted: bool, a: ByteSpan) -> Option<ByteSpan>
+    ensures { result ≡ carry_bytes compared wanted a }
+{
+    match (compared, wanted) {
+        (None, _) => Some(a),
+        (Some(byte), true) => a.below(byte),
+        (Some(byte), false) => a.from(byte),
+    }
+}
+
+/// The state in which A holds one of these bytes, if there are any.
+fn cut_to(bytes: Option<ByteSpan>, state: State) -> Option<State>
+    ensures { result ≡ cut_to bytes state }
+{
+    match bytes {
+        None => None,
+        Some(bytes) => Some(state.cut(bytes)),
+    }
+}
+
+/// The state in which Z is as it is wanted.
+fn given_zero(wanted: bool, state: State) -> Option<State>
+    ensures { result ≡ given_zero state.zero wanted state }
+{
+    match state.zero {
+        Some(known) => if_same(known, wanted, state),
+        None => cut_to(
+            zero_bytes(state.compared, wanted, state.a),
+            State {
+                zero: Some(wanted),
+                ..state
+            },
+        ),
+    }
+}
+
+/// The state in which CY is as it is wanted.
+fn given_carry(wanted: bool, state: State) -> Option<State>
+    ensures { result ≡ given_carry state.carry wanted state }
+{
+    match state.carry {
+        Some(known) => if_same(known, wanted, state),
+        None => cut_to(
+            carry_bytes(state.compared, wanted, state.a),
+            State {
+                carry: Some(wanted),
+                ..state
+            },
+        ),
+    }
+}
+
+/// The state in which S is as it is wanted.
+fn given_sign(wanted: bool, state: State) -> Option<State>
+    ensures { result ≡ given_sign state.sign wanted state }
+{
+    match state.sign {
+        Some(known) => if_same(known, wanted, state),
+        None => Some(State {
+            sign: Some(wanted),
+            ..state
+        }),
+    }
+}
+
+/// The state that is left if a condition holds, or doesn't hold; `None` if that can't be.
+pub fn given(condition: Condition, holds: bool, state: State) -> Option<State>
+    ensures { result ≡ given condition holds state }
+{
+    match condition {
+        Condition::Zero => given_zero(holds, state),
+        Condition::NonZero => given_zero(!holds, state),
+        Condition::Carry => given_carry(holds, state),
+        Condition::NoCarry => given_carry(!holds, state),
+        Condition::Minus => given_sign(holds, state),
+        Condition::Plus => given_sign(!holds, state),
+        Condition::ParityOdd | Condition::ParityEven => Some(state),
+    }
+}

@@ -1,0 +1,400 @@
+//! What becomes of a state at an instruction.
+
+ghost use Rattle.std.specs.Prelude.{◌≡◌};
+ghost use Rattle.verify80_states.specs.Following.{byte_at, code_or, known_word, loaded_at, loaded, loaded_word, moved, counted, resulted, tested, is_accumulator, operand_bytes, after_operation, added_carry, turned, exchanged_pairs, index_words, popped_to, registers_after, pushed_words, called, returned, words_after, cells_after, state_after};
+ghost use Rattle.verify80_states.specs.Span.{uncarried};
+ghost use Rattle.verify80_states.specs.State.{compared_with, with_outcome};
+
+use crate::spans::{ByteSpan, Outcome, Span, operated, rotated};
+use crate::states::cells::Cells;
+use crate::states::state::{State, Words};
+use decode80::{IndexPair, Instr, Operand, Operation, Pair, Register, StackPair, ahead};
+
+/// The byte of code at an address, if code is there.
+fn byte_at(code: &[Option<u8>], at: u16) -> Option<u8>
+    ensures { result ≡ byte_at code.now at }
+{
+    match code.get(usize::from(at)) {
+        Some(byte) => *byte,
+        None => None,
+    }
+}
+
+/// A byte of code, if code is there, or what is known otherwise.
+fn code_or(byte: Option<u8>, otherwise: ByteSpan) -> ByteSpan
+    ensures { result ≡ code_or byte otherwise }
+{
+    match byte {
+        Some(byte) => ByteSpan::alone(byte),
+        None => otherwise,
+    }
+}
+
+/// What is known of a word.
+fn known_word(word: Option<Span>) -> Span
+    ensures { result ≡ known_word word }
+{
+    match word {
+        Some(span) => span,
+        None => Span::ANY,
+    }
+}
+
+/// A byte that is read at an address: only code and cells are known.
+fn loaded_at(code: &[Option<u8>], cells: Cells, at: u16) -> ByteSpan
+    ensures { result ≡ loaded_at code.now cells at }
+{
+    code_or(byte_at(code, at), cells.bytes_at(at))
+}
+
+/// A byte that is read at one of these addresses.
+fn loaded(code: &[Option<u8>], cells: Cells, at: Span) -> ByteSpan
+    ensures { result ≡ loaded code.now cells at }
+{
+    if at.is_alone() {
+        loaded_at(code, cells, at.first)
+    } else {
+        ByteSpan::ANY
+    }
+}
+
+/// The word that is read at an address.
+fn loaded_word(code: &[Option<u8>], cells: Cells, address: u16) -> Span
+    ensures { result ≡ loaded_word code.now cells address }
+{
+    Span::of_halves(
+        loaded_at(code, cells, ahead(address, 1)),
+        loaded_at(code, cells, address),
+    )
+}
+
+/// A register is copied.
+fn moved(to: Register, from: Register, state: State) -> State
+    ensures { result ≡ moved to from state }
+{
+    let after = state.with_byte(to, state.byte(from));
+    match (to, from) {
+        (Register::A, from) => State {
+            copy: from,
+            ..after
+        },
+        (to, Register::A) => State { copy: to, ..after },
+        _ => after,
+    }
+}
+
+/// A register is counted up or down to these bytes.
+fn counted(register: Register, byte: ByteSpan, state: State) -> State
+    ensures { result ≡ counted register byte state }
+{
+    let outcome = Outcome {
+        value: byte,
+        carry: state.carry,
+    };
+    state.with_byte(register, byte).with_outcome(outcome)
+}
+
+/// A result comes into A.
+fn resulted(outcome: Outcome, state: State) -> State
+    ensures { result ≡ resulted outcome state }
+{
+    state
+        .with_byte(Register::A, outcome.value)
+        .with_outcome(outcome)
+}
+
+/// Z and CY are as if A was compared with 0.
+fn tested(state: State) -> State
+    ensures { result ≡ tested state }
+{
+    State {
+        compared: Some(0),
+        ..state
+    }
+}
+
+/// A stays as it is, and Z, S and CY are those of its byte.
+fn unchanged(state: State) -> State
+    ensures { result ≡ tested (with_outcome state (uncarried state.a)) }
+{
+    tested(state.with_outcome(Outcome::uncarried(state.a)))
+}
+
+/// Whether an operand is A itself.
+fn is_accumulator(operand: Operand) -> bool
+    ensures { result ≡ is_accumulator operand }
+{
+    match operand {
+        Operand::Register(Register::A) => true,
+        Operand::Register(_) | Operand::Memory | Operand::Immediate(_) => false,
+    }
+}
+
+/// What an operand may be.
+fn operand_bytes(code: &[Option<u8>], operand: Operand, state: State) -> ByteSpan
+    ensures { result ≡ operand_bytes code.now operand state }
+{
+    match operand {
+        Operand::Register(register) => state.byte(register),
+        Operand::Memory => loaded(code, state.cells, state.hl.words),
+        Operand::Immediate(byte) => ByteSpan::alone(byte),
+    }
+}
+
+/// The byte with which A is compared, if it is one.
+fn compared_with(byte: ByteSpan) -> Option<u8>
+    ensures { result ≡ compared_with byte }
+{
+    if byte.is_alone() {
+        Some(byte.first)
+    } else {
+        None
+    }
+}
+
+/// An operation on A and a byte, which may be A itself.
+fn after_operation(operation: Operation, itself: bool, byte: ByteSpan, state: State) -> State
+    ensures { result ≡ after_operation operation itself byte state }
+{
+    let outcome = operated(operation, state.a, byte, state.carry);
+    match (operation, itself) {
+        (Operation::Compare, _) => State {
+            compared: compared_with(byte),
+            ..state.with_outcome(outcome)
+        },
+        (Operation::And | Operation::Or, true) => unchanged(state),
+        (Operation::ExclusiveOr | Operation::Subtract, true) => {
+            tested(resulted(Outcome::uncarried(ByteSpan::alone(0)), state))
+        }
+        (Operation::And | Operation::Or | Operation::ExclusiveOr, false) => {
+            tested(resulted(outcome, state))
+        }
+        (Operation::Subtract, false)
+        | (Operation::Add | Operation::AddCarry | Operation::SubtractBorrow, _) => {
+            resulted(outcome, state)
+        }
+    }
+}
+
+/// The carry of DAD.
+fn added_carry(state: State, pair: Pair) -> Option<bool>
+    ensures { result ≡ added_carry state pair }
+{
+    match pair {
+        Pair::Bc => state.hl.words.carries(state.bc.words),
+        Pair::De => state.hl.words.carries(state.de.words),
+        Pair::Hl => state.hl.words.carries(state.hl.words),
+        Pair::Sp => None,
+    }
+}
+
+/// A carry is complemented.
+fn turned(carry: Option<bool>) -> Option<bool>
+    ensures { result ≡ turned carry }
+{
+    match carry {
+        Some(carry) => Some(!carry),
+        None => None,
+    }
+}
+
+/// DE and HL are exchanged.
+fn exchanged_pairs(state: State) -> State
+    ensures { result ≡ exchanged_pairs state }
+{
+    let copy = match state.copy {
+        Register::D => Register::H,
+        Register::E => Register::L,
+        Register::H => Register::D,
+        Register::L => Register::E,
+        other => other,
+    };
+    State {
+        de: state.hl,
+        hl: state.de,
+        copy,
+        ..state
+    }
+}
+
+/// What a pair that LDAX and STAX name may be.
+pub fn index_words(state: State, pair: IndexPair) -> Span
+    ensures { result ≡ index_words state pair }
+{
+    match pair {
+        IndexPair::Bc => state.bc.words,
+        IndexPair::De => state.de.words,
+    }
+}
+
+/// A word comes into the pair that POP names.
+fn popped_to(pair: StackPair, words: Span, state: State) -> State
+    ensures { result ≡ popped_to pair words state }
+{
+    match pair {
+        StackPair::Bc => state.with_words(Pair::Bc, words),
+        StackPair::De => state.with_words(Pair::De, words),
+        StackPair::Hl => state.with_words(Pair::Hl, words),
+        StackPair::Psw => state.with_byte(Register::A, words.high()).with_any_flags(),
+    }
+}
+
+/// The word that PUSH pushes: PSW is A and the flags.
+fn pushed_words(state: State, pair: StackPair) -> Span
+    ensures { result ≡ pushed_words state pair }
+{
+    match pair {
+        StackPair::Bc => state.bc.words,
+        StackPair::De => state.de.words,
+        StackPair::Hl => state.hl.words,
+        StackPair::Psw => Span {
+            first: 256 * u16::from(state.a.first),
+            last: 256 * u16::from(state.a.last) + 255,
+        },
+    }
+}
+
+/// Registers and flags after an instruction.
+fn registers_after(code: &[Option<u8>], instr: Instr, state: State) -> State
+    ensures { result ≡ registers_after code.now instr state }
+{
+    match instr {
+        Instr::Mov(to, from) => moved(to, from, state),
+        Instr::Load(to) => state.with_byte(to, loaded(code, state.cells, state.hl.words)),
+        Instr::Mvi(to, byte) => state.with_byte(to, ByteSpan::alone(byte)),
+        Instr::Inr(register) => counted(register, state.byte(register).next(), state),
+        Instr::Dcr(register) => counted(register, state.byte(register).previous(), state),
+        Instr::InrMemory => state.with_outcome(Outcome {
+            value: loaded(code, state.cells, state.hl.words).next(),
+            carry: state.carry,
+        }),
+        Instr::DcrMemory => state.with_outcome(Outcome {
+            value: loaded(code, state.cells, state.hl.words).previous(),
+            carry: state.carry,
+        }),
+        Instr::Lxi(pair, word) => state.with_words(pair, Span::alone(word)),
+        Instr::Inx(pair) => state.with_words(pair, state.pair(pair).next()),
+        Instr::Dcx(pair) => state.with_words(pair, state.pair(pair).previous()),
+        Instr::Dad(pair) => state
+            .with_words(Pair::Hl, state.hl.words.plus(state.pair(pair)))
+            .with_carry(added_carry(state, pair)),
+        Instr::Operate(operation, operand) => after_operation(
+            operation,
+            is_accumulator(operand),
+            operand_bytes(code, operand, state),
+            state,
+        ),
+        Instr::Rotate(rotation) => state
+            .with_byte(Register::A, rotated(rotation, state.a, state.carry))
+            .with_carry(None),
+        Instr::Daa => state.with_byte(Register::A, ByteSpan::ANY).with_any_flags(),
+        Instr::Cma => state.with_byte(Register::A, state.a.complemented()),
+        Instr::Stc => state.with_carry(Some(true)),
+        Instr::Cmc => state.with_carry(turned(state.carry)),
+        Instr::Ldax(pair) => {
+            state.with_byte(
+                Register::A,
+                loaded(code, state.cells, index_words(state, pair)),
+            )
+        }
+        Instr::Lda(address) => {
+            state.with_byte(Register::A, loaded_at(code, state.cells, address))
+        }
+        Instr::In(_) => state.with_byte(Register::A, ByteSpan::ANY),
+        Instr::Lhld(address) => state.with_words(Pair::Hl, loaded_word(code, state.cells, address)),
+        Instr::Xchg => exchanged_pairs(state),
+        Instr::Pop(pair) => popped_to(pair, known_word(state.words.first), state),
+        Instr::Xthl => state.with_words(Pair::Hl, known_word(state.words.first)),
+        Instr::Store(_)
+        | Instr::MviMemory(_)
+        | Instr::Jmp(_)
+        | Instr::JumpIf(_, _)
+        | Instr::Call(_)
+        | Instr::CallIf(_, _)
+        | Instr::Ret
+        | Instr::ReturnIf(_)
+        | Instr::Rst(_)
+        | Instr::Push(_)
+        | Instr::Stax(_)
+        | Instr::Shld(_)
+        | Instr::Sta(_)
+        | Instr::Pchl
+        | Instr::Sphl
+        | Instr::Out(_)
+        | Instr::Ei
+        | Instr::Di
+        | Instr::Nop
+        | Instr::Hlt => state,
+    }
+}
+
+/// The words on the stack after a call, if it is taken.
+fn called(taken: bool, next: u16, words: Words) -> Words
+    ensures { result ≡ called taken next words }
+{
+    if taken {
+        words.pushed(Some(Span::alone(next)))
+    } else {
+        words
+    }
+}
+
+/// The words on the stack after a return, if it is taken.
+fn returned(taken: bool, words: Words) -> Words
+    ensures { result ≡ returned taken words }
+{
+    if taken { words.popped() } else { words }
+}
+
+/// The words on the stack after an instruction at which a call or a return is taken or not; `next` is the address after it.
+fn words_after(instr: Instr, taken: bool, next: u16, state: State) -> Words
+    ensures { result ≡ words_after instr taken next state }
+{
+    match instr {
+        Instr::Push(pair) => state.words.pushed(Some(pushed_words(state, pair))),
+        Instr::Pop(_) | Instr::Ret => state.words.popped(),
+        Instr::ReturnIf(_) => returned(taken, state.words),
+        Instr::Xthl => Words {
+            first: Some(state.hl.words),
+            ..state.words
+        },
+        Instr::Call(_) | Instr::CallIf(_, _) | Instr::Rst(_) => called(taken, next, state.words),
+        Instr::Sphl | Instr::Lxi(Pair::Sp, _) | Instr::Inx(Pair::Sp) | Instr::Dcx(Pair::Sp) =>
+            Words::NONE,
+        _ => state.words,
+    }
+}
+
+/// The bytes of memory that are known after an instruction.
+fn cells_after(code: &[Option<u8>], instr: Instr, state: State) -> Cells
+    ensures { result ≡ cells_after code.now instr state }
+{
+    let cells = state.cells;
+    let pointed = state.hl.words;
+    match instr {
+        Instr::Store(register) => cells.stored(pointed, state.byte(register)),
+        Instr::MviMemory(byte) => cells.stored(pointed, ByteSpan::alone(byte)),
+        Instr::InrMemory => cells.stored(pointed, loaded(code, cells, pointed).next()),
+        Instr::DcrMemory => cells.stored(pointed, loaded(code, cells, pointed).previous()),
+        Instr::Stax(pair) => cells.stored(index_words(state, pair), state.a),
+        Instr::Sta(address) => cells.stored(Span::alone(address), state.a),
+        Instr::Shld(address) => cells
+            .stored(Span::alone(address), state.hl.low)
+            .stored(Span::alone(ahead(address, 1)), state.hl.high()),
+        _ => cells,
+    }
+}
+
+/// What is known after an instruction, given what is known before it, the bytes of code by address, and whether its call or return is
+/// taken; `next` is the address after it.
+///
+/// What comes from memory is known of code and of the state's cells. Sums and counts are followed until some of them wrap and others don't.
+pub fn state_after(code: &[Option<u8>], instr: Instr, taken: bool, next: u16, state: State) -> State
+    ensures { result ≡ state_after code.now instr taken next state }
+{
+    State {
+        words: words_after(instr, taken, next, state),
+        cells: cells_after(code, instr, state),
+        ..registers_after(code, instr, state)
+    }
+}

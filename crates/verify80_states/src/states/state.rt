@@ -1,0 +1,457 @@
+//! What is known of a machine at an instruction.
+
+use crate::spans::{ByteSpan, Outcome, Span};
+use crate::states::cells::Cells;
+use decode80::{Pair, Register};
+
+/// What a pair may be: its words, and its low bytes, which may be fewer than those of the words.
+#[derive(Clone, Copy, Debug, PartialEq, Eq)]
+pub struct PairSpan {
+    pub words: Span,
+    pub low: ByteSpan,
+}
+
+impl PairSpan {
+    ghost use Rattle.std.specs.Prelude.{◌≡◌, ◌↔◌, true};
+    ghost use Rattle.verify80_states.specs.Span.{high_of};
+    ghost use Rattle.verify80_states.specs.State.{pair_of_words, pair_of_halves, cut_high, cut_low, IsPairInside};
+
+    /// Any word.
+    pub const ANY: PairSpan = PairSpan {
+        words: Span::ANY,
+        low: ByteSpan::ANY,
+    };
+
+    /// A pair of these words.
+    pub fn of_words(words: Span) -> PairSpan
+        ensures { result ≡ pair_of_words words }
+    {
+        PairSpan {
+            words,
+            low: words.low(),
+        }
+    }
+
+    /// A pair of these halves.
+    pub fn of_halves(high: ByteSpan, low: ByteSpan) -> PairSpan
+        ensures { result ≡ pair_of_halves high low }
+    {
+        PairSpan {
+            words: Span::of_halves(high, low),
+            low,
+        }
+    }
+
+    /// What its high byte may be.
+    pub fn high(self) -> ByteSpan
+        ensures { result ≡ high_of self.words }
+    {
+        self.words.high()
+    }
+
+    /// The pair whose high byte is one of these too.
+    fn cut_high(self, byte: ByteSpan) -> PairSpan
+        ensures { result ≡ cut_high self byte }
+    {
+        PairSpan {
+            words: self.words.meet(Span::of_halves(byte, ByteSpan::ANY)),
+            low: self.low,
+        }
+    }
+
+    /// The pair whose low byte is one of these too.
+    fn cut_low(self, byte: ByteSpan) -> PairSpan
+        ensures { result ≡ cut_low self byte }
+    {
+        let low = self.low.meet(byte);
+        PairSpan {
+            words: self.words.meet(Span::of_halves(self.high(), low)),
+            low,
+        }
+    }
+
+    /// Whether all that this pair may be the other may be.
+    fn is_inside(self, other: PairSpan) -> bool
+        ensures { (result ≡ true) ↔ IsPairInside self other }
+    {
+        self.words.is_inside(other.words) && self.low.is_inside(other.low)
+    }
+}
+
+/// What the words from the stack pointer on may be, as far as the program has written them.
+#[derive(Clone, Copy, Debug, PartialEq, Eq)]
+pub struct Words {
+    pub first: Option<Span>,
+    pub second: Option<Span>,
+    pub third: Option<Span>,
+    pub fourth: Option<Span>,
+}
+
+impl Words {
+    ghost use Rattle.std.specs.Prelude.{◌≡◌, true};
+    ghost use Rattle.verify80_states.specs.State.{pushed, popped, AreWordsInside};
+
+    /// None is known.
+    pub const NONE: Words = Words {
+        first: None,
+        second: None,
+        third: None,
+        fourth: None,
+    };
+
+    /// The words when one is pushed.
+    pub fn pushed(self, word: Option<Span>) -> Words
+        ensures { result ≡ pushed self word }
+    {
+        Words {
+            first: word,
+            second: self.first,
+            third: self.second,
+            fourth: self.third,
+        }
+    }
+
+    /// The words when one is popped.
+    pub fn popped(self) -> Words
+        ensures { result ≡ popped self }
+    {
+        Words {
+            first: self.second,
+            second: self.third,
+            third: self.fourth,
+            fourth: None,
+        }
+    }
+
+    /// Whether these words say all that the others do.
+    fn are_inside(self, other: Words) -> bool
+        ensures { result ≡ true → AreWordsInside self other }
+    {
+        is_word_inside(self.first, other.first)
+            && is_word_inside(self.second, other.second)
+            && is_word_inside(self.third, other.third)
+            && is_word_inside(self.fourth, other.fourth)
+    }
+}
+
+/// Whether what is known of a word says all that another knowledge does.
+fn is_word_inside(inner: Option<Span>, outer: Option<Span>) -> bool
+    ensures { result ≡ true → IsWordInside inner outer }
+{
+    match (inner, outer) {
+        (_, None) => true,
+        (None, Some(_)) => false,
+        (Some(inner), Some(outer)) => inner.is_inside(outer),
+    }
+}
+
+/// What registers, flags, the words on top of the stack and some bytes of memory may be, before an instruction.
+#[derive(Clone, Copy, Debug, PartialEq, Eq)]
+pub struct State {
+    pub a: ByteSpan,
+    pub bc: PairSpan,
+    pub de: PairSpan,
+    pub hl: PairSpan,
+    /// The register that has the byte of A: A itself, if none else is known to.
+    pub copy: Register,
+    /// Whether Z is set, as far as it is known.
+    pub zero: Option<bool>,
+    /// Whether CY is set.
+    pub carry: Option<bool>,
+    /// Whether S is set.
+    pub sign: Option<bool>,
+    /// The number of which Z says whether A is it, and CY whether A is below it.
+    pub compared: Option<u8>,
+    pub words: Words,
+    pub cells: Cells,
+}
+
+ghost use Rattle.std.specs.Prelude.{◌≡◌, true};
+ghost use Rattle.verify80_states.specs.State.{copy_without, copy_outside, IsFlagInside, IsComparisonInside, IsCopyInside, IsWordInside};
+
+/// The register that has A's byte when a register is written.
+fn copy_without(written: Register, copy: Register) -> Register
+    ensures { result ≡ copy_without written copy }
+{
+    match (written, copy) {
+        (Register::A, _)
+        | (Register::B, Register::B)
+        | (Register::C, Register::C)
+        | (Register::D, Register::D)
+        | (Register::E, Register::E)
+        | (Register::H, Register::H)
+        | (Register::L, Register::L) => Register::A,
+        (_, copy) => copy,
+    }
+}
+
+/// The register that has A's byte when a pair is written.
+fn copy_outside(written: Pair, copy: Register) -> Register
+    ensures { result ≡ copy_outside written copy }
+{
+    match (written, copy) {
+        (Pair::Bc, Register::B | Register::C)
+        | (Pair::De, Register::D | Register::E)
+        | (Pair::Hl, Register::H | Register::L) => Register::A,
+        (_, copy) => copy,
+    }
+}
+
+/// Whether what is known of a flag says all that another knowledge does.
+fn is_flag_inside(inner: Option<bool>, outer: Option<bool>) -> bool
+    ensures { result ≡ true → IsFlagInside inner outer }
+{
+    match (inner, outer) {
+        (_, None) | (Some(true), Some(true)) | (Some(false), Some(false)) => true,
+        _ => false,
+    }
+}
+
+/// Whether what is known of a comparison does.
+fn is_comparison_inside(inner: Option<u8>, outer: Option<u8>) -> bool
+    ensures { result ≡ true → IsComparisonInside inner outer }
+{
+    match (inner, outer) {
+        (_, None) => true,
+        (Some(inner), Some(outer)) => inner == outer,
+        (None, Some(_)) => false,
+    }
+}
+
+/// Whether what is known of a copy does.
+fn is_copy_inside(inner: Register, outer: Register) -> bool
+    ensures { result ≡ true → IsCopyInside inner outer }
+{
+    match (inner, outer) {
+        (_, Register::A)
+        | (Register::B, Register::B)
+        | (Register::C, Register::C)
+        | (Register::D, Register::D)
+        | (Register::E, Register::E)
+        | (Register::H, Register::H)
+        | (Register::L, Register::L) => true,
+        _ => false,
+    }
+}
+
+impl State {
+    ghost use Rattle.std.specs.Prelude.{◌≡◌, true};
+    ghost use Rattle.verify80_states.specs.State.{byte_of, words_of, with_byte, with_words, with_outcome, with_carry, with_any_flags, cut, cut_copy, AreRegistersInside, IsStateInside};
+
+    /// Nothing is known.
+    pub const ANY: State = State {
+        a: ByteSpan::ANY,
+        bc: PairSpan::ANY,
+        de: PairSpan::ANY,
+        hl: PairSpan::ANY,
+        copy: Register::A,
+        zero: None,
+        carry: None,
+        sign: None,
+        compared: None,
+        words: Words::NONE,
+        cells: Cells::ANY,
+    };
+
+    /// Whether this state says all that another does.
+    pub fn is_inside(self, other: State) -> bool
+        ensures { result ≡ true → IsStateInside self other }
+    {
+        self.are_registers_inside(other)
+            && is_copy_inside(self.copy, other.copy)
+            && is_flag_inside(self.zero, other.zero)
+            && is_flag_inside(self.carry, other.carry)
+            && is_flag_inside(self.sign, other.sign)
+            && is_comparison_inside(self.compared, other.compared)
+            && self.words.are_inside(other.words)
+            && self.cells.are_inside(other.cells)
+    }
+
+    /// Whether the registers say all that those of another state do.
+    fn are_registers_inside(self, other: State) -> bool
+        ensures { result ≡ true → AreRegistersInside self other }
+    {
+        self.hl.is_inside(other.hl)
+            && self.a.is_inside(other.a)
+            && self.bc.is_inside(other.bc)
+            && self.de.is_inside(other.de)
+    }
+
+    /// What a register may hold.
+    pub fn byte(self, register: Register) -> ByteSpan
+        ensures { result ≡ byte_of self register }
+    {
+        match register {
+            Register::A => self.a,
+            Register::B => self.bc.high(),
+            Register::C => self.bc.low,
+            Register::D => self.de.high(),
+            Register::E => self.de.low,
+            Register::H => self.hl.high(),
+            Register::L => self.hl.low,
+        }
+    }
+
+    /// What a pair may be; SP may be any word.
+    pub fn pair(self, pair: Pair) -> Span
+        ensures { result ≡ words_of self pair }
+    {
+        match pair {
+            Pair::Bc => self.bc.words,
+            Pair::De => self.de.words,
+            Pair::Hl => self.hl.words,
+            Pair::Sp => Span::ANY,
+        }
+    }
+
+    /// The state when a register is written: the other half of its pair stays.
+    pub fn with_byte(self, register: Register, byte: ByteSpan) -> State
+        ensures { result ≡ with_byte self register byte }
+    {
+        let copy = copy_without(register, self.copy);
+        match register {
+            Register::A => State {
+                a: byte,
+                copy: Register::A,
+                compared: None,
+                ..self
+            },
+            Register::B => State {
+                bc: PairSpan::of_halves(byte, self.bc.low),
+                copy,
+                ..self
+            },
+            Register::C => State {
+                bc: PairSpan::of_halves(self.bc.high(), byte),
+                copy,
+                ..self
+            },
+            Register::D => State {
+                de: PairSpan::of_halves(byte, self.de.low),
+                copy,
+                ..self
+            },
+            Register::E => State {
+                de: PairSpan::of_halves(self.de.high(), byte),
+                copy,
+                ..self
+            },
+            Register::H => State {
+                hl: PairSpan::of_halves(byte, self.hl.low),
+                copy,
+                ..self
+            },
+            Register::L => State {
+                hl: PairSpan::of_halves(self.hl.high(), byte),
+                copy,
+                ..self
+            },
+        }
+    }
+
+    /// The state when a pair is written.
+    pub fn with_words(self, pair: Pair, words: Span) -> State
+        ensures { result ≡ with_words self pair words }
+    {
+        let copy = copy_outside(pair, self.copy);
+        let span = PairSpan::of_words(words);
+        match pair {
+            Pair::Bc => State {
+                bc: span,
+                copy,
+                ..self
+            },
+            Pair::De => State {
+                de: span,
+                copy,
+                ..self
+            },
+            Pair::Hl => State {
+                hl: span,
+                copy,
+                ..self
+            },
+            Pair::Sp => self,
+        }
+    }
+
+    /// The state when the flags are those of a result.
+    pub fn with_outcome(self, outcome: Outcome) -> State
+        ensures { result ≡ with_outcome self outcome }
+    {
+        State {
+            zero: outcome.value.zero(),
+            sign: outcome.value.sign(),
+            carry: outcome.carry,
+            compared: None,
+            ..self
+        }
+    }
+
+    /// The state when the carry alone is written.
+    pub fn with_carry(self, carry: Option<bool>) -> State
+        ensures { result ≡ with_carry self carry }
+    {
+        State {
+            carry,
+            compared: None,
+            ..self
+        }
+    }
+
+    /// The state when the flags are whatever they are.
+    pub fn with_any_flags(self) -> State
+        ensures { result ≡ with_any_flags self }
+    {
+        State {
+            zero: None,
+            carry: None,
+            sign: None,
+            compared: None,
+            ..self
+        }
+    }
+
+    /// The state in which the register that has A's byte holds one of these.
+    fn cut_copy(self, byte: ByteSpan) -> State
+        ensures { result ≡ cut_copy self self.copy byte }
+    {
+        match self.copy {
+            Register::A => self,
+            Register::B => State {
+                bc: self.bc.cut_high(byte),
+                ..self
+            },
+            Register::C => State {
+                bc: self.bc.cut_low(byte),
+                ..self
+            },
+            Register::D => State {
+                de: self.de.cut_high(byte),
+                ..self
+            },
+            Register::E => State {
+                de: self.de.cut_low(byte),
+                ..self
+            },
+            Register::H => State {
+                hl: self.hl.cut_high(byte),
+                ..self
+            },
+            Register::L => State {
+                hl: self.hl.cut_low(byte),
+                ..self
+            },
+        }
+    }
+
+    /// The state in which A holds one of these bytes, and so does the register that has its byte.
+    pub fn cut(self, byte: ByteSpan) -> State
+        ensures { result ≡ cut self byte }
+    {
+        State {
+            a: self.a.meet(byte),
+            ..self.cut_copy(byte)
+        }
+    }
+}

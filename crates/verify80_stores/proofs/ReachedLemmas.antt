@@ -1,0 +1,26 @@
+-- What is reached at an address.
+use Rattle.std.specs.Prelude.{◌≡◌, ◌<◌, ℕ, zero, suc, List, [], ◌∷◌, Option, None, Some, Ok, length, slice_index_or, refl}
+use Rattle.std.proofs.Common.{arith}
+use Rattle.decode80.specs.declared.fetching.Fetched.{Fetched}
+use Rattle.frames80.specs.Code.{Code}
+use Rattle.verify80.specs.Reached.{AreReached, IsReached, found_at}
+
+-- an entry that is there is within the table
+pub entry_within : {A : Type 0} (table : List (Option A)) (at : ℕ) (x : A) → slice_index_or table at None ≡ Some x → at < length table
+entry_within [] at x h = cc
+entry_within (entry ∷ table) zero x h = omega arith
+entry_within (entry ∷ table) (suc at) x h = let rest = entry_within table at x h in omega (arith, rest)
+
+module _ (code : Code) (reached : List (Option Fetched)) (are : AreReached code reached) where
+  pub record IsThere (at : ℕ) : Type 0 where
+    pub found : Fetched
+    pub there : found_at reached at ≡ Some found
+    pub looked : code.look at ≡ Ok found
+    pub within : at < length reached
+
+  found_or_not : (at : ℕ) (o : Option Fetched) → found_at reached at ≡ o → IsReached code at → IsThere at
+  found_or_not at None e walk = absurd (are.none at e walk)
+  found_or_not at (Some found) e walk = record { found = found; there = e; looked = (are.found at found e).1; within = entry_within reached at found e }
+
+  pub there_if_reached : (at : ℕ) → IsReached code at → IsThere at
+  there_if_reached at walk = found_or_not at (found_at reached at) refl walk
