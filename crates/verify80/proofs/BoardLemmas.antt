@@ -1,12 +1,11 @@
 -- On a board each world is watched, and stands on a walk.
-use Rattle.std.specs.Prelude.{◌≡◌, ◌≢◌, ℕ, suc, ◌+◌, ◌-◌, ◌<◌, ◌≤◌, Bool, true, false, slice_index, List, Option, None, Some, All, length}
+use Rattle.std.specs.Prelude.{◌≡◌, ℕ, suc, ◌+◌, ◌-◌, ◌<◌, ◌≤◌, Bool, true, false, slice_index, List, Option, None, Some, All, length}
 use Rattle.std.proofs.Common.{◌∙◌, ap, sym, subst, arith}
 use Rattle.decode80.specs.declared.fetching.Fetched.{Fetched}
 use Rattle.decode80.specs.Fetch.{direct_bytes, FetchReadsCodeAlone}
 use Rattle.frames80.specs.Places.{ChangesByPlaces, ReturnsByPlaces}
 use Rattle.frames80.specs.declared.procedure.Procedure.TheVariants.{Main}
-use Rattle.image80.specs.Range.{in_range}
-use Rattle.image80.specs.Regions.{in_data, top_of}
+use Rattle.image80.specs.Regions.{in_data}
 use Rattle.image80.specs.Image.{Located, memory_of}
 use Rattle.machine80.specs.declared.end.End.{End}
 use Rattle.machine80.specs.declared.end.End.TheVariants.{StoreOutside}
@@ -19,7 +18,7 @@ use Rattle.verify80.specs.Looking.{code_of}
 use Rattle.verify80.specs.LookLaws.{LooksFindWhatIsAdmitted, IsAdmitted}
 use Rattle.verify80.specs.Starts.{IsStart}
 use Rattle.verify80.specs.Reached.{IsBehindCall}
-use Rattle.verify80.specs.Boards.{LeavesProgram, minded, with_memory, fetched_anywhere, unguarded, StaysInside, Executes, OnBoard, begins, disturbed, executed, Anywhere, KeepsPromise, KeepsToWalks, IsGuarded}
+use Rattle.verify80.specs.Boards.{IsPushed, LeavesProgram, minded, with_memory, fetched_anywhere, unguarded, StaysInside, Executes, OnBoard, begins, disturbed, executed, Anywhere, KeepsPromise, KeepsToWalks, IsGuarded}
 use Rattle.verify80.proofs.StoreLemmas.{Ground, pushed_keep_words}
 use Rattle.verify80.proofs.ChainLemmas.{Watched, chain_kept}
 use Rattle.verify80.proofs.ArriveLemmas.{here_height, in_words, stack_in_memory}
@@ -66,7 +65,7 @@ module _ (image : Located) (table : Table) (most : ℕ) (rules : Ground image.re
       let high = here_height image table most rules fits within w s in
       let lies = stack_in_memory image.regions rules in
       let words = pushed_keep_words image.regions (s.base + length s.frame.words) w.machine.memory memory (omega (arith, high, within)) lies.«end» lies.length
-      (subst (λ (sp : ℕ). (a : ℕ) → in_range image.regions.stack a ≡ true → sp ≤ a → sp ≢ top_of image.regions → slice_index memory a ≡ slice_index w.machine.memory a) s.pointer leaves.stack) in
+      (subst (λ (sp : ℕ). (a : ℕ) → IsPushed image.regions sp a → slice_index memory a ≡ slice_index w.machine.memory a) s.pointer leaves.pushed) in
       record {
         procedure = s.procedure;
         frame = s.frame;

@@ -22,7 +22,7 @@ use Rattle.machine80.specs.Step.{Machine, ends_at, fetch, first_outside, guard, 
 use Rattle.machine80.specs.World.{World, IsJustBelow, returns}
 use Rattle.machine80.specs.Run.{world_of}
 use Rattle.verify80.specs.Starts.{IsStart}
-use Rattle.verify80.specs.Boards.{Anywhere, Executes, GoesBy, HasAt, IsGuarded, IsUnset, starts, goes_on, KeepsPromise, KeepsToWalks, MayStart, OnBoard, begins, disturbed, executed, LeavesProgram, minded, StartsUnset, StaysInside, fetched_anywhere, sets_sp, uses_sp, unguarded, with_memory}
+use Rattle.verify80.specs.Boards.{Anywhere, Executes, GoesBy, HasAt, IsGuarded, IsUnset, starts, goes_on, KeepsPromise, KeepsToWalks, MayStart, OnBoard, as_minded, begins, disturbed, executed, LeavesProgram, minded, StartsUnset, StaysInside, fetched_anywhere, sets_sp, uses_sp, unguarded, with_memory}
 use Rattle.verify80.proofs.BoardSteps.{bridges, followed, none_of, same_machine, OnSetBoard, is_on_set}
 
 found_is : {a b : Fetched} → Some a ≡ Some b → a ≡ b
@@ -33,7 +33,7 @@ abbrev set_machine : Located → Machine → Machine
 set_machine image m = record m { cpu = record m.cpu { sp = top_of image.regions } }
 
 abbrev with_top : Located → World → World
-with_top image w = record { machine = set_machine image w.machine; places = w.places }
+with_top image w = as_minded image.regions false w
 
 -- ---- an instruction that neither sets nor uses SP does the same whatever it is
 
@@ -156,8 +156,9 @@ module _ (image : Located) (bytes : ℕ) (promise : (start : Machine) → IsStar
   abbrev pub Either : Bool → World → Type 0
   Either is_set w = ((is_set ≡ false) × Before w) ⊎ ((is_set ≡ true) × OnSetBoard image set w)
 
-  goes_before : (w v : World) → Before w → (e : Executes image.regions Anywhere w v) → (sets : Bool) → sets_sp e.found.instr ≡ sets → Either sets v
-  goes_before w v b e true sets = inr (refl, executed true true (with_top image w) v b.on (record {
+  -- its step is one with SP at the top
+  step_there : (w v : World) → Before w → (e : Executes image.regions Anywhere w v) → (sets : Bool) → sets_sp e.found.instr ≡ sets → Executes image.regions Anywhere (with_top image w) (as_minded image.regions sets v)
+  step_there w v b e true sets = record {
     found = e.found;
     byte = e.byte;
     after = e.after;
@@ -166,7 +167,20 @@ module _ (image : Located) (bytes : ℕ) (promise : (start : Machine) → IsStar
     inside = λ listed. record { stores = (e.inside listed).stores; jumps = (e.inside listed).jumps };
     goes = goes_set image e.found.instr e.byte e.found.next w.machine e.after sets e.goes;
     is = e.is;
-  }) refl)
+  }
+  step_there w v b e false unset = record {
+    found = e.found;
+    byte = e.byte;
+    after = set_machine image e.after;
+    fetched = e.fetched;
+    small = e.small;
+    inside = λ listed. record { stores = (e.inside listed).stores; jumps = (e.inside listed).jumps };
+    goes = goes_free image e.found.instr e.byte e.found.next w.machine e.after (free_here w b e.found e.fetched) unset e.goes;
+    is = ap (with_top image) e.is;
+  }
+
+  goes_before : (w v : World) → Before w → (e : Executes image.regions Anywhere w v) → (sets : Bool) → sets_sp e.found.instr ≡ sets → Either sets v
+  goes_before w v b e true sets = inr (refl, executed true true (with_top image w) v b.on (step_there w v b e true sets) refl)
   goes_before w v b e false unset =
       let p = promise_there w b in
       let there : HasAt image w.machine.cpu.pc e.found = subst (HasAt image w.machine.cpu.pc) (sym (found_there w b e.found e.fetched)) p.of_image in
@@ -175,16 +189,7 @@ module _ (image : Located) (bytes : ℕ) (promise : (start : Machine) → IsStar
       goes_on w.machine.cpu.pc e.found e.after.cpu.pc b.unset there unset (leads_by image.regions e.found.instr e.byte e.found.next w.machine e.after off (e.inside tt) e.goes) in
       inl (refl, record {
         unset = subst (λ (x : World). IsUnset image x.machine.cpu.pc) (sym e.is) on;
-        on = executed true true (with_top image w) (with_top image v) b.on (record {
-          found = e.found;
-          byte = e.byte;
-          after = set_machine image e.after;
-          fetched = e.fetched;
-          small = e.small;
-          inside = λ listed. record { stores = (e.inside listed).stores; jumps = (e.inside listed).jumps };
-          goes = goes_free image e.found.instr e.byte e.found.next w.machine e.after off unset e.goes;
-          is = ap (with_top image) e.is;
-        }) refl;
+        on = executed true true (with_top image w) (with_top image v) b.on (step_there w v b e false unset) refl;
       })
 
   pub reaches : (is_set : Bool) (w : World) → OnBoard image.regions Anywhere m false is_set w → Either is_set w
@@ -211,6 +216,19 @@ module _ (image : Located) (bytes : ℕ) (promise : (start : Machine) → IsStar
       goes (inl (unset, b)) =
           subst (λ (x : Bool). Either x w) (sym (is ∙ ap (λ (x : Bool). x || sets_sp by.found.instr) unset)) (goes_before v w b by (sets_sp by.found.instr) refl)
       goes (inr (now, there)) = inr (is ∙ ap (λ (x : Bool). x || sets_sp by.found.instr) now, executed true true v w there by refl)
+
+  pub step_minded : (w v : World) (before set : Bool) → OnBoard image.regions Anywhere m false before w → (e : Executes image.regions Anywhere w v) → set ≡ (before || sets_sp e.found.instr) →
+      Executes image.regions Anywhere (as_minded image.regions before w) (as_minded image.regions set v)
+  step_minded w v before is_set on e is = by (reaches before w on)
+    where
+      by : Either before w → Executes image.regions Anywhere (as_minded image.regions before w) (as_minded image.regions is_set v)
+      by (inl (unset, b)) =
+          subst (λ (x : Bool). Executes image.regions Anywhere (as_minded image.regions x w) (as_minded image.regions is_set v)) (sym unset)
+          (subst (λ (x : Bool). Executes image.regions Anywhere (with_top image w) (as_minded image.regions x v)) (sym (is ∙ ap (λ (x : Bool). x || sets_sp e.found.instr) unset))
+          (step_there w v b e (sets_sp e.found.instr) refl))
+      by (inr (now, there)) =
+          subst (λ (x : Bool). Executes image.regions Anywhere (as_minded image.regions x w) (as_minded image.regions is_set v)) (sym now)
+          (subst (λ (x : Bool). Executes image.regions Anywhere w (as_minded image.regions x v)) (sym (is ∙ ap (λ (x : Bool). x || sets_sp e.found.instr) now)) e)
 
   keeps_before : (w : World) → Before w → KeepsPromise image Anywhere bytes w
   keeps_before w b =

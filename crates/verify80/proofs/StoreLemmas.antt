@@ -14,6 +14,7 @@ use Rattle.machine80.specs.declared.end.End.{End}
 use Rattle.machine80.specs.declared.end.End.TheVariants.{Direct, StoreOutside}
 use Rattle.machine80.specs.Effects.{stores, stored}
 use Rattle.machine80.specs.Step.{guard, first_outside, ends_at}
+use Rattle.verify80.specs.Boards.{IsPushed}
 use Rattle.verify80.proofs.StackLemmas.{inside, pointer, SameWords, Written}
 
 -- the instructions that leave the stack, its pointer and the order of instructions alone, and use no port
@@ -133,13 +134,12 @@ data_keeps_code regions old m m' rules stored_data code = record { bytes = λ a 
 
 -- if each byte of the stack from SP up is as it was, unless nothing is pushed
 pub pushed_keep_words : (regions : Areas) (below : ℕ) (m m' : List ℕ) → 2 * below ≤ regions.stack.length → regions.stack.first + regions.stack.length ≤ 65536 → regions.stack.length < 65536 →
-    ((a : ℕ) → in_range regions.stack a ≡ true → pointer (regions.stack.first + regions.stack.length) below ≤ a → pointer (regions.stack.first + regions.stack.length) below ≢ top_of regions →
-    slice_index m' a ≡ slice_index m a) → SameWords (regions.stack.first + regions.stack.length) below m m'
+    ((a : ℕ) → IsPushed regions (pointer (regions.stack.first + regions.stack.length) below) a → slice_index m' a ≡ slice_index m a) → SameWords (regions.stack.first + regions.stack.length) below m m'
 pushed_keep_words regions below m m' room «end» short same = record {
   same = λ k less.
       let not_top : pointer (regions.stack.first + regions.stack.length) below ≢ top_of regions = λ e. absurd (omega (arith, e, less, room, short)) in
-      let high = same ((regions.stack.first + regions.stack.length) - (2 * k + 1)) (inside regions.stack _ (omega arith) (omega arith)) (omega arith) not_top in
-      let low = same ((regions.stack.first + regions.stack.length) - (2 * k + 2)) (inside regions.stack _ (omega arith) (omega arith)) (omega arith) not_top in
+      let high = same ((regions.stack.first + regions.stack.length) - (2 * k + 1)) (record { in_stack = inside regions.stack _ (omega arith) (omega arith); above = omega arith; filled = not_top }) in
+      let low = same ((regions.stack.first + regions.stack.length) - (2 * k + 2)) (record { in_stack = inside regions.stack _ (omega arith) (omega arith); above = omega arith; filled = not_top }) in
       ap (λ h. 256 * h + slice_index m' ((regions.stack.first + regions.stack.length) - (2 * k + 2))) high
       ∙ ap (λ l. 256 * slice_index m ((regions.stack.first + regions.stack.length) - (2 * k + 1)) + l) low;
 }

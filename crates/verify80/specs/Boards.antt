@@ -28,12 +28,16 @@ use Rattle.verify80.specs.Looking.{code_of, halt_follows}
 use Rattle.verify80.specs.Starts.{IsStart}
 use Rattle.verify80.specs.Reached.{StandsOnWalk, IsBehindCall}
 
--- what the board leaves of a memory: each byte of code, and each byte of the stack from a stack pointer up; none of the stack if that is
--- at the stack's top, for then nothing is pushed
+-- an address is one of the stack's from a stack pointer up, where what is pushed lies; nothing is if that is at the stack's top
+pub record IsPushed (regions : Areas) (pointer address : ℕ) : Type 0 where
+  pub in_stack : in_range regions.stack address ≡ true
+  pub above : pointer ≤ address
+  pub filled : pointer ≢ top_of regions
+
+-- what the board leaves of a memory: each byte of code, and each that is pushed
 pub record LeavesProgram (regions : Areas) (pointer : ℕ) (old new : List ℕ) : Type 0 where
   pub code : (address : ℕ) → in_code regions address ≡ true → slice_index new address ≡ slice_index old address
-  pub stack : (address : ℕ) → in_range regions.stack address ≡ true → pointer ≤ address → pointer ≢ top_of regions →
-      slice_index new address ≡ slice_index old address
+  pub pushed : (address : ℕ) → IsPushed regions pointer address → slice_index new address ≡ slice_index old address
   pub size : length new ≡ length old
   pub bytes : All (λ byte. byte < 256) new
 
@@ -83,6 +87,11 @@ sets_sp _ = false
 abbrev pub minded : Areas → (set : Bool) → World → ℕ
 minded regions true w = w.machine.cpu.sp
 minded regions false w = top_of regions
+
+-- a world with that stack pointer
+abbrev pub as_minded : Areas → (set : Bool) → World → World
+as_minded regions true w = w
+as_minded regions false w = record { machine = record w.machine { cpu = record w.machine.cpu { sp = top_of regions } }; places = w.places }
 
 -- the worlds of a board, from a machine on: up to the first instruction at a listed address that doesn't stay inside. Beside each stands
 -- whether SP is set: it is if it was when the run began, or once an instruction has set it
@@ -213,3 +222,11 @@ BoardStepsAreGuarded = (image : Located) (bytes : ℕ) → AreRegions image.regi
     bytes ≤ image.regions.stack.length → (start : Machine) (began : Bool) → MayStart image began start → (w v : World) (set : Bool) →
     OnBoard image.regions Anywhere start began set w → (step : Executes image.regions Anywhere w v) →
     IsGuarded image.regions w.machine step.after
+
+-- As long as SP isn't set, nothing depends on it: what a board executes it also executes with SP at the stack's top.
+abbrev pub BoardsMindNoUnsetPointer : Type 0
+BoardsMindNoUnsetPointer = (image : Located) (bytes : ℕ) → AreRegions image.regions → IsFitted (code_of image) bytes →
+    bytes ≤ image.regions.stack.length → (start : Machine) → StartsUnset image start → (w v : World) (before set : Bool) →
+    OnBoard image.regions Anywhere start false before w → (step : Executes image.regions Anywhere w v) →
+    set ≡ (before || sets_sp step.found.instr) →
+    Executes image.regions Anywhere (as_minded image.regions before w) (as_minded image.regions set v)

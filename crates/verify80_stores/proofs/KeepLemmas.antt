@@ -123,8 +123,8 @@ module _ (regions : Areas) (targets : List ℕ) (table : List Placed) (after : B
   -- a return that is taken goes where the state says, if it knows that
   back_to : (t : State) → KnowsReturn table (after true) t → Holds regions t m → Holds regions (after true t) there → Meets regions table (word_in m.memory m.cpu.sp) there
   back_to t knows before now = record { state = after true t; has = subst (λ n. Has table n (after true t)) place knows.has; holds = now } where
-    pushed_there : HoldsWord regions (Some knows.span) m.memory m.cpu.sp
-    pushed_there = subst (λ (o : Option Span). HoldsWord regions o m.memory m.cpu.sp) knows.first before.words.first
+    pushed_there : HoldsWord regions (Some knows.span) m.memory m.cpu.sp m.cpu.sp
+    pushed_there = subst (λ (o : Option Span). HoldsWord regions o m.memory m.cpu.sp m.cpu.sp) knows.first before.words.first
 
     place : knows.span.first ≡ word_in m.memory m.cpu.sp
     place = let above = pushed_there.within.above in let below = pushed_there.within.below in let alone = knows.alone in grind (arith, nat_tests)
