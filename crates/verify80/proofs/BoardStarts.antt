@@ -23,7 +23,7 @@ use Rattle.machine80.specs.World.{World, IsJustBelow, returns}
 use Rattle.machine80.specs.Run.{world_of}
 use Rattle.verify80.specs.Starts.{IsStart}
 use Rattle.verify80.specs.Boards.{Anywhere, Executes, GoesBy, HasAt, IsGuarded, IsUnset, starts, goes_on, KeepsPromise, KeepsToWalks, MayStart, OnBoard, as_minded, begins, disturbed, executed, LeavesProgram, minded, StartsUnset, StaysInside, fetched_anywhere, sets_sp, uses_sp, unguarded, with_memory}
-use Rattle.verify80.proofs.BoardSteps.{bridges, followed, none_of, same_machine, OnSetBoard, is_on_set}
+use Rattle.verify80.proofs.BoardSteps.{bridges, followed, none_of, same_machine, OnSetBoard, is_on_set, stays_set}
 
 found_is : {a b : Fetched} → Some a ≡ Some b → a ≡ b
 found_is {a} {b} h = let e : Some a ≡ Some b = h in cc
@@ -326,3 +326,12 @@ pub walks_kept : (image : Located) (bytes : ℕ) → ((start : Machine) → IsSt
     (start : Machine) (began : Bool) → MayStart image began start → (w : World) (set : Bool) → OnBoard image.regions Anywhere start began set w → KeepsToWalks image w
 walks_kept image bytes promise walks start true is w set on = walks start is w (is_on_set image start set w on)
 walks_kept image bytes promise walks start false s w set on = keeps_to_walks_unset image bytes promise start s walks set w on
+
+pub steps_minded : (image : Located) (bytes : ℕ) → ((start : Machine) → IsStart image start → (w : World) → OnSetBoard image start w → KeepsPromise image Anywhere bytes w) →
+    (start : Machine) (began : Bool) → MayStart image began start → (w v : World) (before set : Bool) → OnBoard image.regions Anywhere start began before w → (e : Executes image.regions Anywhere w v) →
+    set ≡ (before || sets_sp e.found.instr) → Executes image.regions Anywhere (as_minded image.regions before w) (as_minded image.regions set v)
+steps_minded image bytes promise start true begins_there w v before set on e is =
+    let now = stays_set image.regions Anywhere start before w on in
+    subst (λ (x : Bool). Executes image.regions Anywhere (as_minded image.regions x w) (as_minded image.regions set v)) (sym now)
+    (subst (λ (x : Bool). Executes image.regions Anywhere w (as_minded image.regions x v)) (sym (is ∙ ap (λ (x : Bool). x || sets_sp e.found.instr) now)) e)
+steps_minded image bytes promise start false s w v before set on e is = step_minded image bytes promise start s w v before set on e is

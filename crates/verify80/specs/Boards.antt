@@ -226,7 +226,7 @@ BoardStepsAreGuarded = (image : Located) (bytes : ℕ) → AreRegions image.regi
 -- As long as SP isn't set, nothing depends on it: what a board executes it also executes with SP at the stack's top.
 abbrev pub BoardsMindNoUnsetPointer : Type 0
 BoardsMindNoUnsetPointer = (image : Located) (bytes : ℕ) → AreRegions image.regions → IsFitted (code_of image) bytes →
-    bytes ≤ image.regions.stack.length → (start : Machine) → StartsUnset image start → (w v : World) (before set : Bool) →
-    OnBoard image.regions Anywhere start false before w → (step : Executes image.regions Anywhere w v) →
+    bytes ≤ image.regions.stack.length → (start : Machine) (began : Bool) → MayStart image began start → (w v : World) (before set : Bool) →
+    OnBoard image.regions Anywhere start began before w → (step : Executes image.regions Anywhere w v) →
     set ≡ (before || sets_sp step.found.instr) →
     Executes image.regions Anywhere (as_minded image.regions before w) (as_minded image.regions set v)
