@@ -187,29 +187,38 @@ module _ (image : Located) (bytes : ℕ) (promise : (start : Machine) → IsStar
       let off : uses_sp e.found.instr ≡ false = free_here w b e.found e.fetched in
       let on : IsUnset image e.after.cpu.pc =
       goes_on w.machine.cpu.pc e.found e.after.cpu.pc b.unset there unset (leads_by image.regions e.found.instr e.byte e.found.next w.machine e.after off (e.inside tt) e.goes) in
-      inl (refl, record {
-        unset = subst (λ (x : World). IsUnset image x.machine.cpu.pc) (sym e.is) on;
-        on = executed true true (with_top image w) (with_top image v) b.on (step_there w v b e false unset) refl;
-      })
+      inl (
+        refl,
+        record {
+          unset = subst (λ (x : World). IsUnset image x.machine.cpu.pc) (sym e.is) on;
+          on = executed true true (with_top image w) (with_top image v) b.on (step_there w v b e false unset) refl;
+        },
+      )
 
   pub reaches : (is_set : Bool) (w : World) → OnBoard image.regions Anywhere m false is_set w → Either is_set w
   reaches is_set w (begins _ _ is unset) = inl (unset, subst Before (sym is) (record { unset = starts m.cpu.pc s.pc; on = begins true (world_of set) refl refl }))
   reaches is_set w (disturbed _ v _ on by) = goes (reaches is_set v on)
     where
       goes : Either is_set v → Either is_set w
-      goes (inl (unset, b)) = inl (unset, subst Before (sym by.is) (record {
-        unset = b.unset;
-        on = disturbed true (with_top image v) (with_memory (with_top image v) by.memory) b.on (record {
+      goes (inl (unset, b)) = inl (
+        unset,
+        subst Before (sym by.is) (record {
+          unset = b.unset;
+          on = disturbed true (with_top image v) (with_memory (with_top image v) by.memory) b.on (record {
+            memory = by.memory;
+            leaves = subst (λ (x : Bool). LeavesProgram image.regions (minded image.regions x v) v.machine.memory by.memory) unset by.leaves;
+            is = refl;
+          });
+        }),
+      )
+      goes (inr (now, there)) = inr (
+        now,
+        disturbed true v w there (record {
           memory = by.memory;
-          leaves = subst (λ (x : Bool). LeavesProgram image.regions (minded image.regions x v) v.machine.memory by.memory) unset by.leaves;
-          is = refl;
-        });
-      }))
-      goes (inr (now, there)) = inr (now, disturbed true v w there (record {
-        memory = by.memory;
-        leaves = subst (λ (x : Bool). LeavesProgram image.regions (minded image.regions x v) v.machine.memory by.memory) now by.leaves;
-        is = by.is;
-      }))
+          leaves = subst (λ (x : Bool). LeavesProgram image.regions (minded image.regions x v) v.machine.memory by.memory) now by.leaves;
+          is = by.is;
+        }),
+      )
   reaches is_set w (executed before _ v _ on by is) = goes (reaches before v on)
     where
       goes : Either before v → Either is_set w
