@@ -73,6 +73,10 @@ minded_bytes : (regions : Areas) (set : Bool) (w : World) → HoldsBytes w.machi
 minded_bytes regions true w held = held
 minded_bytes regions false w held = record { registers = held.registers; memory = held.memory; inputs = held.inputs }
 
+set_bytes : (image : Located) (began : Bool) (m : Machine) → HoldsBytes m → HoldsBytes (set_start image began m)
+unfolding set_start
+set_bytes image began m held = minded_bytes image.regions began (world_of m) held
+
 -- what disturbs a world disturbs it so, whatever its SP is
 minded_disturbs : (regions : Areas) (set : Bool) (w v : World) → Disturbs regions (minded regions set w) w v → Disturbs regions (as_minded regions set w).machine.cpu.sp (as_minded regions set w) (as_minded regions set v)
 minded_disturbs regions true w v by = by
@@ -265,14 +269,11 @@ module _ (image : Located) (bytes : ℕ) (reached : List (Option Fetched)) (tabl
     always set w (begins_quiet _ _ is same) = record {
       on = begins set w is same;
       stands =
-          let s = begun (set_start image began start) (begins_set image began start may_start) (set_bytes began) in
+          let s = begun (set_start image began start) (begins_set image began start may_start) (set_bytes image began start start_bytes) in
           subst (λ (x : World). StandsMinded set x) (sym is)
           (subst (λ (x : Bool). StandsMinded x (world_of start)) (sym same)
           (subst (Stands (set_start image began start) (begins_set image began start may_start)) (sym (set_world image began start)) s));
-    } where
-      set_bytes : (b : Bool) → HoldsBytes (set_start image b start)
-      unfolding set_start
-      set_bytes b = minded_bytes image.regions b (world_of start) start_bytes
+    }
     always set w (disturbed_quiet _ v _ on by stays) =
         let g = always set v on in
         record {
