@@ -18,7 +18,7 @@ use Rattle.verify80.specs.Looking.{code_of}
 use Rattle.verify80.specs.LookLaws.{LooksFindWhatIsAdmitted, IsAdmitted}
 use Rattle.verify80.specs.Starts.{IsStart}
 use Rattle.verify80.specs.Reached.{IsBehindCall}
-use Rattle.verify80.specs.Boards.{IsPushed, LeavesProgram, minded, with_memory, fetched_anywhere, unguarded, StaysInside, Executes, OnBoard, begins, disturbed, executed, Anywhere, KeepsPromise, KeepsToWalks, IsGuarded}
+use Rattle.verify80.specs.Boards.{IsPushed, LeavesProgram, respected_pointer, with_memory, fetched_anywhere, unguarded, StaysInside, Executes, OnBoard, begins, disturbed, executed, Anywhere, KeepsPromise, KeepsToWalks, IsGuarded}
 use Rattle.verify80.proofs.StoreLemmas.{Ground, pushed_keep_words}
 use Rattle.verify80.proofs.ChainLemmas.{Watched, chain_kept}
 use Rattle.verify80.proofs.ArriveLemmas.{here_height, in_words, stack_in_memory}
@@ -143,7 +143,7 @@ module _ (image : Located) (table : Table) (most : ℕ) (rules : Ground image.re
     watched_on_board set w (begins _ _ is same) = subst Watches (sym is) (begins_watched image table most rules fits printed within changes returns_law looks fetches start is_start)
     watched_on_board set w (disturbed _ v _ on by) =
         let leaves : LeavesProgram image.regions v.machine.cpu.sp v.machine.memory by.memory =
-        subst (λ (b : Bool). LeavesProgram image.regions (minded image.regions b v) v.machine.memory by.memory) (stays_set image.regions Anywhere start set v on) by.leaves in
+        subst (λ (b : Bool). LeavesProgram image.regions (respected_pointer image.regions b v) v.machine.memory by.memory) (stays_set image.regions Anywhere start set v on) by.leaves in
         subst Watches (sym by.is) (leaves_watched v by.memory (watched_on_board set v on) leaves)
     watched_on_board set w (executed before _ v _ on by is) = executes_watched v w (watched_on_board before v on) by
 

@@ -22,7 +22,7 @@ use Rattle.machine80.specs.Step.{Machine, ends_at, fetch, first_outside, guard, 
 use Rattle.machine80.specs.World.{World, IsJustBelow, returns}
 use Rattle.machine80.specs.Run.{world_of}
 use Rattle.verify80.specs.Starts.{IsStart}
-use Rattle.verify80.specs.Boards.{Anywhere, Executes, GoesBy, HasAt, IsGuarded, IsUnset, starts, goes_on, KeepsPromise, KeepsToWalks, MayStart, OnBoard, as_minded, begins, disturbed, executed, LeavesProgram, minded, StartsUnset, StaysInside, fetched_anywhere, sets_sp, uses_sp, unguarded, with_memory}
+use Rattle.verify80.specs.Boards.{Anywhere, Executes, GoesBy, HasAt, IsGuarded, IsUnset, starts, goes_on, KeepsPromise, KeepsToWalks, MayStart, OnBoard, with_respected_pointer, begins, disturbed, executed, LeavesProgram, respected_pointer, StartsUnset, StaysInside, fetched_anywhere, sets_sp, uses_sp, unguarded, with_memory}
 use Rattle.verify80.proofs.BoardSteps.{bridges, followed, none_of, same_machine, OnSetBoard, is_on_set, stays_set}
 
 found_is : {a b : Fetched} → Some a ≡ Some b → a ≡ b
@@ -33,7 +33,7 @@ abbrev set_machine : Located → Machine → Machine
 set_machine image m = record m { cpu = record m.cpu { sp = top_of image.regions } }
 
 abbrev with_top : Located → World → World
-with_top image w = as_minded image.regions false w
+with_top image w = with_respected_pointer image.regions false w
 
 -- ---- an instruction that neither sets nor uses SP does the same whatever it is
 
@@ -157,7 +157,7 @@ module _ (image : Located) (bytes : ℕ) (promise : (start : Machine) → IsStar
   Either is_set w = ((is_set ≡ false) × Before w) ⊎ ((is_set ≡ true) × OnSetBoard image set w)
 
   -- its step is one with SP at the top
-  step_there : (w v : World) → Before w → (e : Executes image.regions Anywhere w v) → (sets : Bool) → sets_sp e.found.instr ≡ sets → Executes image.regions Anywhere (with_top image w) (as_minded image.regions sets v)
+  step_there : (w v : World) → Before w → (e : Executes image.regions Anywhere w v) → (sets : Bool) → sets_sp e.found.instr ≡ sets → Executes image.regions Anywhere (with_top image w) (with_respected_pointer image.regions sets v)
   step_there w v b e true sets = record {
     found = e.found;
     byte = e.byte;
@@ -206,7 +206,7 @@ module _ (image : Located) (bytes : ℕ) (promise : (start : Machine) → IsStar
           unset = b.unset;
           on = disturbed true (with_top image v) (with_memory (with_top image v) by.memory) b.on (record {
             memory = by.memory;
-            leaves = subst (λ (x : Bool). LeavesProgram image.regions (minded image.regions x v) v.machine.memory by.memory) unset by.leaves;
+            leaves = subst (λ (x : Bool). LeavesProgram image.regions (respected_pointer image.regions x v) v.machine.memory by.memory) unset by.leaves;
             is = refl;
           });
         }),
@@ -215,7 +215,7 @@ module _ (image : Located) (bytes : ℕ) (promise : (start : Machine) → IsStar
         now,
         disturbed true v w there (record {
           memory = by.memory;
-          leaves = subst (λ (x : Bool). LeavesProgram image.regions (minded image.regions x v) v.machine.memory by.memory) now by.leaves;
+          leaves = subst (λ (x : Bool). LeavesProgram image.regions (respected_pointer image.regions x v) v.machine.memory by.memory) now by.leaves;
           is = by.is;
         }),
       )
@@ -226,18 +226,18 @@ module _ (image : Located) (bytes : ℕ) (promise : (start : Machine) → IsStar
           subst (λ (x : Bool). Either x w) (sym (is ∙ ap (λ (x : Bool). x || sets_sp by.found.instr) unset)) (goes_before v w b by (sets_sp by.found.instr) refl)
       goes (inr (now, there)) = inr (is ∙ ap (λ (x : Bool). x || sets_sp by.found.instr) now, executed true true v w there by refl)
 
-  pub step_minded : (w v : World) (before set : Bool) → OnBoard image.regions Anywhere m false before w → (e : Executes image.regions Anywhere w v) → set ≡ (before || sets_sp e.found.instr) →
-      Executes image.regions Anywhere (as_minded image.regions before w) (as_minded image.regions set v)
-  step_minded w v before is_set on e is = by (reaches before w on)
+  pub step_respects : (w v : World) (before set : Bool) → OnBoard image.regions Anywhere m false before w → (e : Executes image.regions Anywhere w v) → set ≡ (before || sets_sp e.found.instr) →
+      Executes image.regions Anywhere (with_respected_pointer image.regions before w) (with_respected_pointer image.regions set v)
+  step_respects w v before is_set on e is = by (reaches before w on)
     where
-      by : Either before w → Executes image.regions Anywhere (as_minded image.regions before w) (as_minded image.regions is_set v)
+      by : Either before w → Executes image.regions Anywhere (with_respected_pointer image.regions before w) (with_respected_pointer image.regions is_set v)
       by (inl (unset, b)) =
-          subst (λ (x : Bool). Executes image.regions Anywhere (as_minded image.regions x w) (as_minded image.regions is_set v)) (sym unset)
-          (subst (λ (x : Bool). Executes image.regions Anywhere (with_top image w) (as_minded image.regions x v)) (sym (is ∙ ap (λ (x : Bool). x || sets_sp e.found.instr) unset))
+          subst (λ (x : Bool). Executes image.regions Anywhere (with_respected_pointer image.regions x w) (with_respected_pointer image.regions is_set v)) (sym unset)
+          (subst (λ (x : Bool). Executes image.regions Anywhere (with_top image w) (with_respected_pointer image.regions x v)) (sym (is ∙ ap (λ (x : Bool). x || sets_sp e.found.instr) unset))
           (step_there w v b e (sets_sp e.found.instr) refl))
       by (inr (now, there)) =
-          subst (λ (x : Bool). Executes image.regions Anywhere (as_minded image.regions x w) (as_minded image.regions is_set v)) (sym now)
-          (subst (λ (x : Bool). Executes image.regions Anywhere w (as_minded image.regions x v)) (sym (is ∙ ap (λ (x : Bool). x || sets_sp e.found.instr) now)) e)
+          subst (λ (x : Bool). Executes image.regions Anywhere (with_respected_pointer image.regions x w) (with_respected_pointer image.regions is_set v)) (sym now)
+          (subst (λ (x : Bool). Executes image.regions Anywhere w (with_respected_pointer image.regions x v)) (sym (is ∙ ap (λ (x : Bool). x || sets_sp e.found.instr) now)) e)
 
   keeps_before : (w : World) → Before w → KeepsPromise image Anywhere bytes w
   keeps_before w b =
@@ -336,11 +336,11 @@ pub walks_kept : (image : Located) (bytes : ℕ) → ((start : Machine) → IsSt
 walks_kept image bytes promise walks start true is w set on = walks start is w (is_on_set image start set w on)
 walks_kept image bytes promise walks start false s w set on = keeps_to_walks_unset image bytes promise start s walks set w on
 
-pub steps_minded : (image : Located) (bytes : ℕ) → ((start : Machine) → IsStart image start → (w : World) → OnSetBoard image start w → KeepsPromise image Anywhere bytes w) →
+pub steps_respect : (image : Located) (bytes : ℕ) → ((start : Machine) → IsStart image start → (w : World) → OnSetBoard image start w → KeepsPromise image Anywhere bytes w) →
     (start : Machine) (began : Bool) → MayStart image began start → (w v : World) (before set : Bool) → OnBoard image.regions Anywhere start began before w → (e : Executes image.regions Anywhere w v) →
-    set ≡ (before || sets_sp e.found.instr) → Executes image.regions Anywhere (as_minded image.regions before w) (as_minded image.regions set v)
-steps_minded image bytes promise start true begins_there w v before set on e is =
+    set ≡ (before || sets_sp e.found.instr) → Executes image.regions Anywhere (with_respected_pointer image.regions before w) (with_respected_pointer image.regions set v)
+steps_respect image bytes promise start true begins_there w v before set on e is =
     let now = stays_set image.regions Anywhere start before w on in
-    subst (λ (x : Bool). Executes image.regions Anywhere (as_minded image.regions x w) (as_minded image.regions set v)) (sym now)
-    (subst (λ (x : Bool). Executes image.regions Anywhere w (as_minded image.regions x v)) (sym (is ∙ ap (λ (x : Bool). x || sets_sp e.found.instr) now)) e)
-steps_minded image bytes promise start false s w v before set on e is = step_minded image bytes promise start s w v before set on e is
+    subst (λ (x : Bool). Executes image.regions Anywhere (with_respected_pointer image.regions x w) (with_respected_pointer image.regions set v)) (sym now)
+    (subst (λ (x : Bool). Executes image.regions Anywhere w (with_respected_pointer image.regions x v)) (sym (is ∙ ap (λ (x : Bool). x || sets_sp e.found.instr) now)) e)
+steps_respect image bytes promise start false s w v before set on e is = step_respects image bytes promise start s w v before set on e is

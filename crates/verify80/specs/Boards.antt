@@ -83,21 +83,21 @@ abbrev pub sets_sp : Instr → Bool
 sets_sp (Lxi Sp _) = true
 sets_sp _ = false
 
--- the stack pointer that a board minds: SP, or the stack's top as long as SP isn't set
-abbrev pub minded : Areas → (set : Bool) → World → ℕ
-minded regions true w = w.machine.cpu.sp
-minded regions false w = top_of regions
+-- the stack pointer that a board respects: SP, or the stack's top as long as SP isn't set
+abbrev pub respected_pointer : Areas → (set : Bool) → World → ℕ
+respected_pointer regions true w = w.machine.cpu.sp
+respected_pointer regions false w = top_of regions
 
 -- a world with that stack pointer
-abbrev pub as_minded : Areas → (set : Bool) → World → World
-as_minded regions true w = w
-as_minded regions false w = record { machine = record w.machine { cpu = record w.machine.cpu { sp = top_of regions } }; places = w.places }
+abbrev pub with_respected_pointer : Areas → (set : Bool) → World → World
+with_respected_pointer regions true w = w
+with_respected_pointer regions false w = record { machine = record w.machine { cpu = record w.machine.cpu { sp = top_of regions } }; places = w.places }
 
 -- the worlds of a board, from a machine on: up to the first instruction at a listed address that doesn't stay inside. Beside each stands
 -- whether SP is set: it is if it was when the run began, or once an instruction has set it
 pub data OnBoard (regions : Areas) (listed : ℕ → Type 0) (start : Machine) (began : Bool) : (set : Bool) → World → Type 0 where
   begins : (set : Bool) (v : World) → v ≡ world_of start → set ≡ began → OnBoard regions listed start began set v
-  disturbed : (set : Bool) (w v : World) → OnBoard regions listed start began set w → Disturbs regions (minded regions set w) w v →
+  disturbed : (set : Bool) (w v : World) → OnBoard regions listed start began set w → Disturbs regions (respected_pointer regions set w) w v →
       OnBoard regions listed start began set v
   executed : (before set : Bool) (w v : World) → OnBoard regions listed start began before w → (by : Executes regions listed w v) →
       set ≡ (before || sets_sp by.found.instr) → OnBoard regions listed start began set v
@@ -224,9 +224,9 @@ BoardStepsAreGuarded = (image : Located) (bytes : ℕ) → AreRegions image.regi
     IsGuarded image.regions w.machine step.after
 
 -- As long as SP isn't set, nothing depends on it: what a board executes it also executes with SP at the stack's top.
-abbrev pub BoardsMindNoUnsetPointer : Type 0
-BoardsMindNoUnsetPointer = (image : Located) (bytes : ℕ) → AreRegions image.regions → IsFitted (code_of image) bytes →
+abbrev pub UnsetPointerCountsForNothing : Type 0
+UnsetPointerCountsForNothing = (image : Located) (bytes : ℕ) → AreRegions image.regions → IsFitted (code_of image) bytes →
     bytes ≤ image.regions.stack.length → (start : Machine) (began : Bool) → MayStart image began start → (w v : World) (before set : Bool) →
     OnBoard image.regions Anywhere start began before w → (step : Executes image.regions Anywhere w v) →
     set ≡ (before || sets_sp step.found.instr) →
-    Executes image.regions Anywhere (as_minded image.regions before w) (as_minded image.regions set v)
+    Executes image.regions Anywhere (with_respected_pointer image.regions before w) (with_respected_pointer image.regions set v)

@@ -1,6 +1,6 @@
 //! From a table of frames that fits an image to all runs of it.
 
-ghost use Rattle.verify80.specs.Boards.{BoardStepsAreGuarded, BoardsMindNoUnsetPointer, PromiseIsKeptOnBoards, WalksAreKeptOnBoards};
+ghost use Rattle.verify80.specs.Boards.{BoardStepsAreGuarded, UnsetPointerCountsForNothing, PromiseIsKeptOnBoards, WalksAreKeptOnBoards};
 ghost use Rattle.verify80.specs.Soundness.{AcceptedImagesStayOnWalks, FittedImagesNeverGoWrong, FittedImagesNeverGoWrongFromPowerOn, RunsBeginFromPowerOn};
 
 use crate::looks_are_exact;
@@ -57,7 +57,7 @@ pub fn accepted_images_stay_on_walks()
 pub fn promise_is_kept_on_boards()
     ensures promise { PromiseIsKeptOnBoards }
     ensures steps { BoardStepsAreGuarded }
-    ensures unset { BoardsMindNoUnsetPointer }
+    ensures unset { UnsetPointerCountsForNothing }
 {
     fetch_reads_code_alone();
     places_move();

@@ -17,7 +17,7 @@ use Rattle.machine80.specs.Run.{world_of}
 use Rattle.verify80.specs.Looking.{code_of, declared_targets, is_pchl}
 use Rattle.verify80.specs.Starts.{IsStart, NeverGoesWrongFromPowerOn}
 use Rattle.verify80.specs.Reached.{StandsOnWalk, StaysOnWalks}
-use Rattle.verify80.specs.Boards.{IsPushed, LeavesProgram, Disturbs, with_memory, fetched_anywhere, StaysInside, Executes, OnBoard, as_minded, minded, sets_sp, begins, disturbed, executed, Anywhere, KeepsPromise, MayStart}
+use Rattle.verify80.specs.Boards.{IsPushed, LeavesProgram, Disturbs, with_memory, fetched_anywhere, StaysInside, Executes, OnBoard, with_respected_pointer, respected_pointer, sets_sp, begins, disturbed, executed, Anywhere, KeepsPromise, MayStart}
 use Rattle.verify80.specs.Reached.{AreReached}
 use Rattle.verify80_stores.specs.declared.spans.span.Span.{Span}
 use Rattle.verify80_stores.specs.declared.fitting.fitting.Placed.{Placed}
@@ -57,36 +57,36 @@ keeps_so image table m places inputs outputs k = record {
 
 -- a machine on which a run may begin is one with SP at the stack's top, but for SP
 set_start : Located → (began : Bool) → Machine → Machine
-set_start image began m = (as_minded image.regions began (world_of m)).machine
+set_start image began m = (with_respected_pointer image.regions began (world_of m)).machine
 
 begins_set : (image : Located) (began : Bool) (m : Machine) → MayStart image began m → IsStart image (set_start image began m)
 unfolding set_start
 begins_set image true m is = is
 begins_set image false m unset = record { pc = unset.pc; sp = refl; whole = unset.whole; code = unset.code }
 
-set_world : (image : Located) (began : Bool) (m : Machine) → as_minded image.regions began (world_of m) ≡ world_of (set_start image began m)
+set_world : (image : Located) (began : Bool) (m : Machine) → with_respected_pointer image.regions began (world_of m) ≡ world_of (set_start image began m)
 unfolding set_start
 set_world image true m = refl
 set_world image false m = refl
 
-minded_bytes : (regions : Areas) (set : Bool) (w : World) → HoldsBytes w.machine → HoldsBytes (as_minded regions set w).machine
-minded_bytes regions true w held = held
-minded_bytes regions false w held = record { registers = held.registers; memory = held.memory; inputs = held.inputs }
+respected_bytes : (regions : Areas) (set : Bool) (w : World) → HoldsBytes w.machine → HoldsBytes (with_respected_pointer regions set w).machine
+respected_bytes regions true w held = held
+respected_bytes regions false w held = record { registers = held.registers; memory = held.memory; inputs = held.inputs }
 
 set_bytes : (image : Located) (began : Bool) (m : Machine) → HoldsBytes m → HoldsBytes (set_start image began m)
 unfolding set_start
-set_bytes image began m held = minded_bytes image.regions began (world_of m) held
+set_bytes image began m held = respected_bytes image.regions began (world_of m) held
 
 -- what disturbs a world disturbs it so, whatever its SP is
-minded_disturbs : (regions : Areas) (set : Bool) (w v : World) → Disturbs regions (minded regions set w) w v → Disturbs regions (as_minded regions set w).machine.cpu.sp (as_minded regions set w) (as_minded regions set v)
-minded_disturbs regions true w v by = by
-minded_disturbs regions false w v by = record { memory = by.memory; leaves = by.leaves; is = ap (as_minded regions false) by.is }
+respected_disturbs : (regions : Areas) (set : Bool) (w v : World) → Disturbs regions (respected_pointer regions set w) w v → Disturbs regions (with_respected_pointer regions set w).machine.cpu.sp (with_respected_pointer regions set w) (with_respected_pointer regions set v)
+respected_disturbs regions true w v by = by
+respected_disturbs regions false w v by = record { memory = by.memory; leaves = by.leaves; is = ap (with_respected_pointer regions false) by.is }
 
-minded_quiet : (regions : Areas) (quiet : ℕ → Bool) (set : Bool) (w v : World) (by : Disturbs regions (minded regions set w) w v) → StaysQuiet quiet w.machine.memory by.memory →
-    StaysQuiet quiet (as_minded regions set w).machine.memory (minded_disturbs regions set w v by).memory
-unfolding minded_disturbs
-minded_quiet regions quiet true w v by stays = stays
-minded_quiet regions quiet false w v by stays = stays
+respected_quiet : (regions : Areas) (quiet : ℕ → Bool) (set : Bool) (w v : World) (by : Disturbs regions (respected_pointer regions set w) w v) → StaysQuiet quiet w.machine.memory by.memory →
+    StaysQuiet quiet (with_respected_pointer regions set w).machine.memory (respected_disturbs regions set w v by).memory
+unfolding respected_disturbs
+respected_quiet regions quiet true w v by stays = stays
+respected_quiet regions quiet false w v by stays = stays
 
 -- what devices write leaves what is owed to open calls
 disturbed_owes : (image : Located) (quiet : ℕ → Bool) (effects : Effects) (table : List Placed) (w : World) (memory : List ℕ) → LeavesProgram image.regions w.machine.cpu.sp w.machine.memory memory → StaysQuiet quiet w.machine.memory memory →
@@ -240,38 +240,38 @@ module _ (image : Located) (bytes : ℕ) (reached : List (Option Fetched)) (tabl
         record { on = on; keeps_calls = kept.starts start is_start.pc is_start.code is_start.whole held (known.boards start true is_start (world_of start) true on).stands; held = held }
 
     -- the same of a world with any SP, as long as that isn't set
-    minded_stays : (set : Bool) (w : World) → Stands (as_minded image.regions set w) → (found : Fetched) → fetched_anywhere w.machine.memory w.machine.cpu.pc ≡ Some found →
+    respected_stays : (set : Bool) (w : World) → Stands (with_respected_pointer image.regions set w) → (found : Fetched) → fetched_anywhere w.machine.memory w.machine.cpu.pc ≡ Some found →
         (Listed w.machine.cpu.pc → StaysInside image.regions w.machine found.instr) → StaysInside image.regions w.machine found.instr
-    minded_stays true w s found fetched inside = stays w s found fetched inside
-    minded_stays false w s found fetched inside =
-        let there = stays (as_minded image.regions false w) s found fetched (λ listed. record { stores = (inside listed).stores; jumps = (inside listed).jumps }) in
+    respected_stays true w s found fetched inside = stays w s found fetched inside
+    respected_stays false w s found fetched inside =
+        let there = stays (with_respected_pointer image.regions false w) s found fetched (λ listed. record { stores = (inside listed).stores; jumps = (inside listed).jumps }) in
         record { stores = there.stores; jumps = there.jumps }
 
-    minded_stores : (set : Bool) (w : World) → Stands (as_minded image.regions set w) → (found : Fetched) → fetched_anywhere w.machine.memory w.machine.cpu.pc ≡ Some found →
+    respected_stores : (set : Bool) (w : World) → Stands (with_respected_pointer image.regions set w) → (found : Fetched) → fetched_anywhere w.machine.memory w.machine.cpu.pc ≡ Some found →
         All (GoesAsListed image.regions stores w.machine.cpu.pc) (pointed_bytes found.instr w.machine.cpu.registers)
-    minded_stores true w s found fetched = goes_listed w s found fetched
-    minded_stores false w s found fetched = goes_listed (as_minded image.regions false w) s found fetched
+    respected_stores true w s found fetched = goes_listed w s found fetched
+    respected_stores false w s found fetched = goes_listed (with_respected_pointer image.regions false w) s found fetched
 
-    minded_jumps : (set : Bool) (w : World) → Stands (as_minded image.regions set w) → (found : Fetched) → fetched_anywhere w.machine.memory w.machine.cpu.pc ≡ Some found → found.instr ≡ Pchl →
+    respected_jumps : (set : Bool) (w : World) → Stands (with_respected_pointer image.regions set w) → (found : Fetched) → fetched_anywhere w.machine.memory w.machine.cpu.pc ≡ Some found → found.instr ≡ Pchl →
         Contains open_jumps w.machine.cpu.pc ⊎ Contains (declared_targets image.regions w.machine.cpu.pc) (hl_of w.machine.cpu.registers)
-    minded_jumps true w s found fetched is = jump_listed w s found fetched is
-    minded_jumps false w s found fetched is = jump_listed (as_minded image.regions false w) s found fetched is
+    respected_jumps true w s found fetched is = jump_listed w s found fetched is
+    respected_jumps false w s found fetched is = jump_listed (with_respected_pointer image.regions false w) s found fetched is
 
   module _ (start : Machine) (began : Bool) (may_start : MayStart image began start) (start_bytes : HoldsBytes start) where
-    abbrev StandsMinded : Bool → World → Type 0
-    StandsMinded set w = Stands (set_start image began start) (begins_set image began start may_start) (as_minded image.regions set w)
+    abbrev StandsRespected : Bool → World → Type 0
+    StandsRespected set w = Stands (set_start image began start) (begins_set image began start may_start) (with_respected_pointer image.regions set w)
 
     record Goes (set : Bool) (w : World) : Type 0 where
       on : OnBoard image.regions Anywhere start began set w
-      stands : StandsMinded set w
+      stands : StandsRespected set w
 
     always : (set : Bool) (w : World) → OnQuietBoard image.regions quiet Listed start began set w → Goes set w
     always set w (begins_quiet _ _ is same) = record {
       on = begins set w is same;
       stands =
           let s = begun (set_start image began start) (begins_set image began start may_start) (set_bytes image began start start_bytes) in
-          subst (λ (x : World). StandsMinded set x) (sym is)
-          (subst (λ (x : Bool). StandsMinded x (world_of start)) (sym same)
+          subst (λ (x : World). StandsRespected set x) (sym is)
+          (subst (λ (x : Bool). StandsRespected x (world_of start)) (sym same)
           (subst (Stands (set_start image began start) (begins_set image began start may_start)) (sym (set_world image began start)) s));
     }
     always set w (disturbed_quiet _ v _ on by stays) =
@@ -279,18 +279,18 @@ module _ (image : Located) (bytes : ℕ) (reached : List (Option Fetched)) (tabl
         record {
           on = disturbed set v w g.on by;
           stands =
-              moves (set_start image began start) (begins_set image began start may_start) (as_minded image.regions set v) (as_minded image.regions set w) g.stands
-              (minded_disturbs image.regions set v w by) (minded_quiet image.regions quiet set v w by stays);
+              moves (set_start image began start) (begins_set image began start may_start) (with_respected_pointer image.regions set v) (with_respected_pointer image.regions set w) g.stands
+              (respected_disturbs image.regions set v w by) (respected_quiet image.regions quiet set v w by stays);
         }
     always set w (executed_quiet before _ v _ on by is) =
         let g = always before v on in
-        let inside = minded_stays (set_start image began start) (begins_set image began start may_start) before v g.stands by.found by.fetched by.inside in
+        let inside = respected_stays (set_start image began start) (begins_set image began start may_start) before v g.stands by.found by.fetched by.inside in
         let e : Executes image.regions Anywhere v w =
         record { found = by.found; byte = by.byte; after = by.after; fetched = by.fetched; small = by.small; inside = λ listed. inside; goes = by.goes; is = by.is } in
         record {
           on = executed before set v w g.on e is;
           stands =
-              goes_on (set_start image began start) (begins_set image began start may_start) (as_minded image.regions before v) (as_minded image.regions set w) g.stands
+              goes_on (set_start image began start) (begins_set image began start may_start) (with_respected_pointer image.regions before v) (with_respected_pointer image.regions set w) g.stands
               (known.unset start began may_start v w before set g.on e is);
         }
 
@@ -311,7 +311,7 @@ module _ (image : Located) (bytes : ℕ) (reached : List (Option Fetched)) (tabl
             stack = p.stack;
             halts = p.halts;
             goes_on = λ not_halt inside byte small.
-                let f = p.goes_on not_halt (λ anywhere. minded_stays (set_start image began start) set_begins set w g.stands p.found p.anywhere inside) byte small in
+                let f = p.goes_on not_halt (λ anywhere. respected_stays (set_start image began start) set_begins set w g.stands p.found p.anywhere inside) byte small in
                 let e = f.step in
                 record {
                   next = f.next;
@@ -320,8 +320,8 @@ module _ (image : Located) (bytes : ℕ) (reached : List (Option Fetched)) (tabl
                 };
           };
           walks = known.boards start began may_start w set g.on;
-          stores = minded_stores (set_start image began start) set_begins set w g.stands p.found p.anywhere;
-          jumps = minded_jumps (set_start image began start) set_begins set w g.stands p.found p.anywhere;
+          stores = respected_stores (set_start image began start) set_begins set w g.stands p.found p.anywhere;
+          jumps = respected_jumps (set_start image began start) set_begins set w g.stands p.found p.anywhere;
         }
 
 -- so the promise holds on quiet boards

@@ -11,7 +11,7 @@ use Rattle.machine80.specs.Step.{Machine}
 use Rattle.machine80.specs.World.{World}
 use Rattle.machine80.specs.Run.{world_of}
 use Rattle.verify80.specs.Looking.{declared_targets}
-use Rattle.verify80.specs.Boards.{Disturbs, Executes, KeepsPromise, KeepsToWalks, MayStart, OnBoard, minded, sets_sp}
+use Rattle.verify80.specs.Boards.{Disturbs, Executes, KeepsPromise, KeepsToWalks, MayStart, OnBoard, respected_pointer, sets_sp}
 use Rattle.verify80_stores.specs.Bytes.{HoldsBytes}
 use Rattle.verify80_stores.specs.declared.stores.OpenStore.{OpenStore}
 use Rattle.verify80_stores.specs.Stores.{GoesAsListed}
@@ -50,7 +50,7 @@ pub data OnQuietBoard (regions : Areas) (quiet : ℕ → Bool) (listed : ℕ →
     (set : Bool) → World → Type 0 where
   begins : (set : Bool) (v : World) → v ≡ world_of start → set ≡ began → OnQuietBoard regions quiet listed start began set v
   disturbed : (set : Bool) (w v : World) → OnQuietBoard regions quiet listed start began set w →
-      (by : Disturbs regions (minded regions set w) w v) → StaysQuiet quiet w.machine.memory by.memory →
+      (by : Disturbs regions (respected_pointer regions set w) w v) → StaysQuiet quiet w.machine.memory by.memory →
       OnQuietBoard regions quiet listed start began set v
   executed : (before set : Bool) (w v : World) → OnQuietBoard regions quiet listed start began before w →
       (by : Executes regions listed w v) → set ≡ (before || sets_sp by.found.instr) → OnQuietBoard regions quiet listed start began set v

@@ -7,7 +7,7 @@ use Rattle.image80.specs.Image.{Located}
 use Rattle.machine80.specs.Step.{Machine}
 use Rattle.machine80.specs.World.{World}
 use Rattle.verify80.specs.Starts.{NeverGoesWrongFromPowerOn}
-use Rattle.verify80.specs.Boards.{Anywhere, Executes, IsGuarded, KeepsPromise, KeepsToWalks, MayStart, OnBoard, as_minded, sets_sp}
+use Rattle.verify80.specs.Boards.{Anywhere, Executes, IsGuarded, KeepsPromise, KeepsToWalks, MayStart, OnBoard, with_respected_pointer, sets_sp}
 use Rattle.verify80.specs.Reached.{StaysOnWalks}
 use Rattle.verify80.specs.Looking.{declared_targets}
 use Rattle.verify80_stores.specs.declared.spans.span.Span.{Span}
@@ -35,7 +35,7 @@ pub record AreKnown (image : Located) (bytes : ℕ) : Type 0 where
   pub unset : (start : Machine) (began : Bool) → MayStart image began start → (w v : World) (before set : Bool) →
       OnBoard image.regions Anywhere start began before w → (step : Executes image.regions Anywhere w v) →
       set ≡ (before || sets_sp step.found.instr) →
-      Executes image.regions Anywhere (as_minded image.regions before w) (as_minded image.regions set v)
+      Executes image.regions Anywhere (with_respected_pointer image.regions before w) (with_respected_pointer image.regions set v)
 
 -- the instruction that is reached at an address
 abbrev pub reached_at : List (Option Fetched) → ℕ → Option Fetched
