@@ -6,7 +6,7 @@ ghost use Rattle.plm80_programs.specs.Arguments.{AreStoresArguments};
 ghost use Rattle.plm80_programs.specs.Printed.{IsStoresStatus, ListsStores, PrintsStores};
 ghost use Rattle.plm80_programs.specs.Status.{stores_status};
 
-use crate::helpers::ranges::{first_outside_data, ranges_of};
+use crate::helpers::ranges::ranges_of;
 use clap::ArgMatches;
 use image80::{Image, Range, Regions};
 use loader80::Vouched;
@@ -15,7 +15,9 @@ use plm80_console::{
 };
 use plm80_names::{NAMES, NamedFiles, Names, Verdict, judge};
 use std::alloc::{AllocError, Global};
-use verify80_stores::{Cause, Setter, Stores, find_causes, find_stores, stores_text};
+use verify80_stores::{
+    Cause, Setter, Stores, find_causes, find_stores, first_outside_data, stores_text,
+};
 
 const ABOUT: &str = "Verifies an image, and prints its stores that may leave data";
 
@@ -111,7 +113,7 @@ fn require_data(
     quiet: &[Range],
 ) -> Result<(), Reported> {
     for (text, range) in texts.iter().zip(quiet) {
-        if let Some(at) = first_outside_data(*range, regions) {
+        if let Some(at) = first_outside_data(regions, *range) {
             let reported = console.report("NotData");
             if console.explains() {
                 let _ = eprintln!(console.runtime(); "  --{QUIET} {text}: {at:04X} is no address of DATA");

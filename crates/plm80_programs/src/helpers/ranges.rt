@@ -1,11 +1,9 @@
 //! Ranges of addresses that options name.
 
-ghost use Rattle.std.specs.Prelude.{◌≡◌, ◌<◌, ℕ, None, map, IfOk, IfSome, true, false};
-ghost use Rattle.image80.specs.Range.{in_range};
-ghost use Rattle.image80.specs.Regions.{in_data};
+ghost use Rattle.std.specs.Prelude.{map, IfOk, IfSome};
 ghost use Rattle.plm80_programs.specs.Ranges.{AreRangesOf, IsRangeText};
 
-use image80::{Range, Regions};
+use image80::Range;
 use plm80_console::{Console, OptionText, Reported, word_of_digits};
 
 /// The ranges that the values of an option write.
@@ -41,18 +39,4 @@ fn range_of(text: &str) -> Option<Range>
         return None;
     }
     Some(Range { first, length })
-}
-
-/// The first address of a range that is no data, if there is one.
-pub(crate) fn first_outside_data(range: Range, regions: &Regions) -> Option<u16>
-    ensures some { IfSome result (λ at. (in_range range at ≡ true) × (in_data regions.now at ≡ false)) }
-    ensures none { result ≡ None → (at : ℕ) → at < 65536 → in_range range at ≡ true → in_data regions.now at ≡ true }
-{
-    for place in 0..65_536_usize {
-        let at = place as u16;
-        if range.contains(at) && !regions.in_data(at) {
-            return Some(at);
-        }
-    }
-    None
 }
