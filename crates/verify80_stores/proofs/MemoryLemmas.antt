@@ -1,5 +1,5 @@
 -- The memory after a step: code stays, and the words on the stack are as the state has them.
-use Rattle.std.specs.Prelude.{◌≡◌, ◌≢◌, ◌<◌, ◌≤◌, ℕ, ◌+◌, ◌/◌, ◌%◌, Bool, true, false, not, List, [], ◌∷◌, Option, None, Some, length, slice_index, slice_set, refl, if◌then◌else◌}
+use Rattle.std.specs.Prelude.{◌≡◌, ◌≢◌, ◌<◌, ◌≤◌, ℕ, zero, suc, ◌+◌, ◌/◌, ◌%◌, Bool, true, false, not, List, [], ◌∷◌, Option, None, Some, length, slice_index, slice_set, refl, if◌then◌else◌}
 use Rattle.std.proofs.Common.{subst, sym, ap, ◌∙◌, arith, cond, get_or-set_other, true≢false}
 use Rattle.std.proofs.lemmas.List.{get_or-set_same, length-set}
 use Rattle.std.proofs.lemmas.List.Elements.{All-contains, Contains-append_left, Contains-append_right, Contains-push}
@@ -217,14 +217,20 @@ module _ (regions : Areas) (ground : Ground regions) where
   pushed_below : (areas : Areas) (sp at : ℕ) → Ground areas → in_range areas.stack (behind sp 1) ≡ true → in_range areas.stack (behind sp 2) ≡ true → in_range areas.stack at ≡ true → sp ≤ at →
       sp ≢ top_of areas → behind sp 2 ≤ at
   unfolding behind
-  pushed_below areas sp at rules one two there above filled =
-      let ends = rules.stack_ends in
-      let short = rules.stack_short in
-      let one_low = above_first areas.stack (behind sp 1) one in
-      let one_high = below_last areas.stack (behind sp 1) one in
-      let two_low = above_first areas.stack (behind sp 2) two in
-      let two_high = below_last areas.stack (behind sp 2) two in
-      omega (arith, ends, short, one_low, one_high, two_low, two_high, above, filled)
+  pushed_below areas sp at rules one two there above filled = by sp refl where
+    ends : areas.stack.first + areas.stack.length ≤ 65536
+    ends = rules.stack_ends
+
+    short : areas.stack.length < 65536
+    short = rules.stack_short
+
+    by : (n : ℕ) → sp ≡ n → behind sp 2 ≤ at
+    by zero is = absurd (filled (let high = below_last areas.stack (behind sp 1) one in omega (arith, is, ends, short, high)))
+    by (suc zero) is =
+        let low = above_first areas.stack (behind sp 1) one in
+        let high = below_last areas.stack (behind sp 2) two in
+        absurd (omega (arith, is, ends, short, low, high))
+    by (suc (suc n)) is = let small = small_on_stack areas at rules there in omega (arith, is, above, small)
 
   behind_small : (sp n : ℕ) → behind sp n < 65536
   unfolding behind
