@@ -155,7 +155,7 @@ module _ (regions : Areas) (ground : Ground regions) where
   abbrev SameStack : (sp : ℕ) → List ℕ → List ℕ → Type 0
   SameStack sp m m' = (a : ℕ) → in_range regions.stack a ≡ true → sp ≤ a → sp ≢ top_of regions → slice_index m' a ≡ slice_index m a
 
-  pub word_moved : (o : Option Span) (m m' : List ℕ) (sp sp' at at' : ℕ) → (Lies sp at → (at ≡ at') × ((sp' ≤ at) × (sp' ≢ top_of regions))) →
+  word_moved : (o : Option Span) (m m' : List ℕ) (sp sp' at at' : ℕ) → (Lies sp at → (at ≡ at') × ((sp' ≤ at) × (sp' ≢ top_of regions))) →
       (Lies sp at → (slice_index m' at ≡ slice_index m at) × (slice_index m' (ahead at 1) ≡ slice_index m (ahead at 1))) →
       HoldsWord regions o m sp at → HoldsWord regions o m' sp' at'
   word_moved None m m' sp sp' at at' place same holds = tt
