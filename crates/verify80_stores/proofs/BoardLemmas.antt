@@ -17,26 +17,21 @@ use Rattle.machine80.specs.Run.{world_of}
 use Rattle.verify80.specs.Looking.{code_of, declared_targets, is_pchl}
 use Rattle.verify80.specs.Starts.{IsStart, NeverGoesWrongFromPowerOn}
 use Rattle.verify80.specs.Reached.{StandsOnWalk, StaysOnWalks}
-use Rattle.verify80.specs.Boards.{IsPushed, LeavesProgram, Disturbs, with_memory, fetched_anywhere, StaysInside, Executes, OnBoard, with_respected_pointer, respected_pointer, sets_sp, begins, disturbed, executed, Anywhere, KeepsPromise, MayStart}
+use Rattle.verify80.specs.Boards.{StaysInside, Executes, OnBoard, begins, disturbed, executed, Anywhere, KeepsPromise, MayStart}
 use Rattle.verify80.specs.Reached.{AreReached}
 use Rattle.verify80_stores.specs.declared.spans.span.Span.{Span}
 use Rattle.verify80_stores.specs.declared.fitting.fitting.Placed.{Placed}
 use Rattle.verify80_stores.specs.Bytes.{HoldsBytes, BytesStayBytes}
-use Rattle.verify80_stores.specs.Runs.{KeepsTo, KeepsToCalls, RunsKeepTo, IsKnown, IsKept}
+use Rattle.verify80_stores.specs.Runs.{KeepsTo, KeepsToCalls, RunsKeepTo, IsKnown}
 use Rattle.verify80_stores.specs.declared.stores.OpenStore.{OpenStore}
 use Rattle.verify80_stores.specs.Pointers.{stores_by_pair}
 use Rattle.verify80_stores.specs.Stores.{GoesAsListed}
 use Rattle.verify80_stores.specs.Steps.{HasCode}
-use Rattle.verify80_stores.specs.Listing.{AreKnown, AreAllBelow, AreOpenBelow, AreOpenMarks, AreSpans, is_at, is_marked_at}
-use Rattle.verify80_stores.specs.Fitting.{KnowsQuiet}
-use Rattle.verify80_stores.specs.Calls.{Effects, Owes}
-use Rattle.verify80_stores.specs.Boards.{IsListedAt, KeepsWholePromise, PromiseHoldsOnBoards, PromiseHoldsOnQuietBoards, StaysQuiet, OnQuietBoard, is_quiet}
+use Rattle.verify80_stores.specs.Listing.{AreKnown, AreAllBelow, AreOpenBelow, is_at, is_marked_at}
+use Rattle.verify80_stores.specs.Shown.{AreShown, KeptTable}
+use Rattle.verify80_stores.specs.Boards.{IsListedAt, KeepsWholePromise, PromiseHoldsOnBoards, PromiseHoldsOnQuietBoards, OnQuietBoard, is_quiet}
 use Rattle.verify80_stores.specs.Boards.{begins as begins_quiet, disturbed as disturbed_quiet, executed as executed_quiet}
-use Rattle.verify80_stores.proofs.MemoryLemmas.{Ground, words_stay}
-use Rattle.verify80_stores.proofs.CellLemmas.{cells_beside}
-use Rattle.verify80_stores.proofs.CallLemmas.{owes_still}
-use Rattle.verify80_stores.proofs.KeepLemmas.{known_there}
-use Rattle.verify80_stores.proofs.StoreLemmas.{any_by, goes_if, jump_there, listed_or_not}
+use Rattle.verify80_stores.proofs.StoreLemmas.{KeepsToEach, any_by, goes_if, jump_there, listed_or_not}
 
 -- what the ports hold counts for nothing
 stands_so : (image : Located) (m : Machine) (places : List ℕ) (inputs : List (List ℕ)) (outputs : List (ℕ × ℕ)) → StandsOnWalk image (record { machine = record m { inputs = inputs; outputs = outputs }; places = places }) →
@@ -46,6 +41,17 @@ stands_so image m places inputs outputs s = record { reached = s.reached; found 
 keeps_so : (image : Located) (table : List Placed) (m : Machine) (places : List ℕ) (inputs : List (List ℕ)) (outputs : List (ℕ × ℕ)) → KeepsTo image table (record { machine = m; places = places }) →
     KeepsTo image table (record { machine = record m { inputs = inputs; outputs = outputs }; places = places })
 keeps_so image table m places inputs outputs k = record {
+  place = k.place;
+  placed = k.placed;
+  there = k.there;
+  at = k.at;
+  holds = record { registers = k.holds.registers; words = k.holds.words; cells = k.holds.cells };
+  code = k.code;
+  whole = k.whole;
+}
+
+keeps_with : (image : Located) (table : List Placed) (w : World) (inputs : List (List ℕ)) → KeepsTo image table w → KeepsTo image table (record { machine = record w.machine { inputs = inputs }; places = w.places })
+keeps_with image table w inputs k = record {
   place = k.place;
   placed = k.placed;
   there = k.there;
@@ -88,30 +94,6 @@ unfolding respected_disturbs
 respected_quiet regions quiet true w v by stays = stays
 respected_quiet regions quiet false w v by stays = stays
 
--- what devices write leaves what is owed to open calls
-disturbed_owes : (image : Located) (quiet : ℕ → Bool) (effects : Effects) (table : List Placed) (w : World) (memory : List ℕ) → LeavesProgram image.regions w.machine.cpu.sp w.machine.memory memory → StaysQuiet quiet w.machine.memory memory →
-    Owes effects quiet table w.machine.memory (effects.stored w.machine.cpu.pc) (effects.returning w.machine.cpu.pc) (effects.known w.machine.cpu.pc) w.places →
-    Owes effects quiet table memory (effects.stored w.machine.cpu.pc) (effects.returning w.machine.cpu.pc) (effects.known w.machine.cpu.pc) w.places
-disturbed_owes image quiet effects table w memory leaves stays owes =
-    owes_still effects quiet table w.machine.memory memory (effects.stored w.machine.cpu.pc) (effects.returning w.machine.cpu.pc) (effects.known w.machine.cpu.pc) w.places leaves.bytes (λ a here none. stays a here) owes
-
--- and the words on the stack, the code and what is known of quiet addresses
-disturbed_keeps : (image : Located) (ground : Ground image.regions) (quiet : ℕ → Bool) (table : List Placed) (w : World) (memory : List ℕ) → KnowsQuiet quiet table → LeavesProgram image.regions w.machine.cpu.sp w.machine.memory memory →
-    StaysQuiet quiet w.machine.memory memory → KeepsTo image table w → KeepsTo image table (with_memory w memory)
-disturbed_keeps image ground quiet table w memory knows leaves stays k = record {
-  place = k.place;
-  placed = k.placed;
-  there = k.there;
-  at = k.at;
-  holds = record {
-    registers = k.holds.registers;
-    words = words_stay image.regions ground k.placed.state.words w.machine.memory memory w.machine.cpu.sp (λ a in_stack above filled. leaves.pushed a (record { in_stack = in_stack; above = above; filled = filled })) k.holds.words;
-    cells = cells_beside quiet w.machine.memory memory k.placed.state.cells stays leaves.bytes (known_there quiet table k.place k.placed knows k.there) k.holds.cells;
-  };
-  code = λ address here. leaves.code address here ∙ k.code address here;
-  whole = leaves.size ∙ k.whole;
-}
-
 not_outside : (declared : Option (List ℕ)) (hl : ℕ) → Contains (option_map_or (λ targets. targets) declared []) hl → leads_outside declared hl ≡ false
 not_outside None hl there = refl
 not_outside (Some targets) hl there = ap (λ b. not b) (any_by hl targets there)
@@ -119,11 +101,22 @@ not_outside (Some targets) hl there = ap (λ b. not b) (any_by hl targets there)
 is_jump : (i : Instr) → i ≡ Pchl → is_pchl i ≡ true
 is_jump i same = ap is_pchl same
 
-module _ (image : Located) (bytes : ℕ) (reached : List (Option Fetched)) (table : List Placed) (marks : List Bool) (spans : List (Option Span)) (addresses : List ℕ) (stores : List OpenStore) (jumps open_jumps : List ℕ)
-    (sound : NeverGoesWrongFromPowerOn image bytes) (walks : StaysOnWalks image) (are : AreReached (code_of image) reached) (whole : length reached ≡ 65536) (keeps : RunsKeepTo image table)
-    (are_marks : AreOpenMarks image.regions reached table marks) (are_spans : AreSpans reached table spans) (each_store : AreAllBelow (is_at stores_by_pair reached) 65536 addresses)
+module _ (image : Located) (bytes : ℕ) (quiet : ℕ → Bool) (reached : List (Option Fetched)) (marks : List Bool) (spans : List (Option Span)) (addresses : List ℕ) (stores : List OpenStore) (jumps open_jumps : List ℕ)
+    (sound : NeverGoesWrongFromPowerOn image bytes) (walks : StaysOnWalks image) (are : AreReached (code_of image) reached) (whole : length reached ≡ 65536) (keeps : (t : KeptTable image quiet) → RunsKeepTo image t.table)
+    (shown : AreShown image quiet reached marks spans) (each_store : AreAllBelow (is_at stores_by_pair reached) 65536 addresses)
     (open_below : AreOpenBelow reached marks spans 65536 stores) (each_jump : AreAllBelow (is_at is_pchl reached) 65536 jumps) (each_open_jump : AreAllBelow (is_marked_at is_pchl reached marks) 65536 open_jumps)
-    (ground : Ground image.regions) (known : AreKnown image bytes) (quiet : ℕ → Bool) (kept : IsKept image quiet table) (stay : BytesStayBytes) where
+    (known : AreKnown image bytes) (stay : BytesStayBytes) where
+  -- what a world of the board keeps to: each table, and what is owed to open calls
+  abbrev Keeps : KeptTable image quiet → World → Type 0
+  Keeps t w = KeepsToCalls image t.kept.returns t.table w
+
+  keeps_now : (t : KeptTable image quiet) (w : World) (inputs : List (List ℕ)) → Keeps t w → Keeps t (record { machine = record w.machine { inputs = inputs }; places = w.places })
+  keeps_now t w inputs k = record { keeps = keeps_with image t.table w inputs k.keeps; owes = k.owes }
+
+  keeps_then : (t : KeptTable image quiet) (w : World) (inputs : List (List ℕ)) (outputs : List (ℕ × ℕ)) (m : Machine) (places : List ℕ) → Keeps t (record { machine = m; places = places }) →
+      Keeps t (record { machine = record m { inputs = inputs; outputs = outputs }; places = places })
+  keeps_then t w inputs outputs m places k = record { keeps = keeps_so image t.table m places inputs outputs k.keeps; owes = k.owes }
+
   abbrev Listed : ℕ → Type 0
   Listed at = IsListedAt stores open_jumps at
 
@@ -131,8 +124,12 @@ module _ (image : Located) (bytes : ℕ) (reached : List (Option Fetched)) (tabl
     -- a world of the board with SP at the stack's top when it began, at which each step so far has stayed inside
     record Stands (w : World) : Type 0 where
       on : OnBoard image.regions Anywhere start true true w
-      keeps_calls : KeepsToCalls image quiet kept.effects table w
+      first : Keeps shown.first w
+      others : All (λ other. Keeps other w) shown.others
       held : HoldsBytes w.machine
+
+    each_of : (w : World) (s : Stands w) → KeepsToEach image quiet shown.first shown.others w
+    each_of w s = record { first_too = s.first.keeps; others_too = λ k d inside. (s.others k d inside).keeps }
 
     promise_of : (w : World) → Stands w → KeepsPromise image Anywhere bytes w
     promise_of w s = known.promise start true is_start w true s.on
@@ -149,12 +146,12 @@ module _ (image : Located) (bytes : ℕ) (reached : List (Option Fetched)) (tabl
 
       goes_listed : All (GoesAsListed image.regions stores w.machine.cpu.pc) (pointed_bytes found.instr w.machine.cpu.registers)
       goes_listed k d inside =
-          goes_if image bytes reached table marks spans addresses stores jumps open_jumps sound walks are whole keeps are_marks are_spans each_store open_below each_jump each_open_jump w found (stands_of w s) s.keeps_calls.keeps fetched_here
+          goes_if image bytes quiet reached marks spans addresses stores jumps open_jumps sound walks are whole keeps shown each_store open_below each_jump each_open_jump w found (stands_of w s) (each_of w s) fetched_here
           (get_or (pointed_bytes found.instr w.machine.cpu.registers) k d) (Contains-get_or (pointed_bytes found.instr w.machine.cpu.registers) k d inside)
 
       jump_listed : found.instr ≡ Pchl → Contains open_jumps w.machine.cpu.pc ⊎ Contains (declared_targets image.regions w.machine.cpu.pc) (hl_of w.machine.cpu.registers)
       jump_listed is =
-          jump_there image bytes reached table marks spans addresses stores jumps open_jumps sound walks are whole keeps are_marks are_spans each_store open_below each_jump each_open_jump w found (stands_of w s) s.keeps_calls.keeps fetched_here
+          jump_there image bytes quiet reached marks spans addresses stores jumps open_jumps sound walks are whole keeps shown each_store open_below each_jump each_open_jump w found (stands_of w s) (each_of w s) fetched_here
           (is_jump found.instr is)
 
       -- a step that isn't listed stays inside, and one that is does so by the premise
@@ -197,29 +194,17 @@ module _ (image : Located) (bytes : ℕ) (reached : List (Option Fetched)) (tabl
             returning = λ found fetched taken. newest found fetched taken;
             inside = record { found = p.found; fetched = p.inside; direct = p.direct; declared = p.declared };
           } in
-          let k = s.keeps_calls.keeps in
-          let keeps_here : KeepsToCalls image quiet kept.effects table u = record {
-            keeps = record {
-              place = k.place;
-              placed = k.placed;
-              there = k.there;
-              at = k.at;
-              holds = record { registers = k.holds.registers; words = k.holds.words; cells = k.holds.cells };
-              code = k.code;
-              whole = k.whole;
-            };
-            owes = s.keeps_calls.owes;
-          } in
           let stands_there : StandsOnWalk image there = stands_so image g.there places w.machine.inputs w.machine.outputs (subst (StandsOnWalk image) v_is (known.boards start true is_start v true on).stands) in
           let newer : places ≡ places_then (fetched_by image.regions w) w.machine.cpu.registers.flags w.places =
           sym (ap (λ (o : Option Fetched). places_then o w.machine.cpu.registers.flags w.places) (fetched_here w s e.found e.fetched)) in
-          let keeps_there : KeepsToCalls image quiet kept.effects table there = kept.steps false u there known_here stands_there held held_there keeps_here g.step newer in
           record {
             on = on;
-            keeps_calls = subst (KeepsToCalls image quiet kept.effects table) (sym v_is) (record {
-              keeps = keeps_so image table g.there places w.machine.inputs w.machine.outputs keeps_there.keeps;
-              owes = keeps_there.owes;
-            });
+            first = subst (Keeps shown.first) (sym v_is)
+                (keeps_then shown.first w w.machine.inputs w.machine.outputs g.there places (shown.first.kept.steps false u there known_here stands_there held held_there (keeps_now shown.first w g.inputs s.first) g.step newer));
+            others = λ k d inside.
+                let t : KeptTable image quiet = get_or shown.others k d in
+                subst (Keeps t) (sym v_is)
+                (keeps_then t w w.machine.inputs w.machine.outputs g.there places (t.kept.steps false u there known_here stands_there held held_there (keeps_now t w g.inputs (s.others k d inside)) g.step newer));
             held = subst (λ (x : World). HoldsBytes x.machine) (sym v_is) (record { registers = held_there.registers; memory = held_there.memory; inputs = s.held.inputs });
           }
 
@@ -227,17 +212,23 @@ module _ (image : Located) (bytes : ℕ) (reached : List (Option Fetched)) (tabl
     moves : (w v : World) → Stands w → (by : Disturbs image.regions w.machine.cpu.sp w v) → StaysQuiet quiet w.machine.memory by.memory → Stands v
     moves w v s by stays = record {
       on = disturbed true w v s.on by;
-      keeps_calls = subst (KeepsToCalls image quiet kept.effects table) (sym by.is) (record {
-        keeps = disturbed_keeps image ground quiet table w by.memory kept.knows by.leaves stays s.keeps_calls.keeps;
-        owes = disturbed_owes image quiet kept.effects table w by.memory by.leaves stays s.keeps_calls.owes;
-      });
+      first = subst (Keeps shown.first) (sym by.is) (shown.first.kept.disturbed w by.memory by.leaves stays s.first);
+      others = λ k d inside.
+          let t : KeptTable image quiet = get_or shown.others k d in
+          subst (Keeps t) (sym by.is) (t.kept.disturbed w by.memory by.leaves stays (s.others k d inside));
       held = subst (λ (x : World). HoldsBytes x.machine) (sym by.is) (record { registers = s.held.registers; memory = by.leaves.bytes; inputs = s.held.inputs });
     }
 
     begun : HoldsBytes start → Stands (world_of start)
     begun held =
         let on : OnBoard image.regions Anywhere start true true (world_of start) = begins true (world_of start) refl refl in
-        record { on = on; keeps_calls = kept.starts start is_start.pc is_start.code is_start.whole held (known.boards start true is_start (world_of start) true on).stands; held = held }
+        let stands = (known.boards start true is_start (world_of start) true on).stands in
+        record {
+          on = on;
+          first = shown.first.kept.starts start is_start.pc is_start.code is_start.whole held stands;
+          others = λ k d inside. (get_or shown.others k d).kept.starts start is_start.pc is_start.code is_start.whole held stands;
+          held = held;
+        }
 
     -- the same of a world with any SP, as long as that isn't set
     respected_stays : (set : Bool) (w : World) → Stands (with_respected_pointer image.regions set w) → (found : Fetched) → fetched_anywhere w.machine.memory w.machine.cpu.pc ≡ Some found →
@@ -325,13 +316,13 @@ module _ (image : Located) (bytes : ℕ) (reached : List (Option Fetched)) (tabl
         }
 
 -- so the promise holds on quiet boards
-pub holds_on_quiet_boards : (image : Located) (bytes : ℕ) (reached : List (Option Fetched)) (table : List Placed) (marks : List Bool) (spans : List (Option Span)) (addresses : List ℕ) (stores : List OpenStore) (jumps open_jumps : List ℕ)
-    (sound : NeverGoesWrongFromPowerOn image bytes) (walks : StaysOnWalks image) (are : AreReached (code_of image) reached) (whole : length reached ≡ 65536) (keeps : RunsKeepTo image table)
-    (are_marks : AreOpenMarks image.regions reached table marks) (are_spans : AreSpans reached table spans) (each_store : AreAllBelow (is_at stores_by_pair reached) 65536 addresses)
+pub holds_on_quiet_boards : (image : Located) (bytes : ℕ) (quiet : ℕ → Bool) (reached : List (Option Fetched)) (marks : List Bool) (spans : List (Option Span)) (addresses : List ℕ) (stores : List OpenStore) (jumps open_jumps : List ℕ)
+    (sound : NeverGoesWrongFromPowerOn image bytes) (walks : StaysOnWalks image) (are : AreReached (code_of image) reached) (whole : length reached ≡ 65536) (keeps : (t : KeptTable image quiet) → RunsKeepTo image t.table)
+    (shown : AreShown image quiet reached marks spans) (each_store : AreAllBelow (is_at stores_by_pair reached) 65536 addresses)
     (open_below : AreOpenBelow reached marks spans 65536 stores) (each_jump : AreAllBelow (is_at is_pchl reached) 65536 jumps) (each_open_jump : AreAllBelow (is_marked_at is_pchl reached marks) 65536 open_jumps)
-    (ground : Ground image.regions) (known : AreKnown image bytes) (quiet : ℕ → Bool) (kept : IsKept image quiet table) (stay : BytesStayBytes) → PromiseHoldsOnQuietBoards image quiet bytes stores open_jumps
-holds_on_quiet_boards image bytes reached table marks spans addresses stores jumps open_jumps sound walks are whole keeps are_marks are_spans each_store open_below each_jump each_open_jump ground known quiet kept stay start began may_start start_bytes w set on =
-    keeps_whole image bytes reached table marks spans addresses stores jumps open_jumps sound walks are whole keeps are_marks are_spans each_store open_below each_jump each_open_jump ground known quiet kept stay start began may_start start_bytes set w on
+    (known : AreKnown image bytes) (stay : BytesStayBytes) → PromiseHoldsOnQuietBoards image quiet bytes stores open_jumps
+holds_on_quiet_boards image bytes quiet reached marks spans addresses stores jumps open_jumps sound walks are whole keeps shown each_store open_below each_jump each_open_jump known stay start began may_start start_bytes w set on =
+    keeps_whole image bytes quiet reached marks spans addresses stores jumps open_jumps sound walks are whole keeps shown each_store open_below each_jump each_open_jump known stay start began may_start start_bytes set w on
 
 -- where nothing is quiet, each board is a quiet one
 all_quiet : (regions : Areas) (quiet : ℕ → Bool) (listed : ℕ → Type 0) (start : Machine) (began : Bool) → ((at : ℕ) → quiet at ≡ false) → (set : Bool) (w : World) → OnBoard regions listed start began set w →

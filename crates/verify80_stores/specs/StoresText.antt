@@ -37,11 +37,14 @@ quiet_line range = codes "QUIET " ++ (word_text range.first ++ 32 ∷ (word_text
 abbrev pub start_line : (start : ℕ) → List ℕ
 start_line start = if start == 0 then [] else codes "START " ++ (word_text start ++ 10 ∷ [])
 
+-- the lines of what a list rests on
+abbrev pub premise_lines : (sets_stack : Bool) → (quiet : List Range) → (start : ℕ) → List ℕ
+premise_lines sets_stack quiet start = stack_line sets_stack ++ (flat_map quiet_line quiet ++ start_line start)
+
 -- all lines
 abbrev pub stores_text_of : (start : ℕ) → (quiet : List Range) → (sets_stack : Bool) → (addresses : List ℕ) → (open_stores : List OpenStore) →
     (jumps open_jumps : List ℕ) → List ℕ
 stores_text_of start quiet sets_stack addresses open_stores jumps open_jumps =
     count_line (length addresses - length open_stores) (length addresses)
     ++ (jumps_line (length jumps - length open_jumps) (length jumps)
-    ++ (stack_line sets_stack ++ (flat_map quiet_line quiet ++ (start_line start
-    ++ (flat_map store_line open_stores ++ flat_map jump_line open_jumps)))))
+    ++ (premise_lines sets_stack quiet start ++ (flat_map store_line open_stores ++ flat_map jump_line open_jumps)))

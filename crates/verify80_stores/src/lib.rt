@@ -26,6 +26,7 @@ mod pointer;
 mod quiet;
 mod quiet_ranges;
 mod search;
+mod showing;
 mod spans;
 mod stack_pointer;
 mod states;

@@ -2,7 +2,7 @@
 
 ghost use Rattle.std.specs.Prelude.{◌≡◌, ◌++◌, IfOk, OnOk};
 ghost use Rattle.std.specs.List.{flat_map};
-ghost use Rattle.verify80_stores.specs.StoresText.{count_line, jumps_line, jump_line, quiet_line, start_line, store_line, stores_text_of};
+ghost use Rattle.verify80_stores.specs.StoresText.{count_line, jumps_line, jump_line, premise_lines, quiet_line, stack_line, start_line, store_line, stores_text_of};
 
 use crate::stores::{OpenStore, Stores};
 use decode80::write_text;
@@ -33,11 +33,7 @@ pub fn stores_text(
     let jumps = stores.jumps.len();
     let line = jumps_text(alloc, jumps.saturating_sub(stores.open_jumps.len()), jumps)?;
     text.extend_from_slice(&line)?;
-    if !stores.sets_stack {
-        text.extend_from_slice(b"SP NOT SET\n".as_slice())?;
-    }
-    append_quiet(&mut text, quiet)?;
-    append_start(&mut text, start)?;
+    append_premises(&mut text, stores.sets_stack, quiet, start)?;
     append_stores(alloc, &mut text, &stores.open)?;
     append_jumps(&mut text, &stores.open_jumps)?;
     Ok(text)
@@ -60,6 +56,30 @@ fn jumps_text(alloc: Global, shown: usize, all: usize) -> Result<Vec<u8>, AllocE
     }
     let line = format!(in alloc; "JUMPS {shown} OF {all}\n")?;
     Ok(line.into_bytes())
+}
+
+/// Appends the lines of what the list rests on.
+fn append_premises(
+    text: &mut Vec<u8>,
+    sets_stack: bool,
+    quiet: &[Range],
+    start: u16,
+) -> Result<(), AllocError>
+    ensures { OnOk result (text.new.items ≡ text.old.items ++ premise_lines sets_stack quiet.now start) }
+{
+    append_stack(text, sets_stack)?;
+    append_quiet(text, quiet)?;
+    append_start(text, start)
+}
+
+/// Appends the line of a program that may use SP before it is set.
+fn append_stack(text: &mut Vec<u8>, sets_stack: bool) -> Result<(), AllocError>
+    ensures { OnOk result (text.new.items ≡ text.old.items ++ stack_line sets_stack) }
+{
+    if !sets_stack {
+        text.extend_from_slice(b"SP NOT SET\n".as_slice())?;
+    }
+    Ok(())
 }
 
 /// Appends the line of each quiet range.
