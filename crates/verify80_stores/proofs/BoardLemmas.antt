@@ -17,7 +17,7 @@ use Rattle.machine80.specs.Run.{world_of}
 use Rattle.verify80.specs.Looking.{code_of, declared_targets, is_pchl}
 use Rattle.verify80.specs.Starts.{IsStart, NeverGoesWrongFromPowerOn}
 use Rattle.verify80.specs.Reached.{StandsOnWalk, StaysOnWalks}
-use Rattle.verify80.specs.Boards.{StaysInside, Executes, OnBoard, begins, disturbed, executed, Anywhere, KeepsPromise, MayStart}
+use Rattle.verify80.specs.Boards.{LeavesProgram, Disturbs, fetched_anywhere, StaysInside, Executes, OnBoard, with_respected_pointer, respected_pointer, sets_sp, begins, disturbed, executed, Anywhere, KeepsPromise, MayStart}
 use Rattle.verify80.specs.Reached.{AreReached}
 use Rattle.verify80_stores.specs.declared.spans.span.Span.{Span}
 use Rattle.verify80_stores.specs.declared.fitting.fitting.Placed.{Placed}
@@ -29,7 +29,7 @@ use Rattle.verify80_stores.specs.Stores.{GoesAsListed}
 use Rattle.verify80_stores.specs.Steps.{HasCode}
 use Rattle.verify80_stores.specs.Listing.{AreKnown, AreAllBelow, AreOpenBelow, is_at, is_marked_at}
 use Rattle.verify80_stores.specs.Shown.{AreShown, KeptTable}
-use Rattle.verify80_stores.specs.Boards.{IsListedAt, KeepsWholePromise, PromiseHoldsOnBoards, PromiseHoldsOnQuietBoards, OnQuietBoard, is_quiet}
+use Rattle.verify80_stores.specs.Boards.{IsListedAt, KeepsWholePromise, PromiseHoldsOnBoards, PromiseHoldsOnQuietBoards, StaysQuiet, OnQuietBoard, is_quiet}
 use Rattle.verify80_stores.specs.Boards.{begins as begins_quiet, disturbed as disturbed_quiet, executed as executed_quiet}
 use Rattle.verify80_stores.proofs.StoreLemmas.{KeepsToEach, any_by, goes_if, jump_there, listed_or_not}
 
