@@ -52,14 +52,14 @@ need-prefix:
 
 install: need-prefix build install-files
 
-# What there is to install, of a program that is built. PROVED says what proved it.
+# What there is to install, of a program that is built. PROVED says what proved it, or that this isn't known.
 install-files:
 	install -D -m 755 $(PROGRAM) "$(DESTDIR)$(PREFIX)/bin/plm80"
 	install -D -m 644 share/plm80.1 "$(DESTDIR)$(PREFIX)/share/man/man1/plm80.1"
 	@tools/pages "$(DESTDIR)$(PREFIX)/share/doc/plm80"
 	install -d "$(DESTDIR)$(PREFIX)/share/doc/plm80/examples"
 	install -m 644 examples/*.* "$(DESTDIR)$(PREFIX)/share/doc/plm80/examples"
-	@tools/proved > "$(DESTDIR)$(PREFIX)/share/doc/plm80/PROVED"
+	@tools/proved "$(PROGRAM)" > "$(DESTDIR)$(PREFIX)/share/doc/plm80/PROVED"
 	install -D -m 644 share/plm80.bash "$(DESTDIR)$(PREFIX)/share/bash-completion/completions/plm80"
 
 uninstall:
@@ -94,6 +94,7 @@ test: need-rt need-python3
 	@tests/commands/fault_page
 	@tests/package/run $(PROGRAM)
 	@tests/package/try
+	@tests/package/build
 	@if command -v cc > /dev/null; then tests/refused/run $(PROGRAM) program; else echo "faults: passed over without a C compiler"; fi
 
 commands: need-python3 build
