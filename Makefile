@@ -77,6 +77,7 @@ package-files:
 test: need-rt need-python3
 	@tests/layers/run
 	@tests/layers/believed
+	@tests/layers/closure
 	@tests/examples/run
 	@tools/crates --check
 	@tools/clauses --check
