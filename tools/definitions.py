@@ -8,7 +8,6 @@ from pathlib import Path
 TOP = Path(__file__).resolve().parent.parent
 NAME = re.compile(r"(?<![.\w'])[^\W\d][\w'-]*")
 USE = re.compile(r"use\s+Rattle\.([\w.]+?)\.\{([^}]*)\}", re.S)
-TYPE = re.compile(r"^pub(?:\(\w+\))? (?:struct|enum) (\w+)")
 
 
 def cited_names(text):
