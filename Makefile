@@ -101,7 +101,7 @@ test: need-rt need-python3
 	@if command -v cc > /dev/null; then tests/refused/run $(PROGRAM) program; else echo "faults: passed over without a C compiler"; fi
 
 core: need-rt need-python3
-	@rt ci $$(tools/crates --core)
+	@tools/gate --core
 
 commands: need-python3 build
 	@tests/commands/run $(PROGRAM)
