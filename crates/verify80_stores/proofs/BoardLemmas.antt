@@ -17,7 +17,7 @@ use Rattle.machine80.specs.Run.{world_of}
 use Rattle.verify80.specs.Looking.{code_of, declared_targets, is_pchl}
 use Rattle.verify80.specs.Starts.{IsStart, NeverGoesWrongFromPowerOn}
 use Rattle.verify80.specs.Reached.{StandsOnWalk, StaysOnWalks}
-use Rattle.verify80.specs.Boards.{LeavesProgram, Disturbs, fetched_anywhere, StaysInside, Executes, OnBoard, with_respected_pointer, respected_pointer, sets_sp, begins, disturbed, executed, Anywhere, KeepsPromise, MayStart}
+use Rattle.verify80.specs.Boards.{Disturbs, fetched_anywhere, StaysInside, Executes, OnBoard, with_respected_pointer, respected_pointer, begins, disturbed, executed, Anywhere, KeepsPromise, MayStart}
 use Rattle.verify80.specs.Reached.{AreReached}
 use Rattle.verify80_stores.specs.declared.spans.span.Span.{Span}
 use Rattle.verify80_stores.specs.declared.fitting.fitting.Placed.{Placed}
@@ -26,7 +26,6 @@ use Rattle.verify80_stores.specs.Runs.{KeepsTo, KeepsToCalls, RunsKeepTo, IsKnow
 use Rattle.verify80_stores.specs.declared.stores.OpenStore.{OpenStore}
 use Rattle.verify80_stores.specs.Pointers.{stores_by_pair}
 use Rattle.verify80_stores.specs.Stores.{GoesAsListed}
-use Rattle.verify80_stores.specs.Steps.{HasCode}
 use Rattle.verify80_stores.specs.Listing.{AreKnown, AreAllBelow, AreOpenBelow, is_at, is_marked_at}
 use Rattle.verify80_stores.specs.Shown.{AreShown, KeptTable}
 use Rattle.verify80_stores.specs.Boards.{IsListedAt, KeepsWholePromise, PromiseHoldsOnBoards, PromiseHoldsOnQuietBoards, StaysQuiet, OnQuietBoard, is_quiet}
