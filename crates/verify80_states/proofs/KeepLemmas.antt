@@ -122,8 +122,8 @@ module _ (regions : Areas) (targets : List ℕ) (table : List Placed) (after : B
   -- a return that is taken goes where the state says, if it knows that
   back_to : (t : State) → KnowsReturn table (after true) t → Holds regions t m → Holds regions (after true t) there → Meets regions table (word_in m.memory m.cpu.sp) there
   back_to t knows before now = record { state = after true t; has = subst (λ n. Has table n (after true t)) place knows.has; holds = now } where
-    pushed_there : HoldsWord regions (Some knows.span) m.memory m.cpu.sp
-    pushed_there = subst (λ (o : Option Span). HoldsWord regions o m.memory m.cpu.sp) knows.first before.words.first
+    pushed_there : HoldsWord regions (Some knows.span) m.memory m.cpu.sp m.cpu.sp
+    pushed_there = subst (λ (o : Option Span). HoldsWord regions o m.memory m.cpu.sp m.cpu.sp) knows.first before.words.first
 
     place : knows.span.first ≡ word_in m.memory m.cpu.sp
     place = let above = pushed_there.within.above in let below = pushed_there.within.below in let alone = knows.alone in grind (arith, nat_tests)
@@ -180,7 +180,7 @@ pub code_stays : (image : Located) (ground : Ground image.regions) (refused : Bo
 code_stays image ground refused m after found fetched step code a here = step_code image.regions ground [] refused m after found a fetched step here ∙ code a here
 
 -- what devices write leaves the words on the stack, the code and what is known of quiet addresses
-pub still_keeps : (image : Located) (ground : Ground image.regions) (quiet : ℕ → Bool) (table : List Placed) (w : World) (memory : List ℕ) → KnowsQuiet quiet table → LeavesProgram image.regions w.machine.memory memory →
+pub still_keeps : (image : Located) (ground : Ground image.regions) (quiet : ℕ → Bool) (table : List Placed) (w : World) (memory : List ℕ) → KnowsQuiet quiet table → LeavesProgram image.regions w.machine.cpu.sp w.machine.memory memory →
     ((at : ℕ) → quiet at ≡ true → slice_index memory at ≡ slice_index w.machine.memory at) → KeepsTo image table w → KeepsTo image table (with_memory w memory)
 still_keeps image ground quiet table w memory knows leaves stays k = record {
   place = k.place;
@@ -189,7 +189,7 @@ still_keeps image ground quiet table w memory knows leaves stays k = record {
   at = k.at;
   holds = record {
     registers = k.holds.registers;
-    words = words_stay image.regions ground k.placed.state.words w.machine.memory memory w.machine.cpu.sp leaves.stack k.holds.words;
+    words = words_stay image.regions ground k.placed.state.words w.machine.memory memory w.machine.cpu.sp (λ a in_stack above filled. leaves.pushed a (record { in_stack = in_stack; above = above; filled = filled })) k.holds.words;
     cells = cells_beside quiet w.machine.memory memory k.placed.state.cells stays leaves.bytes (known_there quiet table k.place k.placed knows k.there) k.holds.cells;
   };
   code = λ address here. leaves.code address here ∙ k.code address here;

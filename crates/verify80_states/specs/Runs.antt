@@ -49,7 +49,7 @@ pub record IsKnown (image : Located) (w : World) : Type 0 where
   pub inside : FetchesInside image.regions w
 
 -- each start keeps to a table, and each step of a known world that keeps to it; and so it does when devices write to any byte that is
--- neither code nor stack nor quiet
+-- neither code nor pushed nor quiet
 pub record IsKept (image : Located) (quiet : ℕ → Bool) (table : List Placed) : Type 0 where
   pub returns : ReturnFacts
   pub starts : (start : Machine) → start.cpu.pc ≡ image.start → HasCode image start.memory → length start.memory ≡ 65536 → HoldsBytes start → StandsOnWalk image (world_of start) →
@@ -58,7 +58,7 @@ pub record IsKept (image : Located) (quiet : ℕ → Bool) (table : List Placed)
       HoldsBytes after.machine → KeepsToCalls image returns table w → step_of image.regions refused w.machine ≡ Next after.machine →
       after.places ≡ places_then (fetched_by image.regions w) w.machine.cpu.registers.flags w.places →
       KeepsToCalls image returns table after
-  pub disturbed : (w : World) (memory : List ℕ) → LeavesProgram image.regions w.machine.memory memory → ((at : ℕ) → quiet at ≡ true → slice_index memory at ≡ slice_index w.machine.memory at) →
+  pub disturbed : (w : World) (memory : List ℕ) → LeavesProgram image.regions w.machine.cpu.sp w.machine.memory memory → ((at : ℕ) → quiet at ≡ true → slice_index memory at ≡ slice_index w.machine.memory at) →
       KeepsToCalls image returns table w → KeepsToCalls image returns table (with_memory w memory)
 
 -- a table that fits is kept, and runs that stay on walks keep to a table that is

@@ -29,8 +29,9 @@ use verify80_states::{bytes_stay_bytes, fitting_states_hold};
 /// address that isn't listed as open goes to data, and each that is goes to an address of its span. So a run ends at a store only if that
 /// is listed, and at a PCHL outside its targets only at one of the listed ones. A board goes on there, and then nothing is promised, of the
 /// other stores either. Up to there the whole promise holds on every board, whatever devices write to any byte that is neither code nor
-/// stack, if there are no quiet ranges (`boards`), and to no quiet address, if there are (`quiet_boards`). That a listed store can leave
-/// data isn't said. (The stores are MOV M,r, MVI M, INR M, DCR M and STAX: Intel 8080
+/// pushed, if there are no quiet ranges (`boards`), and to no quiet address, if there are (`quiet_boards`): stores and jumps that aren't
+/// listed stay inside, each step is on a walk, and the board goes on until a HLT. That a listed store can leave data isn't said. (The
+/// stores are MOV M,r, MVI M, INR M, DCR M and STAX: Intel 8080
 /// Microcomputer Systems User's Manual, chapter 4.)
 ///
 /// Loops with constant bounds are walked through, up to some thousand states at an address; how many states there are, and how often
