@@ -8,8 +8,6 @@ use verify80_states::State;
 
 /// No state.
 pub(crate) const NOWHERE: u32 = u32::MAX;
-/// How many states an address has, at most: a loop of 4,096 turns is walked through.
-const STATES: u32 = 4352;
 /// How many it has, at most, once some of them are no longer distinguished.
 const JOINED: u32 = 256;
 /// How many lists the states are in, by what they say.
@@ -51,8 +49,6 @@ pub(crate) struct Node {
 struct Group {
     first: u32,
     count: u32,
-    /// The state that says nothing, if there is one.
-    nothing: u32,
     /// The parts by which they are no longer distinguished.
     joined: Units,
 }
@@ -74,15 +70,19 @@ pub(crate) struct Nodes {
 }
 
 impl Nodes {
-    /// No states.
+    /// No states, of which an address is to have so many, at most.
     ///
     /// # Errors
     /// `AllocError` if memory runs out.
-    pub fn new(alloc: Global, needs: Needs, landmarks: Landmarks) -> Result<Nodes, AllocError> {
+    pub fn new(
+        alloc: Global,
+        needs: Needs,
+        landmarks: Landmarks,
+        most: u32,
+    ) -> Result<Nodes, AllocError> {
         let none = Group {
             first: NOWHERE,
             count: 0,
-            nothing: NOWHERE,
             joined: Units::NONE,
         };
         Ok(Nodes {
@@ -93,18 +93,13 @@ impl Nodes {
             needs,
             landmarks,
             is_late: false,
-            most: STATES,
+            most,
         })
     }
 
     /// How many states there are, with those that were taken in.
     pub fn len(&self) -> usize {
         self.nodes.len()
-    }
-
-    /// From now on each address has so many states, at most.
-    pub fn keep(&mut self, most: u32) {
-        self.most = most;
     }
 
     /// From now on each address has one state, and spans grow at once to any word.
@@ -200,7 +195,6 @@ impl Nodes {
             None => Group {
                 first: NOWHERE,
                 count: 0,
-                nothing: NOWHERE,
                 joined: Units::NONE,
             },
         }
@@ -213,17 +207,12 @@ impl Nodes {
         }
     }
 
-    /// A state at an address that says no more than this one, if one is found: the one that says nothing, the same one, or one of those
-    /// that came last.
+    /// A state at an address that says no more than this one, if one is found: the same one, or one of those that came last.
     fn find_around(&self, at: u16, state: State) -> Option<u32> {
-        let group = self.group(at);
-        if group.nothing != NOWHERE {
-            return Some(self.holder(group.nothing));
-        }
         if let Some(place) = self.find_same(at, state) {
             return Some(self.holder(place));
         }
-        let mut place = group.first;
+        let mut place = self.group(at).first;
         for _ in 0..NEWEST {
             let node = self.get(place)?;
             if state.is_inside(node.state) {
@@ -281,11 +270,6 @@ impl Nodes {
             Group {
                 first: place,
                 count: group.count.saturating_add(1),
-                nothing: if state == self.needed(at, State::ANY) {
-                    place
-                } else {
-                    group.nothing
-                },
                 joined: group.joined,
             },
         );
@@ -336,8 +320,7 @@ impl Nodes {
         Ok(())
     }
 
-    /// The part of which the states at an address have the most values, of those by which they are still distinguished; of two, the one
-    /// whose pair has lost its other half: the rest of a count tells no more than the count did.
+    /// The part of which the states at an address have the most values, of those by which they are still distinguished.
     fn part_that_tells_most(&self, alloc: Global, at: u16) -> Result<Units, AllocError> {
         let joined = self.group(at).joined;
         let mut most = 0;
@@ -346,7 +329,7 @@ impl Nodes {
             let unit = Units::numbered(part);
             if !joined.has(unit) {
                 let count = self.count_values(alloc, at, part)?;
-                if count > most || count == most && joined.partners().has(unit) {
+                if count > most {
                     most = count;
                     best = unit;
                 }
@@ -380,7 +363,6 @@ impl Nodes {
             Group {
                 first: NOWHERE,
                 count: 0,
-                nothing: group.nothing,
                 joined,
             },
         );
@@ -423,7 +405,6 @@ impl Nodes {
                     Group {
                         first: place,
                         count: group.count.saturating_add(1),
-                        nothing: group.nothing,
                         joined,
                     },
                 );

@@ -2,13 +2,21 @@
 
 use crate::groups::Groups;
 use crate::program::ReachedProgram;
-use crate::proposing::{Proposal, propose, try_propose};
+use crate::proposing::{Limits, Proposal, propose};
 use std::alloc::{AllocError, Global};
 
-/// How many states an address has, at most, in one trial after the other.
-const STATES: [u32; 4] = [4352, 256, 32, 8];
+/// How many states an address has, at most: a loop of 4,096 turns is walked through.
+const MOST_STATES: u32 = 4352;
+/// How many it has in one trial after the other.
+const STATES: [u32; 4] = [MOST_STATES, 256, 32, 8];
 /// How often it is tried which procedures know where they return to.
 const TRIALS: usize = 3;
+/// How many states are followed on trial, each as often as it grows.
+const TRIAL_STEPS: u32 = 100_000;
+/// How many are followed if calls aren't told apart, before the search hurries.
+const STEPS: u32 = 500_000;
+/// How many are followed then, at most.
+const LATE_STEPS: u32 = 4_000_000;
 
 /// The table of a number from 0 to 3, if there is one: calls told apart or joined, and then both once more as if no address were quiet.
 ///
@@ -62,14 +70,18 @@ fn try_told_apart(
             break;
         }
         let returns = groups.returns(alloc, &knows)?;
-        let tried = try_propose(
+        let tried = propose(
             alloc,
             ReachedProgram {
                 returns: &returns,
                 groups: groups.numbers(),
                 ..program
             },
-            most,
+            Limits {
+                states: most,
+                steps: TRIAL_STEPS,
+                late_steps: 0,
+            },
         )?;
         let Some(proposal) = tried else {
             break;
@@ -91,16 +103,24 @@ fn propose_joined(
     groups: &Groups,
 ) -> Result<Option<Proposal>, AllocError> {
     let returns = groups.returns(alloc, &[])?;
-    let proposal = propose(
+    let found = propose(
         alloc,
         ReachedProgram {
             returns: &returns,
             groups: groups.numbers(),
             ..program
         },
+        Limits {
+            states: MOST_STATES,
+            steps: STEPS,
+            late_steps: LATE_STEPS,
+        },
     )?;
-    Ok(Some(Proposal {
-        returns,
-        ..proposal
-    }))
+    match found {
+        Some(proposal) => Ok(Some(Proposal {
+            returns,
+            ..proposal
+        })),
+        None => Ok(None),
+    }
 }

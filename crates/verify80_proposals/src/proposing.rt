@@ -8,13 +8,6 @@ use crate::program::ReachedProgram;
 use std::alloc::{AllocError, Global};
 use verify80_states::{CallReturns, Placed, State};
 
-/// How many states are followed, each as often as it grows, before the search hurries.
-const STEPS: u32 = 500_000;
-/// How many are followed on trial, at most.
-const TRIAL_STEPS: u32 = 100_000;
-/// How many are followed then, at most.
-const LATE_STEPS: u32 = 4_000_000;
-
 /// A table of states, for each of their ways a place of the table, and the returns by which it was made. The first hint is that of the
 /// start.
 #[derive(Drop)]
@@ -24,47 +17,38 @@ pub struct Proposal {
     pub returns: CallReturns,
 }
 
-/// What is known at each address that the program may reach.
-///
-/// At the start nothing is, and behind a call nothing, unless the callee's states know where they return to. Nothing is promised of the table: whoever uses it has to see
-/// that it fits.
-///
-/// # Errors
-/// `AllocError` only if memory runs out.
-pub(crate) fn propose(alloc: Global, program: ReachedProgram<'_>) -> Result<Proposal, AllocError> {
-    let mut nodes = Nodes::new(
-        alloc,
-        Needs::of(alloc, program)?,
-        Landmarks::new(alloc, program)?,
-    )?;
-    let mut hints = Vec::new(alloc);
-    let start = nodes.enter(alloc, program.start, State::ANY)?;
-    if !follow_all(alloc, &mut nodes, &mut hints, program, STEPS)? {
-        nodes.hurry();
-        follow_all(alloc, &mut nodes, &mut hints, program, LATE_STEPS)?;
-    }
-    compact(alloc, &nodes, &hints, program, start)
+/// What a search may cost.
+#[derive(Clone, Copy)]
+pub(crate) struct Limits {
+    /// How many states an address has, at most.
+    pub states: u32,
+    /// How many states are followed, each as often as it grows.
+    pub steps: u32,
+    /// How many are followed then, one at each address.
+    pub late_steps: u32,
 }
 
-/// The same with at most so many states at an address, or `None` if too many would have to be followed.
+/// What is known at each address that the program may reach, or `None` if too many states would have to be followed.
+///
+/// At the start nothing is, and behind a call nothing, unless the callee's states know where they return to.
 ///
 /// # Errors
 /// `AllocError` only if memory runs out.
-pub(crate) fn try_propose(
+pub(crate) fn propose(
     alloc: Global,
     program: ReachedProgram<'_>,
-    most: u32,
+    limits: Limits,
 ) -> Result<Option<Proposal>, AllocError> {
-    let mut nodes = Nodes::new(
-        alloc,
-        Needs::of(alloc, program)?,
-        Landmarks::new(alloc, program)?,
-    )?;
-    nodes.keep(most);
+    let needs = Needs::of(alloc, program)?;
+    let landmarks = Landmarks::new(alloc, program)?;
+    let mut nodes = Nodes::new(alloc, needs, landmarks, limits.states)?;
     let mut hints = Vec::new(alloc);
     let start = nodes.enter(alloc, program.start, State::ANY)?;
-    if !follow_all(alloc, &mut nodes, &mut hints, program, TRIAL_STEPS)? {
-        return Ok(None);
+    if !follow_all(alloc, &mut nodes, &mut hints, program, limits.steps)? {
+        nodes.hurry();
+        if !follow_all(alloc, &mut nodes, &mut hints, program, limits.late_steps)? {
+            return Ok(None);
+        }
     }
     Ok(Some(compact(alloc, &nodes, &hints, program, start)?))
 }

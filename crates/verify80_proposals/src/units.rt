@@ -122,11 +122,6 @@ impl Units {
         }
     }
 
-    /// The other halves of the pairs of which these parts have one.
-    pub fn partners(self) -> Units {
-        Units((self.0 & 42) * 2 | (self.0 & 84) / 2)
-    }
-
     /// What a condition asks.
     pub fn of_condition(condition: Condition) -> Units {
         match condition {
