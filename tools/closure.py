@@ -39,6 +39,7 @@ class Types:
         comment = [line for line in lines[first:at] if line.startswith("///")]
         body = until(lines, at, lambda line: line.startswith("}") or line.endswith(";") or line.endswith("}"))
         seen = self.view(kind)
+        body = [line for line in body if not line.lstrip().startswith("#[")]
         return comment[: comment.index("///") if "///" in comment else None], body, seen
 
     def view(self, kind):
