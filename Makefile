@@ -5,7 +5,7 @@
 #   make install   builds plm80 as `make run` does, unless `make run` or `make test` has, and installs it with its manual page, the pages for users, its examples and its completion for bash: make install PREFIX=/usr/local
 #   make uninstall takes away what make install installed, with the same PREFIX
 #   make package   builds plm80 as `make run` does, and makes a Debian package of what make install installs, in out/; a tarball, if there is no dpkg-deb
-#   make test      proves every crate from nothing and runs every test
+#   make test      proves every crate and runs every test
 #   make core      proves the core alone, with its wrong bodies and the tests of its crates: object files, LINK, LOCATE, the verifier, the loader and bundles
 #   make commands  builds plm80 and runs the tests of its commands alone
 #   make faults    runs the tests, and plm80 on the examples, refusing one allocation, read or write at a time
@@ -95,6 +95,7 @@ test: need-rt need-python3
 	@tests/commands/replaced $(PROGRAM)
 	@tests/commands/completion $(PROGRAM)
 	@tests/commands/fault_page
+	@tests/commands/hex
 	@tests/package/run $(PROGRAM)
 	@tests/package/try
 	@tests/package/build
@@ -115,6 +116,7 @@ commands: need-python3 build
 	@tests/commands/replaced $(PROGRAM)
 	@tests/commands/completion $(PROGRAM)
 	@tests/commands/fault_page
+	@tests/commands/hex
 
 # FAULTS=".." tries that alone, as FAULTS="program", FAULTS="tests_runs" or FAULTS="tests_links=1..20".
 faults: need-cc build

@@ -3,11 +3,12 @@ import re
 
 from definitions import TOP, House, cited_names, imports_of
 
-SHOWN = re.compile(r"^pub(?:\(\w+\))? (?:struct|enum) (\w+)")
+SHOWN = re.compile(r"^pub(?:\(\w+\))? (?:struct|enum|trait) (\w+)")
 
 
 class Types:
-    """The types of the sources: each by its crate and name, with its file and the lines that declare it and say what contracts see of it."""
+    """The types and traits of the sources: each by its crate and name, with its file, and the lines that declare it and say what contracts
+    see of it."""
 
     def __init__(self, names):
         self.found, self.texts = {}, {}
@@ -37,8 +38,9 @@ class Types:
         while lines[first - 1].startswith(("///", "#[")):
             first -= 1
         comment = [line for line in lines[first:at] if line.startswith("///")]
-        body = until(lines, at, lambda line: line.startswith("}") or line.endswith(";") or line.endswith("}"))
+        body = until(lines, at, lambda line: line.startswith("}") or line == lines[at] and line.endswith((";", "}")))
         seen = self.view(kind)
+        body = [line for line in body if not line.lstrip().startswith("#[")]
         return comment[: comment.index("///") if "///" in comment else None], body, seen
 
     def view(self, kind):
@@ -116,8 +118,9 @@ class Closure:
         self.seen.add(kind)
         path, _ = self.types.found[kind]
         comment, body, view = self.types.declared(kind)
-        self.parts.append((str(path.relative_to(TOP)), kind[1], [*comment, *(view or body)]))
-        text = "\n".join(view)
+        self.parts.append((str(path.relative_to(TOP)), kind[1], [*comment, *(line for line in view or body if line)]))
+        # A trait's methods have contracts.
+        text = "\n".join(body if " trait " in body[0] else view)
         self.add_cited(text, imports_of(self.types.texts[path]))
         fields = [line for line in body if not view or any(re.search(rf"\.{name}\b", text) for name in re.findall(r"(\w+):", line))]
         self.add_types(kind[0], path, re.findall(r"\b[A-Z]\w*", "\n".join(fields)))
