@@ -29,7 +29,10 @@ pub(crate) fn compact(
     let mut proposal = Proposal {
         table: Vec::new(alloc),
         hints: Vec::new(alloc),
-        returns: CallReturns::none(alloc),
+        returns: CallReturns {
+            may_return: Vec::new(alloc),
+            know_return: Vec::new(alloc),
+        },
     };
     proposal
         .hints

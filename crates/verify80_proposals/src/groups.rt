@@ -2,11 +2,12 @@
 //!
 //! Instructions that may follow one another without a call or a return are a group: a procedure, or several that share a piece of code.
 
+use crate::marks::mark;
 use crate::program::ReachedProgram;
 use decode80::Flow;
 use std::alloc::{AllocError, Global};
 use verify80::ProcRow;
-use verify80_states::{CallReturns, Placed};
+use verify80_states::{CallReturns, Placed, is_marked};
 
 /// How often the calls are gone through, at most.
 const SWEEPS: usize = 64;
@@ -81,24 +82,15 @@ impl Groups {
         }
     }
 
-    /// How many groups there are.
-    fn count(&self) -> usize {
-        let mut count = 0;
-        for number in &self.numbers {
-            count = count.max(usize::from(*number) + 1);
-        }
-        count
-    }
-
     /// Marks for the groups that are called and may return.
     ///
     /// # Errors
     /// `AllocError` if memory runs out.
     pub fn called(&self, alloc: Global) -> Result<Vec<bool>, AllocError> {
-        let mut marks = vec![in alloc; false; self.count()]?;
+        let mut marks = vec![in alloc; false; 65_536]?;
         for (_, callee) in &self.calls {
-            if is_set(&self.returns, *callee) {
-                set(&mut marks, *callee);
+            if is_marked(&self.returns, *callee) {
+                mark(&mut marks, *callee);
             }
         }
         Ok(marks)
@@ -115,7 +107,7 @@ impl Groups {
         for placed in table {
             if let Some(found) = program.at(placed.at) {
                 let group = self.number(placed.at);
-                if is_set(marks, group) && !program.knows_return(found.instr, placed.state) {
+                if is_marked(marks, group) && !program.knows_return(found.instr, placed.state) {
                     if let Some(mark) = marks.get_mut(usize::from(group)) {
                         *mark = false;
                     }
@@ -135,11 +127,11 @@ impl Groups {
         let mut know_return = vec![in alloc; false; 65_536]?;
         for number in 0..65_536_u32 {
             let group = self.number(number as u16);
-            if is_set(&self.returns, group) {
-                set(&mut may_return, number as u16);
+            if is_marked(&self.returns, group) {
+                mark(&mut may_return, number as u16);
             }
-            if is_set(knows, group) {
-                set(&mut know_return, number as u16);
+            if is_marked(knows, group) {
+                mark(&mut know_return, number as u16);
             }
         }
         Ok(CallReturns {
@@ -217,7 +209,7 @@ fn join_all(
     let mut returns = vec![in alloc; false; 65_536]?;
     for row in rows {
         if row.returns {
-            set(&mut returns, row.entry);
+            mark(&mut returns, row.entry);
         }
     }
     join_behind(joined, program, &returns);
@@ -226,15 +218,15 @@ fn join_all(
         for number in 0..65_536_u32 {
             if let Some(found) = program.at(number as u16) {
                 if let Flow::Returns | Flow::ReturnsIf(_) = found.instr.flow() {
-                    set(&mut returns, joined.find(number as u16));
+                    mark(&mut returns, joined.find(number as u16));
                 }
             }
         }
         let mut by_entry = vec![in alloc; false; 65_536]?;
         for number in 0..65_536_u32 {
             let group = joined.find(number as u16);
-            if is_set(&returns, group) {
-                set(&mut by_entry, number as u16);
+            if is_marked(&returns, group) {
+                mark(&mut by_entry, number as u16);
             }
         }
         if !join_behind(joined, program, &by_entry) {
@@ -283,7 +275,7 @@ fn join_behind(joined: &mut Joined, program: ReachedProgram<'_>, returns: &[bool
     for number in 0..65_536_u32 {
         if let Some(found) = program.at(number as u16) {
             if let Flow::Calls(entry) = found.instr.flow() {
-                if is_set(returns, entry) {
+                if is_marked(returns, entry) {
                     is_changed |= joined.join(number as u16, found.next);
                 }
             }
@@ -316,17 +308,4 @@ fn number_groups(
         }
     }
     Ok(numbers)
-}
-
-fn is_set(marks: &[bool], at: u16) -> bool {
-    match marks.get(usize::from(at)) {
-        Some(mark) => *mark,
-        None => false,
-    }
-}
-
-fn set(marks: &mut [bool], at: u16) {
-    if let Some(place) = marks.get_mut(usize::from(at)) {
-        *place = true;
-    }
 }

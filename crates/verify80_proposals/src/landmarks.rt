@@ -1,10 +1,11 @@
 //! The words to which spans grow.
 
+use crate::marks::mark;
 use crate::program::ReachedProgram;
 use decode80::Instr;
 use image80::RegionMap;
 use std::alloc::{AllocError, Global};
-use verify80_states::{ByteSpan, Cell, Cells, PairSpan, Span, State, Words};
+use verify80_states::{ByteSpan, Cell, Cells, PairSpan, Span, State, Words, is_marked};
 
 /// How often a state takes in others as they are.
 const JOINS: u32 = 4;
@@ -42,14 +43,14 @@ impl Landmarks {
         let mut last = u16::MAX;
         for number in 0..65_536_u32 {
             let low = number as u16;
-            if is_set(is_first, low) {
+            if is_marked(is_first, low) {
                 first = low;
             }
             if let Some(place) = self.down.get_mut(usize::from(low)) {
                 *place = first;
             }
             let high = u16::MAX - low;
-            if is_set(is_last, high) {
+            if is_marked(is_last, high) {
                 last = high;
             }
             if let Some(place) = self.up.get_mut(usize::from(high)) {
@@ -170,32 +171,19 @@ fn with_same_flags(old: State, new: State) -> State {
         } else {
             State::ANY.copy
         },
-        zero: same_flag(old.zero, new.zero),
-        carry: same_flag(old.carry, new.carry),
-        sign: same_flag(old.sign, new.sign),
+        zero: if old.zero == new.zero { old.zero } else { None },
+        carry: if old.carry == new.carry {
+            old.carry
+        } else {
+            None
+        },
+        sign: if old.sign == new.sign { old.sign } else { None },
         compared: if old.compared == new.compared {
             old.compared
         } else {
             None
         },
         ..old
-    }
-}
-
-fn same_flag(old: Option<bool>, new: Option<bool>) -> Option<bool> {
-    if old == new { old } else { None }
-}
-
-fn is_set(marks: &[bool], word: u16) -> bool {
-    match marks.get(usize::from(word)) {
-        Some(mark) => *mark,
-        None => false,
-    }
-}
-
-fn set(marks: &mut [bool], word: u16) {
-    if let Some(place) = marks.get_mut(usize::from(word)) {
-        *place = true;
     }
 }
 
@@ -210,10 +198,10 @@ fn mark_ends(
     for number in 0..65_536_u32 {
         let word = number as u16;
         if word % 256 == 0 || (map.is_data(word) && !map.is_data(word.wrapping_sub(1))) {
-            set(is_first, word);
+            mark(is_first, word);
         }
         if word % 256 == 255 || (map.is_data(word) && !map.is_data(word.wrapping_add(1))) {
-            set(is_last, word);
+            mark(is_last, word);
         }
     }
     Ok(())
@@ -224,10 +212,10 @@ fn mark_names(program: ReachedProgram<'_>, is_first: &mut [bool], is_last: &mut 
     for number in 0..65_536_u32 {
         if let Some(found) = program.at(number as u16) {
             if let Instr::Lxi(_, word) = found.instr {
-                set(is_first, word);
-                set(is_first, word.wrapping_add(1));
-                set(is_last, word);
-                set(is_last, word.wrapping_sub(1));
+                mark(is_first, word);
+                mark(is_first, word.wrapping_add(1));
+                mark(is_last, word);
+                mark(is_last, word.wrapping_sub(1));
             }
         }
     }

@@ -18,6 +18,7 @@
 mod compacting;
 mod groups;
 mod landmarks;
+mod marks;
 mod needs;
 mod nodes;
 mod program;

@@ -28,7 +28,7 @@ impl Need {
     /// What either needs.
     fn and(self, other: Need) -> Need {
         Need {
-            parts: self.parts.and(other.parts),
+            parts: self.parts.union(other.parts),
             slots: self.slots.and(other.slots),
         }
     }
@@ -36,7 +36,7 @@ impl Need {
     /// The same, and these parts.
     fn with(self, parts: Units) -> Need {
         Need {
-            parts: self.parts.and(parts),
+            parts: self.parts.union(parts),
             slots: self.slots,
         }
     }
@@ -79,7 +79,7 @@ impl Needs {
             cells: placed_cells(state.cells, named),
             ..state
         };
-        reduced(placed, need.parts.and(cell_parts(need.slots)))
+        reduced(placed, need.parts.union(cell_parts(need.slots)))
     }
 }
 
@@ -155,9 +155,9 @@ fn returned(program: ReachedProgram<'_>, behind: &[Need], at: u16) -> Need {
     let parts = need.parts;
     Need {
         parts: parts
-            .without(Units::WORDS)
-            .and(parts.deeper())
-            .and(Units::FIRST),
+            .difference(Units::WORDS)
+            .union(parts.deeper())
+            .union(Units::FIRST),
         slots: need.slots,
     }
 }
@@ -216,7 +216,7 @@ fn need_before(
 fn called(need: Need) -> Need {
     let parts = need.parts;
     Need {
-        parts: parts.without(Units::WORDS).and(parts.shallower()),
+        parts: parts.difference(Units::WORDS).union(parts.shallower()),
         slots: need.slots,
     }
 }
@@ -230,16 +230,11 @@ fn through(program: ReachedProgram<'_>, instr: Instr, pointer: Option<u16>, need
     };
     Need {
         parts: moved_through(instr, need.parts)
-            .and(pointed)
-            .and(stored_parts(instr, pointer, need.slots)),
+            .union(pointed)
+            .union(stored_parts(instr, pointer, need.slots)),
         slots: slots_before(program, instr, pointer, need.parts, need.slots),
     }
 }
-
-/// Those that INR and DCR write.
-const COUNTED: Units = Units(1664);
-/// Those that DAD, the rotations, STC and CMC write.
-const CARRIED: Units = Units(1280);
 
 /// The same without what the instruction stores.
 fn moved_through(instr: Instr, need: Units) -> Units {
@@ -248,52 +243,52 @@ fn moved_through(instr: Instr, need: Units) -> Units {
         Instr::Load(to) => copied(need, Units::of(to), Units::HL),
         Instr::Mvi(to, _) => copied(need, Units::of(to), Units::NONE),
         Instr::Inr(register) | Instr::Dcr(register) => {
-            let counts = need.has(Units::of(register).and(Units::ZERO).and(Units::SIGN));
-            let rest = need.without(COUNTED);
+            let counts = need.intersects(Units::of(register).union(Units::ZERO).union(Units::SIGN));
+            let rest = need.difference(Units::COUNTED);
             if counts {
-                rest.and(Units::of(register))
+                rest.union(Units::of(register))
             } else {
                 rest
             }
         }
         Instr::InrMemory | Instr::DcrMemory => {
-            let rest = need.without(COUNTED);
-            if need.has(Units::ZERO.and(Units::SIGN)) {
-                rest.and(Units::HL)
+            let rest = need.difference(Units::COUNTED);
+            if need.intersects(Units::ZERO.union(Units::SIGN)) {
+                rest.union(Units::HL)
             } else {
                 rest
             }
         }
-        Instr::Lxi(Pair::Sp, _) | Instr::Sphl => need.without(Units::WORDS),
-        Instr::Lxi(pair, _) => need.without(Units::of_pair(pair)),
-        Instr::Inx(Pair::Sp) | Instr::Dcx(Pair::Sp) => need.without(Units::WORDS),
+        Instr::Lxi(Pair::Sp, _) | Instr::Sphl => need.difference(Units::WORDS),
+        Instr::Lxi(pair, _) => need.difference(Units::of_pair(pair)),
+        Instr::Inx(Pair::Sp) | Instr::Dcx(Pair::Sp) => need.difference(Units::WORDS),
         // The low half is followed with the high one: a carry goes from one to the other.
-        Instr::Inx(pair) | Instr::Dcx(pair) if need.has(Units::of_pair(pair)) => {
-            need.and(Units::of_pair(pair))
+        Instr::Inx(pair) | Instr::Dcx(pair) if need.intersects(Units::of_pair(pair)) => {
+            need.union(Units::of_pair(pair))
         }
         Instr::Dad(pair) => {
-            let adds = need.has(Units::HL.and(Units::CARRY));
-            let rest = need.without(CARRIED);
+            let adds = need.intersects(Units::HL.union(Units::CARRY));
+            let rest = need.difference(Units::CARRIED);
             if adds {
-                rest.and(Units::HL).and(Units::of_pair(pair))
+                rest.union(Units::HL).union(Units::of_pair(pair))
             } else {
                 rest
             }
         }
         Instr::Operate(operation, operand) => operated(operation, operand, need),
         Instr::Rotate(rotation) => rotated(rotation, need),
-        Instr::Daa => need.without(Units::FLAGS.and(Units::A)),
-        Instr::Cma => need.without(Units::TEST),
-        Instr::Stc => need.without(CARRIED),
-        Instr::Cmc => need.without(Units::TEST),
+        Instr::Daa => need.difference(Units::FLAGS.union(Units::A)),
+        Instr::Cma => need.difference(Units::TEST),
+        Instr::Stc => need.difference(Units::CARRIED),
+        Instr::Cmc => need.difference(Units::TEST),
         Instr::Ldax(pair) => copied(need, Units::A, Units::of_index_pair(pair)),
         Instr::Lda(_) | Instr::In(_) => copied(need, Units::A, Units::NONE),
-        Instr::Lhld(_) => need.without(Units::HL),
+        Instr::Lhld(_) => need.difference(Units::HL),
         Instr::Xchg => exchanged(need),
         Instr::Push(pair) => {
-            let rest = need.without(Units::WORDS).and(need.shallower());
-            if need.has(Units::FIRST) {
-                rest.and(Units::of_stack_pair(pair))
+            let rest = need.difference(Units::WORDS).union(need.shallower());
+            if need.intersects(Units::FIRST) {
+                rest.union(Units::of_stack_pair(pair))
             } else {
                 rest
             }
@@ -301,28 +296,28 @@ fn moved_through(instr: Instr, need: Units) -> Units {
         Instr::Pop(pair) => {
             let written = Units::of_stack_pair(pair);
             let rest = need
-                .without(Units::WORDS)
-                .without(written)
-                .and(need.deeper());
-            if need.has(written) {
-                rest.and(Units::FIRST)
+                .difference(Units::WORDS)
+                .difference(written)
+                .union(need.deeper());
+            if need.intersects(written) {
+                rest.union(Units::FIRST)
             } else {
                 rest
             }
         }
         Instr::Xthl => {
-            let rest = need.without(Units::FIRST.and(Units::HL));
-            let word = if need.has(Units::HL) {
+            let rest = need.difference(Units::FIRST.union(Units::HL));
+            let word = if need.intersects(Units::HL) {
                 Units::FIRST
             } else {
                 Units::NONE
             };
-            let pair = if need.has(Units::FIRST) {
+            let pair = if need.intersects(Units::FIRST) {
                 Units::HL
             } else {
                 Units::NONE
             };
-            rest.and(word).and(pair)
+            rest.union(word).union(pair)
         }
         _ => need,
     }
@@ -331,19 +326,31 @@ fn moved_through(instr: Instr, need: Units) -> Units {
 /// What is needed before something is copied.
 fn copied(need: Units, to: Units, from: Units) -> Units {
     let rest = if to == Units::A {
-        need.without(Units::A.and(Units::TEST))
+        need.difference(Units::A.union(Units::TEST))
     } else {
-        need.without(to)
+        need.difference(to)
     };
-    if need.has(to) { rest.and(from) } else { rest }
+    if need.intersects(to) {
+        rest.union(from)
+    } else {
+        rest
+    }
 }
 
 /// What is needed before DE and HL are exchanged.
 fn exchanged(need: Units) -> Units {
-    let both = Units(120);
-    let from_de = Units((need.0 & 24) * 4);
-    let from_hl = Units((need.0 & 96) / 4);
-    need.without(both).and(from_de).and(from_hl)
+    let mut before = need.difference(Units::DE.union(Units::HL));
+    for (from, to) in &[
+        (Units::D, Units::H),
+        (Units::E, Units::L),
+        (Units::H, Units::D),
+        (Units::L, Units::E),
+    ] {
+        if need.intersects(*to) {
+            before = before.union(*from);
+        }
+    }
+    before
 }
 
 /// What is needed before an operation on A.
@@ -353,12 +360,12 @@ fn operated(operation: Operation, operand: Operand, need: Units) -> Units {
         Operand::Memory => Units::HL,
         Operand::Immediate(_) => Units::NONE,
     };
-    let asks = need.has(Units::FLAGS);
+    let asks = need.intersects(Units::FLAGS);
     let (rest, asks) = match operation {
-        Operation::Compare => (need.without(Units::FLAGS), asks),
+        Operation::Compare => (need.difference(Units::FLAGS), asks),
         _ => (
-            need.without(Units::FLAGS.and(Units::A)),
-            asks || need.has(Units::A),
+            need.difference(Units::FLAGS.union(Units::A)),
+            asks || need.intersects(Units::A),
         ),
     };
     if !asks {
@@ -367,20 +374,20 @@ fn operated(operation: Operation, operand: Operand, need: Units) -> Units {
     match operation {
         Operation::ExclusiveOr | Operation::Subtract if read == Units::A => rest,
         Operation::AddCarry | Operation::SubtractBorrow => {
-            rest.and(Units::A).and(read).and(Units::CARRY)
+            rest.union(Units::A).union(read).union(Units::CARRY)
         }
-        _ => rest.and(Units::A).and(read),
+        _ => rest.union(Units::A).union(read),
     }
 }
 
 /// What is needed before a rotation.
 fn rotated(rotation: Rotation, need: Units) -> Units {
-    let rest = need.without(CARRIED);
-    if !need.has(Units::A) {
+    let rest = need.difference(Units::CARRIED);
+    if !need.intersects(Units::A) {
         return rest;
     }
     match rotation {
         Rotation::Left | Rotation::Right => rest,
-        Rotation::LeftThroughCarry | Rotation::RightThroughCarry => rest.and(Units::CARRY),
+        Rotation::LeftThroughCarry | Rotation::RightThroughCarry => rest.union(Units::CARRY),
     }
 }

@@ -238,7 +238,7 @@ impl Nodes {
 
     /// A state at an address that differs from this one in none but these parts.
     fn find_alike(&self, at: u16, state: State, joined: Units) -> Option<u32> {
-        let parts = Units::ALL.without(joined);
+        let parts = Units::ALL.difference(joined);
         let mut place = self.group(at).first;
         for _ in 0..self.nodes.len() {
             let node = self.get(place)?;
@@ -327,7 +327,7 @@ impl Nodes {
         let mut best = Units::ALL;
         for part in 0..PARTS {
             let unit = Units::numbered(part);
-            if !joined.has(unit) {
+            if !joined.intersects(unit) {
                 let count = self.count_values(alloc, at, part)?;
                 if count > most {
                     most = count;
@@ -357,7 +357,7 @@ impl Nodes {
     /// Joins the states at an address that only these parts and those before tell apart.
     fn join_by(&mut self, at: u16, part: Units) -> Result<(), AllocError> {
         let group = self.group(at);
-        let joined = group.joined.and(part);
+        let joined = group.joined.union(part);
         self.set_group(
             at,
             Group {

@@ -25,11 +25,6 @@ pub struct ReachedProgram<'a> {
 }
 
 impl<'a> ReachedProgram<'a> {
-    /// The same program, as if no address were quiet.
-    pub fn without_quiet(self) -> ReachedProgram<'a> {
-        ReachedProgram { quiet: &[], ..self }
-    }
-
     /// The instruction at an address.
     pub fn at(self, address: u16) -> Option<Fetched> {
         match self.instructions.get(usize::from(address)) {

@@ -28,12 +28,16 @@ pub fn propose_table(
     groups: &Groups,
     number: usize,
 ) -> Result<Option<Proposal>, AllocError> {
+    let unquiet = ReachedProgram {
+        quiet: &[],
+        ..program
+    };
     match number {
         0 => propose_told_apart(alloc, program, groups),
         1 => propose_joined(alloc, program, groups),
         _ if !program.quiet.contains(&true) => Ok(None),
-        2 => propose_told_apart(alloc, program.without_quiet(), groups),
-        _ => propose_joined(alloc, program.without_quiet(), groups),
+        2 => propose_told_apart(alloc, unquiet, groups),
+        _ => propose_joined(alloc, unquiet, groups),
     }
 }
 

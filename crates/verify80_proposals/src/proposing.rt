@@ -65,23 +65,13 @@ fn follow_all(
         let Some(place) = nodes.next_waiting() else {
             return Ok(true);
         };
-        follow_from(alloc, nodes, hints, program, place)?;
+        if let Some(node) = nodes.get(place) {
+            if node.taken_by == place {
+                follow(alloc, nodes, hints, program, place, node)?;
+            }
+        }
     }
     Ok(false)
-}
-
-/// Follows the state at a place through the instruction there, unless another has taken it in.
-fn follow_from(
-    alloc: Global,
-    nodes: &mut Nodes,
-    hints: &mut Vec<u32>,
-    program: ReachedProgram<'_>,
-    place: u32,
-) -> Result<(), AllocError> {
-    match nodes.get(place) {
-        Some(node) if node.taken_by == place => follow(alloc, nodes, hints, program, place, node),
-        _ => Ok(()),
-    }
 }
 
 /// Enters what each way makes of a state, and notes where.

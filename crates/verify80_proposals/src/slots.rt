@@ -132,7 +132,7 @@ pub(crate) fn slots_before(
     parts: Units,
     after: Slots,
 ) -> Slots {
-    let counted = Units::ZERO.and(Units::SIGN);
+    let counted = Units::ZERO.union(Units::SIGN);
     match instr {
         Instr::Sta(address) => after.without(address),
         Instr::Shld(address) => after.without(address).without(address.wrapping_add(1)),
@@ -140,18 +140,18 @@ pub(crate) fn slots_before(
             Some(address) => after.without(address),
             None => after,
         },
-        Instr::Lda(address) if parts.has(Units::A.and(Units::TEST)) => {
+        Instr::Lda(address) if parts.intersects(Units::A.union(Units::TEST)) => {
             program.with_quiet(after, address)
         }
-        Instr::Lhld(address) if parts.has(Units::HL) => {
+        Instr::Lhld(address) if parts.intersects(Units::HL) => {
             let after = program.with_quiet(after, address);
             program.with_quiet(after, address.wrapping_add(1))
         }
-        Instr::Load(to) if parts.has(Units::of(to)) => with_pointed(program, after, pointer),
-        Instr::InrMemory | Instr::DcrMemory if parts.has(counted) => {
+        Instr::Load(to) if parts.intersects(Units::of(to)) => with_pointed(program, after, pointer),
+        Instr::InrMemory | Instr::DcrMemory if parts.intersects(counted) => {
             with_pointed(program, after, pointer)
         }
-        Instr::Operate(_, Operand::Memory) if parts.has(Units::A.and(Units::FLAGS)) => {
+        Instr::Operate(_, Operand::Memory) if parts.intersects(Units::A.union(Units::FLAGS)) => {
             with_pointed(program, after, pointer)
         }
         _ => after,
@@ -186,7 +186,7 @@ pub(crate) fn cell_parts(slots: Slots) -> Units {
     let mut parts = Units::NONE;
     for place in 0..SLOTS {
         if slots.at(place).is_some() {
-            parts = parts.and(Units::cell(place));
+            parts = parts.union(Units::cell(place));
         }
     }
     parts

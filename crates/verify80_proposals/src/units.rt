@@ -1,57 +1,49 @@
 //! The parts of a state, by which it is cut down, and distinguished from others.
 
+use bitflags::{Flags, bitflags};
 use decode80::{Condition, IndexPair, Pair, Register, StackPair};
 use verify80_states::{ByteSpan, Cell, Cells, PairSpan, Span, State, Words};
 
 /// A set of parts of a state: a bit for each.
 #[derive(Clone, Copy, Debug, PartialEq, Eq)]
-pub(crate) struct Units(pub u32);
+pub(crate) struct Units(u32);
+
+bitflags! {
+    impl Units: u32 {
+        const NONE = 0;
+        const A = 0x0000_0001;
+        const B = 0x0000_0002;
+        const C = 0x0000_0004;
+        const BC = 0x0000_0006;
+        const D = 0x0000_0008;
+        const E = 0x0000_0010;
+        const DE = 0x0000_0018;
+        const H = 0x0000_0020;
+        const L = 0x0000_0040;
+        const HL = 0x0000_0060;
+        const ZERO = 0x0000_0080;
+        const CARRY = 0x0000_0100;
+        const SIGN = 0x0000_0200;
+        /// What A was compared with last, and A with it.
+        const TEST = 0x0000_0400;
+        /// The flags that DAD, the rotations, STC and CMC write, and the comparison.
+        const CARRIED = 0x0000_0500;
+        /// Those that INR and DCR write.
+        const COUNTED = 0x0000_0680;
+        /// Those that an operation on A writes.
+        const FLAGS = 0x0000_0780;
+        const FIRST = 0x0000_0800;
+        const SECOND = 0x0000_1000;
+        const THIRD = 0x0000_2000;
+        const FOURTH = 0x0000_4000;
+        /// The words on the stack.
+        const WORDS = 0x0000_7800;
+        /// All parts. Those above the words are bytes of memory: a bit for each place that a cell may have.
+        const ALL = 0x007F_FFFF;
+    }
+}
 
 impl Units {
-    pub const NONE: Units = Units(0);
-
-    pub const A: Units = Units(1);
-
-    pub const B: Units = Units(2);
-
-    pub const C: Units = Units(4);
-
-    pub const D: Units = Units(8);
-
-    pub const E: Units = Units(16);
-
-    pub const H: Units = Units(32);
-
-    pub const L: Units = Units(64);
-
-    pub const HL: Units = Units(96);
-
-    pub const ZERO: Units = Units(128);
-
-    pub const CARRY: Units = Units(256);
-
-    pub const SIGN: Units = Units(512);
-    /// What A was compared with last, and A with it.
-    pub const TEST: Units = Units(1024);
-
-    /// The flags that an operation on A writes, and the comparison.
-    pub const FLAGS: Units = Units(1920);
-
-    pub const FIRST: Units = Units(2048);
-
-    pub const SECOND: Units = Units(4096);
-
-    pub const THIRD: Units = Units(8192);
-
-    pub const FOURTH: Units = Units(16384);
-    /// The words on the stack.
-    pub const WORDS: Units = Units(30720);
-
-    /// Bytes of memory: a bit for each place that a cell may have.
-    pub const CELLS: Units = Units(8_355_840);
-
-    pub const ALL: Units = Units(8_388_607);
-
     /// The part of a number below 23.
     pub fn numbered(part: usize) -> Units {
         let mut bit = 1_u32;
@@ -64,21 +56,6 @@ impl Units {
     /// The byte of memory whose cell has a place below 8.
     pub fn cell(place: usize) -> Units {
         Units::numbered(place.min(7) + 15)
-    }
-
-    /// The parts of both.
-    pub fn and(self, other: Units) -> Units {
-        Units(self.0 | other.0)
-    }
-
-    /// These parts without others.
-    pub fn without(self, other: Units) -> Units {
-        Units(self.0 & (other.0 ^ Units::ALL.0))
-    }
-
-    /// Whether one of these parts is among the others.
-    pub fn has(self, other: Units) -> bool {
-        self.0 & other.0 != 0
     }
 
     /// A register.
@@ -97,8 +74,8 @@ impl Units {
     /// Both halves of a pair.
     pub fn of_pair(pair: Pair) -> Units {
         match pair {
-            Pair::Bc => Units(6),
-            Pair::De => Units(24),
+            Pair::Bc => Units::BC,
+            Pair::De => Units::DE,
             Pair::Hl => Units::HL,
             Pair::Sp => Units::NONE,
         }
@@ -107,8 +84,8 @@ impl Units {
     /// The registers of a pair that is pushed.
     pub fn of_stack_pair(pair: StackPair) -> Units {
         match pair {
-            StackPair::Bc => Units(6),
-            StackPair::De => Units(24),
+            StackPair::Bc => Units::BC,
+            StackPair::De => Units::DE,
             StackPair::Hl => Units::HL,
             StackPair::Psw => Units::A,
         }
@@ -117,16 +94,16 @@ impl Units {
     /// The registers of a pair that points.
     pub fn of_index_pair(pair: IndexPair) -> Units {
         match pair {
-            IndexPair::Bc => Units(6),
-            IndexPair::De => Units(24),
+            IndexPair::Bc => Units::BC,
+            IndexPair::De => Units::DE,
         }
     }
 
     /// What a condition asks.
     pub fn of_condition(condition: Condition) -> Units {
         match condition {
-            Condition::Zero | Condition::NonZero => Units::ZERO.and(Units::TEST),
-            Condition::Carry | Condition::NoCarry => Units::CARRY.and(Units::TEST),
+            Condition::Zero | Condition::NonZero => Units::ZERO.union(Units::TEST),
+            Condition::Carry | Condition::NoCarry => Units::CARRY.union(Units::TEST),
             Condition::Plus | Condition::Minus => Units::SIGN,
             Condition::ParityOdd | Condition::ParityEven => Units::NONE,
         }
@@ -134,30 +111,45 @@ impl Units {
 
     /// The words when one is popped: those that were below it before.
     pub fn deeper(self) -> Units {
-        Units((self.0 & Units::WORDS.0) * 2 & Units::WORDS.0)
+        Units(self.intersection(Units::WORDS).0 * 2).intersection(Units::WORDS)
     }
 
     /// The words when one is pushed.
     pub fn shallower(self) -> Units {
-        Units((self.0 & Units::WORDS.0) / 2 & Units::WORDS.0)
+        Units(self.intersection(Units::WORDS).0 / 2).intersection(Units::WORDS)
     }
 }
 
 /// Whether two states agree in these parts.
 pub(crate) fn are_alike(one: State, other: State, parts: Units) -> bool {
-    let keeps_a = parts.has(Units::A.and(Units::TEST));
+    let keeps_a = parts.intersects(Units::A.union(Units::TEST));
     (!keeps_a || one.a == other.a && one.copy == other.copy)
-        && are_pairs_alike(one.bc, other.bc, parts.has(Units::B), parts.has(Units::C))
-        && are_pairs_alike(one.de, other.de, parts.has(Units::D), parts.has(Units::E))
-        && are_pairs_alike(one.hl, other.hl, parts.has(Units::H), parts.has(Units::L))
-        && (!parts.has(Units::ZERO) || one.zero == other.zero)
-        && (!parts.has(Units::CARRY) || one.carry == other.carry)
-        && (!parts.has(Units::SIGN) || one.sign == other.sign)
-        && (!parts.has(Units::TEST) || one.compared == other.compared)
-        && (!parts.has(Units::FIRST) || one.words.first == other.words.first)
-        && (!parts.has(Units::SECOND) || one.words.second == other.words.second)
-        && (!parts.has(Units::THIRD) || one.words.third == other.words.third)
-        && (!parts.has(Units::FOURTH) || one.words.fourth == other.words.fourth)
+        && are_pairs_alike(
+            one.bc,
+            other.bc,
+            parts.intersects(Units::B),
+            parts.intersects(Units::C),
+        )
+        && are_pairs_alike(
+            one.de,
+            other.de,
+            parts.intersects(Units::D),
+            parts.intersects(Units::E),
+        )
+        && are_pairs_alike(
+            one.hl,
+            other.hl,
+            parts.intersects(Units::H),
+            parts.intersects(Units::L),
+        )
+        && (!parts.intersects(Units::ZERO) || one.zero == other.zero)
+        && (!parts.intersects(Units::CARRY) || one.carry == other.carry)
+        && (!parts.intersects(Units::SIGN) || one.sign == other.sign)
+        && (!parts.intersects(Units::TEST) || one.compared == other.compared)
+        && (!parts.intersects(Units::FIRST) || one.words.first == other.words.first)
+        && (!parts.intersects(Units::SECOND) || one.words.second == other.words.second)
+        && (!parts.intersects(Units::THIRD) || one.words.third == other.words.third)
+        && (!parts.intersects(Units::FOURTH) || one.words.fourth == other.words.fourth)
         && reduced_cells(one.cells, parts) == reduced_cells(other.cells, parts)
 }
 
@@ -173,38 +165,50 @@ fn are_pairs_alike(one: PairSpan, other: PairSpan, high: bool, low: bool) -> boo
 
 /// A state of which only these parts are known.
 pub(crate) fn reduced(state: State, parts: Units) -> State {
-    let keeps_a = parts.has(Units::A.and(Units::TEST));
+    let keeps_a = parts.intersects(Units::A.union(Units::TEST));
     State {
         a: if keeps_a { state.a } else { ByteSpan::ANY },
-        bc: reduced_pair(state.bc, parts.has(Units::B), parts.has(Units::C)),
-        de: reduced_pair(state.de, parts.has(Units::D), parts.has(Units::E)),
-        hl: reduced_pair(state.hl, parts.has(Units::H), parts.has(Units::L)),
+        bc: reduced_pair(
+            state.bc,
+            parts.intersects(Units::B),
+            parts.intersects(Units::C),
+        ),
+        de: reduced_pair(
+            state.de,
+            parts.intersects(Units::D),
+            parts.intersects(Units::E),
+        ),
+        hl: reduced_pair(
+            state.hl,
+            parts.intersects(Units::H),
+            parts.intersects(Units::L),
+        ),
         copy: if keeps_a { state.copy } else { Register::A },
-        zero: if parts.has(Units::ZERO) {
+        zero: if parts.intersects(Units::ZERO) {
             state.zero
         } else {
             None
         },
-        carry: if parts.has(Units::CARRY) {
+        carry: if parts.intersects(Units::CARRY) {
             state.carry
         } else {
             None
         },
-        sign: if parts.has(Units::SIGN) {
+        sign: if parts.intersects(Units::SIGN) {
             state.sign
         } else {
             None
         },
-        compared: if parts.has(Units::TEST) {
+        compared: if parts.intersects(Units::TEST) {
             state.compared
         } else {
             None
         },
         words: Words {
-            first: reduced_word(state.words.first, parts.has(Units::FIRST)),
-            second: reduced_word(state.words.second, parts.has(Units::SECOND)),
-            third: reduced_word(state.words.third, parts.has(Units::THIRD)),
-            fourth: reduced_word(state.words.fourth, parts.has(Units::FOURTH)),
+            first: reduced_word(state.words.first, parts.intersects(Units::FIRST)),
+            second: reduced_word(state.words.second, parts.intersects(Units::SECOND)),
+            third: reduced_word(state.words.third, parts.intersects(Units::THIRD)),
+            fourth: reduced_word(state.words.fourth, parts.intersects(Units::FOURTH)),
         },
         cells: reduced_cells(state.cells, parts),
     }
@@ -213,14 +217,14 @@ pub(crate) fn reduced(state: State, parts: Units) -> State {
 /// Cells of which only these parts are known: each keeps its address.
 fn reduced_cells(cells: Cells, parts: Units) -> Cells {
     Cells {
-        first: reduced_cell(cells.first, parts.has(Units::cell(0))),
-        second: reduced_cell(cells.second, parts.has(Units::cell(1))),
-        third: reduced_cell(cells.third, parts.has(Units::cell(2))),
-        fourth: reduced_cell(cells.fourth, parts.has(Units::cell(3))),
-        fifth: reduced_cell(cells.fifth, parts.has(Units::cell(4))),
-        sixth: reduced_cell(cells.sixth, parts.has(Units::cell(5))),
-        seventh: reduced_cell(cells.seventh, parts.has(Units::cell(6))),
-        eighth: reduced_cell(cells.eighth, parts.has(Units::cell(7))),
+        first: reduced_cell(cells.first, parts.intersects(Units::cell(0))),
+        second: reduced_cell(cells.second, parts.intersects(Units::cell(1))),
+        third: reduced_cell(cells.third, parts.intersects(Units::cell(2))),
+        fourth: reduced_cell(cells.fourth, parts.intersects(Units::cell(3))),
+        fifth: reduced_cell(cells.fifth, parts.intersects(Units::cell(4))),
+        sixth: reduced_cell(cells.sixth, parts.intersects(Units::cell(5))),
+        seventh: reduced_cell(cells.seventh, parts.intersects(Units::cell(6))),
+        eighth: reduced_cell(cells.eighth, parts.intersects(Units::cell(7))),
     }
 }
 

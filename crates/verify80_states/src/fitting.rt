@@ -15,4 +15,4 @@ mod marks;
 pub use calls::CallReturns;
 pub use fitting::{Placed, anything, fits, reached_at, targets_at};
 pub use laws::fitting_states_hold;
-pub use marks::{is_marked, unmarked};
+pub use marks::is_marked;

@@ -22,7 +22,6 @@ mod states;
 
 pub use fitting::{
     CallReturns, Placed, anything, fits, fitting_states_hold, is_marked, reached_at, targets_at,
-    unmarked,
 };
 pub use spans::{ByteSpan, Span, bytes_stay_bytes};
 pub use states::{Cell, Cells, PairSpan, State, Words, given, index_words, state_after};

@@ -17,7 +17,7 @@ use Rattle.verify80_states.specs.Steps.{AreCodeBytes, code_in}
 use Rattle.verify80_states.specs.Marks.{is_marked}
 use Rattle.verify80_stores.specs.Opening.{pointer_span, span_in, joined_span, StaysIn, IsLeftOpen}
 use Rattle.verify80.specs.Reached.{found_at}
-use Rattle.verify80_stores.specs.Listing.{AreOpenMarks, AreSpans, IsLeftAt, IsSpanned, SaysNothingAt}
+use Rattle.verify80_stores.specs.Listing.{AreOpenMarks, AreSpans, IsLeftAt, IsSpanned}
 use Rattle.verify80_stores.proofs.HullLemmas.{hull_left, hull_right, inside_again, inside_itself}
 use Rattle.verify80_stores.proofs.VecLemmas.{nat_same, marked_here, marked_elsewhere, entry_here, entry_elsewhere}
 

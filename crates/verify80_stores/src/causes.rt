@@ -57,7 +57,10 @@ pub fn find_causes(
 ) -> Result<Vec<Cause>, AllocError> {
     let image = vouched.image();
     let found = find_reached(alloc, vouched)?;
-    let none = CallReturns::none(alloc);
+    let none = CallReturns {
+        may_return: Vec::new(alloc),
+        know_return: Vec::new(alloc),
+    };
     let program = ReachedProgram {
         code: &[],
         instructions: found.instructions(),

@@ -3,6 +3,7 @@
 ghost use Rattle.std.specs.Prelude.{◌≡◌, ◌⊎◌, ◌+◌, ◌<◌, ℕ, true, false, Some, Contains, IfOk, IfSome, IfNone, length, slice_get};
 ghost use Rattle.image80.specs.Regions.{in_data};
 ghost use Rattle.verify80.specs.Looking.{declared_targets, is_pchl};
+ghost use Rattle.verify80.specs.Reached.{found_at};
 ghost use Rattle.verify80_states.specs.declared.spans.span.Span.{Span};
 ghost use Rattle.verify80_states.specs.Span.{Within};
 ghost use Rattle.verify80_states.specs.Following.{entry_in};
@@ -10,16 +11,17 @@ ghost use Rattle.verify80_stores.specs.DataReach.{AreDataEnds};
 ghost use Rattle.verify80_states.specs.Marks.{is_marked};
 ghost use Rattle.verify80_stores.specs.Pointers.{stores_by_pair};
 ghost use Rattle.verify80_stores.specs.Opening.{joined_span, span_in, StaysIn, IsLeftOpen};
-ghost use Rattle.verify80_stores.specs.Listing.{AreAllBelow, AreOpenBelow, AreOpenMarks, AreSpans, IsListed, is_at, is_marked_at, reached_at};
+ghost use Rattle.verify80_stores.specs.Listing.{AreAllBelow, AreOpenBelow, AreOpenMarks, AreSpans, IsListed, is_at, is_marked_at};
 ghost use Rattle.verify80_stores.specs.Kinds.{is_of};
 
 use crate::data_ends::{data_ends, is_all_data};
+use crate::marks::unmarked;
 use crate::pointer::pointer_span;
 use crate::stores::OpenStore;
 use decode80::{Fetched, Instr, Storing};
 use image80::Regions;
 use std::alloc::{AllocError, Global};
-use verify80_states::{Placed, Span, State, is_marked, reached_at, targets_at, unmarked};
+use verify80_states::{Placed, Span, State, is_marked, reached_at, targets_at};
 
 /// The kinds of instructions that are listed.
 #[derive(Clone, Copy)]

@@ -5,9 +5,9 @@ ghost use Rattle.image80.specs.Range.{in_ranges};
 ghost use Rattle.verify80_stores.specs.Boards.{is_quiet};
 ghost use Rattle.verify80_states.specs.Marks.{is_marked};
 
+use crate::marks::unmarked;
 use image80::{Range, Regions};
 use std::alloc::{AllocError, Global};
-use verify80_states::unmarked;
 
 /// A mark for each address of data that is in one of the ranges.
 ///

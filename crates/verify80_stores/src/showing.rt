@@ -12,13 +12,14 @@ ghost use Rattle.verify80_stores.specs.Shown.{AreShown, BothBelow};
 
 use crate::code_bytes::code_bytes;
 use crate::listing::{open_marks, spans_of};
+use crate::marks::unmarked;
 use crate::quiet::mark_quiet;
 use decode80::Fetched;
 use image80::{Image, Range};
 use std::alloc::{AllocError, Global};
 use verify80::ProcRow;
 use verify80_proposals::{Groups, Proposal, ReachedProgram, propose_table};
-use verify80_states::{CallReturns, Placed, Span, anything, fits, is_marked, unmarked};
+use verify80_states::{CallReturns, Placed, Span, anything, fits, is_marked};
 
 /// How many tables are tried.
 const TABLES: usize = 4;
@@ -52,7 +53,10 @@ pub(crate) fn show(
 {
     let code = code_bytes(alloc, image)?;
     let marks = mark_quiet(alloc, &image.regions, quiet)?;
-    let none = CallReturns::none(alloc);
+    let none = CallReturns {
+        may_return: Vec::new(alloc),
+        know_return: Vec::new(alloc),
+    };
     let program = ReachedProgram {
         code: &code,
         instructions: reached,

@@ -6,7 +6,6 @@ ghost use Rattle.verify80_states.specs.Calls.{AccountsFor, AccountsForCall, IsWi
 
 use crate::fitting::marks::is_marked;
 use decode80::{Fetched, Flow};
-use std::alloc::Global;
 
 /// What is known of the returns of the procedure that runs at each address: marks by address, 65,536 places.
 #[derive(Debug, Drop)]
@@ -18,14 +17,6 @@ pub struct CallReturns {
 }
 
 impl CallReturns {
-    /// Nothing returns.
-    pub fn none(alloc: Global) -> CallReturns {
-        CallReturns {
-            may_return: Vec::new(alloc),
-            know_return: Vec::new(alloc),
-        }
-    }
-
     /// Whether a return may come from an address on.
     pub fn may_return(&self, at: u16) -> bool
         ensures { result ≡ (returns_of self.now).may at }

@@ -57,8 +57,11 @@ impl Fit<'_> {
     fn has(&self, hint: u32, to: u16, state: State) -> bool
         ensures { result ≡ true → Has self.now.table.now to state }
     {
-        match self.hints.get(hint as usize) {
-            Some(place) => has_at(self.table, *place, to, state),
+        let Some(place) = self.hints.get(hint as usize) else {
+            return false;
+        };
+        match self.table.get(*place as usize) {
+            Some(placed) => placed.at == to && state.is_inside(placed.state),
             None => false,
         }
     }
@@ -131,21 +134,6 @@ impl Fit<'_> {
         }
     }
 
-    /// Whether the table has a state wherever the program begins, goes on and returns to.
-    fn leads_on(&self, start: u16) -> bool
-        ensures start { result ≡ true → Has self.now.table.now start anything }
-        ensures fit { result ≡ true → AllFit self.now.regions.now self.now.code.now (returns_of self.now.returns.now) self.now.reached.now self.now.table.now }
-    {
-        self.has(0, start, State::ANY) && self.goes_on()
-    }
-
-    /// Whether it has one wherever the program goes on and returns to.
-    fn goes_on(&self) -> bool
-        ensures { result ≡ true → AllFit self.now.regions.now self.now.code.now (returns_of self.now.returns.now) self.now.reached.now self.now.table.now }
-    {
-        self.all_account() && self.all_fit()
-    }
-
     /// Whether each address accounts for what may come where its instruction leads.
     fn all_account(&self) -> bool
         ensures { result ≡ true → (at : ℕ) (found : Fetched) → at < 65536 → found_at self.now.reached.now at ≡ Some found →
@@ -199,17 +187,11 @@ impl Fit<'_> {
         match reached_at(self.reached, placed.at) {
             Some(found) => {
                 self.state_fits(targets_at(self.regions, placed.at), placed, found)
-                    && self.keeps_calls(placed, found)
+                    && self.keeps_behind(placed, found)
+                    && self.keeps_returns(placed, found)
             }
             None => true,
         }
-    }
-
-    /// Whether the table has what comes behind a call or a return of a state.
-    fn keeps_calls(&self, placed: Placed, found: Fetched) -> bool
-        ensures { result ≡ true → KeepsCalls (returns_of self.now.returns.now) self.now.code.now self.now.table.now placed.at placed.state found }
-    {
-        self.keeps_behind(placed, found) && self.keeps_returns(placed, found)
     }
 
     /// Whether a state knows where a return goes, and the table has there what the return makes of it, if the states at its address are to.
@@ -293,7 +275,10 @@ pub fn fits(
         regions: &image.regions,
         reached,
     };
-    all_know_quiet(table, quiet) && fit.leads_on(image.start)
+    all_know_quiet(table, quiet)
+        && fit.has(0, image.start, State::ANY)
+        && fit.all_account()
+        && fit.all_fit()
 }
 
 /// A table that fits each image: its state at each address says nothing.
@@ -321,16 +306,6 @@ pub fn anything(
         })?;
     }
     Ok(table)
-}
-
-/// Whether the state at a place of the table stands at an address, and says no more than this one.
-fn has_at(table: &[Placed], place: u32, to: u16, state: State) -> bool
-    ensures { result ≡ true → Has table.now to state }
-{
-    match table.get(place as usize) {
-        Some(placed) => placed.at == to && state.is_inside(placed.state),
-        None => false,
-    }
 }
 
 /// Whether a table knows bytes of quiet addresses alone.

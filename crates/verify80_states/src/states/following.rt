@@ -1,7 +1,7 @@
 //! What becomes of a state at an instruction.
 
 ghost use Rattle.std.specs.Prelude.{◌≡◌};
-ghost use Rattle.verify80_states.specs.Following.{byte_at, code_or, known_word, loaded_at, loaded, loaded_word, moved, counted, resulted, tested, is_accumulator, operand_bytes, after_operation, added_carry, turned, exchanged_pairs, index_words, popped_to, registers_after, pushed_words, called, returned, words_after, cells_after, state_after};
+ghost use Rattle.verify80_states.specs.Following.{byte_at, known_word, loaded_at, loaded, loaded_word, moved, counted, resulted, tested, operand_bytes, after_operation, added_carry, turned, exchanged_pairs, index_words, popped_to, registers_after, pushed_words, called, returned, words_after, cells_after, state_after};
 ghost use Rattle.verify80_states.specs.Span.{uncarried};
 ghost use Rattle.verify80_states.specs.State.{compared_with, with_outcome};
 
@@ -20,16 +20,6 @@ fn byte_at(code: &[Option<u8>], at: u16) -> Option<u8>
     }
 }
 
-/// A byte of code, if code is there, or what is known otherwise.
-fn code_or(byte: Option<u8>, otherwise: ByteSpan) -> ByteSpan
-    ensures { result ≡ code_or byte otherwise }
-{
-    match byte {
-        Some(byte) => ByteSpan::alone(byte),
-        None => otherwise,
-    }
-}
-
 /// What is known of a word.
 fn known_word(word: Option<Span>) -> Span
     ensures { result ≡ known_word word }
@@ -44,7 +34,10 @@ fn known_word(word: Option<Span>) -> Span
 fn loaded_at(code: &[Option<u8>], cells: Cells, at: u16) -> ByteSpan
     ensures { result ≡ loaded_at code.now cells at }
 {
-    code_or(byte_at(code, at), cells.bytes_at(at))
+    match byte_at(code, at) {
+        Some(byte) => ByteSpan::alone(byte),
+        None => cells.bytes_at(at),
+    }
 }
 
 /// A byte that is read at one of these addresses.
@@ -118,16 +111,6 @@ fn unchanged(state: State) -> State
     ensures { result ≡ tested (with_outcome state (uncarried state.a)) }
 {
     tested(state.with_outcome(Outcome::uncarried(state.a)))
-}
-
-/// Whether an operand is A itself.
-fn is_accumulator(operand: Operand) -> bool
-    ensures { result ≡ is_accumulator operand }
-{
-    match operand {
-        Operand::Register(Register::A) => true,
-        Operand::Register(_) | Operand::Memory | Operand::Immediate(_) => false,
-    }
 }
 
 /// What an operand may be.
@@ -280,7 +263,7 @@ fn registers_after(code: &[Option<u8>], instr: Instr, state: State) -> State
             .with_carry(added_carry(state, pair)),
         Instr::Operate(operation, operand) => after_operation(
             operation,
-            is_accumulator(operand),
+            matches!(operand, Operand::Register(Register::A)),
             operand_bytes(code, operand, state),
             state,
         ),
