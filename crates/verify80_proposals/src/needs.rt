@@ -277,7 +277,7 @@ fn moved_through(instr: Instr, need: Units) -> Units {
         }
         Instr::Operate(operation, operand) => operated(operation, operand, need),
         Instr::Rotate(rotation) => rotated(rotation, need),
-        Instr::Daa => need.difference(Units::FLAGS.union(Units::A)),
+        Instr::Daa => need.difference(Units::ALL_FLAGS.union(Units::A)),
         Instr::Cma => need.difference(Units::TEST),
         Instr::Stc => need.difference(Units::CARRIED),
         Instr::Cmc => need.difference(Units::TEST),
@@ -360,11 +360,11 @@ fn operated(operation: Operation, operand: Operand, need: Units) -> Units {
         Operand::Memory => Units::HL,
         Operand::Immediate(_) => Units::NONE,
     };
-    let asks = need.intersects(Units::FLAGS);
+    let asks = need.intersects(Units::ALL_FLAGS);
     let (rest, asks) = match operation {
-        Operation::Compare => (need.difference(Units::FLAGS), asks),
+        Operation::Compare => (need.difference(Units::ALL_FLAGS), asks),
         _ => (
-            need.difference(Units::FLAGS.union(Units::A)),
+            need.difference(Units::ALL_FLAGS.union(Units::A)),
             asks || need.intersects(Units::A),
         ),
     };

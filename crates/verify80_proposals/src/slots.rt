@@ -151,9 +151,8 @@ pub(crate) fn slots_before(
         Instr::InrMemory | Instr::DcrMemory if parts.intersects(counted) => {
             with_pointed(program, after, pointer)
         }
-        Instr::Operate(_, Operand::Memory) if parts.intersects(Units::A.union(Units::FLAGS)) => {
-            with_pointed(program, after, pointer)
-        }
+        Instr::Operate(_, Operand::Memory) if parts.intersects(Units::A.union(Units::ALL_FLAGS)) =>
+            { with_pointed(program, after, pointer) }
         _ => after,
     }
 }

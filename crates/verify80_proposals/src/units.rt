@@ -31,7 +31,7 @@ bitflags! {
         /// Those that INR and DCR write.
         const COUNTED = 0x0000_0680;
         /// Those that an operation on A writes.
-        const FLAGS = 0x0000_0780;
+        const ALL_FLAGS = 0x0000_0780;
         const FIRST = 0x0000_0800;
         const SECOND = 0x0000_1000;
         const THIRD = 0x0000_2000;
@@ -111,7 +111,7 @@ impl Units {
 
     /// The words when one is popped: those that were below it before.
     pub fn deeper(self) -> Units {
-        Units(self.intersection(Units::WORDS).0 * 2).intersection(Units::WORDS)
+        Units(self.intersection(Units::WORDS).0.wrapping_mul(2)).intersection(Units::WORDS)
     }
 
     /// The words when one is pushed.

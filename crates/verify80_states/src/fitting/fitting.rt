@@ -186,9 +186,13 @@ impl Fit<'_> {
     {
         match reached_at(self.reached, placed.at) {
             Some(found) => {
-                self.state_fits(targets_at(self.regions, placed.at), placed, found)
-                    && self.keeps_behind(placed, found)
-                    && self.keeps_returns(placed, found)
+                if !self.state_fits(targets_at(self.regions, placed.at), placed, found) {
+                    return false;
+                }
+                if !self.keeps_behind(placed, found) {
+                    return false;
+                }
+                self.keeps_returns(placed, found)
             }
             None => true,
         }
@@ -275,10 +279,16 @@ pub fn fits(
         regions: &image.regions,
         reached,
     };
-    all_know_quiet(table, quiet)
-        && fit.has(0, image.start, State::ANY)
-        && fit.all_account()
-        && fit.all_fit()
+    if !all_know_quiet(table, quiet) {
+        return false;
+    }
+    if !fit.has(0, image.start, State::ANY) {
+        return false;
+    }
+    if !fit.all_account() {
+        return false;
+    }
+    fit.all_fit()
 }
 
 /// A table that fits each image: its state at each address says nothing.

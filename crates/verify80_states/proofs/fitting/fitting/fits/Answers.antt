@@ -10,15 +10,15 @@ use Rattle.verify80_states.proofs.CellLemmas.{knows_quieter}
 use Rattle.verify80_states.proofs.TableLemmas.{fits_program}
 use Rattle.verify80_states.proofs.fitting.fitting.fits.Goals as goal
 
-pub returns-then-all_account : goal.returns-then-all_account
-returns-then-all_account c fitting quiet marked in_data =
+pub returns : goal.returns
+returns c fitting quiet marked in_data =
     let image = c.args.image.now in
     let code = c.args.code.now in
     let returns = returns_of c.args.returns.now in
     let reached = c.args.reached.now in
     let table = c.args.table.now in
-    let start : Has table image.start anything = subst (λ (i : Located). Has table i.start anything) c.image.view_is (c.if-has.ensures refl) in
-    let fit : AllFit c.image.inside.regions code returns reached table = record { entries = c.all_fit.ensures.entries fitting; accounts = c.if-all_account.ensures refl; calls = c.all_fit.ensures.calls fitting } in
+    let start : Has table image.start anything = subst (λ (i : Located). Has table i.start anything) c.image.view_is (c.if-not-has.ensures refl) in
+    let fit : AllFit c.image.inside.regions code returns reached table = record { entries = c.all_fit.ensures.entries fitting; accounts = c.if-not-all_account.ensures refl; calls = c.all_fit.ensures.calls fitting } in
     let fit_here : AllFit image.regions code returns reached table = subst (λ (r : Areas). AllFit r code returns reached table) (ap (λ (i : Located). i.regions) c.image.view_is) fit in
     c.fitting_states_hold.ensures.kept image quiet code returns table c.requires.rules c.requires.code in_data
-    (fits_program image quiet reached code returns table c.requires.reached c.requires.whole start fit_here (knows_quieter (is_marked c.args.quiet.now) quiet table marked (c.if-all_know_quiet.ensures refl)))
+    (fits_program image quiet reached code returns table c.requires.reached c.requires.whole start fit_here (knows_quieter (is_marked c.args.quiet.now) quiet table marked (c.if-not-all_know_quiet.ensures refl)))
