@@ -1,9 +1,8 @@
 -- What is noted by address of the states of a table, place by place.
-use Rattle.std.specs.Prelude.{◌≡◌, ◌≢◌, ◌⊎◌, ℕ, ◌<◌, ◌+◌, Bool, true, false, List, Option, None, Some, [], ◌∷◌, ◌++◌, zero, suc, ◌≤◌, length, slice_get, slice_index, slice_set, refl, if◌then◌else◌}
+use Rattle.std.specs.Prelude.{◌≡◌, ◌≢◌, ◌⊎◌, ℕ, ◌<◌, ◌+◌, Bool, true, false, List, Option, None, Some, ◌≤◌, length, slice_get, slice_index, slice_set, refl, if◌then◌else◌}
 use Rattle.std.proofs.Common.{subst, sym, ap, ◌∙◌, inl, inr, arith, get_or-set_other}
 use Rattle.std.proofs.lemmas.List.{get_or-set_same, length-set}
 use Rattle.std.proofs.lemmas.Option.{slice_get_within}
-use Rattle.frames80.specs.Lists.{slice_get-last}
 use Rattle.decode80.specs.declared.fetching.Fetched.{Fetched}
 use Rattle.image80.specs.Regions.{Areas, in_code}
 use Rattle.image80.specs.Image.{Located, memory_of}
@@ -11,7 +10,6 @@ use Rattle.verify80.specs.Looking.{declared_targets}
 use Rattle.verify80_states.specs.declared.spans.span.Span.{Span}
 use Rattle.verify80_states.specs.declared.fitting.fitting.Placed.{Placed}
 use Rattle.verify80_states.specs.Span.{IsInside}
-use Rattle.verify80_states.specs.State.{anything}
 use Rattle.verify80_states.specs.Following.{entry_in}
 use Rattle.verify80_states.specs.Steps.{AreCodeBytes, code_in}
 use Rattle.verify80_states.specs.Marks.{is_marked}

@@ -1,6 +1,6 @@
 -- Vectors by address, read and written.
 use Rattle.std.specs.Prelude.{◌≡◌, ◌≢◌, ◌⊎◌, ℕ, zero, suc, ◌<◌, Bool, true, false, List, [], ◌∷◌, Option, None, Some, length, replicate, slice_get, slice_index_or, slice_set, refl}
-use Rattle.std.proofs.Common.{subst, sym, ◌∙◌, arith, get_or, get_or-set_other}
+use Rattle.std.proofs.Common.{sym, ◌∙◌, arith, get_or, get_or-set_other}
 use Rattle.std.proofs.lemmas.List.{get_or-set_same}
 use Rattle.verify80_states.specs.Following.{entry_in}
 use Rattle.verify80_states.specs.Marks.{is_marked}
