@@ -5,3 +5,4 @@ mod PieceLemmas
 mod RangeLemmas
 mod SharedLemmas
 mod UnreadLemmas
+pub mod Walks

@@ -1,4 +1,6 @@
 pub mod Answer
+pub mod Journal
+pub mod Noted
 pub mod ApartPaths
 pub mod Arguments
 pub mod Kinds
