@@ -3,7 +3,6 @@ pub mod InputsText
 pub mod FirstLineLaws
 pub mod Texts
 pub mod TranscriptText
-pub mod Vouched
 pub mod Fault
 pub mod Session
 pub mod Sends

@@ -21,7 +21,7 @@ use Rattle.loader80.specs.TranscriptText.{transcript, refusal_line}
 use Rattle.verify80_flow.specs.declared.report.ProcRow.{ProcRow}
 use Rattle.verify80_flow.specs.Faults.{Holds}
 use Rattle.verify80.specs.Looking.{code_of}
-use Rattle.loader80.specs.Vouched.{IsVouched}
+use Rattle.verify80.specs.Vouched.{IsVouched}
 
 -- the image's bytes spell the image but for its regions, and the regions' text spells those
 pub record SpellsProgram (t : Texts) (image : Located) : Type 0 where

@@ -4,7 +4,7 @@
 //!
 //! | Item | What it is |
 //! |---|---|
-//! | [`vouch`], [`Vouched`], [`run`] | an image is checked, and runs |
+//! | [`vouch`], [`Vouched`], [`run`] | an image is checked, and runs; the first two stand in `verify80` |
 //! | [`Refusal`], [`ProcRow`] | why the verifier refuses an image; what it says of a procedure |
 //! | [`refusal_text`] | the line that is printed of a refusal |
 //! | [`front_text`], [`ending_text`] | a run's transcript but for its last line; that line |
@@ -26,7 +26,6 @@ mod replies;
 mod running;
 mod sessions;
 mod transcript;
-mod vouched;
 
 pub use fault::SessionFault;
 pub use inputs::{InputsFault, read_inputs};
@@ -37,5 +36,4 @@ pub use stream80::{
     Failed, ReadAllFault, Reading, Sink, Source, TEXT_LIMIT, Writing, read_all, write_all,
 };
 pub use transcript::{ending_text, front_text, refusal_text};
-pub use verify80::{ProcRow, Refusal};
-pub use vouched::{Vouched, vouch};
+pub use verify80::{ProcRow, Refusal, Vouched, vouch};

@@ -9,12 +9,11 @@ use crate::fault::SessionFault;
 use crate::inputs::{InputsFault, read_inputs};
 use crate::running::run;
 use crate::transcript::{refusal_text, transcript_text};
-use crate::vouched::{Vouched, vouch};
 use image80::{Image, RegionsFault, read_regions};
 use image80_file::{ImageFault, read_image};
 use machine80::{End, Inputs, ListPorts, PagedBus, Ports};
 use std::alloc::{AllocError, Global};
-use verify80::Refusal;
+use verify80::{Refusal, Vouched, vouch};
 
 /// How a session went.
 #[derive(Clone, Copy, Debug, PartialEq, Eq)]

@@ -7,10 +7,10 @@ ghost use Rattle.machine80.specs.Step.{PortsAfter, with_ports};
 ghost use Rattle.machine80.specs.World.{world_at_start, IsProperEnd};
 ghost use Rattle.machine80.specs.Run.{IsRun, Agrees};
 
-use crate::vouched::Vouched;
 use machine80::{Bus, Cpu, End, Ports};
 use machine80_quick::laws::images_that_never_go_wrong_stay_right;
 use machine80_quick::quick_advance;
+use verify80::Vouched;
 
 /// How a run ended.
 #[derive(Clone, Copy, Debug, PartialEq, Eq)]

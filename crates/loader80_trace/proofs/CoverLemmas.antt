@@ -4,7 +4,7 @@ use Rattle.std.specs.List.{flat_map, range_with_len}
 use Rattle.std.proofs.Common.{◌∙◌, ap, sym, subst, arith, add-one, append_assoc, append-nil, length-append}
 use Rattle.decode80.specs.declared.fetching.Fetched.{Fetched}
 use Rattle.image80.specs.Regions.{Areas}
-use Rattle.verify80_calls.specs.Reached.{found_at}
+use Rattle.verify80.specs.Reached.{found_at}
 use Rattle.loader80_trace.specs.Lines.{filled}
 use Rattle.loader80_trace.specs.Cover.{cover_lines, data_before, data_from, is_data, line_at, line_of, tally}
 

@@ -12,7 +12,7 @@ use Rattle.image80.specs.Regions.{Areas, in_code}
 use Rattle.image80.specs.Image.{Located, memory_of}
 use Rattle.image80_text.specs.Listing.{columns}
 use Rattle.loader80_trace.specs.Lines.{filled}
-use Rattle.verify80_calls.specs.Reached.{AreReached, found_at}
+use Rattle.verify80.specs.Reached.{AreReached, found_at}
 use Rattle.verify80.specs.Looking.{code_of}
 
 -- how many bytes the instruction at an address has; 0 if a table has none there

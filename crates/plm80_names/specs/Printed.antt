@@ -11,7 +11,7 @@ use Rattle.verify80_flow.specs.declared.refusal.Refusal.{Refusal}
 use Rattle.verify80_flow.specs.declared.report.ProcRow.{ProcRow}
 use Rattle.verify80_flow.specs.Refusal.{refusal_address}
 use Rattle.loader80.specs.TranscriptText.{refusal_line}
-use Rattle.loader80.specs.Vouched.{Voucher}
+use Rattle.verify80.specs.Vouched.{Voucher}
 use Rattle.loader80_text.specs.ReportText.{report_text, row_line}
 
 -- the publics by which addresses are named: those that the image's file has if they are asked for, else none

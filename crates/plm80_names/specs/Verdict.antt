@@ -9,7 +9,7 @@ use Rattle.verify80_flow.specs.declared.refusal.Refusal.{Refusal}
 use Rattle.verify80_flow.specs.declared.refusal.Refusal.TheVariants.{Memory}
 use Rattle.verify80_flow.specs.Faults.{Holds}
 use Rattle.verify80.specs.Looking.{code_of}
-use Rattle.loader80.specs.Vouched.{IsVouched, Voucher}
+use Rattle.verify80.specs.Vouched.{IsVouched, Voucher}
 use Rattle.plm80_console.specs.Answer.{AnswerValue, prints}
 use Rattle.plm80_names.specs.declared.refusing.Verdict.{Verdict}
 use Rattle.plm80_names.specs.declared.refusing.Verdict.TheVariants.{Accepted, Refused}

@@ -15,7 +15,7 @@ use Rattle.machine80.specs.Step.{Machine, with_ports}
 use Rattle.machine80.specs.World.{World}
 use Rattle.loader80.specs.declared.running.Ended.{Ended}
 use Rattle.loader80.specs.TranscriptText.{output_line, stack_line}
-use Rattle.loader80.specs.Vouched.{Voucher}
+use Rattle.verify80.specs.Vouched.{Voucher}
 use Rattle.loader80_trace.specs.declared.limits.Limits.{Limits}
 use Rattle.loader80_trace.specs.declared.limits.Span.{Span}
 use Rattle.loader80_trace.specs.Traces.{last_number, run_lines}

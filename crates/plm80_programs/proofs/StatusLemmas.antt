@@ -6,7 +6,7 @@ use Rattle.std.proofs.lemmas.Result.{IfOk-weaker}
 use Rattle.omf_model.specs.declared.symbols.Public.{Public}
 use Rattle.image80.specs.Image.{Located}
 use Rattle.loader80.specs.InputsText.{bad_line, inputs_of}
-use Rattle.loader80.specs.Vouched.{Voucher}
+use Rattle.verify80.specs.Vouched.{Voucher}
 use Rattle.plm80_console.specs.Answer.{AnswerValue, prints}
 use Rattle.plm80_names.specs.Verdict.{AnswersVerdict, AreOfFiles, IsAccepted, IsRefusal, IsStatusFor}
 use Rattle.plm80_names.specs.Verdict.AnswersVerdict.{accepted, refused}

@@ -25,7 +25,7 @@ use Rattle.verify80_stores.specs.Boards.{PromiseHoldsOnBoards, PromiseHoldsOnQui
 use Rattle.verify80_stores.specs.Stores.{AreStoresOf}
 use Rattle.verify80_stores.specs.StoresText.{stores_text_of}
 use Rattle.loader80.specs.declared.running.Ended.{Ended}
-use Rattle.loader80.specs.Vouched.{Voucher}
+use Rattle.verify80.specs.Vouched.{Voucher}
 use Rattle.loader80_trace.specs.declared.limits.Limits.{Limits}
 use Rattle.loader80_trace.specs.Counts.{CountsSteps}
 use Rattle.loader80_trace.specs.Cover.{CoversReached, ListsReached}

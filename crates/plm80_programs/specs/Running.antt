@@ -16,7 +16,7 @@ use Rattle.loader80.specs.declared.fault.SessionFault.TheVariants.{Read, Write, 
 use Rattle.loader80.specs.InputsText.{bad_line, inputs_of}
 use Rattle.loader80.specs.Session.{IsTranscript}
 use Rattle.loader80.specs.TranscriptText.{end_line}
-use Rattle.loader80.specs.Vouched.{Voucher}
+use Rattle.verify80.specs.Vouched.{Voucher}
 use Rattle.loader80_trace.specs.declared.limits.Limits.{Limits}
 use Rattle.loader80_trace.specs.declared.limits.Span.{Span}
 use Rattle.loader80_trace.specs.Traces.{IsTraced, count_within, last_number, run_lines}

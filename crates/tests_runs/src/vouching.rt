@@ -9,8 +9,8 @@ use machine80::{End, FlatBus, ListPorts, PagedBus, Ports};
 use std::alloc::Global;
 use std::process::Abort;
 use std::test::Fail;
-use verify80::verify;
-use verify80_calls::{Procedure, find_calls, find_reached};
+use verify80::{find_reached, verify};
+use verify80_calls::{Procedure, find_calls};
 use verify80_stores::find_stores;
 
 /// Its procedure.

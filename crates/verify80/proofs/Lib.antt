@@ -14,3 +14,4 @@ pub mod Along
 pub mod BoardSteps
 pub mod BoardLemmas
 pub mod BoardStarts
+pub mod ReachedLemmas

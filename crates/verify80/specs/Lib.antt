@@ -5,3 +5,4 @@ pub mod Starts
 pub mod Reached
 pub mod Boards
 pub mod Soundness
+pub mod Vouched

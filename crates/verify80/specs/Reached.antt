@@ -1,5 +1,5 @@
 -- Where runs go: along the walks that the verifier has followed. (This project's own.)
-use Rattle.std.specs.Prelude.{◌≡◌, ℕ, true, Option, Some, Ok}
+use Rattle.std.specs.Prelude.{◌≡◌, ℕ, true, List, Option, None, Some, Ok, slice_index_or}
 use Rattle.decode80.specs.declared.fetching.Fetched.{Fetched}
 use Rattle.frames80.specs.StackFrame.{StackFrame}
 use Rattle.image80.specs.Image.{Located}
@@ -19,6 +19,15 @@ pub record IsReached (code : Code) (at : ℕ) : Type 0 where
   pub procedure : Procedure
   pub frame : StackFrame
   pub walk : Walk code procedure at frame
+
+-- the instruction that a table has at an address, if it has one there
+abbrev pub found_at : List (Option Fetched) → ℕ → Option Fetched
+found_at table at = slice_index_or table at None
+
+-- a table has an instruction at exactly the addresses that a walk reaches, and it is the one that the verifier finds there
+pub record AreReached (code : Code) (table : List (Option Fetched)) : Type 0 where
+  pub found : (at : ℕ) (found : Fetched) → found_at table at ≡ Some found → IsReached code at × (code.look at ≡ Ok found)
+  pub none : (at : ℕ) → found_at table at ≡ None → IsReached code at → ⊥
 
 -- a walk leads to where a world stands, and the world's next step fetches the instruction that the verifier has found there
 pub record StandsOnWalk (image : Located) (w : World) : Type 0 where

@@ -1,6 +1,6 @@
 //! The verifier: whether an image may run, and why not; and the promise, from tables of frames to runs.
 //!
-//! Proved: the analysis of an image; if a table fits, no run goes wrong, from power-on too.
+//! Proved: the analysis of an image; if a table fits, no run goes wrong, from power-on too; exactly the addresses that walks reach.
 //!
 //! | Item | What it is |
 //! |---|---|
@@ -9,6 +9,8 @@
 //! | [`measure`] | a report on an image, however small its stack is |
 //! | [`Report`], [`ProcRow`], [`ProgramPoint`] | what is found of an image that is accepted |
 //! | [`Refusal`] | why an image is refused |
+//! | [`vouch`], [`Vouched`] | an image that is accepted, with what is known of it |
+//! | [`find_reached`], [`Reached`] | the instruction at each address that a walk reaches |
 //! | [`ImageCode`] | an image as the verifier looks at it, address by address |
 //! | [`looks_are_exact`] | what the analysis sees of an image, as a contract |
 //! | [`fitted_images_never_go_wrong`] | if a table of frames fits an image, no run of it goes wrong, as a contract |
@@ -20,7 +22,9 @@
 mod image_code;
 mod laws;
 mod promise;
+mod reached;
 mod verifying;
+mod vouched;
 
 pub use image_code::ImageCode;
 pub use laws::looks_are_exact;
@@ -29,5 +33,7 @@ pub use promise::{
     images_never_go_wrong_from_power_on, promise_is_kept_on_boards, runs_begin_from_power_on,
     walks_are_kept_on_boards,
 };
+pub use reached::{Reached, find_reached};
 pub use verify80_flow::{ProcRow, ProgramPoint, Refusal, Report};
 pub use verifying::{Verified, measure, verify, verify_and_keep};
+pub use vouched::{Vouched, vouch};

@@ -12,7 +12,7 @@ use Rattle.frames80.specs.Code.{Code, role_of}
 use Rattle.frames80.specs.declared.procedure.Procedure.{Procedure}
 use Rattle.frames80.specs.declared.procedure.Procedure.TheVariants.{Main, Entry}
 use Rattle.frames80.specs.PointNumbers.{is_same, same_is, same_procedure}
-use Rattle.loader80.specs.Vouched.{Voucher}
+use Rattle.verify80.specs.Vouched.{Voucher}
 use Rattle.verify80.specs.Looking.{code_of}
 use Rattle.verify80_flow.specs.Faults.{CallsFrom, Leads, Recurs}
 use Rattle.verify80_flow.specs.Faults.Leads.{here, further}

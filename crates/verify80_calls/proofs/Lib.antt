@@ -1,6 +1,5 @@
 pub mod PointLemmas
 pub mod CallLemmas
-pub mod ReachedLemmas
 pub mod BoundLemmas
 pub mod EndLemmas
 pub mod ChainLemmas

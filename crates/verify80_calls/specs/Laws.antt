@@ -5,7 +5,7 @@ use Rattle.frames80.specs.declared.procedure.Procedure.TheVariants.{Main, Entry}
 use Rattle.verify80_flow.specs.Accepted.{IsAccepted}
 use Rattle.verify80_flow.specs.Use.{EndsChain}
 use Rattle.verify80.specs.Looking.{code_of}
-use Rattle.loader80.specs.Vouched.{Voucher}
+use Rattle.verify80.specs.Vouched.{Voucher}
 use Rattle.verify80_calls.specs.declared.graph.call_graph.Node.{Node}
 use Rattle.verify80_calls.specs.declared.graph.chain.Link.{Link}
 use Rattle.verify80_calls.specs.Nodes.{HasItsCalls, bound_of, heading_of, headings}

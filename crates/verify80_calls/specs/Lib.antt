@@ -1,5 +1,4 @@
 pub mod Calls
-pub mod Reached
 pub mod Nodes
 pub mod Chain
 pub mod Laws

@@ -6,7 +6,7 @@ use Rattle.frames80.specs.declared.procedure.Procedure.TheVariants.{Main, Entry}
 use Rattle.frames80.specs.Code.{Code}
 use Rattle.frames80.specs.PointNumbers.{same_procedure}
 use Rattle.verify80_flow.specs.declared.report.ProcRow.{ProcRow}
-use Rattle.loader80.specs.Vouched.{Voucher}
+use Rattle.verify80.specs.Vouched.{Voucher}
 use Rattle.verify80_calls.specs.Calls.{AreCalls}
 use Rattle.verify80_calls.specs.declared.graph.call_graph.Node.{Node}
 

@@ -8,9 +8,8 @@ ghost use Rattle.verify80_calls.specs.Points.{call_at, called_by};
 
 use crate::points::points_of;
 use frames80::{Code, Effect, depth_by, effect_of, role_of};
-use loader80::Vouched;
 use std::alloc::{AllocError, Global};
-use verify80::{ImageCode, ProgramPoint};
+use verify80::{ImageCode, ProgramPoint, Vouched};
 use verify80_flow::{Procedure, fitting_tables_cover_walks};
 
 /// A call of a procedure.

@@ -1,4 +1,4 @@
-//! The addresses and calls that a program's walks reach, and the calls as lines and as a graph.
+//! The calls that a program's walks reach, as lines and as a graph.
 //!
 //! Proved: exactly those of walks, with their depths; each procedure with its bound and its calls; what a bound is made of.
 //!
@@ -7,7 +7,6 @@
 //! | [`find_calls`] | the calls of a procedure, with its depth at each |
 //! | [`Call`] | a call: where it stands, how deep the stack is there, and what it calls |
 //! | [`Procedure`] | the main program, or one that a call reaches |
-//! | [`find_reached`], [`Reached`] | the instruction at each address that a walk reaches |
 //! | [`CallGraph`], [`Node`] | the procedures of a program, each with its bound and its calls |
 //! | [`list_text`] | a line for each procedure, and one for each of its calls |
 //! | [`graph_text`] | the same as a graph for Graphviz |
@@ -17,9 +16,7 @@
 mod calls;
 mod graph;
 mod points;
-mod reached;
 
 pub use calls::{Call, find_calls};
 pub use graph::{CallGraph, Node, bounds_are_made_of_chains, graph_text, list_text};
-pub use reached::{Reached, find_reached};
 pub use verify80_flow::Procedure;

@@ -8,7 +8,7 @@ use Rattle.machine80.specs.Run.{world_of}
 use Rattle.frames80.specs.Code.{Code}
 use Rattle.verify80.specs.Looking.{code_of}
 use Rattle.verify80.specs.Reached.{IsReached, StandsOnWalk}
-use Rattle.verify80_calls.specs.Reached.{AreReached, found_at}
+use Rattle.verify80.specs.Reached.{AreReached, found_at}
 use Rattle.verify80_stores.specs.declared.fitting.fitting.Placed.{Placed}
 use Rattle.verify80_stores.specs.Bytes.{HoldsBytes, MemoryKeepsItsLength}
 use Rattle.verify80_stores.specs.declared.states.state.State.{State}

@@ -4,9 +4,8 @@ use crate::fitting::CallEffects;
 use crate::search::{Groups, ReachedProgram};
 use crate::stores::Stores;
 use decode80::{Fetched, Flow, IndexPair, Instr, Pair, Storing};
-use loader80::Vouched;
 use std::alloc::{AllocError, Global};
-use verify80_calls::find_reached;
+use verify80::{Vouched, find_reached};
 
 /// How many steps back are taken in all, at most.
 const STEPS: usize = 1_000_000;

@@ -5,7 +5,7 @@ ghost use Rattle.image80.specs.Image.{memory_of};
 ghost use Rattle.image80.specs.Regions.{AreRegions};
 ghost use Rattle.verify80.specs.Looking.{code_of};
 ghost use Rattle.verify80.specs.Boards.{SetsStack};
-ghost use Rattle.verify80_calls.specs.Reached.{AreReached};
+ghost use Rattle.verify80.specs.Reached.{AreReached};
 ghost use Rattle.verify80_stores.specs.Bytes.{HasBytes};
 ghost use Rattle.verify80_stores.specs.Boards.{PromiseHoldsOnBoards, PromiseHoldsOnQuietBoards, is_quiet};
 ghost use Rattle.verify80_stores.specs.State.{anything};
@@ -28,18 +28,16 @@ use crate::stores::Stores;
 use decode80::Fetched;
 use image80::laws::code_data_and_stack_are_apart;
 use image80::{Image, Range, Regions};
-use loader80::Vouched;
 use std::alloc::{AllocError, Global};
 use verify80::{
-    ProcRow, accepted_images_stay_on_walks, images_never_go_wrong_from_power_on,
-    promise_is_kept_on_boards, walks_are_kept_on_boards,
+    ProcRow, Vouched, accepted_images_stay_on_walks, find_reached,
+    images_never_go_wrong_from_power_on, promise_is_kept_on_boards, walks_are_kept_on_boards,
 };
-use verify80_calls::find_reached;
 
 /// Goes over a vouched image, and answers where its register-indirect stores may go. In the quiet ranges of data nobody but the program
 /// writes: what it has stored there is remembered.
 ///
-/// On a board, if nothing stops a store outside data, this is what the promise of [`loader80::vouch`] still needs: whatever bytes are in
+/// On a board, if nothing stops a store outside data, this is what the promise of [`verify80::vouch`] still needs: whatever bytes are in
 /// the registers, in memory outside the code and at the ports, if only SP is at the stack's top before the first step, each store of an
 /// address that isn't listed as open goes to data, and each that is goes to an address of its span. So a run ends at a store only if that
 /// is listed, and at a PCHL outside its targets only at one of the listed ones. A board goes on there, and then nothing is promised, of the

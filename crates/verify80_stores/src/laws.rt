@@ -5,7 +5,7 @@ ghost use Rattle.verify80_stores.specs.Stores.{StoresAreThoseOfWatchedRuns};
 
 use verify80::runs_begin_from_power_on;
 
-/// The runs that [`loader80::run`] makes, from the image's memory and registers of 0, are runs from power-on: what is found of an
+/// The runs that a loader makes, from the image's memory and registers of 0, are runs from power-on: what is found of an
 /// image's stores holds of them.
 pub fn watched_runs_go_as_listed()
     ensures { StoresAreThoseOfWatchedRuns }

@@ -3,7 +3,7 @@
 ghost use Rattle.std.specs.Prelude.{◌≡◌, ◌<◌, ◌≤◌, ◌++◌, IfOk, OnOk, length, slice_index, true, if◌then◌else◌};
 ghost use Rattle.image80.specs.Image.{memory_of};
 ghost use Rattle.loader80_trace.specs.Cover.{CoversReached, ListsReached, cover_lines, data_before, is_begun, is_data, is_instruction, line_of, sums_line, tally};
-ghost use Rattle.verify80_calls.specs.Reached.{found_at};
+ghost use Rattle.verify80.specs.Reached.{found_at};
 
 use crate::covering::line::{append_data, append_instruction};
 use crate::covering::places::{Layout, data_behind, is_data};
@@ -12,7 +12,7 @@ use loader80::Vouched;
 use machine80::FlatBus;
 use std::alloc::{AllocError, Global};
 use std::fmt::Write;
-use verify80_calls::{Reached, find_reached};
+use verify80::{Reached, find_reached};
 
 /// The code of a vouched image by address: a line for each instruction that walks reach, as a listing has it, and the bytes of
 /// code that are in none of them as data, eight a line at most. Adjacent ranges of code count as one; instructions that overlap

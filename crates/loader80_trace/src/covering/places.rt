@@ -2,12 +2,12 @@
 
 ghost use Rattle.std.specs.Prelude.{◌≡◌, ◌+◌, ◌<◌, ◌≤◌, true};
 ghost use Rattle.loader80_trace.specs.Cover.{data_before, is_covered, is_data, size_of};
-ghost use Rattle.verify80_calls.specs.Reached.{found_at};
+ghost use Rattle.verify80.specs.Reached.{found_at};
 
 use decode80::encode;
 use image80::Regions;
 use machine80::FlatBus;
-use verify80_calls::Reached;
+use verify80::Reached;
 
 /// An image's code, with the instructions that walks reach.
 #[derive(Drop)]

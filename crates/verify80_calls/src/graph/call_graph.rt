@@ -6,10 +6,9 @@ ghost use Rattle.verify80_calls.specs.Nodes.{HasItsCalls, IsNodeOf, heading_of, 
 
 use crate::calls::calls_among;
 use crate::{Call, Procedure};
-use loader80::{ProcRow, Vouched};
 use std::alloc::{AllocError, Global};
 use std::marker::Model;
-use verify80::ImageCode;
+use verify80::{ImageCode, ProcRow, Vouched};
 
 /// A procedure with its bound and its calls.
 #[derive(Debug, Drop)]

@@ -1,7 +1,7 @@
 use Rattle.std.proofs.Common.{subst}
 use Rattle.verify80.specs.Starts.{NeverGoesWrongFromPowerOn}
-use Rattle.loader80.specs.Vouched.{Voucher}
-use Rattle.loader80.proofs.vouched.Vouched.stack_bytes.Goals as goal
+use Rattle.verify80.specs.Vouched.{Voucher}
+use Rattle.verify80.proofs.vouched.Vouched.stack_bytes.Goals as goal
 
 pub returns-clause-from_power_on : goal.returns-clause-from_power_on
 returns-clause-from_power_on c =

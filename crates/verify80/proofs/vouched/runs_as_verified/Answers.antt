@@ -1,7 +1,7 @@
 use Rattle.std.proofs.Common.{ap, subst}
 use Rattle.image80.specs.Regions.{AreRegions}
 use Rattle.image80.specs.Image.{Located}
-use Rattle.loader80.proofs.vouched.runs_as_verified.Goals as goal
+use Rattle.verify80.proofs.vouched.runs_as_verified.Goals as goal
 
 pub returns-clause-watched : goal.returns-clause-watched
 returns-clause-watched c = λ bytes fitted enough.

@@ -3,14 +3,14 @@
 ghost use Rattle.std.specs.Prelude.{◌≡◌, IfOk, length, slice_set};
 ghost use Rattle.std.specs.Result.{result_ok};
 ghost use Rattle.verify80.specs.Looking.{code_of};
-ghost use Rattle.verify80_calls.specs.Reached.{AreReached};
+ghost use Rattle.verify80.specs.Reached.{AreReached};
 
+use crate::image_code::ImageCode;
+use crate::vouched::Vouched;
 use decode80::Fetched;
 use frames80::Code;
-use loader80::Vouched;
 use std::alloc::{AllocError, Global};
 use std::marker::Model;
-use verify80::ImageCode;
 use verify80_flow::fitting_tables_cover_walks;
 
 /// The instruction at each address that a walk of an image's procedures reaches.
@@ -32,7 +32,7 @@ impl Model for Reached {
 
 impl Reached {
     ghost use Rattle.std.specs.Prelude.{◌≡◌, length};
-    ghost use Rattle.verify80_calls.specs.Reached.{found_at};
+    ghost use Rattle.verify80.specs.Reached.{found_at};
 
     /// The instructions by address: 65,536 places.
     pub fn instructions(&self) -> &[Option<Fetched>]

@@ -1,7 +1,7 @@
 use Rattle.std.proofs.Common.{◌≡◌, ◌∙◌, Option, None, Some, refl, rules}
 use Rattle.verify80.specs.Looking.{code_of}
-use Rattle.verify80_calls.proofs.ReachedLemmas.{all_noted, none_noted, one_more_noted}
-use Rattle.verify80_calls.proofs.reached.find_reached.Goals as goal
+use Rattle.verify80.proofs.ReachedLemmas.{all_noted, none_noted, one_more_noted}
+use Rattle.verify80.proofs.reached.find_reached.Goals as goal
 
 -- what no Some is, is None
 none_of : {X : Type 0} (Is : Option X → Type 0) → ((x : X) → Is (Some x) → ⊥) → (y : Option X) → Is y → y ≡ None

@@ -13,7 +13,7 @@ use Rattle.verify80_flow.specs.ProgramPoints.{ArePoints, IsReachedPoint}
 use Rattle.image80.specs.Image.{Located}
 use Rattle.verify80.specs.Looking.{code_of}
 use Rattle.verify80.specs.Reached.{IsReached}
-use Rattle.verify80_calls.specs.Reached.{AreReached, found_at}
+use Rattle.verify80.specs.Reached.{AreReached, found_at}
 
 -- the instructions of the first points are noted, and no others
 pub record AreNoted (code : Code) (points : List ProgramPoint) (count : ℕ) (table : List (Option Fetched)) : Type 0 where

@@ -6,15 +6,14 @@ ghost use Rattle.verify80_flow.specs.Fitting.{IsFitted};
 ghost use Rattle.machine80.specs.World.{NeverGoesWrong};
 ghost use Rattle.verify80.specs.Looking.{code_of};
 ghost use Rattle.verify80.specs.Starts.{NeverGoesWrongFromPowerOn};
-ghost use Rattle.loader80.specs.Vouched.{IsVouched};
+ghost use Rattle.verify80.specs.Vouched.{IsVouched};
 
+use crate::promise::{fitted_images_never_go_wrong, images_never_go_wrong_from_power_on};
+use crate::verifying::{Verified, verify_and_keep};
 use image80::{Image, RegionMap};
 use std::alloc::Global;
 use std::marker::Model;
-use verify80::{
-    ProcRow, ProgramPoint, Refusal, Verified, fitted_images_never_go_wrong,
-    images_never_go_wrong_from_power_on, verify_and_keep,
-};
+use verify80_flow::{ProcRow, ProgramPoint, Refusal};
 
 /// An image that was vouched for: the verifier accepts it, so no run of it goes wrong.
 ///
@@ -33,7 +32,7 @@ impl Model for Vouched {
     ghost use Rattle.verify80_flow.specs.ProgramPoints.{ArePoints};
     ghost use Rattle.verify80.specs.Kept.{IsKept};
     ghost use Rattle.verify80.specs.Looking.{code_of};
-    ghost use Rattle.loader80.specs.Vouched.{IsVouched, Voucher};
+    ghost use Rattle.verify80.specs.Vouched.{IsVouched, Voucher};
 
     ghost Value = { Voucher };
 
@@ -53,7 +52,7 @@ impl Vouched {
     ghost use Rattle.verify80.specs.Kept.{IsKept};
     ghost use Rattle.verify80.specs.Looking.{code_of};
     ghost use Rattle.verify80.specs.Starts.{NeverGoesWrongFromPowerOn};
-    ghost use Rattle.loader80.specs.Vouched.{IsVouched};
+    ghost use Rattle.verify80.specs.Vouched.{IsVouched};
 
     /// An image that is accepted.
     fn new(image: Image, verified: Verified) -> Vouched
@@ -88,8 +87,8 @@ impl Vouched {
         &self.image
     }
 
-    /// The image's memory, by address.
-    pub(crate) fn memory(&self) -> &[u8]
+    /// The image's memory: 65,536 bytes, by address.
+    pub fn memory(&self) -> &[u8]
         ensures bytes { result.now ≡ memory_of self.now.image.chunks }
         ensures whole { length result.now ≡ 65536 }
     {
@@ -97,7 +96,7 @@ impl Vouched {
     }
 
     /// Which region each address of the image is in.
-    pub(crate) fn map(&self) -> &RegionMap
+    pub fn map(&self) -> &RegionMap
         ensures { Maps self.now.image.regions result.now }
     {
         &self.map

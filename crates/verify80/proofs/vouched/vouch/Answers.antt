@@ -1,5 +1,5 @@
-use Rattle.loader80.specs.Vouched.{IsVouched}
-use Rattle.loader80.proofs.vouched.vouch.Goals as goal
+use Rattle.verify80.specs.Vouched.{IsVouched}
+use Rattle.verify80.proofs.vouched.vouch.Goals as goal
 
 pub returns-in-Ok-clause-from_power_on : goal.returns-in-Ok-clause-from_power_on
 returns-in-Ok-clause-from_power_on c =
