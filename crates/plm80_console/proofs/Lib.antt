@@ -1,4 +1,5 @@
 mod DraftLemmas
+mod GivenLemmas
 mod LineLemmas
 mod NumberLemmas
 mod PieceLemmas

@@ -1,7 +1,7 @@
 -- What a command does in the end, as a value: the files that it writes, the lines that it prints, and its exit status.
 -- (The order, files first, and the statuses are this project's own.)
-use Rattle.std.specs.Prelude.{◌≡◌, ℕ, ◌<◌, List, [], ◌∷◌, ◌++◌, map}
-use Rattle.plm80_console.specs.Journal.{AddsSome, FileValue, Journal, and_read_files}
+use Rattle.std.specs.Prelude.{◌≡◌, ℕ, ◌<◌, List, [], ◌∷◌, map}
+use Rattle.plm80_console.specs.Journal.{AddsSome, FileValue, Journal, OnlyReports, and_printed, and_read_files, and_written}
 use Rattle.plm80_console.specs.declared.answer.WrittenFile.{WrittenFile}
 use Rattle.plm80_console.specs.declared.answer.WrittenFiles.{WrittenFiles}
 use Rattle.plm80_console.specs.declared.answer.WrittenFiles.TheVariants.{Nothing, One, Both}
@@ -36,11 +36,12 @@ writes_both first second = record { files = first ∷ second ∷ []; lines = [];
 
 -- files are written, one after another
 abbrev pub and_files : Journal → List FileValue → Journal
-and_files journal files = record journal { written = journal.written ++ files }
+and_files journal [] = journal
+and_files journal (file ∷ files) = and_files (and_written journal file.path file.bytes) files
 
 -- its files are written and its lines are printed, and nothing else is done
 abbrev pub and_given : Journal → AnswerValue → Journal
-and_given journal answer = record journal { written = journal.written ++ answer.files; printed = journal.printed ++ answer.lines }
+and_given journal answer = and_printed (and_files journal answer.files) answer.lines
 
 pub record IsGiven (answer : AnswerValue) (old new : Journal) (status : ℕ) : Type 0 where
   pub journal : new ≡ and_given old answer
@@ -56,6 +57,17 @@ pub record GaveUp (files : List FileValue) (old new : Journal) : Type 0 where
   pub spoiled : AddsSome (paths_of files) old.spoiled new.spoiled
   pub copies : new.copies ≡ old.copies
 
+-- an answer of these was given
+pub record IsAnswered (Answers : AnswerValue → Type 0) (old new : Journal) (status : ℕ) : Type 0 where
+  pub answer : AnswerValue
+  pub answers : Answers answer
+  pub given : IsGiven answer old new status
+
+-- one of them was given up, or there was none, which was reported
+pub data IsGivenUp (Answers : AnswerValue → Type 0) (old new : Journal) : Type 0 where
+  before : OnlyReports old new → IsGivenUp Answers old new
+  within : (answer : AnswerValue) → Answers answer → GaveUp answer.files old new → IsGivenUp Answers old new
+
 -- A command is done: the files of its arguments were read, in their order; its answer, which is one to these files, was given; nothing else
 -- was done, and no fault was reported.
 pub record Gives (Answers : List FileValue → AnswerValue → Type 0) (paths : List (List ℕ)) (old new : Journal) (status : ℕ) : Type 0 where
@@ -64,3 +76,9 @@ pub record Gives (Answers : List FileValue → AnswerValue → Type 0) (paths : 
   pub answer : AnswerValue
   pub answers : Answers files answer
   pub given : IsGiven answer (and_read_files old files) new status
+
+-- A command gave up, which was reported: before it wrote a file, or as it gave its answer.
+pub data GivesUp (Answers : List FileValue → AnswerValue → Type 0) (paths : List (List ℕ)) (old new : Journal) : Type 0 where
+  before : OnlyReports old new → GivesUp Answers paths old new
+  within : (files : List FileValue) (answer : AnswerValue) → paths_of files ≡ paths → Answers files answer
+      → GaveUp answer.files old new → GivesUp Answers paths old new

@@ -53,7 +53,7 @@ and_read_files journal (file ∷ files) = and_read_files (and_read journal file.
 -- ---- faults
 
 -- A fault was reported, and no file was written, spoiled or copied.
-pub record Failed (old new : Journal) : Type 0 where
+pub record OnlyReports (old new : Journal) : Type 0 where
   pub reported : old.reported < new.reported
   pub written : new.written ≡ old.written
   pub spoiled : new.spoiled ≡ old.spoiled

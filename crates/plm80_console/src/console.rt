@@ -1,11 +1,11 @@
 //! What a command runs on: files, standard input and output, and faults, each a line on standard error.
 
-ghost use Rattle.std.specs.Prelude.{◌≡◌, ◌≤◌, ◌∷◌, ℕ, List, [], Some, IfErr, IfOk, IfSome, IsOkAnd, vec_len};
+ghost use Rattle.std.specs.Prelude.{◌≡◌, ◌≤◌, ◌∷◌, ℕ, List, [], Ok, Some, IfErr, IfOk, IfSome, IsOkAnd, vec_len};
 ghost use Rattle.std.specs.Process.{exit_status};
 ghost use Rattle.stream80.specs.WholeText.{text_limit};
-ghost use Rattle.plm80_console.specs.Answer.{GaveUp, IsGiven, and_files, files_of};
+ghost use Rattle.plm80_console.specs.Answer.{GaveUp, IsGiven, IsGivenUp, and_files, files_of};
 ghost use Rattle.plm80_console.specs.Drafts.{GaveUpKeeping, IsReplacedKeeping, new_file_value};
-ghost use Rattle.plm80_console.specs.Journal.{Failed, Journal, and_input, and_printed, and_read, and_reported, and_written};
+ghost use Rattle.plm80_console.specs.Journal.{Journal, OnlyReports, and_printed, and_read, and_reported, and_written};
 
 use crate::answer::{Answer, WrittenFiles};
 use crate::pieces::TakePieces;
@@ -52,13 +52,13 @@ pub trait Console {
     fn read(&mut self, path: &str) -> Result<Vec<u8>, Reported>
         ensures read { IfOk result (λ bytes. journal self.new ≡ and_read (journal self.old) path.now bytes.items) }
         ensures within { IfOk result (λ bytes. vec_len bytes ≤ text_limit) }
-        ensures fault { IfErr result (λ _. Failed (journal self.old) (journal self.new)) };
+        ensures fault { IfErr result (λ _. OnlyReports (journal self.old) (journal self.new)) };
 
     /// Hands all bytes of the file of this path to the feed, in pieces of 512 bytes at most.
     fn read_in_pieces<F: TakePieces>(&mut self, path: &str, feed: &mut F) -> Result<(), Reported>
         ensures read { IfOk result (λ _. (bytes : List ℕ) × (journal self.new ≡ and_read (journal self.old) path.now bytes)
             × (F.has_taken feed.old [] → F.has_taken feed.new bytes)) }
-        ensures fault { IfErr result (λ _. Failed (journal self.old) (journal self.new)) };
+        ensures fault { IfErr result (λ _. OnlyReports (journal self.old) (journal self.new)) };
 
     /// Replaces the file of this path by one with these bytes.
     fn replace(&mut self, path: &str, bytes: &[u8]) -> Result<(), Reported>
@@ -93,6 +93,9 @@ pub trait Console {
 
     /// Prints words below the fault that was reported, if they are asked for.
     fn explain<F: Display + Drop>(&self, words: F);
+
+    /// Prints a line on standard error that is no fault.
+    fn remark<F: Display + Drop>(&self, words: F);
 
     /// The bytes of a file that was read, to say more of it; `None` if that isn't asked for, or if it can't be read again, as a pipe
     /// can't.
@@ -139,7 +142,7 @@ pub trait Console {
     fn read_file<'a>(&mut self, path: &'a str) -> Result<ReadFile<'a>, Reported>
         ensures path { IfOk result (λ file. file.path.now ≡ path.now) }
         ensures read { IfOk result (λ file. journal self.new ≡ and_read (journal self.old) path.now file.bytes.items) }
-        ensures fault { IfErr result (λ _. Failed (journal self.old) (journal self.new)) }
+        ensures fault { IfErr result (λ _. OnlyReports (journal self.old) (journal self.new)) }
     {
         let bytes = self.read(path)?;
         Ok(ReadFile { path, bytes })
@@ -148,7 +151,7 @@ pub trait Console {
     /// Prints bytes on standard output.
     fn print(&mut self, bytes: &[u8]) -> Result<(), Reported>
         ensures printed { IfOk result (λ _. journal self.new ≡ and_printed (journal self.old) bytes.now) }
-        ensures fault { IfErr result (λ _. Failed (journal self.old) (journal self.new)) }
+        ensures fault { IfErr result (λ _. OnlyReports (journal self.old) (journal self.new)) }
     {
         let mut output = self.output();
         let answer = write_all(&mut output, bytes);
@@ -175,7 +178,7 @@ pub trait Console {
     fn give(&mut self, answer: Answer<'_>) -> Result<u8, Reported>
         ensures given { IfOk result (IsGiven answer.entry (journal self.old) (journal self.new)) }
         ensures fault { IfErr result (λ _. GaveUp answer.entry.files (journal self.old) (journal self.new)) }
-        ensures no_file { answer.entry.files ≡ [] → IfErr result (λ _. Failed (journal self.old) (journal self.new)) }
+        ensures no_file { answer.entry.files ≡ [] → IfErr result (λ _. OnlyReports (journal self.old) (journal self.new)) }
     {
         let Answer {
             files,
@@ -190,7 +193,8 @@ pub trait Console {
     /// Does an answer, unless memory ran out for it.
     fn give_if_made(&mut self, answer: Result<Answer<'_>, AllocError>) -> Result<u8, Reported>
         ensures given { IfOk result (λ status. IsOkAnd answer.entry (λ made. IsGiven made (journal self.old) (journal self.new) status)) }
-        ensures fault { IfErr result (λ _. (journal self.old).reported < (journal self.new).reported) }
+        ensures fault { IfErr result (λ _. IsGivenUp (λ made. answer.entry ≡ Ok made) (journal self.old) (journal self.new)) }
+        ensures no_file { IfOk answer.entry (λ made. made.files ≡ []) → IfErr result (λ _. OnlyReports (journal self.old) (journal self.new)) }
     {
         match answer {
             Ok(answer) => self.give(answer),

@@ -124,6 +124,10 @@ impl<'a> Console for HostConsole<'a> {
         }
     }
 
+    fn remark<F: Display + Drop>(&self, words: F) {
+        let _ = eprintln!(self.rt; "plm80: {words}");
+    }
+
     fn text_to_explain(&self, path: &str) -> Option<Vec<u8>> {
         if !self.why {
             return None;

@@ -1,7 +1,7 @@
 //! The files that `link` takes: object files and libraries, by their first byte.
 
 ghost use Rattle.std.specs.Prelude.{List, ℕ, IfOk, IfErr};
-ghost use Rattle.plm80_console.specs.Journal.{Failed};
+ghost use Rattle.plm80_console.specs.Journal.{OnlyReports};
 ghost use Rattle.plm80_console.specs.Pieces.{FaultsEither, HasTakenEither, IsLinkFileRead, SpellsEither};
 
 use crate::console::{Console, Reported};
@@ -87,7 +87,7 @@ impl LinkFeed {
 /// The object file or the library that the file of this path is, read in pieces.
 pub fn read_link_file<C: Console>(console: &mut C, path: &str) -> Result<LinkFile, Reported>
     ensures read { IfOk result (IsLinkFileRead path.now (C.journal console.old) (C.journal console.new)) }
-    ensures fault { IfErr result (λ _. Failed (C.journal console.old) (C.journal console.new)) }
+    ensures fault { IfErr result (λ _. OnlyReports (C.journal console.old) (C.journal console.new)) }
 {
     let mut feed = LinkFeed::Empty(console.alloc());
     console.read_in_pieces(path, &mut feed)?;

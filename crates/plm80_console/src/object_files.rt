@@ -1,7 +1,7 @@
 //! The modules of object files, for the commands that take them.
 
 ghost use Rattle.std.specs.Prelude.{◌≡◌, ◌++◌, [], IfErr, IfOk, OnOk};
-ghost use Rattle.plm80_console.specs.Journal.{Failed};
+ghost use Rattle.plm80_console.specs.Journal.{OnlyReports};
 ghost use Rattle.plm80_console.specs.Pieces.{AreModulesRead};
 
 use crate::console::{Console, Reported};
@@ -12,7 +12,7 @@ use omf_module::{FileFeed, Module};
 /// The modules of the object file of this path, in order; also of one that begins as a library. It is read in pieces.
 pub fn read_modules<C: Console>(console: &mut C, path: &str) -> Result<Vec<Module>, Reported>
     ensures read { IfOk result (λ modules. AreModulesRead path.now (C.journal console.old) (C.journal console.new) modules.items) }
-    ensures fault { IfErr result (λ _. Failed (C.journal console.old) (C.journal console.new)) }
+    ensures fault { IfErr result (λ _. OnlyReports (C.journal console.old) (C.journal console.new)) }
 {
     let mut feed = FileFeed::new(console.alloc());
     console.read_in_pieces(path, &mut feed)?;
@@ -34,7 +34,7 @@ pub fn append_modules<C: Console>(
     ensures appended { OnOk result (modules.new.items ≡ modules.old.items ++ read.old.items) }
     ensures taken { OnOk result (read.new.items ≡ []) }
     ensures unchanged { IfOk result (λ _. C.journal console.new ≡ C.journal console.old) }
-    ensures fault { IfErr result (λ _. Failed (C.journal console.old) (C.journal console.new)) }
+    ensures fault { IfErr result (λ _. OnlyReports (C.journal console.old) (C.journal console.new)) }
 {
     match modules.append(read) {
         Ok(()) => Ok(()),

@@ -146,7 +146,7 @@ impl<'a> HostConsole<'a> {
     /// Moves both drafts to their places, in their order.
     fn settle_both(&mut self, both: BothDrafts<'_>) -> Result<(), Reported>
         ensures unchanged { IfOk result (λ _. self.new.notes.journal ≡ self.old.notes.journal) }
-        ensures fault { IfErr result (λ _. NotBothSettled both.first both.second self.old.notes.journal self.new.notes.journal) }
+        ensures fault { IfErr result (λ _. NotBothSettled both.entry.first both.entry.second self.old.notes.journal self.new.notes.journal) }
     {
         let BothDrafts {
             first,

@@ -24,7 +24,7 @@ pub(crate) enum Comparison {
 impl Comparison {
     /// Whether the paths are one.
     pub(crate) fn is_one<C: Console>(self, console: &C, first: &str, second: &str) -> bool
-        ensures { self.entry ≡ Comparison.Letters → result ≡ bytes_eq first.now second.now }
+        ensures { self ≡ Comparison.Letters → result ≡ bytes_eq first.now second.now }
     {
         match self {
             Comparison::Letters => first == second,

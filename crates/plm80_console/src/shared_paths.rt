@@ -43,7 +43,7 @@ impl<'a> Syntax<'a> {
         comparison: Comparison,
     ) -> Option<SharedPath<'m, 'a>>
         ensures shared { IfSome result (IsWrittenBy matches.now) }
-        ensures apart { comparison.entry ≡ Comparison.Letters → IfNone result (AreApart matches.now self.now.arguments.now) }
+        ensures apart { comparison ≡ Comparison.Letters → IfNone result (AreApart matches.now self.now.arguments.now) }
     {
         for index in 0..self.arguments.len() {
             if let Some(shared) = self.shared_by(console, matches, comparison, index) {
@@ -63,7 +63,7 @@ impl<'a> Syntax<'a> {
         index: usize,
     ) -> Option<SharedPath<'m, 'a>>
         ensures shared { IfSome result (IsWrittenBy matches.now) }
-        ensures apart { comparison.entry ≡ Comparison.Letters → IfNone result (IsApart matches.now self.now.arguments.now index) }
+        ensures apart { comparison ≡ Comparison.Letters → IfNone result (IsApart matches.now self.now.arguments.now index) }
     {
         let written = *self.arguments.get(index)?;
         let path = written.path_to_write(matches)?;
@@ -154,7 +154,7 @@ impl<'a> Argument<'a> {
         comparison: Comparison,
     ) -> bool
         ensures replaced { result ≡ true → may_replace self.now.kind other.now.name.now ≡ false }
-        ensures apart { comparison.entry ≡ Comparison.Letters → result ≡ false → IsApartFrom matches.now self.now path.now other.now }
+        ensures apart { comparison ≡ Comparison.Letters → result ≡ false → IsApartFrom matches.now self.now path.now other.now }
     {
         !self.may_replace(other) && other.has_path(console, matches, comparison, path)
     }
@@ -168,7 +168,7 @@ impl<'a> Argument<'a> {
         path: &str,
     ) -> bool
         ensures no_file { names_no_file self.now.kind ≡ true → result ≡ false }
-        ensures letters { comparison.entry ≡ Comparison.Letters → result ≡ has_path self.now.kind matches.now self.now.name.now path.now }
+        ensures letters { comparison ≡ Comparison.Letters → result ≡ has_path self.now.kind matches.now self.now.name.now path.now }
     {
         match self.kind {
             Kind::Path
@@ -219,7 +219,7 @@ impl<'a> Argument<'a> {
 
 /// Whether the path is one of these.
 fn is_among<C: Console>(console: &C, comparison: Comparison, paths: &[&str], path: &str) -> bool
-    ensures { comparison.entry ≡ Comparison.Letters → result ≡ list_any (λ own. bytes_eq own.now path.now) paths.now }
+    ensures { comparison ≡ Comparison.Letters → result ≡ list_any (λ own. bytes_eq own.now path.now) paths.now }
 {
     for own in paths {
         if comparison.is_one(console, own, path) {
@@ -231,7 +231,7 @@ fn is_among<C: Console>(console: &C, comparison: Comparison, paths: &[&str], pat
 
 /// Whether the path is that of one of these values, each a number, an equals sign and a path.
 fn is_behind<C: Console>(console: &C, comparison: Comparison, values: &[&str], path: &str) -> bool
-    ensures { comparison.entry ≡ Comparison.Letters → result ≡ list_any (λ value. stands_behind value.now path.now) values.now }
+    ensures { comparison ≡ Comparison.Letters → result ≡ list_any (λ value. stands_behind value.now path.now) values.now }
 {
     for value in values {
         if is_path_of(console, comparison, value, path) {
@@ -243,7 +243,7 @@ fn is_behind<C: Console>(console: &C, comparison: Comparison, values: &[&str], p
 
 /// Whether the path stands behind the first equals sign of a value.
 fn is_path_of<C: Console>(console: &C, comparison: Comparison, value: &str, path: &str) -> bool
-    ensures { comparison.entry ≡ Comparison.Letters → result ≡ stands_behind value.now path.now }
+    ensures { comparison ≡ Comparison.Letters → result ≡ stands_behind value.now path.now }
 {
     match value.split_once('=') {
         Some((_, own)) => comparison.is_one(console, own, path),

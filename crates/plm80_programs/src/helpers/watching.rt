@@ -1,11 +1,12 @@
 //! `plm80 run` with `--last` or `--dump`: a run, its last instructions, and the memory that it leaves.
 
-ghost use Rattle.std.specs.Prelude.{◌≡◌, ◌<◌, ◌≤◌, ◌++◌, ℕ, List, IfOk, OnOk, option_map};
+ghost use Rattle.std.specs.Prelude.{◌≡◌, ◌<◌, ◌≤◌, ◌++◌, ℕ, List, [], IfErr, IfOk, OnOk};
 ghost use Rattle.std.specs.Io.KnownBytes.{Appends};
 ghost use Rattle.std.specs.List.{flat_map};
 ghost use Rattle.loader80.specs.TranscriptText.{output_line, stack_line};
-ghost use Rattle.plm80_console.specs.Answer.{AnswerValue};
-ghost use Rattle.plm80_programs.specs.Running.{EndsRun, IsStatusOfRun, WatchesRun, dump_answer, last_lines};
+ghost use Rattle.plm80_console.specs.Answer.{GaveUp, Gives, GivesUp, IsAnswered, IsGivenUp, and_given};
+ghost use Rattle.plm80_programs.specs.Arguments.{dump_path, run_paths};
+ghost use Rattle.plm80_programs.specs.Running.{AnswersRun, EndsRun, WatchesRun, dump_answer, last_lines};
 
 use crate::explain_end;
 use crate::helpers::endings::{Traced, ending_of, report_lines, write_traced};
@@ -13,10 +14,10 @@ use crate::helpers::run_arguments::RunFiles;
 use loader80::{Ended, Vouched, front_text};
 use loader80_trace::{Finished, Limits, Span, TraceFault, finish, memory_bytes};
 use machine80::{Inputs, PagedBus};
-use plm80_console::{Answer, Console, NotedWriter, Reported};
+use plm80_console::{Answer, Console, Reported};
 use plm80_names::{Names, Verdict, judge};
 use std::alloc::{AllocError, Global};
-use stream80::{Sink, Writing, write_all};
+use stream80::{Sink, write_all};
 
 /// What is seen of a run beside its transcript.
 #[derive(Clone, Copy)]
@@ -46,14 +47,16 @@ struct Watched<'a> {
 }
 
 /// Runs the image of the files, prints its transcript with its last instructions, writes its memory, and gives the exit status.
-pub fn watch_run(
-    console: Console<'_>,
+pub fn watch_run<C: Console>(
+    console: &mut C,
     files: RunFiles<'_>,
     names: bool,
     watch: Watch<'_>,
 ) -> Result<u8, Reported>
-    ensures { let w = watch.entry in
-        IfOk result (IsStatusOfRun (λ inputs. EndsRun inputs w.limits w.last (option_map (λ path. path.now) w.dump)) names) }
+    ensures done { let w = watch.entry in IfOk result (Gives (AnswersRun (λ inputs. EndsRun inputs w.limits w.last (dump_path w.dump)) names)
+        (run_paths files.entry) (C.journal console.old) (C.journal console.new)) }
+    ensures fault { let w = watch.entry in IfErr result (λ _. GivesUp (AnswersRun (λ inputs. EndsRun inputs w.limits w.last (dump_path w.dump)) names)
+        (run_paths files.entry) (C.journal console.old) (C.journal console.new)) }
 {
     let program = files.read(console, names)?;
     let first = files.inputs_of(console, &program.inputs)?;
@@ -69,29 +72,34 @@ pub fn watch_run(
 }
 
 /// Runs the image, and prints its transcript; its memory is written before the last line.
-fn print_run(
-    console: Console<'_>,
+fn print_run<C: Console>(
+    console: &mut C,
     vouched: &Vouched,
     inputs: InputsTwice,
     watch: Watch<'_>,
     names: &Names,
 ) -> Result<u8, Reported>
     requires { inputs.second.pairs.items ≡ inputs.first.pairs.items }
-    ensures { let w = watch.entry in IfOk result (λ status. (answer : AnswerValue)
-        × EndsRun inputs.first.pairs.items w.limits w.last (option_map (λ path. path.now) w.dump) names.now vouched.now answer
-        × (status ≡ answer.status)) }
+    ensures done { let w = watch.entry in IfOk result (IsAnswered (EndsRun inputs.first.pairs.items w.limits w.last (dump_path w.dump)
+        names.now vouched.now) (C.journal console.old) (C.journal console.new)) }
+    ensures fault { let w = watch.entry in IfErr result (λ _. IsGivenUp (EndsRun inputs.first.pairs.items w.limits w.last (dump_path w.dump)
+        names.now vouched.now) (C.journal console.old) (C.journal console.new)) }
 {
-    let mut output = NotedWriter::new(console.runtime().stdout());
-    let mut out = Writing::new(&mut output);
-    match write_run(console.alloc(), vouched, inputs, watch, names, &mut out) {
+    let mut output = console.output();
+    let made = write_run(console.alloc(), vouched, inputs, watch, names, &mut output);
+    let failure = console.take_back(output);
+    match made {
         Ok(watched) => end_run(console, watched),
-        Err(fault) => Err(report_lines(console, fault, output.failure())),
+        Err(fault) => Err(report_lines(console, fault, failure)),
     }
 }
 
 /// Writes the memory, and then prints the last line, and gives the exit status.
-fn end_run(console: Console<'_>, watched: Watched<'_>) -> Result<u8, Reported>
-    ensures { IfOk result (λ status. status ≡ watched.entry.ending.status) }
+fn end_run<C: Console>(console: &mut C, watched: Watched<'_>) -> Result<u8, Reported>
+    requires { watched.entry.ending.files ≡ [] }
+    ensures given { let w = watched.entry in IfOk result (λ status. (C.journal console.new
+        ≡ and_given (and_given (C.journal console.old) w.dump) w.ending) × (status ≡ w.ending.status)) }
+    ensures fault { IfErr result (λ _. GaveUp watched.entry.dump.files (C.journal console.old) (C.journal console.new)) }
 {
     let Watched {
         dump,
@@ -116,7 +124,7 @@ fn write_run<'a, K: Sink>(
     requires countable { K.failed out.old < u64.MAX }
     requires twice { inputs.second.pairs.items ≡ inputs.first.pairs.items }
     ensures { let w = watch.entry in IfOk result (λ watched. (text : List ℕ) × Appends (K.written out.old) (K.written out.new) text
-        × WatchesRun inputs.first.pairs.items w.limits w.last (option_map (λ path. path.now) w.dump) names.now vouched.now text
+        × WatchesRun inputs.first.pairs.items w.limits w.last (dump_path w.dump) names.now vouched.now text
         watched.dump watched.ended watched.ending) }
 {
     let finished = finish(alloc, vouched, inputs.first, watch.limits)?;
@@ -191,7 +199,7 @@ fn dump_of<'a>(
     bus: &PagedBus,
     path: Option<&'a str>,
 ) -> Result<Answer<'a>, AllocError>
-    ensures { IfOk result (λ answer. answer ≡ dump_answer (option_map (λ path. path.now) path.entry) bus.now) }
+    ensures { IfOk result (λ answer. answer ≡ dump_answer (dump_path path.entry) bus.now) }
 {
     match path {
         Some(path) => {

@@ -1,6 +1,6 @@
 use Rattle.std.specs.Prelude.{string_bytes}
 use Rattle.plm80_console.proofs.DraftLemmas.{drafts_of}
-use Rattle.plm80_console.proofs.replacing.HostConsole.try_draft.Goals as goal
+use Rattle.plm80_console.proofs.host.HostConsole.try_draft.Goals as goal
 
 pub returns-in-Ok : goal.returns-in-Ok
 returns-in-Ok c =
