@@ -6,6 +6,7 @@
 #   make uninstall takes away what make install installed, with the same PREFIX
 #   make package   builds plm80 as `make run` does, and makes a Debian package of what make install installs, in out/; a tarball, if there is no dpkg-deb
 #   make test      proves every crate from nothing and runs every test
+#   make core      proves the core alone, with its wrong bodies and the tests of its crates: object files, LINK, LOCATE, the verifier, the loader and bundles
 #   make commands  builds plm80 and runs the tests of its commands alone
 #   make faults    runs the tests, and plm80 on the examples, refusing one allocation, read or write at a time
 #   make bench     builds plm80 and prints million steps per second and host instructions per step of five programs, its start-up, and what it takes to verify programs, to link modules and to read libraries
@@ -13,7 +14,7 @@
 #   make lemmas    prints the files of lemmas of every crate, with what each is about
 #   make help      prints this
 
-.PHONY: help run try install install-files uninstall package package-files test commands faults bench clauses lemmas build need-rt need-python3 need-cc need-prefix
+.PHONY: help run try install install-files uninstall package package-files test core commands faults bench clauses lemmas build need-rt need-python3 need-cc need-prefix
 
 PREFIX = /usr/local
 PROGRAM = crates/plm80/out/plm80
@@ -52,14 +53,14 @@ need-prefix:
 
 install: need-prefix build install-files
 
-# What there is to install, of a program that is built. PROVED says what proved it.
+# What there is to install, of a program that is built. PROVED says what proved it, or that this isn't known.
 install-files:
 	install -D -m 755 $(PROGRAM) "$(DESTDIR)$(PREFIX)/bin/plm80"
 	install -D -m 644 share/plm80.1 "$(DESTDIR)$(PREFIX)/share/man/man1/plm80.1"
 	@tools/pages "$(DESTDIR)$(PREFIX)/share/doc/plm80"
 	install -d "$(DESTDIR)$(PREFIX)/share/doc/plm80/examples"
 	install -m 644 examples/*.* "$(DESTDIR)$(PREFIX)/share/doc/plm80/examples"
-	@tools/proved > "$(DESTDIR)$(PREFIX)/share/doc/plm80/PROVED"
+	@tools/proved "$(PROGRAM)" > "$(DESTDIR)$(PREFIX)/share/doc/plm80/PROVED"
 	install -D -m 644 share/plm80.bash "$(DESTDIR)$(PREFIX)/share/bash-completion/completions/plm80"
 
 uninstall:
@@ -94,7 +95,11 @@ test: need-rt need-python3
 	@tests/commands/fault_page
 	@tests/package/run $(PROGRAM)
 	@tests/package/try
+	@tests/package/build
 	@if command -v cc > /dev/null; then tests/refused/run $(PROGRAM) program; else echo "faults: passed over without a C compiler"; fi
+
+core: need-rt need-python3
+	@rt ci $$(tools/crates --core)
 
 commands: need-python3 build
 	@tests/commands/run $(PROGRAM)
