@@ -28,6 +28,10 @@ prints lines status = record { files = []; lines = lines; status = status }
 abbrev pub writes : (path bytes lines : List ℕ) → AnswerValue
 writes path bytes lines = record { files = record { path = path; bytes = bytes } ∷ []; lines = lines; status = 0 }
 
+-- the same lines and status, behind a file
+abbrev pub behind_file : (path bytes : List ℕ) → AnswerValue → AnswerValue
+behind_file path bytes answer = record answer { files = record { path = path; bytes = bytes } ∷ [] }
+
 -- two files are written
 abbrev pub writes_both : (first second : FileValue) → AnswerValue
 writes_both first second = record { files = first ∷ second ∷ []; lines = []; status = 0 }

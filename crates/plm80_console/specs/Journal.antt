@@ -1,6 +1,6 @@
 -- What a run did with the world outside: with files, standard input, standard output and standard error.
 -- (Which of it a command owes is this project's own.)
-use Rattle.std.specs.Prelude.{◌≡◌, ◌⊎◌, ℕ, ◌+◌, ◌<◌, List, [], ◌∷◌, ◌++◌, take, drop}
+use Rattle.std.specs.Prelude.{◌≡◌, ◌⊎◌, ℕ, ◌+◌, ◌<◌, List, [], ◌∷◌, ◌++◌, Option, IfSome, take, drop}
 
 -- a file: its path, and all of its bytes
 pub record FileValue : Type 0 where
@@ -44,6 +44,10 @@ and_spoiled journal path = record journal { spoiled = journal.spoiled ++ path �
 
 abbrev pub and_copied : Journal → (path : List ℕ) → Journal
 and_copied journal path = record journal { copies = journal.copies ++ path ∷ [] }
+
+-- what was written to an output was printed: the bytes that are known of it
+abbrev pub IsTakenBack : (written : Option (List ℕ)) → (old new : Journal) → Type 0
+IsTakenBack written old new = (bytes : List ℕ) × (new ≡ and_printed old bytes) × IfSome written (λ known. known ≡ bytes)
 
 -- files that were read, one after another
 abbrev pub and_read_files : Journal → List FileValue → Journal

@@ -1,7 +1,7 @@
 //! What a command answers, and what becomes of an answer: its files are written, its lines are printed, and its status is given.
 
 ghost use Rattle.std.specs.Prelude.{◌≡◌};
-ghost use Rattle.plm80_console.specs.Answer.{file_of, prints, writes, writes_both};
+ghost use Rattle.plm80_console.specs.Answer.{behind_file, file_of, prints, writes, writes_both};
 
 use crate::replacing::NewFile;
 use std::alloc::Global;
@@ -60,6 +60,22 @@ impl<'a> Answer<'a> {
             files: WrittenFiles::One(WrittenFile { path, bytes }),
             lines,
             status: 0,
+        }
+    }
+
+    /// The same lines and status; a file is written before the lines are printed, and no other.
+    pub fn behind_file<'b>(self, path: &'b str, bytes: Vec<u8>) -> Answer<'b>
+        ensures { result ≡ behind_file path.now bytes.items self.entry }
+    {
+        let Answer {
+            files: _,
+            lines,
+            status,
+        } = self;
+        Answer {
+            files: WrittenFiles::One(WrittenFile { path, bytes }),
+            lines,
+            status,
         }
     }
 

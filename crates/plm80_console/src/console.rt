@@ -1,11 +1,11 @@
 //! What a command runs on: files, standard input and output, and faults, each a line on standard error.
 
-ghost use Rattle.std.specs.Prelude.{◌≡◌, ◌≤◌, ◌∷◌, ℕ, List, [], Ok, Some, IfErr, IfOk, IfSome, IsOkAnd, vec_len};
+ghost use Rattle.std.specs.Prelude.{◌≡◌, ◌<◌, ◌≤◌, ◌∷◌, ℕ, List, [], Ok, Some, IfErr, IfOk, IfSome, IsOkAnd, vec_len};
 ghost use Rattle.std.specs.Process.{exit_status};
 ghost use Rattle.stream80.specs.WholeText.{text_limit};
 ghost use Rattle.plm80_console.specs.Answer.{GaveUp, IsGiven, IsGivenUp, and_files, files_of};
 ghost use Rattle.plm80_console.specs.Drafts.{GaveUpKeeping, IsReplacedKeeping, new_file_value};
-ghost use Rattle.plm80_console.specs.Journal.{Journal, OnlyReports, and_printed, and_read, and_reported, and_written};
+ghost use Rattle.plm80_console.specs.Journal.{IsTakenBack, Journal, OnlyReports, and_input, and_printed, and_read, and_reported, and_written};
 
 use crate::answer::{Answer, WrittenFiles};
 use crate::pieces::TakePieces;
@@ -54,6 +54,13 @@ pub trait Console {
         ensures within { IfOk result (λ bytes. vec_len bytes ≤ text_limit) }
         ensures fault { IfErr result (λ _. OnlyReports (journal self.old) (journal self.new)) };
 
+    /// All bytes of standard input, of which there are no more than `limit`. They are a bundle: at a terminal it is said that one is read.
+    fn read_input(&mut self, limit: usize) -> Result<Vec<u8>, Reported>
+        requires { limit < usize.MAX }
+        ensures read { IfOk result (λ bytes. journal self.new ≡ and_input (journal self.old) bytes.items) }
+        ensures within { IfOk result (λ bytes. vec_len bytes ≤ limit) }
+        ensures fault { IfErr result (λ _. OnlyReports (journal self.old) (journal self.new)) };
+
     /// Hands all bytes of the file of this path to the feed, in pieces of 512 bytes at most.
     fn read_in_pieces<F: TakePieces>(&mut self, path: &str, feed: &mut F) -> Result<(), Reported>
         ensures read { IfOk result (λ _. (bytes : List ℕ) × (journal self.new ≡ and_read (journal self.old) path.now bytes)
@@ -85,11 +92,19 @@ pub trait Console {
 
     /// Takes the output back: what was written to it is printed. Why a write failed last; `None` if none did.
     fn take_back(&mut self, output: Self::Output) -> Option<ErrorKind>
-        ensures { IfSome (Self.Output.written output) (λ bytes. journal self.new ≡ and_printed (journal self.old) bytes) };
+        ensures { IsTakenBack (Self.Output.written output) (journal self.old) (journal self.new) };
 
     /// Reports a fault, in a line of its own.
     fn report<F: Display + Drop>(&mut self, fault: F) -> Reported
         ensures { journal self.new ≡ and_reported (journal self.old) };
+
+    /// Prints an error of clap, or the help text that was asked for, on standard error.
+    fn report_usage(&mut self, error: &clap::Error) -> Reported
+        ensures { journal self.new ≡ and_reported (journal self.old) };
+
+    /// From now on faults are explained.
+    fn explain_faults(&mut self)
+        ensures { journal self.new ≡ journal self.old };
 
     /// Prints words below the fault that was reported, if they are asked for.
     fn explain<F: Display + Drop>(&self, words: F);

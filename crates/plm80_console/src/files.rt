@@ -1,4 +1,4 @@
-//! Files that are opened when they are first read.
+//! Files that are opened when they are first read, and readers that keep why they failed.
 
 ghost use Rattle.std.specs.Prelude.{◌≡◌, None};
 ghost use Rattle.std.specs.Io.{ReadsAtMost};
@@ -66,6 +66,54 @@ impl<'a> LateFile<'a> {
 impl<'a> Read for LateFile<'a> {
     fn read(&mut self, buffer: &mut [u8]) -> io::Result<usize> {
         match self.open_and_read(buffer) {
+            Ok(count) => Ok(count),
+            Err(error) => {
+                self.failure = Some(error.kind());
+                Err(error)
+            }
+        }
+    }
+}
+
+/// A reader that keeps why its last failure came.
+#[derive(Drop)]
+pub(crate) struct NotedReader<R> {
+    inner: R,
+    failure: Option<ErrorKind>,
+}
+
+/// A contract sees why a read failed last.
+impl<R> Model for NotedReader<R> {
+    ghost use Rattle.std.specs.Prelude.{Option};
+    ghost use Rattle.std.specs.declared.io.ErrorKind.{ErrorKind};
+
+    ghost Value = { Option ErrorKind };
+
+    ghost view = { λ reader. reader.failure };
+}
+
+impl<R: Read> NotedReader<R> {
+    /// The reader, with no failure so far.
+    pub(crate) fn new(inner: R) -> NotedReader<R>
+        ensures { result ≡ None }
+    {
+        NotedReader {
+            inner,
+            failure: None,
+        }
+    }
+
+    /// Why a read failed last; `None` if none did.
+    pub(crate) fn failure(&self) -> Option<ErrorKind>
+        ensures { result ≡ self.now }
+    {
+        self.failure
+    }
+}
+
+impl<R: Read> Read for NotedReader<R> {
+    fn read(&mut self, buffer: &mut [u8]) -> io::Result<usize> {
+        match self.inner.read(buffer) {
             Ok(count) => Ok(count),
             Err(error) => {
                 self.failure = Some(error.kind());

@@ -6,14 +6,14 @@ ghost use Rattle.plm80_console.specs.Journal.{and_reported, nothing_done};
 ghost use Rattle.plm80_console.specs.Noted.{noted};
 
 use crate::console::{Console, Reported};
-use crate::files::LateFile;
+use crate::files::{LateFile, NotedReader};
 use crate::notes::{Note, Notes};
 use crate::pieces::TakePieces;
 use crate::replacing::NewFile;
 use std::alloc::Global;
 use std::fmt::Display;
 use std::fs;
-use std::io::{ErrorKind, Read, Write};
+use std::io::{ErrorKind, IsTerminal, Read, Write};
 use stream80::{Failed, ReadAllFault, Reading, Sink, TEXT_LIMIT, read_all};
 
 /// The console of the program. What is done with it is noted, so that a contract sees it.
@@ -69,6 +69,21 @@ impl<'a> Console for HostConsole<'a> {
         }
     }
 
+    fn read_input(&mut self, limit: usize) -> Result<Vec<u8>, Reported> {
+        if self.rt.stdin().is_terminal() {
+            self.remark("reads a bundle from standard input; plm80 --help lists the commands");
+        }
+        let mut input = NotedReader::new(self.rt.stdin());
+        let mut source = Reading::new(&mut input);
+        match read_all(self.rt.alloc(), &mut source, limit) {
+            Ok(bytes) => {
+                self.note(&Note::Input(&bytes));
+                Ok(bytes)
+            }
+            Err(fault) => Err(self.report_no_input(fault, input.failure())),
+        }
+    }
+
     fn read_in_pieces<F: TakePieces>(&mut self, path: &str, feed: &mut F) -> Result<(), Reported> {
         let mut file = LateFile::new(self.rt, path);
         match hand_pieces(&mut file, feed) {
@@ -116,6 +131,19 @@ impl<'a> Console for HostConsole<'a> {
         let _ = eprintln!(self.rt; "plm80: {fault}");
         self.note(&Note::Reported);
         Reported::new()
+    }
+
+    fn report_usage(&mut self, error: &clap::Error) -> Reported {
+        if error.kind() == clap::error::ErrorKind::OutOfMemory {
+            return self.report_memory();
+        }
+        let _ = eprint!(self.rt; "{error}");
+        self.note(&Note::Reported);
+        Reported::new()
+    }
+
+    fn explain_faults(&mut self) {
+        self.why = true;
     }
 
     fn explain<F: Display + Drop>(&self, words: F) {
@@ -172,6 +200,23 @@ impl<'a> HostConsole<'a> {
         match fault {
             ReadAllFault::Read => self.report_system(path, "Read", failure),
             ReadAllFault::TooLong => self.report_file(path, "TooLong"),
+            ReadAllFault::Memory => self.report_memory(),
+        }
+    }
+}
+
+impl<'a> HostConsole<'a> {
+    /// Reports why not all bytes of standard input were read, which is the only text of a bundle.
+    fn report_no_input(&mut self, fault: ReadAllFault, failure: Option<ErrorKind>) -> Reported
+        ensures { self.new.notes.journal ≡ and_reported self.old.notes.journal }
+    {
+        match fault {
+            ReadAllFault::Read => {
+                let reported = self.report("Read 1");
+                self.explain_failure(failure);
+                reported
+            }
+            ReadAllFault::TooLong => self.report("TooLong 1"),
             ReadAllFault::Memory => self.report_memory(),
         }
     }

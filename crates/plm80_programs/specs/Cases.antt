@@ -11,8 +11,8 @@ use Rattle.verify80_cases.specs.declared.search.Note.{Note}
 use Rattle.verify80_cases.specs.declared.search.SuggestedCase.{SuggestedCase}
 use Rattle.verify80_cases.specs.Added.{AddsCases}
 use Rattle.verify80_cases.specs.Suggested.{Finding, IsFinding, IsSearched, case_of, is_open}
-use Rattle.plm80_console.specs.Answer.{AnswerValue, and_files, prints, writes}
-use Rattle.plm80_console.specs.Journal.{FileValue, Journal, and_printed}
+use Rattle.plm80_console.specs.Answer.{AnswerValue}
+use Rattle.plm80_console.specs.Journal.{FileValue}
 use Rattle.plm80_names.specs.Verdict.{AnswersProgram}
 use Rattle.plm80_programs.specs.declared.cases.FoundCase.{FoundCase}
 use Rattle.plm80_programs.specs.Status.{notes_status}
@@ -39,16 +39,6 @@ pub record FindsCases (image : Located) (cases : List DeclaredCase) (notes : Lis
   pub searched : IsSearched image reached taken
   pub found : AreFoundBelow image reached taken 65536 cases notes
 
--- the lines of these cases are printed, and then the regions with them go to a file
-pub record WritesCases (path : List ℕ) (image : Located) (notes : List Note) (lines file : AnswerValue) : Type 0 where
-  pub cases : List DeclaredCase
-  pub found : FindsCases image cases notes
-  pub lines_are : lines ≡ prints (cases_text cases) 0
-  pub text : List ℕ
-  pub added : AddsCases image.regions cases text
-  pub within : length text ≤ text_limit
-  pub file_is : file ≡ writes path text []
-
 -- the regions with cases, as a file that is written; none if no path is given
 abbrev pub AreAddedTo : (out : Option (List ℕ)) → Areas → List DeclaredCase → List FileValue → Type 0
 AreAddedTo None areas cases files = files ≡ []
@@ -64,14 +54,6 @@ pub record PrintsCases (out : Option (List ℕ)) (image : Located) (answer : Ans
   pub files : List FileValue
   pub added : AreAddedTo out image.regions cases files
   pub answer_is : answer ≡ record { files = files; lines = cases_text cases; status = notes_status notes }
-
--- it was given, and these are the notes
-pub record GivesCases (out : Option (List ℕ)) (image : Located) (old new : Journal) (notes : List Note) : Type 0 where
-  pub cases : List DeclaredCase
-  pub found : FindsCases image cases notes
-  pub files : List FileValue
-  pub added : AreAddedTo out image.regions cases files
-  pub journal : new ≡ and_files (and_printed old (cases_text cases)) files
 
 -- the same of two files
 pub record AnswersCases (out : Option (List ℕ)) (files : List FileValue) (answer : AnswerValue) : Type 0 where

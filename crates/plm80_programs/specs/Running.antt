@@ -20,7 +20,7 @@ use Rattle.verify80.specs.Vouched.{Voucher}
 use Rattle.loader80_trace.specs.declared.limits.Limits.{Limits}
 use Rattle.loader80_trace.specs.declared.limits.Span.{Span}
 use Rattle.loader80_trace.specs.Traces.{IsTraced, count_within, last_number, run_lines}
-use Rattle.plm80_console.specs.Answer.{AnswerValue, prints, writes}
+use Rattle.plm80_console.specs.Answer.{AnswerValue, behind_file, prints}
 use Rattle.plm80_console.specs.Journal.{FileValue, Journal, and_read}
 use Rattle.plm80_console.specs.NumberText.{count_value}
 use Rattle.plm80_names.specs.Verdict.{AnswersVerdict, AreOfFiles}
@@ -84,32 +84,30 @@ last_lines inputs limits last publics program ended =
     run_lines program.image.regions (Some limits.outputs) (start_of program inputs) publics false
     (last_number ended.end ended.steps + 1 - count) count
 
--- the file of a memory, if one is asked for
-abbrev pub dump_answer : Option (List ℕ) → (memory : List ℕ) → AnswerValue
-dump_answer None memory = prints [] 0
-dump_answer (Some path) memory = writes path memory []
+-- an answer behind the file of a memory, if one is asked for
+abbrev pub with_memory : (dump : Option (List ℕ)) → (memory : List ℕ) → AnswerValue → AnswerValue
+with_memory None memory answer = answer
+with_memory (Some path) memory answer = behind_file path memory answer
 
 -- The transcript of a program's run is a front part and its last line. The front part is written, and the last instructions behind it;
 -- then the memory that the run leaves is written to its file, and then the last line is printed, with a name.
 pub record WatchesRun (inputs : List (ℕ × ℕ)) (limits : Limits) (last : ℕ) (dump : Option (List ℕ)) (publics : List Public)
-    (program : Voucher) (text : List ℕ) (file : AnswerValue) (ended : Ended) (answer : AnswerValue) : Type 0 where
+    (program : Voucher) (text : List ℕ) (ended : Ended) (answer : AnswerValue) : Type 0 where
   pub front : List ℕ
   pub transcript : IsTranscript program.image (lists_of inputs) limits.outputs limits.steps
       (record { stack_bytes = program.stack_bytes; end = ended.end; steps = ended.steps; at = ended.cpu.pc })
       (front ++ end_line ended.end ended.cpu.pc ended.steps)
   pub text_is : text ≡ front ++ last_lines inputs limits last publics program ended
-  pub file_is : file ≡ dump_answer dump transcript.last.memory
-  pub answer_is : answer ≡ ending program publics ended
+  pub answer_is : answer ≡ with_memory dump transcript.last.memory (ending program publics ended)
 
 -- all of this together
 pub record EndsRun (inputs : List (ℕ × ℕ)) (limits : Limits) (last : ℕ) (dump : Option (List ℕ)) (publics : List Public)
     (program : Voucher) (answer : AnswerValue) : Type 0 where
   pub text : List ℕ
-  pub file : AnswerValue
   pub ended : Ended
-  pub ending : AnswerValue
-  pub watched : WatchesRun inputs limits last dump publics program text file ended ending
-  pub answer_is : answer ≡ record { files = file.files; lines = text ++ ending.lines; status = ending.status }
+  pub behind : AnswerValue
+  pub watched : WatchesRun inputs limits last dump publics program text ended behind
+  pub answer_is : answer ≡ record behind { lines = text ++ behind.lines }
 
 -- ---- three files
 

@@ -6,10 +6,10 @@ ghost use Rattle.std.specs.List.{cons_option, list_any};
 ghost use Rattle.image80.specs.Case.{DeclaredCase};
 ghost use Rattle.image80.specs.RegionsText.{cases_text};
 ghost use Rattle.verify80_cases.specs.Suggested.{case_of, is_open};
-ghost use Rattle.plm80_console.specs.Answer.{Gives, GivesUp, IsGivenUp};
+ghost use Rattle.plm80_console.specs.Answer.{Gives, GivesUp, IsAnswered, IsGivenUp};
 ghost use Rattle.plm80_console.specs.Journal.{OnlyReports, and_reported};
 ghost use Rattle.plm80_programs.specs.Arguments.{AreCasesArguments, cases_path};
-ghost use Rattle.plm80_programs.specs.Cases.{AnswersCases, FindsCases, GivesCases, IsFoundAt, PrintsCases, WritesCases};
+ghost use Rattle.plm80_programs.specs.Cases.{AnswersCases, FindsCases, IsFoundAt, PrintsCases};
 ghost use Rattle.plm80_programs.specs.Status.{lacks_table, notes_status};
 
 use crate::helpers::endings::report_lines;
@@ -95,19 +95,13 @@ pub fn suggest_for_files<C: Console>(
 {
     let texts = ProgramTexts::read(console, arguments.image, arguments.regions)?;
     let (image, _) = texts.program(console, false)?;
-    let notes = found_cases(console, arguments.out, &image)?;
-    remark_notes(console, &notes);
-    Ok(notes_status(&notes))
+    suggest(console, arguments.out, &image)
 }
 
-/// Prints the CASE lines, and writes the regions with them if a file is named; gives what there is to say of the PCHLs.
-fn found_cases<C: Console>(
-    console: &mut C,
-    out: Option<&str>,
-    image: &Image,
-) -> Result<Vec<Note>, Reported>
-    ensures done { IfOk result (λ notes. GivesCases (option_map (λ path. path.now) out.entry) image.now
-        (C.journal console.old) (C.journal console.new) notes.items) }
+/// Prints the CASE lines, and writes the regions with them if a file is named; gives the exit status.
+fn suggest<C: Console>(console: &mut C, out: Option<&str>, image: &Image) -> Result<u8, Reported>
+    ensures done { IfOk result (IsAnswered (PrintsCases (option_map (λ path. path.now) out.entry) image.now)
+        (C.journal console.old) (C.journal console.new)) }
     ensures fault { IfErr result (λ _. IsGivenUp (PrintsCases (option_map (λ path. path.now) out.entry) image.now)
         (C.journal console.old) (C.journal console.new)) }
 {
@@ -117,16 +111,19 @@ fn found_cases<C: Console>(
     }
 }
 
-/// Prints the line of each case as it is found, and gives what there is to say of the PCHLs.
-fn print_cases<C: Console>(console: &mut C, image: &Image) -> Result<Vec<Note>, Reported>
-    ensures done { IfOk result (λ notes. GivesCases None image.now (C.journal console.old) (C.journal console.new) notes.items) }
+/// Prints the line of each case as it is found, and gives the exit status.
+fn print_cases<C: Console>(console: &mut C, image: &Image) -> Result<u8, Reported>
+    ensures done { IfOk result (IsAnswered (PrintsCases None image.now) (C.journal console.old) (C.journal console.new)) }
     ensures fault { IfErr result (λ _. OnlyReports (C.journal console.old) (C.journal console.new)) }
 {
     let mut output = console.output();
     let written = write_cases(console.alloc(), image, &mut output);
     let failure = console.take_back(output);
     match written {
-        Ok(notes) => Ok(notes),
+        Ok(notes) => {
+            remark_notes(console, &notes);
+            Ok(notes_status(&notes))
+        }
         Err(fault) => Err(report_lines(console, fault, failure)),
     }
 }
@@ -169,26 +166,25 @@ fn write_found<K: Sink>(
     Ok(())
 }
 
-/// Prints the line of each case, and writes the regions with them to the file of this path; gives what there is to say of the PCHLs.
-fn add_cases<C: Console>(console: &mut C, path: &str, image: &Image) -> Result<Vec<Note>, Reported>
-    ensures done { IfOk result (λ notes. GivesCases (Some path.now) image.now (C.journal console.old) (C.journal console.new) notes.items) }
+/// Writes the regions with the cases to the file of this path, prints the line of each case, and gives the exit status.
+fn add_cases<C: Console>(console: &mut C, path: &str, image: &Image) -> Result<u8, Reported>
+    ensures done { IfOk result (IsAnswered (PrintsCases (Some path.now) image.now) (C.journal console.old) (C.journal console.new)) }
     ensures fault { IfErr result (λ _. IsGivenUp (PrintsCases (Some path.now) image.now) (C.journal console.old) (C.journal console.new)) }
 {
     match added_cases(console.alloc(), path, image) {
-        Ok(AddedCases { lines, file, notes }) => {
-            console.give(lines)?;
-            console.give(file)?;
-            Ok(notes)
+        Ok(AddedCases { answer, notes }) => {
+            let status = console.give(answer)?;
+            remark_notes(console, &notes);
+            Ok(status)
         }
         Err(fault) => Err(report_regions_fault(console, path, fault)),
     }
 }
 
-/// Cases that are added to regions: their lines, the file of the regions with them, and what there is to say of the PCHLs.
+/// Cases that are added to regions: the file of these, the lines of the cases, and what there is to say of the PCHLs.
 #[derive(Drop)]
 struct AddedCases<'a> {
-    lines: Answer<'static>,
-    file: Answer<'a>,
+    answer: Answer<'a>,
     notes: Vec<Note>,
 }
 
@@ -198,16 +194,16 @@ fn added_cases<'a>(
     path: &'a str,
     image: &Image,
 ) -> Result<AddedCases<'a>, AddingFault>
-    ensures { IfOk result (λ added. WritesCases path.now image.now added.notes.items added.lines added.file) }
+    ensures { IfOk result (λ added. PrintsCases (Some path.now) image.now added.answer) }
 {
     let kept = kept_cases(alloc, image)?;
     let text = regions_with_cases(alloc, &image.regions, &kept.cases)?;
     if text.len() > TEXT_LIMIT {
         return Err(AddingFault::TooLong);
     }
+    let status = notes_status(&kept.notes);
     Ok(AddedCases {
-        lines: Answer::prints(kept.lines, 0),
-        file: Answer::writes(path, text, Vec::new(alloc)),
+        answer: Answer::prints(kept.lines, status).behind_file(path, text),
         notes: kept.notes,
     })
 }

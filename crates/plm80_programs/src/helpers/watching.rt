@@ -4,9 +4,9 @@ ghost use Rattle.std.specs.Prelude.{◌≡◌, ◌<◌, ◌≤◌, ◌++◌, ℕ
 ghost use Rattle.std.specs.Io.KnownBytes.{Appends};
 ghost use Rattle.std.specs.List.{flat_map};
 ghost use Rattle.loader80.specs.TranscriptText.{output_line, stack_line};
-ghost use Rattle.plm80_console.specs.Answer.{GaveUp, Gives, GivesUp, IsAnswered, IsGivenUp, and_given};
+ghost use Rattle.plm80_console.specs.Answer.{GaveUp, Gives, GivesUp, IsAnswered, IsGiven, IsGivenUp};
 ghost use Rattle.plm80_programs.specs.Arguments.{dump_path, run_paths};
-ghost use Rattle.plm80_programs.specs.Running.{AnswersRun, EndsRun, WatchesRun, dump_answer, last_lines};
+ghost use Rattle.plm80_programs.specs.Running.{AnswersRun, EndsRun, WatchesRun, last_lines, with_memory};
 
 use crate::explain_end;
 use crate::helpers::endings::{Traced, ending_of, report_lines, write_traced};
@@ -39,11 +39,9 @@ struct InputsTwice {
 /// What is left to do of a run whose transcript was written but for its last line.
 #[derive(Drop)]
 struct Watched<'a> {
-    /// Its memory is written, if a file is given.
-    dump: Answer<'a>,
     ended: Ended,
-    /// The last line, and the exit status.
-    ending: Answer<'static>,
+    /// The file of its memory, if one is given, the last line, and the exit status.
+    answer: Answer<'a>,
 }
 
 /// Runs the image of the files, prints its transcript with its last instructions, writes its memory, and gives the exit status.
@@ -96,18 +94,11 @@ fn print_run<C: Console>(
 
 /// Writes the memory, and then prints the last line, and gives the exit status.
 fn end_run<C: Console>(console: &mut C, watched: Watched<'_>) -> Result<u8, Reported>
-    requires { watched.entry.ending.files ≡ [] }
-    ensures given { let w = watched.entry in IfOk result (λ status. (C.journal console.new
-        ≡ and_given (and_given (C.journal console.old) w.dump) w.ending) × (status ≡ w.ending.status)) }
-    ensures fault { IfErr result (λ _. GaveUp watched.entry.dump.files (C.journal console.old) (C.journal console.new)) }
+    ensures given { IfOk result (IsGiven watched.entry.answer (C.journal console.old) (C.journal console.new)) }
+    ensures fault { IfErr result (λ _. GaveUp watched.entry.answer.files (C.journal console.old) (C.journal console.new)) }
 {
-    let Watched {
-        dump,
-        ended,
-        ending,
-    } = watched;
-    console.give(dump)?;
-    let status = console.give(ending)?;
+    let Watched { ended, answer } = watched;
+    let status = console.give(answer)?;
     explain_end(console, ended.end, ended.cpu.pc());
     Ok(status)
 }
@@ -125,7 +116,7 @@ fn write_run<'a, K: Sink>(
     requires twice { inputs.second.pairs.items ≡ inputs.first.pairs.items }
     ensures { let w = watch.entry in IfOk result (λ watched. (text : List ℕ) × Appends (K.written out.old) (K.written out.new) text
         × WatchesRun inputs.first.pairs.items w.limits w.last (dump_path w.dump) names.now vouched.now text
-        watched.dump watched.ended watched.ending) }
+        watched.ended watched.answer) }
 {
     let finished = finish(alloc, vouched, inputs.first, watch.limits)?;
     write_front(alloc, vouched, &finished, out)?;
@@ -138,12 +129,11 @@ fn write_run<'a, K: Sink>(
         names,
         out,
     )?;
-    let dump = dump_of(alloc, &finished.bus, watch.dump)?;
     let ending = ending_of(alloc, vouched, &finished.ended, names)?;
+    let answer = with_memory(alloc, &finished.bus, watch.dump, ending)?;
     Ok(Watched {
-        dump,
         ended: finished.ended,
-        ending,
+        answer,
     })
 }
 
@@ -193,19 +183,20 @@ fn write_last<K: Sink>(
     Ok(())
 }
 
-/// The file of the memory that a run leaves, if one is given.
-fn dump_of<'a>(
+/// The answer behind the file of the memory that a run leaves, if one is given.
+fn with_memory<'a>(
     alloc: Global,
     bus: &PagedBus,
     path: Option<&'a str>,
+    answer: Answer<'a>,
 ) -> Result<Answer<'a>, AllocError>
-    ensures { IfOk result (λ answer. answer ≡ dump_answer (dump_path path.entry) bus.now) }
+    ensures { IfOk result (λ made. made ≡ with_memory (dump_path path.entry) bus.now answer.entry) }
 {
     match path {
         Some(path) => {
             let bytes = memory_bytes(alloc, bus)?;
-            Ok(Answer::writes(path, bytes, Vec::new(alloc)))
+            Ok(answer.behind_file(path, bytes))
         }
-        None => Ok(Answer::prints(Vec::new(alloc), 0)),
+        None => Ok(answer),
     }
 }

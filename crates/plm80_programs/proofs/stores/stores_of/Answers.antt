@@ -3,8 +3,8 @@ use Rattle.image80.specs.Image.{Located}
 use Rattle.plm80_programs.proofs.StoresLemmas.{stores_answered}
 use Rattle.plm80_programs.proofs.stores.stores_of.Goals as goal
 
-pub returns : goal.returns
-returns c =
+pub returns-clause-stores : goal.returns-clause-stores
+returns-clause-stores c =
     let program = c.args.vouched.now in
     let stores = c.in_ok-stores.stores in
     record {
