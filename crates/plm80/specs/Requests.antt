@@ -1,5 +1,6 @@
 -- What each request is, and what is done for it. (The commands and their statuses are this project's own.)
-use Rattle.std.specs.Prelude.{◌≡◌, ◌⊎◌, ℕ, List, [], ◌∷◌, Some, map, option_map, codes}
+use Rattle.std.specs.Prelude.{◌≡◌, ◌⊎◌, ℕ, Bool, true, false, List, [], ◌∷◌, Some, String, map, codes, string_bytes}
+use Rattle.std.specs.Str.{bytes_eq}
 use Rattle.clap.specs.declared.parser.matches.ArgMatches.{ArgMatches}
 use Rattle.clap.specs.Matches.{found_of, subcommand_name_of}
 use Rattle.clap.specs.Simple.{subcommand_rows_of}
@@ -136,3 +137,10 @@ IsDone request old new status = IsPerformed request old new status ⊎ ((status 
 abbrev pub IsCommandDone : (old new : Journal) → (status : ℕ) → Type 0
 IsCommandDone old new status = ((status ≡ 2) × (new ≡ and_reported old))
     ⊎ ((matches : ArgMatches) × (request : Request) × IsRequestOf matches request × IsDone request old new status)
+
+-- the program's name alone, or `--why` alone behind it, asks for a bundle; every other command line for a command
+abbrev pub asks_bundle : {Z : Type 0} → List (String Z) → Bool
+asks_bundle [] = true
+asks_bundle (name ∷ []) = true
+asks_bundle (name ∷ why ∷ []) = bytes_eq (string_bytes why) (codes "--why")
+asks_bundle (name ∷ why ∷ more ∷ words) = false

@@ -8,13 +8,13 @@
 //! | `commands` | the commands of the command line, with their arguments |
 #![tactic(auto)]
 
-ghost use Rattle.std.specs.Prelude.{◌≡◌, ◌⊎◌, ◌<◌, ◌≤◌, length, IfErr, IfOk};
+ghost use Rattle.std.specs.Prelude.{◌≡◌, ◌<◌, ◌≤◌, true, false, length, IfErr, IfOk};
 ghost use Rattle.std.specs.Process.{exit_status};
 ghost use Rattle.loader80_text.specs.Bundle.{BundleSends, bundle_limit};
 ghost use Rattle.loader80_text.specs.BundleText.{bundle_texts};
 ghost use Rattle.plm80_console.specs.Journal.{OnlyReports};
 ghost use Rattle.plm80.specs.Bundles.{GivesBundle, IsBundleDone, bundle_status};
-ghost use Rattle.plm80.specs.Requests.{IsCommandDone};
+ghost use Rattle.plm80.specs.Requests.{IsCommandDone, asks_bundle};
 
 mod bundle_words;
 mod commands;
@@ -65,24 +65,34 @@ fn is_explained(rt: &HostRuntime) -> bool {
 }
 
 /// Does what the arguments ask for, the first of which is the program's own name: the program, over whatever console.
-fn run<C: Console>(console: &mut C, arguments: &[String]) -> ExitCode
-    ensures { IsCommandDone (C.journal console.old) (C.journal console.new) (exit_status result)
-        ⊎ IsBundleDone (C.journal console.old) (C.journal console.new) (exit_status result) }
+pub fn run<C: Console>(console: &mut C, arguments: &[String]) -> ExitCode
+    ensures bundle { asks_bundle arguments.now ≡ true → IsBundleDone (C.journal console.old) (C.journal console.new) (exit_status result) }
+    ensures command { asks_bundle arguments.now ≡ false → IsCommandDone (C.journal console.old) (C.journal console.new) (exit_status result) }
+{
+    if asks_bundle(arguments) {
+        return run_bundle(console, arguments.len() > 1);
+    }
+    run_command(console, arguments)
+}
+
+/// Whether a bundle is asked for: there are no arguments but the program's name, or `--why` alone behind it.
+fn asks_bundle(arguments: &[String]) -> bool
+    ensures { result ≡ asks_bundle arguments.now }
 {
     match arguments {
-        [] | [_] => run_bundle(console),
-        [_, why] if why.as_str() == "--why" => {
-            console.explain_faults();
-            run_bundle(console)
-        }
-        _ => run_command(console, arguments),
+        [] | [_] => true,
+        [_, why] => why.as_str() == "--why",
+        _ => false,
     }
 }
 
-/// Runs the bundle on standard input, and gives the exit status.
-fn run_bundle<C: Console>(console: &mut C) -> ExitCode
+/// Runs the bundle on standard input, and gives the exit status; with `why`, faults are explained.
+fn run_bundle<C: Console>(console: &mut C, why: bool) -> ExitCode
     ensures { IsBundleDone (C.journal console.old) (C.journal console.new) (exit_status result) }
 {
+    if why {
+        console.explain_faults();
+    }
     match transcribe(console) {
         Ok(status) => ExitCode::from(status),
         Err(reported) => reported.status(),
@@ -113,7 +123,7 @@ fn transcribe<C: Console>(console: &mut C) -> Result<u8, Reported>
 
 /// The answer of a bundle, whose transcript is written.
 fn answer_of<K: Sink>(alloc: Global, text: &[u8], out: &mut K) -> Result<Outcome, BundleFault>
-    requires { K.failed out.old < u64.MAX }
+    requires countable { K.failed out.old < u64.MAX }
     requires within { length text.now ≤ bundle_limit }
     ensures { BundleSends 65536 1000000 (bundle_texts text.now) result (K.written out.old) (K.written out.new) }
 {

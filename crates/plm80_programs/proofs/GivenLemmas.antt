@@ -102,6 +102,13 @@ module _ (image_path regions_path : List ℕ) (asked : Bool) (old between new : 
 
 -- ---- the inputs of a run, too
 
+-- nothing came of reading the inputs from their text
+pub run_read_on : (paths : RunFiles) (asked : Bool) (old between after : Journal) (image : Located) (publics : List Public) (text same : List ℕ)
+    → IsRunRead paths asked old between image publics text → after ≡ between → same ≡ text → IsRunRead paths asked old after image publics same
+run_read_on paths asked old between after image publics text same read unchanged is =
+    subst (λ (t : List ℕ). IsRunRead paths asked old after image publics t) (sym is)
+    (record { file = read.file; text = read.text; are_read = read.are_read; journal = unchanged ∙ read.journal })
+
 module _ (paths : RunFiles) (asked : Bool) (old between new : Journal) (image : Located) (publics : List Public) (text : List ℕ)
     (inputs : List (ℕ × ℕ)) (read : IsRunRead paths asked old between image publics text) (good : bad_line text ≡ None)
     (spelled : inputs ≡ inputs_of text) where
