@@ -1,11 +1,11 @@
 # plm80: LINK, LOCATE and a verifying loader for 8080 programs.
 #
 #   make run       proves every crate, shows its progress, builds plm80 and runs it on the stored examples
-#   make try       shows the transcript of a stored example within a minute or two: plm80 is built without any proof, and kept as out/plm80 until a source changes. ARGS=".." does a command, as in make try ARGS="check a.img a.regions", and fails if the command does
-#   make install   builds plm80 as `make run` does, and installs it with its manual page, the pages for users, its examples and its completion for bash: make install PREFIX=/usr/local
+#   make try       shows the transcript of a stored example within three minutes: plm80 is built without any proof, and kept as out/plm80 until a source changes. ARGS=".." does a command, as in make try ARGS="check a.img a.regions", and fails if the command does
+#   make install   builds plm80 as `make run` does, unless `make run` or `make test` has, and installs it with its manual page, the pages for users, its examples and its completion for bash: make install PREFIX=/usr/local
 #   make uninstall takes away what make install installed, with the same PREFIX
 #   make package   builds plm80 as `make run` does, and makes a Debian package of what make install installs, in out/; a tarball, if there is no dpkg-deb
-#   make test      proves every crate from nothing and runs every test
+#   make test      proves every crate and runs every test
 #   make core      proves the core alone, with its wrong bodies and the tests of its crates: object files, LINK, LOCATE, the verifier, the loader and bundles
 #   make commands  builds plm80 and runs the tests of its commands alone
 #   make faults    runs the tests, and plm80 on the examples, refusing one allocation, read or write at a time
@@ -22,14 +22,14 @@ PROGRAM = crates/plm80/out/plm80
 help:
 	@sed -n 's/^#  //p' Makefile
 	@command -v rt > /dev/null || echo "Missing here: rt, of the Rattle kit. Everything needs it: put the kit's bin folder on PATH."
-	@command -v python3 > /dev/null || echo "Missing here: python3. make test, make commands, make bench and make clauses need it."
+	@command -v python3 > /dev/null || echo "Missing here: python3. rt needs it, and so do the tests."
 	@command -v cc > /dev/null || echo "Missing here: cc, a C compiler. make faults needs it, and make test passes over a few cases without it."
 
-need-rt:
+need-rt: need-python3
 	@command -v rt > /dev/null || { echo "rt is missing: put the Rattle kit's bin folder on PATH." && exit 1; }
 
 need-python3:
-	@command -v python3 > /dev/null || { echo "python3 is missing: the tests of the commands and the lists of clauses are run by it." && exit 1; }
+	@command -v python3 > /dev/null || { echo "python3 is missing: rt and the tests are run by it." && exit 1; }
 
 need-cc:
 	@command -v cc > /dev/null || { echo "cc is missing: a C compiler makes what refuses the calls." && exit 1; }
@@ -60,6 +60,7 @@ install-files:
 	@tools/pages "$(DESTDIR)$(PREFIX)/share/doc/plm80"
 	install -d "$(DESTDIR)$(PREFIX)/share/doc/plm80/examples"
 	install -m 644 examples/*.* "$(DESTDIR)$(PREFIX)/share/doc/plm80/examples"
+	install -m 755 examples/make_objects "$(DESTDIR)$(PREFIX)/share/doc/plm80/examples"
 	@tools/proved "$(PROGRAM)" > "$(DESTDIR)$(PREFIX)/share/doc/plm80/PROVED"
 	install -D -m 644 share/plm80.bash "$(DESTDIR)$(PREFIX)/share/bash-completion/completions/plm80"
 
@@ -77,6 +78,7 @@ package-files:
 test: need-rt need-python3
 	@tests/layers/run
 	@tests/layers/believed
+	@tests/layers/closure
 	@tests/examples/run
 	@tools/crates --check
 	@tools/clauses --check
@@ -93,13 +95,14 @@ test: need-rt need-python3
 	@tests/commands/replaced $(PROGRAM)
 	@tests/commands/completion $(PROGRAM)
 	@tests/commands/fault_page
+	@tests/commands/hex
 	@tests/package/run $(PROGRAM)
 	@tests/package/try
 	@tests/package/build
 	@if command -v cc > /dev/null; then tests/refused/run $(PROGRAM) program; else echo "faults: passed over without a C compiler"; fi
 
 core: need-rt need-python3
-	@rt ci $$(tools/crates --core)
+	@tools/gate --core
 
 commands: need-python3 build
 	@tests/commands/run $(PROGRAM)
@@ -113,6 +116,7 @@ commands: need-python3 build
 	@tests/commands/replaced $(PROGRAM)
 	@tests/commands/completion $(PROGRAM)
 	@tests/commands/fault_page
+	@tests/commands/hex
 
 # FAULTS=".." tries that alone, as FAULTS="program", FAULTS="tests_runs" or FAULTS="tests_links=1..20".
 faults: need-cc build

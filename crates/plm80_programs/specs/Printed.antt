@@ -86,10 +86,11 @@ PrintsCalls dot image publics answer = AnswersVerdict (ShowsCalls dot publics) i
 -- ---- stores
 
 -- the lines of a program's stores, with the names of their addresses
-abbrev pub stores_lines : Located → List Public → Stores → List ℕ
-stores_lines image publics stores =
+abbrev pub stores_lines : (quiet : List Range) → Located → List Public → Stores → List ℕ
+stores_lines quiet image publics stores =
     named_text image.regions.code publics (codes "JUMP ") (named_text image.regions.code publics (codes "STORE ")
-    (stores_text_of stores.sets_stack stores.addresses.items stores.open.items stores.jumps.items stores.open_jumps.items))
+    (stores_text_of image.start quiet stores.sets_stack stores.addresses.items stores.open.items stores.jumps.items
+    stores.open_jumps.items))
 
 -- What is listed of a program is so in all of its runs, and on every board whose devices leave the quiet addresses as they are; on every
 -- board if there are none.
@@ -100,7 +101,7 @@ pub record ListsStores (quiet : List Range) (publics : List Public) (program : V
   pub quiet_boards : PromiseHoldsOnQuietBoards program.image (is_quiet program.image.regions quiet) program.stack_bytes
       stores.open.items stores.open_jumps.items
   pub stack : stores.sets_stack ≡ true → SetsStack program.image
-  pub answer_is : answer ≡ prints (stores_lines program.image publics stores) (stores_status stores)
+  pub answer_is : answer ≡ prints (stores_lines quiet program.image publics stores) (stores_status stores)
 
 abbrev pub PrintsStores : (quiet : List Range) → Located → List Public → AnswerValue → Type 0
 PrintsStores quiet image publics answer = AnswersVerdict (ListsStores quiet publics) image publics answer

@@ -10,14 +10,16 @@ ghost use Rattle.plm80_programs.specs.Status.{stores_status};
 
 use crate::helpers::ranges::ranges_of;
 use clap::ArgMatches;
-use image80::{Image, Range};
+use image80::{Image, Range, Regions};
 use loader80::Vouched;
 use plm80_console::{
     Answer, Argument, Console, IMAGE, Kind, REGIONS, Reported, Syntax, argument_values,
 };
 use plm80_names::{NAMES, NamedFiles, Names, Verdict, judge};
 use std::alloc::{AllocError, Global};
-use verify80_stores::{Cause, Setter, Stores, find_causes, find_stores, stores_text};
+use verify80_stores::{
+    Cause, Setter, Stores, find_causes, find_stores, first_outside_data, stores_text,
+};
 
 const ABOUT: &str = "Verifies an image, and prints its stores that may leave data";
 
@@ -30,12 +32,14 @@ first and the last address that it may have. It may be harmless. If there is a
 PCHL, a second line counts those that are shown to go to a declared target; each
 other one has a line JUMP. What no procedure reaches is left out. A line SP NOT
 SET says that SP must be at the stack's top before the program begins, since it
-may use SP before an LXI SP of its own sets it.
+may use SP before an LXI SP of its own sets it, and a line START where it begins,
+if that isn't 0000, where a board does.
 
 Devices may write to data at any time, so what a program keeps there isn't
-believed. --quiet-ram names addresses of data to which only the program writes: a
-byte that it stores there is remembered. FIRST:LENGTH is as suggest takes it,
-and the option may be given more than once.
+believed. --quiet-ram names RAM that only the program writes, at these addresses
+alone: a byte that it stores there is remembered. All of them have to be DATA;
+each range has a line QUIET. FIRST:LENGTH is as suggest takes it, and the option
+may be given more than once.
 
 The exit status is 0 if there is no line STORE, JUMP or SP NOT SET, 1 if there is
 one, or if the image is refused: then the refusal is printed alone, as by check.
@@ -58,19 +62,19 @@ pub const STORES: Syntax<'static> = Syntax {
         Argument {
             name: QUIET,
             kind: Kind::PathsAt("FIRST:LENGTH"),
-            help: "Addresses of data to which only the program writes",
+            help: "RAM in data that only the program writes, at these addresses alone",
         },
     ],
 };
 
-/// The name of the option for RAM to which only the program writes.
+/// The name of the option for RAM that only the program writes.
 const QUIET: &str = "quiet-ram";
 
 /// The arguments of `stores`.
 #[derive(Drop)]
 pub struct StoresArguments<'a> {
     files: NamedFiles<'a>,
-    /// Ranges to which only the program writes, each as `ffff:llll`.
+    /// Ranges that only the program writes, each as `ffff:llll`.
     quiet: Vec<&'a str>,
 }
 
@@ -97,6 +101,7 @@ pub fn list_stores<C: Console>(
 {
     let quiet = ranges_of(console, QUIET, &arguments.quiet)?;
     let (image, names) = arguments.files.read(console)?;
+    require_data(console, &image.regions, &arguments.quiet, &quiet)?;
     match judged(console.alloc(), image, &names, &quiet, console.explains()) {
         Ok(ListedStores { answer, causes }) => {
             let status = console.give(answer)?;
@@ -105,6 +110,36 @@ pub fn list_stores<C: Console>(
         }
         Err(_) => Err(console.report_memory()),
     }
+}
+
+/// Reports the first of the quiet ranges that isn't all data.
+fn require_data<C: Console>(
+    console: &mut C,
+    regions: &Regions,
+    texts: &[&str],
+    quiet: &[Range],
+) -> Result<(), Reported>
+    ensures unchanged { IfOk result (λ _. C.journal console.new ≡ C.journal console.old) }
+    ensures fault { IfErr result (λ _. OnlyReports (C.journal console.old) (C.journal console.new)) }
+{
+    match first_no_data(regions, texts, quiet) {
+        Some((text, at)) => {
+            let reported = console.report("NotData");
+            console.explain(format_args!("--{QUIET} {text}: {at:04X} is no address of DATA"));
+            Err(reported)
+        }
+        None => Ok(()),
+    }
+}
+
+/// The text of the first of the quiet ranges that isn't all data, and the first address there that isn't.
+fn first_no_data<'a>(regions: &Regions, texts: &[&'a str], quiet: &[Range]) -> Option<(&'a str, u16)> {
+    for (text, range) in texts.iter().zip(quiet) {
+        if let Some(at) = first_outside_data(regions, *range) {
+            return Some((*text, at));
+        }
+    }
+    None
 }
 
 /// The lines of a program's stores, and what leaves them open.
@@ -148,7 +183,7 @@ fn stores_of(
 {
     let code = vouched.image().regions.code();
     let stores = find_stores(alloc, vouched, quiet)?;
-    let text = stores_text(alloc, &stores)?;
+    let text = stores_text(alloc, &stores, quiet, vouched.image().start)?;
     let text = names.name(alloc, code, b"STORE ", text)?;
     let text = names.name(alloc, code, b"JUMP ", text)?;
     let causes = if explains {

@@ -32,12 +32,15 @@ use Rattle.verify80.proofs.PairLemmas.{pair_value}
 use Rattle.verify80.proofs.ChainLemmas.{HasRoom, Chain, in_main, in_call, chain_room, height, callee_room, chain_kept, takes_one, Watched, Arrives, arrived}
 use Rattle.verify80.proofs.StepLemmas.{SameFrame}
 
+pub stack_in_memory : (regions : Areas) → Ground regions → IsInMemory regions.stack
+stack_in_memory regions rules =
+    All-contains IsInMemory (all_ranges regions) regions.stack rules.rules.in_memory
+    (Contains-append_right regions.code (regions.stack ∷ regions.data_ranges) regions.stack
+    (Contains-append_left (regions.stack ∷ []) regions.data_ranges regions.stack (Contains-push [] regions.stack)))
+
 -- the stack lies in memory
 pub stack_within : (regions : Areas) → Ground regions → regions.stack.first + regions.stack.length ≤ 65536
-stack_within regions rules =
-    (All-contains IsInMemory (all_ranges regions) regions.stack rules.rules.in_memory
-    (Contains-append_right regions.code (regions.stack ∷ regions.data_ranges) regions.stack
-    (Contains-append_left (regions.stack ∷ []) regions.data_ranges regions.stack (Contains-push [] regions.stack)))).«end»
+stack_within regions rules = (stack_in_memory regions rules).«end»
 
 pub in_words : (words : List Word) (i : ℕ) → word_from_top words i ≡ Own → i < length words
 in_words [] i own = absurd (let e : Any ≡ Own = own in cc)

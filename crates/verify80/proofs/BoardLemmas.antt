@@ -1,5 +1,5 @@
 -- On a board each world is watched, and stands on a walk.
-use Rattle.std.specs.Prelude.{◌≡◌, ℕ, suc, ◌+◌, ◌-◌, ◌<◌, ◌≤◌, true, false, List, Option, None, Some, All, length}
+use Rattle.std.specs.Prelude.{◌≡◌, ℕ, suc, ◌+◌, ◌-◌, ◌<◌, ◌≤◌, Bool, true, false, slice_index, List, Option, None, Some, All, length}
 use Rattle.std.proofs.Common.{◌∙◌, ap, sym, subst, arith}
 use Rattle.decode80.specs.declared.fetching.Fetched.{Fetched}
 use Rattle.decode80.specs.Fetch.{direct_bytes, FetchReadsCodeAlone}
@@ -18,14 +18,14 @@ use Rattle.verify80.specs.Looking.{code_of}
 use Rattle.verify80.specs.LookLaws.{LooksFindWhatIsAdmitted, IsAdmitted}
 use Rattle.verify80.specs.Starts.{IsStart}
 use Rattle.verify80.specs.Reached.{IsBehindCall}
-use Rattle.verify80.specs.Boards.{LeavesProgram, with_memory, fetched_anywhere, unguarded, StaysInside, Executes, OnBoard, begins, disturbed, executed, Anywhere, KeepsPromise, KeepsToWalks, IsGuarded}
-use Rattle.verify80.proofs.StoreLemmas.{Ground, stack_keeps_words}
+use Rattle.verify80.specs.Boards.{IsPushed, LeavesProgram, respected_pointer, with_memory, fetched_anywhere, unguarded, StaysInside, Executes, OnBoard, begins, disturbed, executed, Anywhere, KeepsPromise, KeepsToWalks, IsGuarded}
+use Rattle.verify80.proofs.StoreLemmas.{Ground, pushed_keep_words}
 use Rattle.verify80.proofs.ChainLemmas.{Watched, chain_kept}
-use Rattle.verify80.proofs.ArriveLemmas.{here_height, in_words}
+use Rattle.verify80.proofs.ArriveLemmas.{here_height, in_words, stack_in_memory}
 use Rattle.verify80.proofs.WalkLemmas.{OnWalk}
 use Rattle.verify80.proofs.Headline.{Finds, finds, begins_watched, passes_guard, same_found, all_pass}
 use Rattle.verify80.proofs.Along.{starts, along}
-use Rattle.verify80.proofs.BoardSteps.{fetched_inside, fetched_of, none_of, bridges, ends_by_halt}
+use Rattle.verify80.proofs.BoardSteps.{fetched_inside, fetched_of, none_of, bridges, followed, stays_set, OnSetBoard, halts_there}
 
 found_in : {a b : Fetched} → Some a ≡ Some b → a ≡ b
 found_in {a} h = let e : Some a ≡ Some _ = h in cc
@@ -59,11 +59,13 @@ module _ (image : Located) (table : Table) (most : ℕ) (rules : Ground image.re
     size = s.size;
   }
 
-  -- nor do the bytes that are neither code nor stack
-  leaves_watched : (w : World) (memory : List ℕ) → Watches w → LeavesProgram image.regions w.machine.memory memory → Watches (with_memory w memory)
+  -- nor do the bytes that are neither code nor pushed
+  leaves_watched : (w : World) (memory : List ℕ) → Watches w → LeavesProgram image.regions w.machine.cpu.sp w.machine.memory memory → Watches (with_memory w memory)
   leaves_watched w memory s leaves =
       let high = here_height image table most rules fits within w s in
-      let words = stack_keeps_words image.regions (s.base + length s.frame.words) w.machine.memory memory (omega (arith, high, within)) leaves.stack in
+      let lies = stack_in_memory image.regions rules in
+      let words = pushed_keep_words image.regions (s.base + length s.frame.words) w.machine.memory memory (omega (arith, high, within)) lies.«end» lies.length
+      (subst (λ (sp : ℕ). (a : ℕ) → IsPushed image.regions sp a → slice_index memory a ≡ slice_index w.machine.memory a) s.pointer leaves.pushed) in
       record {
         procedure = s.procedure;
         frame = s.frame;
@@ -137,14 +139,17 @@ module _ (image : Located) (table : Table) (most : ℕ) (rules : Ground image.re
   executes_watched w v s e = subst Watches (sym e.is) (goes_watched w s e.found e.after (executes_steps w v s e))
 
   module _ (start : Machine) (is_start : IsStart image start) where
-    watched_on_board : (w : World) → OnBoard image.regions Anywhere start w → Watches w
-    watched_on_board w (begins _ is) = subst Watches (sym is) (begins_watched image table most rules fits printed within changes returns_law looks fetches start is_start)
-    watched_on_board w (disturbed v _ on by) = subst Watches (sym by.is) (leaves_watched v by.memory (watched_on_board v on) by.leaves)
-    watched_on_board w (executed v _ on by) = executes_watched v w (watched_on_board v on) by
+    watched_on_board : (set : Bool) (w : World) → OnBoard image.regions Anywhere start true set w → Watches w
+    watched_on_board set w (begins _ _ is same) = subst Watches (sym is) (begins_watched image table most rules fits printed within changes returns_law looks fetches start is_start)
+    watched_on_board set w (disturbed _ v _ on by) =
+        let leaves : LeavesProgram image.regions v.machine.cpu.sp v.machine.memory by.memory =
+        subst (λ (b : Bool). LeavesProgram image.regions (respected_pointer image.regions b v) v.machine.memory by.memory) (stays_set image.regions Anywhere start set v on) by.leaves in
+        subst Watches (sym by.is) (leaves_watched v by.memory (watched_on_board set v on) leaves)
+    watched_on_board set w (executed before _ v _ on by is) = executes_watched v w (watched_on_board before v on) by
 
-    pub keeps_promise : (w : World) → OnBoard image.regions Anywhere start w → KeepsPromise image most w
+    pub keeps_promise : (w : World) → OnSetBoard image start w → KeepsPromise image Anywhere most w
     keeps_promise w on =
-        let s = watched_on_board w on in
+        let s = watched_on_board true w on in
         let f = finds_of w s in
         let admitted : IsAdmitted image.regions (memory_of image.chunks) w.machine.cpu.pc f.found = (looks image.regions (memory_of image.chunks) w.machine.cpu.pc f.found).0 f.looked in
         record {
@@ -156,12 +161,14 @@ module _ (image : Located) (table : Table) (most : ℕ) (rules : Ground image.re
           declared = f.declared;
           returning = f.safe.returning;
           stack = f.safe.touches.below;
-          ends = λ byte none. ends_by_halt f.found.instr byte f.found.next w.machine none;
+          halts = λ is_ei. halts_there image.regions (memory_of image.chunks) w.machine.memory w.machine.cpu.pc s.code.bytes (admitted.halts is_ei);
+          goes_on = λ on inside byte small.
+              followed image.regions Anywhere w f.found (fetched_inside image.regions w.machine.memory w.machine.cpu.pc f.found f.fetched) on inside byte small;
         }
 
-    pub steps_are_guarded : (w v : World) → OnBoard image.regions Anywhere start w → (e : Executes image.regions Anywhere w v) → IsGuarded image.regions w.machine e.after
+    pub steps_are_guarded : (w v : World) → OnSetBoard image start w → (e : Executes image.regions Anywhere w v) → IsGuarded image.regions w.machine e.after
     steps_are_guarded w v on e =
-        let g = executes_steps w v (watched_on_board w on) e in
+        let g = executes_steps w v (watched_on_board true w on) e in
         let u = with_inputs w g.inputs in
         let f = finds_of u g.watched in
         record {
@@ -185,17 +192,17 @@ module _ (image : Located) (table : Table) (most : ℕ) (rules : Ground image.re
           subst (λ (x : Fetched). OnWalk (code_of image) after.cpu.pc (places_after x.instr x.next w.machine.cpu.registers.flags w.places)) g.same
           (subst (λ (m : Machine). OnWalk (code_of image) m.cpu.pc places) g.is on)
 
-      walks_on_board : (w : World) → OnBoard image.regions Anywhere start w → Walks image w
-      walks_on_board w (begins _ is) = subst (Walks image) (sym is) (starts image table most rules fits printed within changes returns_law looks fetches none start is_start)
-      walks_on_board w (disturbed v _ on by) = subst (Walks image) (sym by.is) (walks_on_board v on)
-      walks_on_board w (executed v _ on by) =
-          let s = watched_on_board v on in
-          subst (Walks image) (sym by.is) (goes_on_walks v s (walks_on_board v on) by.found by.after (executes_steps v w s by))
+      walks_on_board : (set : Bool) (w : World) → OnBoard image.regions Anywhere start true set w → Walks image w
+      walks_on_board set w (begins _ _ is same) = subst (Walks image) (sym is) (starts image table most rules fits printed within changes returns_law looks fetches none start is_start)
+      walks_on_board set w (disturbed _ v _ on by) = subst (Walks image) (sym by.is) (walks_on_board set v on)
+      walks_on_board set w (executed before _ v _ on by is) =
+          let s = watched_on_board before v on in
+          subst (Walks image) (sym by.is) (goes_on_walks v s (walks_on_board before v on) by.found by.after (executes_steps v w s by))
 
-      pub keeps_to_walks : (w : World) → OnBoard image.regions Anywhere start w → KeepsToWalks image w
+      pub keeps_to_walks : (w : World) → OnSetBoard image start w → KeepsToWalks image w
       keeps_to_walks w on =
-          let s = watched_on_board w on in
-          let o = walks_on_board w on in
+          let s = watched_on_board true w on in
+          let o = walks_on_board true w on in
           let f = finds_of w s in
           record {
             stands = record { reached = record { procedure = o.procedure; frame = o.frame; walk = o.walk }; found = f.found; looked = f.looked; fetched = f.fetched };
@@ -207,18 +214,18 @@ module _ (image : Located) (table : Table) (most : ℕ) (rules : Ground image.re
 
 -- an image that is fitted keeps its promise on boards
 pub fitted_keeps_promise : ChangesByPlaces → ReturnsByPlaces → LooksFindWhatIsAdmitted → FetchReadsCodeAlone → (image : Located) (bytes : ℕ) → Ground image.regions → IsFitted (code_of image) bytes →
-    bytes ≤ image.regions.stack.length → (start : Machine) → IsStart image start → (w : World) → OnBoard image.regions Anywhere start w → KeepsPromise image bytes w
+    bytes ≤ image.regions.stack.length → (start : Machine) → IsStart image start → (w : World) → OnSetBoard image start w → KeepsPromise image Anywhere bytes w
 fitted_keeps_promise changes returns_law looks fetches image bytes ground fitted enough start is_start w on =
     keeps_promise image fitted.table bytes ground fitted.fits fitted.printed enough changes returns_law looks fetches start is_start w on
 
 -- its steps there are guarded ones
 pub fitted_steps_are_guarded : ChangesByPlaces → ReturnsByPlaces → LooksFindWhatIsAdmitted → FetchReadsCodeAlone → (image : Located) (bytes : ℕ) → Ground image.regions → IsFitted (code_of image) bytes →
-    bytes ≤ image.regions.stack.length → (start : Machine) → IsStart image start → (w v : World) → OnBoard image.regions Anywhere start w → (e : Executes image.regions Anywhere w v) → IsGuarded image.regions w.machine e.after
+    bytes ≤ image.regions.stack.length → (start : Machine) → IsStart image start → (w v : World) → OnSetBoard image start w → (e : Executes image.regions Anywhere w v) → IsGuarded image.regions w.machine e.after
 fitted_steps_are_guarded changes returns_law looks fetches image bytes ground fitted enough start is_start w v on e =
     steps_are_guarded image fitted.table bytes ground fitted.fits fitted.printed enough changes returns_law looks fetches start is_start w v on e
 
 -- and it stays on its walks
 pub fitted_keeps_to_walks : ChangesByPlaces → ReturnsByPlaces → LooksFindWhatIsAdmitted → FetchReadsCodeAlone → (image : Located) (bytes : ℕ) → Ground image.regions → (fitted : IsFitted (code_of image) bytes) →
-    NoFault (code_of image) → bytes ≤ image.regions.stack.length → (start : Machine) → IsStart image start → (w : World) → OnBoard image.regions Anywhere start w → KeepsToWalks image w
+    NoFault (code_of image) → bytes ≤ image.regions.stack.length → (start : Machine) → IsStart image start → (w : World) → OnSetBoard image start w → KeepsToWalks image w
 fitted_keeps_to_walks changes returns_law looks fetches image bytes ground fitted none enough start is_start w on =
     keeps_to_walks image fitted.table bytes ground fitted.fits fitted.printed enough changes returns_law looks fetches start is_start none w on

@@ -1,6 +1,6 @@
 -- Runs on a board that begin before SP is set: until an instruction sets it, the world differs from one with SP at the stack's top in SP
 -- alone.
-use Rattle.std.specs.Prelude.{◌≡◌, ◌⊎◌, ℕ, Bool, true, false, List, [], All, Option, None, Some, refl, if◌then◌else◌}
+use Rattle.std.specs.Prelude.{◌≡◌, ◌⊎◌, ◌||◌, ℕ, Bool, true, false, List, [], All, Option, None, Some, refl, if◌then◌else◌}
 use Rattle.std.proofs.Common.{◌∙◌, ap, sym, subst, inl, inr, true≢false}
 use Rattle.std.proofs.lemmas.List.Elements.{All-nil}
 use Rattle.decode80.specs.declared.instr.Instr.{Instr}
@@ -22,8 +22,8 @@ use Rattle.machine80.specs.Step.{Machine, ends_at, fetch, first_outside, guard, 
 use Rattle.machine80.specs.World.{World, IsJustBelow, returns}
 use Rattle.machine80.specs.Run.{world_of}
 use Rattle.verify80.specs.Starts.{IsStart}
-use Rattle.verify80.specs.Boards.{Anywhere, Executes, GoesBy, HasAt, IsGuarded, IsUnset, starts, goes_on, KeepsPromise, KeepsToWalks, MayStart, OnBoard, begins, disturbed, executed, StartsUnset, StaysInside, fetched_anywhere, sets_sp, uses_sp, unguarded, with_memory}
-use Rattle.verify80.proofs.BoardSteps.{bridges, ends_by_halt, none_of, same_machine}
+use Rattle.verify80.specs.Boards.{Anywhere, Executes, GoesBy, HasAt, IsGuarded, IsUnset, starts, goes_on, KeepsPromise, KeepsToWalks, MayStart, OnBoard, with_respected_pointer, begins, disturbed, executed, LeavesProgram, respected_pointer, StartsUnset, StaysInside, fetched_anywhere, sets_sp, uses_sp, unguarded, with_memory}
+use Rattle.verify80.proofs.BoardSteps.{bridges, followed, none_of, same_machine, OnSetBoard, is_on_set, stays_set}
 
 found_is : {a b : Fetched} → Some a ≡ Some b → a ≡ b
 found_is {a} {b} h = let e : Some a ≡ Some b = h in cc
@@ -33,7 +33,7 @@ abbrev set_machine : Located → Machine → Machine
 set_machine image m = record m { cpu = record m.cpu { sp = top_of image.regions } }
 
 abbrev with_top : Located → World → World
-with_top image w = record { machine = set_machine image w.machine; places = w.places }
+with_top image w = with_respected_pointer image.regions false w
 
 -- ---- an instruction that neither sets nor uses SP does the same whatever it is
 
@@ -128,7 +128,7 @@ guard_says_nothing regions i cpu none direct pointed =
     ∙ ap (λ (o : Option ℕ). ends_at o Direct (ends_at (first_outside (in_data regions) (pointed_bytes i cpu.registers)) StoreOutside None)) direct
     ∙ ap (λ (o : Option ℕ). ends_at o StoreOutside None) pointed
 
-module _ (image : Located) (bytes : ℕ) (promise : (start : Machine) → IsStart image start → (w : World) → OnBoard image.regions Anywhere start w → KeepsPromise image bytes w) (m : Machine) (s : StartsUnset image m) where
+module _ (image : Located) (bytes : ℕ) (promise : (start : Machine) → IsStart image start → (w : World) → OnSetBoard image start w → KeepsPromise image Anywhere bytes w) (m : Machine) (s : StartsUnset image m) where
   abbrev set : Machine
   set = set_machine image m
 
@@ -138,9 +138,9 @@ module _ (image : Located) (bytes : ℕ) (promise : (start : Machine) → IsStar
   -- a world before SP is set
   pub record Before (w : World) : Type 0 where
     pub unset : IsUnset image w.machine.cpu.pc
-    pub on : OnBoard image.regions Anywhere set (with_top image w)
+    pub on : OnSetBoard image set (with_top image w)
 
-  promise_there : (w : World) → Before w → KeepsPromise image bytes (with_top image w)
+  promise_there : (w : World) → Before w → KeepsPromise image Anywhere bytes (with_top image w)
   promise_there w b = promise set is_start (with_top image w) b.on
 
   free : (w : World) (b : Before w) → uses_sp (promise_there w b).found.instr ≡ false
@@ -152,9 +152,13 @@ module _ (image : Located) (bytes : ℕ) (promise : (start : Machine) → IsStar
   free_here : (w : World) (b : Before w) (e_found : Fetched) → fetched_anywhere w.machine.memory w.machine.cpu.pc ≡ Some e_found → uses_sp e_found.instr ≡ false
   free_here w b found h = ap (λ (x : Fetched). uses_sp x.instr) (found_there w b found h) ∙ free w b
 
-  goes_before : (w v : World) → Before w → (e : Executes image.regions Anywhere w v) → (sets : Bool) → sets_sp e.found.instr ≡ sets →
-      Before v ⊎ OnBoard image.regions Anywhere set v
-  goes_before w v b e true sets = inr (executed (with_top image w) v b.on (record {
+  -- a world before SP is set, or after
+  abbrev pub Either : Bool → World → Type 0
+  Either is_set w = ((is_set ≡ false) × Before w) ⊎ ((is_set ≡ true) × OnSetBoard image set w)
+
+  -- its step is one with SP at the top
+  step_there : (w v : World) → Before w → (e : Executes image.regions Anywhere w v) → (sets : Bool) → sets_sp e.found.instr ≡ sets → Executes image.regions Anywhere (with_top image w) (with_respected_pointer image.regions sets v)
+  step_there w v b e true sets = record {
     found = e.found;
     byte = e.byte;
     after = e.after;
@@ -163,44 +167,79 @@ module _ (image : Located) (bytes : ℕ) (promise : (start : Machine) → IsStar
     inside = λ listed. record { stores = (e.inside listed).stores; jumps = (e.inside listed).jumps };
     goes = goes_set image e.found.instr e.byte e.found.next w.machine e.after sets e.goes;
     is = e.is;
-  }))
+  }
+  step_there w v b e false unset = record {
+    found = e.found;
+    byte = e.byte;
+    after = set_machine image e.after;
+    fetched = e.fetched;
+    small = e.small;
+    inside = λ listed. record { stores = (e.inside listed).stores; jumps = (e.inside listed).jumps };
+    goes = goes_free image e.found.instr e.byte e.found.next w.machine e.after (free_here w b e.found e.fetched) unset e.goes;
+    is = ap (with_top image) e.is;
+  }
+
+  goes_before : (w v : World) → Before w → (e : Executes image.regions Anywhere w v) → (sets : Bool) → sets_sp e.found.instr ≡ sets → Either sets v
+  goes_before w v b e true sets = inr (refl, executed true true (with_top image w) v b.on (step_there w v b e true sets) refl)
   goes_before w v b e false unset =
       let p = promise_there w b in
       let there : HasAt image w.machine.cpu.pc e.found = subst (HasAt image w.machine.cpu.pc) (sym (found_there w b e.found e.fetched)) p.of_image in
       let off : uses_sp e.found.instr ≡ false = free_here w b e.found e.fetched in
       let on : IsUnset image e.after.cpu.pc =
       goes_on w.machine.cpu.pc e.found e.after.cpu.pc b.unset there unset (leads_by image.regions e.found.instr e.byte e.found.next w.machine e.after off (e.inside tt) e.goes) in
-      inl (record {
-        unset = subst (λ (x : World). IsUnset image x.machine.cpu.pc) (sym e.is) on;
-        on = executed (with_top image w) (with_top image v) b.on (record {
-          found = e.found;
-          byte = e.byte;
-          after = set_machine image e.after;
-          fetched = e.fetched;
-          small = e.small;
-          inside = λ listed. record { stores = (e.inside listed).stores; jumps = (e.inside listed).jumps };
-          goes = goes_free image e.found.instr e.byte e.found.next w.machine e.after off unset e.goes;
-          is = ap (with_top image) e.is;
-        });
-      })
+      inl (
+        refl,
+        record {
+          unset = subst (λ (x : World). IsUnset image x.machine.cpu.pc) (sym e.is) on;
+          on = executed true true (with_top image w) (with_top image v) b.on (step_there w v b e false unset) refl;
+        },
+      )
 
-  pub reaches : (w : World) → OnBoard image.regions Anywhere m w → Before w ⊎ OnBoard image.regions Anywhere set w
-  reaches w (begins _ is) = inl (subst Before (sym is) (record { unset = starts m.cpu.pc s.pc; on = begins (world_of set) refl }))
-  reaches w (disturbed v _ on by) = goes (reaches v on)
+  pub reaches : (is_set : Bool) (w : World) → OnBoard image.regions Anywhere m false is_set w → Either is_set w
+  reaches is_set w (begins _ _ is unset) = inl (unset, subst Before (sym is) (record { unset = starts m.cpu.pc s.pc; on = begins true (world_of set) refl refl }))
+  reaches is_set w (disturbed _ v _ on by) = goes (reaches is_set v on)
     where
-      goes : Before v ⊎ OnBoard image.regions Anywhere set v → Before w ⊎ OnBoard image.regions Anywhere set w
-      goes (inl b) = inl (subst Before (sym by.is) (record {
-        unset = b.unset;
-        on = disturbed (with_top image v) (with_memory (with_top image v) by.memory) b.on (record { memory = by.memory; leaves = by.leaves; is = refl });
-      }))
-      goes (inr there) = inr (disturbed v w there by)
-  reaches w (executed v _ on by) = goes (reaches v on)
+      goes : Either is_set v → Either is_set w
+      goes (inl (unset, b)) = inl (
+        unset,
+        subst Before (sym by.is) (record {
+          unset = b.unset;
+          on = disturbed true (with_top image v) (with_memory (with_top image v) by.memory) b.on (record {
+            memory = by.memory;
+            leaves = subst (λ (x : Bool). LeavesProgram image.regions (respected_pointer image.regions x v) v.machine.memory by.memory) unset by.leaves;
+            is = refl;
+          });
+        }),
+      )
+      goes (inr (now, there)) = inr (
+        now,
+        disturbed true v w there (record {
+          memory = by.memory;
+          leaves = subst (λ (x : Bool). LeavesProgram image.regions (respected_pointer image.regions x v) v.machine.memory by.memory) now by.leaves;
+          is = by.is;
+        }),
+      )
+  reaches is_set w (executed before _ v _ on by is) = goes (reaches before v on)
     where
-      goes : Before v ⊎ OnBoard image.regions Anywhere set v → Before w ⊎ OnBoard image.regions Anywhere set w
-      goes (inl b) = goes_before v w b by (sets_sp by.found.instr) refl
-      goes (inr there) = inr (executed v w there by)
+      goes : Either before v → Either is_set w
+      goes (inl (unset, b)) =
+          subst (λ (x : Bool). Either x w) (sym (is ∙ ap (λ (x : Bool). x || sets_sp by.found.instr) unset)) (goes_before v w b by (sets_sp by.found.instr) refl)
+      goes (inr (now, there)) = inr (is ∙ ap (λ (x : Bool). x || sets_sp by.found.instr) now, executed true true v w there by refl)
 
-  keeps_before : (w : World) → Before w → KeepsPromise image bytes w
+  pub step_respects : (w v : World) (before set : Bool) → OnBoard image.regions Anywhere m false before w → (e : Executes image.regions Anywhere w v) → set ≡ (before || sets_sp e.found.instr) →
+      Executes image.regions Anywhere (with_respected_pointer image.regions before w) (with_respected_pointer image.regions set v)
+  step_respects w v before is_set on e is = by (reaches before w on)
+    where
+      by : Either before w → Executes image.regions Anywhere (with_respected_pointer image.regions before w) (with_respected_pointer image.regions is_set v)
+      by (inl (unset, b)) =
+          subst (λ (x : Bool). Executes image.regions Anywhere (with_respected_pointer image.regions x w) (with_respected_pointer image.regions is_set v)) (sym unset)
+          (subst (λ (x : Bool). Executes image.regions Anywhere (with_top image w) (with_respected_pointer image.regions x v)) (sym (is ∙ ap (λ (x : Bool). x || sets_sp e.found.instr) unset))
+          (step_there w v b e (sets_sp e.found.instr) refl))
+      by (inr (now, there)) =
+          subst (λ (x : Bool). Executes image.regions Anywhere (with_respected_pointer image.regions x w) (with_respected_pointer image.regions is_set v)) (sym now)
+          (subst (λ (x : Bool). Executes image.regions Anywhere w (with_respected_pointer image.regions x v)) (sym (is ∙ ap (λ (x : Bool). x || sets_sp e.found.instr) now)) e)
+
+  keeps_before : (w : World) → Before w → KeepsPromise image Anywhere bytes w
   keeps_before w b =
       let p = promise_there w b in
       record {
@@ -213,18 +252,19 @@ module _ (image : Located) (bytes : ℕ) (promise : (start : Machine) → IsStar
         returning = λ taken. absurd (true≢false (sym taken ∙ never_returns p.found.instr w.machine.cpu.registers.flags (free w b)));
         stack = subst (λ (xs : List ℕ). All (λ address. IsJustBelow (top_of image.regions) bytes address) xs) (sym (touches_none p.found.instr w.machine.cpu (free w b)))
             (All-nil (λ address. IsJustBelow (top_of image.regions) bytes address));
-        ends = λ byte none. ends_by_halt p.found.instr byte p.found.next w.machine none;
+        halts = p.halts;
+        goes_on = λ on inside byte small. followed image.regions Anywhere w p.found p.anywhere on inside byte small;
       }
 
-  pub keeps_promise_unset : (w : World) → OnBoard image.regions Anywhere m w → KeepsPromise image bytes w
-  keeps_promise_unset w on = by (reaches w on)
+  pub keeps_promise_unset : (is_set : Bool) (w : World) → OnBoard image.regions Anywhere m false is_set w → KeepsPromise image Anywhere bytes w
+  keeps_promise_unset is_set w on = by (reaches is_set w on)
     where
-      by : Before w ⊎ OnBoard image.regions Anywhere set w → KeepsPromise image bytes w
-      by (inl b) = keeps_before w b
-      by (inr there) = promise set is_start w there
+      by : Either is_set w → KeepsPromise image Anywhere bytes w
+      by (inl (unset, b)) = keeps_before w b
+      by (inr (now, there)) = promise set is_start w there
 
   -- its steps are guarded ones
-  module _ (steps : (start : Machine) → IsStart image start → (w v : World) → OnBoard image.regions Anywhere start w → (e : Executes image.regions Anywhere w v) → IsGuarded image.regions w.machine e.after) where
+  module _ (steps : (start : Machine) → IsStart image start → (w v : World) → OnSetBoard image start w → (e : Executes image.regions Anywhere w v) → IsGuarded image.regions w.machine e.after) where
     guarded_before : (w v : World) → Before w → (e : Executes image.regions Anywhere w v) → IsGuarded image.regions w.machine e.after
     guarded_before w v b e =
         let p = promise_there w b in
@@ -248,15 +288,15 @@ module _ (image : Located) (bytes : ℕ) (promise : (start : Machine) → IsStar
           is = g.is;
         }
 
-    pub steps_are_guarded_unset : (w v : World) → OnBoard image.regions Anywhere m w → (e : Executes image.regions Anywhere w v) → IsGuarded image.regions w.machine e.after
-    steps_are_guarded_unset w v on e = by (reaches w on)
+    pub steps_are_guarded_unset : (is_set : Bool) (w v : World) → OnBoard image.regions Anywhere m false is_set w → (e : Executes image.regions Anywhere w v) → IsGuarded image.regions w.machine e.after
+    steps_are_guarded_unset is_set w v on e = by (reaches is_set w on)
       where
-        by : Before w ⊎ OnBoard image.regions Anywhere set w → IsGuarded image.regions w.machine e.after
-        by (inl b) = guarded_before w v b e
-        by (inr there) = steps set is_start w v there e
+        by : Either is_set w → IsGuarded image.regions w.machine e.after
+        by (inl (unset, b)) = guarded_before w v b e
+        by (inr (now, there)) = steps set is_start w v there e
 
   -- and it stays on walks
-  module _ (walks : (start : Machine) → IsStart image start → (w : World) → OnBoard image.regions Anywhere start w → KeepsToWalks image w) where
+  module _ (walks : (start : Machine) → IsStart image start → (w : World) → OnSetBoard image start w → KeepsToWalks image w) where
     walks_before : (w : World) → Before w → KeepsToWalks image w
     walks_before w b =
         let k = walks set is_start (with_top image w) b.on in
@@ -269,28 +309,38 @@ module _ (image : Located) (bytes : ℕ) (promise : (start : Machine) → IsStar
               absurd (true≢false (sym taken ∙ never_returns found.instr w.machine.cpu.registers.flags off));
         }
 
-    pub keeps_to_walks_unset : (w : World) → OnBoard image.regions Anywhere m w → KeepsToWalks image w
-    keeps_to_walks_unset w on = by (reaches w on)
+    pub keeps_to_walks_unset : (is_set : Bool) (w : World) → OnBoard image.regions Anywhere m false is_set w → KeepsToWalks image w
+    keeps_to_walks_unset is_set w on = by (reaches is_set w on)
       where
-        by : Before w ⊎ OnBoard image.regions Anywhere set w → KeepsToWalks image w
-        by (inl b) = walks_before w b
-        by (inr there) = walks set is_start w there
+        by : Either is_set w → KeepsToWalks image w
+        by (inl (unset, b)) = walks_before w b
+        by (inr (now, there)) = walks set is_start w there
 
 -- on a board, wherever a run may begin
 
-pub promise_kept : (image : Located) (bytes : ℕ) → ((start : Machine) → IsStart image start → (w : World) → OnBoard image.regions Anywhere start w → KeepsPromise image bytes w) →
-    (start : Machine) → MayStart image start → (w : World) → OnBoard image.regions Anywhere start w → KeepsPromise image bytes w
-promise_kept image bytes promise start (inl is) w on = promise start is w on
-promise_kept image bytes promise start (inr s) w on = keeps_promise_unset image bytes promise start s w on
+pub promise_kept : (image : Located) (bytes : ℕ) → ((start : Machine) → IsStart image start → (w : World) → OnSetBoard image start w → KeepsPromise image Anywhere bytes w) →
+    (start : Machine) (began : Bool) → MayStart image began start → (w : World) (set : Bool) → OnBoard image.regions Anywhere start began set w → KeepsPromise image Anywhere bytes w
+promise_kept image bytes promise start true is w set on = promise start is w (is_on_set image start set w on)
+promise_kept image bytes promise start false s w set on = keeps_promise_unset image bytes promise start s set w on
 
-pub steps_guarded : (image : Located) (bytes : ℕ) → ((start : Machine) → IsStart image start → (w : World) → OnBoard image.regions Anywhere start w → KeepsPromise image bytes w) →
-    ((start : Machine) → IsStart image start → (w v : World) → OnBoard image.regions Anywhere start w → (e : Executes image.regions Anywhere w v) → IsGuarded image.regions w.machine e.after) →
-    (start : Machine) → MayStart image start → (w v : World) → OnBoard image.regions Anywhere start w → (e : Executes image.regions Anywhere w v) → IsGuarded image.regions w.machine e.after
-steps_guarded image bytes promise steps start (inl is) w v on e = steps start is w v on e
-steps_guarded image bytes promise steps start (inr s) w v on e = steps_are_guarded_unset image bytes promise start s steps w v on e
+pub steps_guarded : (image : Located) (bytes : ℕ) → ((start : Machine) → IsStart image start → (w : World) → OnSetBoard image start w → KeepsPromise image Anywhere bytes w) →
+    ((start : Machine) → IsStart image start → (w v : World) → OnSetBoard image start w → (e : Executes image.regions Anywhere w v) → IsGuarded image.regions w.machine e.after) →
+    (start : Machine) (began : Bool) → MayStart image began start → (w v : World) (set : Bool) → OnBoard image.regions Anywhere start began set w → (e : Executes image.regions Anywhere w v) →
+    IsGuarded image.regions w.machine e.after
+steps_guarded image bytes promise steps start true is w v set on e = steps start is w v (is_on_set image start set w on) e
+steps_guarded image bytes promise steps start false s w v set on e = steps_are_guarded_unset image bytes promise start s steps set w v on e
 
-pub walks_kept : (image : Located) (bytes : ℕ) → ((start : Machine) → IsStart image start → (w : World) → OnBoard image.regions Anywhere start w → KeepsPromise image bytes w) →
-    ((start : Machine) → IsStart image start → (w : World) → OnBoard image.regions Anywhere start w → KeepsToWalks image w) →
-    (start : Machine) → MayStart image start → (w : World) → OnBoard image.regions Anywhere start w → KeepsToWalks image w
-walks_kept image bytes promise walks start (inl is) w on = walks start is w on
-walks_kept image bytes promise walks start (inr s) w on = keeps_to_walks_unset image bytes promise start s walks w on
+pub walks_kept : (image : Located) (bytes : ℕ) → ((start : Machine) → IsStart image start → (w : World) → OnSetBoard image start w → KeepsPromise image Anywhere bytes w) →
+    ((start : Machine) → IsStart image start → (w : World) → OnSetBoard image start w → KeepsToWalks image w) →
+    (start : Machine) (began : Bool) → MayStart image began start → (w : World) (set : Bool) → OnBoard image.regions Anywhere start began set w → KeepsToWalks image w
+walks_kept image bytes promise walks start true is w set on = walks start is w (is_on_set image start set w on)
+walks_kept image bytes promise walks start false s w set on = keeps_to_walks_unset image bytes promise start s walks set w on
+
+pub steps_respect : (image : Located) (bytes : ℕ) → ((start : Machine) → IsStart image start → (w : World) → OnSetBoard image start w → KeepsPromise image Anywhere bytes w) →
+    (start : Machine) (began : Bool) → MayStart image began start → (w v : World) (before set : Bool) → OnBoard image.regions Anywhere start began before w → (e : Executes image.regions Anywhere w v) →
+    set ≡ (before || sets_sp e.found.instr) → Executes image.regions Anywhere (with_respected_pointer image.regions before w) (with_respected_pointer image.regions set v)
+steps_respect image bytes promise start true begins_there w v before set on e is =
+    let now = stays_set image.regions Anywhere start before w on in
+    subst (λ (x : Bool). Executes image.regions Anywhere (with_respected_pointer image.regions x w) (with_respected_pointer image.regions set v)) (sym now)
+    (subst (λ (x : Bool). Executes image.regions Anywhere w (with_respected_pointer image.regions x v)) (sym (is ∙ ap (λ (x : Bool). x || sets_sp e.found.instr) now)) e)
+steps_respect image bytes promise start false s w v before set on e is = step_respects image bytes promise start s w v before set on e is

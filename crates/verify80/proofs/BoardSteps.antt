@@ -1,8 +1,8 @@
 -- A step that nothing guards is a guarded one, if the guard would say nothing.
-use Rattle.std.specs.Prelude.{◌≡◌, ℕ, zero, suc, ◌+◌, ◌<◌, Bool, true, false, not, ◌&&◌, nat_le, List, [], ◌∷◌, ◌++◌, Option, None, Some, All, Result, Ok, Err, refl, if◌then◌else◌}
+use Rattle.std.specs.Prelude.{◌≡◌, ◌≢◌, ℕ, zero, suc, ◌+◌, ◌<◌, Bool, true, false, not, ◌&&◌, ◌||◌, nat_eq, nat_le, slice_index, List, [], ◌∷◌, ◌++◌, Option, None, Some, All, Result, Ok, Err, refl, if◌then◌else◌}
 use Rattle.std.specs.List.{list_all, range_with_len}
 use Rattle.std.specs.Result.{result_ok}
-use Rattle.std.proofs.Common.{◌∙◌, ap, arith, cond}
+use Rattle.std.proofs.Common.{◌∙◌, ap, sym, subst, arith, cond}
 use Rattle.std.proofs.lemmas.List.Elements.{All-nil, All-cons}
 use Rattle.decode80.specs.declared.instr.Instr.{Instr}
 use Rattle.decode80.specs.declared.instr.Instr.TheVariants.{Hlt, In, Out, Pchl}
@@ -10,14 +10,18 @@ use Rattle.decode80.specs.declared.fetching.FetchFault.{FetchFault}
 use Rattle.decode80.specs.declared.fetching.FetchFault.TheVariants.{Outside}
 use Rattle.decode80.specs.declared.fetching.Fetched.{Fetched}
 use Rattle.decode80.specs.Decoded.{decoded}
+use Rattle.decode80.specs.Spelling.{opcode}
 use Rattle.decode80.specs.Fetch.{ahead, all_code, admitted_if_used, fetch as fetch_in}
 use Rattle.image80.specs.Regions.{Areas, in_code, targets_at}
+use Rattle.image80.specs.Image.{Located}
 use Rattle.machine80.specs.declared.end.End.TheVariants.{JumpOutside}
 use Rattle.machine80.specs.Cpu.{hl_of}
 use Rattle.machine80.specs.Ports.{next_input, without_next}
 use Rattle.machine80.specs.Step.{Machine, Next, execute, fetch, first_outside, leads_outside, proceeded, turn_of, with_input}
+use Rattle.machine80.specs.World.{World, places_after}
+use Rattle.verify80.specs.Looking.{halt_follows}
 use Rattle.verify80.specs.LookLaws.{fetch_at}
-use Rattle.verify80.specs.Boards.{fetched_anywhere, unguarded}
+use Rattle.verify80.specs.Boards.{Anywhere, IsFollowed, OnBoard, begins, disturbed, executed, StaysInside, fetched_anywhere, sets_sp, unguarded}
 
 -- ---- what is fetched inside code is fetched without a look at regions too
 
@@ -140,9 +144,45 @@ bridges regions i byte next m after small inside h = record {
   is = same_machine h;
 }
 
--- an instruction that leads nowhere is HLT
-pub ends_by_halt : (i : Instr) (byte next : ℕ) (m : Machine) → unguarded i byte next m ≡ None → i ≡ Hlt
-ends_by_halt Hlt byte next m h = refl
-ends_by_halt (In port) byte next m h = absurd (cc)
-ends_by_halt (Out port) byte next m h = absurd (cc)
-ends_by_halt i byte next m h = absurd (cc)
+-- ---- a run goes on unless its instruction is HLT
+
+leads : (i : Instr) (byte next : ℕ) (m : Machine) → i ≢ Hlt → (after : Machine) × (unguarded i byte next m ≡ Some after)
+leads Hlt byte next m on = absurd (on refl)
+leads (In port) byte next m on = (record m { cpu = record m.cpu { registers = record m.cpu.registers { a = byte }; pc = next } }, refl)
+leads (Out port) byte next m on = (record m { cpu = record m.cpu { pc = next } }, refl)
+leads i byte next m on = (proceeded i next m, refl)
+
+pub followed : (regions : Areas) (listed : ℕ → Type 0) (w : World) (found : Fetched) → fetched_anywhere w.machine.memory w.machine.cpu.pc ≡ Some found → found.instr ≢ Hlt →
+    (listed w.machine.cpu.pc → StaysInside regions w.machine found.instr) → (byte : ℕ) → byte < 256 → IsFollowed regions listed byte w
+followed regions listed w found fetched on inside byte small =
+    let l = leads found.instr byte found.next w.machine on in
+    record {
+      next = record { machine = l.0; places = places_after found.instr found.next w.machine.cpu.registers.flags w.places };
+      step = record { found = found; byte = byte; after = l.0; fetched = fetched; small = small; inside = inside; goes = l.1; is = refl };
+      brought = refl;
+    }
+
+-- ---- if SP is set when a run begins, it stays so
+
+pub stays_set : (regions : Areas) (listed : ℕ → Type 0) (start : Machine) (set : Bool) (w : World) → OnBoard regions listed start true set w → set ≡ true
+stays_set regions listed start set w (begins _ _ is same) = same
+stays_set regions listed start set w (disturbed _ v _ on by) = stays_set regions listed start set v on
+stays_set regions listed start set w (executed before _ v _ on by is) = is ∙ ap (λ (b : Bool). b || sets_sp by.found.instr) (stays_set regions listed start before v on)
+
+-- the worlds of a board whose run begins with SP at the stack's top
+abbrev pub OnSetBoard : Located → Machine → World → Type 0
+OnSetBoard image start w = OnBoard image.regions Anywhere start true true w
+
+pub is_on_set : (image : Located) (start : Machine) (set : Bool) (w : World) → OnBoard image.regions Anywhere start true set w → OnSetBoard image start w
+is_on_set image start set w on = subst (λ (b : Bool). OnBoard image.regions Anywhere start true b w) (stays_set image.regions Anywhere start set w on) on
+
+-- ---- the HLT behind an EI is the board's too
+
+first_of : (a b : Bool) → (a && b) ≡ true → a ≡ true
+first_of true b h = refl
+first_of false b h = absurd (cc)
+
+pub halts_there : (regions : Areas) (old memory : List ℕ) (at : ℕ) → ((address : ℕ) → in_code regions address ≡ true → slice_index old address ≡ slice_index memory address) →
+    halt_follows regions old at ≡ true → halt_follows regions memory at ≡ true
+halts_there regions old memory at same h =
+    ap (λ (byte : ℕ). in_code regions (ahead at 1) && nat_eq byte (opcode Hlt)) (sym (same (ahead at 1) (first_of (in_code regions (ahead at 1)) (nat_eq (slice_index old (ahead at 1)) (opcode Hlt)) h))) ∙ h

@@ -1,5 +1,5 @@
 -- What an instruction that touches no byte of the stack stores, once the guard lets it pass, goes to data alone.
-use Rattle.std.specs.Prelude.{◌≡◌, ◌≢◌, ℕ, ◌+◌, ◌-◌, ◌*◌, ◌≤◌, Bool, true, false, not, List, [], ◌∷◌, Option, None, Some, length, slice_index, slice_set, refl}
+use Rattle.std.specs.Prelude.{◌≡◌, ◌≢◌, ℕ, ◌+◌, ◌-◌, ◌*◌, ◌<◌, ◌≤◌, Bool, true, false, not, List, [], ◌∷◌, Option, None, Some, length, slice_index, slice_set, refl}
 use Rattle.std.proofs.Common.{◌∙◌, ap, sym, arith, cond, inl, inr, get_or-set_other, true≢false}
 use Rattle.std.proofs.lemmas.List.{length-set}
 use Rattle.std.proofs.lemmas.Bool.{cases_Bool}
@@ -8,13 +8,14 @@ use Rattle.decode80.specs.declared.instr.Instr.TheVariants.{Store, MviMemory, In
 use Rattle.decode80.specs.declared.pair.Pair.TheVariants.{Sp}
 use Rattle.decode80.specs.Fetch.{ahead}
 use Rattle.image80.specs.Range.{in_range}
-use Rattle.image80.specs.Regions.{Areas, AreRegions, in_code, in_data}
+use Rattle.image80.specs.Regions.{Areas, AreRegions, in_code, in_data, top_of}
 use Rattle.machine80.specs.declared.cpu.Cpu.{Cpu}
 use Rattle.machine80.specs.declared.end.End.{End}
 use Rattle.machine80.specs.declared.end.End.TheVariants.{Direct, StoreOutside}
 use Rattle.machine80.specs.Effects.{stores, stored}
 use Rattle.machine80.specs.Step.{guard, first_outside, ends_at}
-use Rattle.verify80.proofs.StackLemmas.{inside, SameWords, Written}
+use Rattle.verify80.specs.Boards.{IsPushed}
+use Rattle.verify80.proofs.StackLemmas.{inside, pointer, SameWords, Written}
 
 -- the instructions that leave the stack, its pointer and the order of instructions alone, and use no port
 abbrev pub is_plain : Instr → Bool
@@ -131,8 +132,20 @@ pub record SameCode (regions : Areas) (memory memory' : List ℕ) : Type 0 where
 pub data_keeps_code : (regions : Areas) (old m m' : List ℕ) → Ground regions → StoresData regions m m' → SameCode regions old m → SameCode regions old m'
 data_keeps_code regions old m m' rules stored_data code = record { bytes = λ a here. code.bytes a here ∙ sym (stored_data.same a (rules.code_or_data a here)) }
 
+-- if each byte of the stack from SP up is as it was, unless nothing is pushed
+pub pushed_keep_words : (regions : Areas) (below : ℕ) (m m' : List ℕ) → 2 * below ≤ regions.stack.length → regions.stack.first + regions.stack.length ≤ 65536 → regions.stack.length < 65536 →
+    ((a : ℕ) → IsPushed regions (pointer (regions.stack.first + regions.stack.length) below) a → slice_index m' a ≡ slice_index m a) → SameWords (regions.stack.first + regions.stack.length) below m m'
+pushed_keep_words regions below m m' room «end» short same = record {
+  same = λ k less.
+      let not_top : pointer (regions.stack.first + regions.stack.length) below ≢ top_of regions = λ e. absurd (omega (arith, e, less, room, short)) in
+      let high = same ((regions.stack.first + regions.stack.length) - (2 * k + 1)) (record { in_stack = inside regions.stack _ (omega arith) (omega arith); above = omega arith; filled = not_top }) in
+      let low = same ((regions.stack.first + regions.stack.length) - (2 * k + 2)) (record { in_stack = inside regions.stack _ (omega arith) (omega arith); above = omega arith; filled = not_top }) in
+      ap (λ h. 256 * h + slice_index m' ((regions.stack.first + regions.stack.length) - (2 * k + 2))) high
+      ∙ ap (λ l. 256 * slice_index m ((regions.stack.first + regions.stack.length) - (2 * k + 1)) + l) low;
+}
+
 -- if each byte of the stack is as it was
-pub stack_keeps_words : (regions : Areas) (below : ℕ) (m m' : List ℕ) → 2 * below ≤ regions.stack.length →
+stack_keeps_words : (regions : Areas) (below : ℕ) (m m' : List ℕ) → 2 * below ≤ regions.stack.length →
     ((a : ℕ) → in_range regions.stack a ≡ true → slice_index m' a ≡ slice_index m a) → SameWords (regions.stack.first + regions.stack.length) below m m'
 stack_keeps_words regions below m m' room same = record {
   same = λ k less.

@@ -1,6 +1,6 @@
 //! From a table of frames that fits an image to all runs of it.
 
-ghost use Rattle.verify80.specs.Boards.{BoardStepsAreGuarded, PromiseIsKeptOnBoards, WalksAreKeptOnBoards};
+ghost use Rattle.verify80.specs.Boards.{BoardStepsAreGuarded, UnsetPointerCountsForNothing, PromiseIsKeptOnBoards, WalksAreKeptOnBoards};
 ghost use Rattle.verify80.specs.Soundness.{AcceptedImagesStayOnWalks, FittedImagesNeverGoWrong, FittedImagesNeverGoWrongFromPowerOn, RunsBeginFromPowerOn};
 
 use crate::looks_are_exact;
@@ -50,13 +50,14 @@ pub fn accepted_images_stay_on_walks()
     fitting_tables_cover_walks();
 }
 
-/// The promise on every board, where nothing guards a step and devices may write any byte that is neither code nor stack: from the
-/// image's start, if SP is at the stack's top or the program sets it before it uses it, whatever else registers, flags and memory hold,
-/// up to the first store through a register pair outside data or the first PCHL outside its targets. `specs/Boards.antt` says what a
-/// board is.
+/// The promise on every board, where nothing guards a step and devices may write any byte that is neither code nor pushed on the stack:
+/// from the image's start, if SP is at the stack's top or the program sets it before it uses it, whatever else registers, flags and
+/// memory hold, up to the first store through a register pair outside data or the first PCHL outside its targets. A run goes on until a
+/// HLT, and an EI has that behind it. `specs/Boards.antt` says what a board is.
 pub fn promise_is_kept_on_boards()
     ensures promise { PromiseIsKeptOnBoards }
     ensures steps { BoardStepsAreGuarded }
+    ensures unset { UnsetPointerCountsForNothing }
 {
     fetch_reads_code_alone();
     places_move();

@@ -15,28 +15,22 @@ use Rattle.machine80.specs.Step.{Machine, leads_outside}
 use Rattle.machine80.specs.World.{World, IsNewest, fetched_by, places_after, places_then, returns}
 use Rattle.machine80.specs.Run.{world_of}
 use Rattle.verify80.specs.Looking.{code_of, declared_targets, is_pchl}
-use Rattle.verify80.specs.Starts.{NeverGoesWrongFromPowerOn}
+use Rattle.verify80.specs.Starts.{IsStart, NeverGoesWrongFromPowerOn}
 use Rattle.verify80.specs.Reached.{StandsOnWalk, StaysOnWalks}
-use Rattle.verify80.specs.Boards.{LeavesProgram, with_memory, StaysInside, Executes, OnBoard, begins, disturbed, executed, Anywhere, KeepsPromise, MayStart}
+use Rattle.verify80.specs.Boards.{Disturbs, fetched_anywhere, StaysInside, Executes, OnBoard, with_respected_pointer, respected_pointer, begins, disturbed, executed, Anywhere, KeepsPromise, MayStart}
 use Rattle.verify80.specs.Reached.{AreReached}
 use Rattle.verify80_stores.specs.declared.spans.span.Span.{Span}
 use Rattle.verify80_stores.specs.declared.fitting.fitting.Placed.{Placed}
 use Rattle.verify80_stores.specs.Bytes.{HoldsBytes, BytesStayBytes}
-use Rattle.verify80_stores.specs.Runs.{KeepsTo, KeepsToCalls, RunsKeepTo, IsKnown, IsKept}
+use Rattle.verify80_stores.specs.Runs.{KeepsTo, KeepsToCalls, RunsKeepTo, IsKnown}
 use Rattle.verify80_stores.specs.declared.stores.OpenStore.{OpenStore}
 use Rattle.verify80_stores.specs.Pointers.{stores_by_pair}
 use Rattle.verify80_stores.specs.Stores.{GoesAsListed}
-use Rattle.verify80_stores.specs.Steps.{HasCode}
-use Rattle.verify80_stores.specs.Listing.{AreKnown, AreAllBelow, AreOpenBelow, AreOpenMarks, AreSpans, is_at, is_marked_at}
-use Rattle.verify80_stores.specs.Fitting.{KnowsQuiet}
-use Rattle.verify80_stores.specs.Calls.{Effects, Owes}
+use Rattle.verify80_stores.specs.Listing.{AreKnown, AreAllBelow, AreOpenBelow, is_at, is_marked_at}
+use Rattle.verify80_stores.specs.Shown.{AreShown, KeptTable}
 use Rattle.verify80_stores.specs.Boards.{IsListedAt, KeepsWholePromise, PromiseHoldsOnBoards, PromiseHoldsOnQuietBoards, StaysQuiet, OnQuietBoard, is_quiet}
 use Rattle.verify80_stores.specs.Boards.{begins as begins_quiet, disturbed as disturbed_quiet, executed as executed_quiet}
-use Rattle.verify80_stores.proofs.MemoryLemmas.{Ground, words_stay}
-use Rattle.verify80_stores.proofs.CellLemmas.{cells_beside}
-use Rattle.verify80_stores.proofs.CallLemmas.{owes_still}
-use Rattle.verify80_stores.proofs.KeepLemmas.{known_there}
-use Rattle.verify80_stores.proofs.StoreLemmas.{any_by, goes_if, jump_there, listed_or_not}
+use Rattle.verify80_stores.proofs.StoreLemmas.{KeepsToEach, any_by, goes_if, jump_there, listed_or_not}
 
 -- what the ports hold counts for nothing
 stands_so : (image : Located) (m : Machine) (places : List ℕ) (inputs : List (List ℕ)) (outputs : List (ℕ × ℕ)) → StandsOnWalk image (record { machine = record m { inputs = inputs; outputs = outputs }; places = places }) →
@@ -55,37 +49,49 @@ keeps_so image table m places inputs outputs k = record {
   whole = k.whole;
 }
 
-starts_at : (image : Located) (start : Machine) → MayStart image start → start.cpu.pc ≡ image.start
-starts_at image start (inl is) = is.pc
-starts_at image start (inr sets) = sets.pc
-
-starts_with : (image : Located) (start : Machine) → MayStart image start → HasCode image start.memory × (length start.memory ≡ 65536)
-starts_with image start (inl is) = (is.code, is.whole)
-starts_with image start (inr sets) = (sets.code, sets.whole)
-
--- what devices write leaves what is owed to open calls
-disturbed_owes : (image : Located) (quiet : ℕ → Bool) (effects : Effects) (table : List Placed) (w : World) (memory : List ℕ) → LeavesProgram image.regions w.machine.memory memory → StaysQuiet quiet w.machine.memory memory →
-    Owes effects quiet table w.machine.memory (effects.stored w.machine.cpu.pc) (effects.returning w.machine.cpu.pc) (effects.known w.machine.cpu.pc) w.places →
-    Owes effects quiet table memory (effects.stored w.machine.cpu.pc) (effects.returning w.machine.cpu.pc) (effects.known w.machine.cpu.pc) w.places
-disturbed_owes image quiet effects table w memory leaves stays owes =
-    owes_still effects quiet table w.machine.memory memory (effects.stored w.machine.cpu.pc) (effects.returning w.machine.cpu.pc) (effects.known w.machine.cpu.pc) w.places leaves.bytes (λ a here none. stays a here) owes
-
--- and the words on the stack, the code and what is known of quiet addresses
-disturbed_keeps : (image : Located) (ground : Ground image.regions) (quiet : ℕ → Bool) (table : List Placed) (w : World) (memory : List ℕ) → KnowsQuiet quiet table → LeavesProgram image.regions w.machine.memory memory →
-    StaysQuiet quiet w.machine.memory memory → KeepsTo image table w → KeepsTo image table (with_memory w memory)
-disturbed_keeps image ground quiet table w memory knows leaves stays k = record {
+keeps_with : (image : Located) (table : List Placed) (w : World) (inputs : List (List ℕ)) → KeepsTo image table w → KeepsTo image table (record { machine = record w.machine { inputs = inputs }; places = w.places })
+keeps_with image table w inputs k = record {
   place = k.place;
   placed = k.placed;
   there = k.there;
   at = k.at;
-  holds = record {
-    registers = k.holds.registers;
-    words = words_stay image.regions ground k.placed.state.words w.machine.memory memory w.machine.cpu.sp leaves.stack k.holds.words;
-    cells = cells_beside quiet w.machine.memory memory k.placed.state.cells stays leaves.bytes (known_there quiet table k.place k.placed knows k.there) k.holds.cells;
-  };
-  code = λ address here. leaves.code address here ∙ k.code address here;
-  whole = leaves.size ∙ k.whole;
+  holds = record { registers = k.holds.registers; words = k.holds.words; cells = k.holds.cells };
+  code = k.code;
+  whole = k.whole;
 }
+
+-- a machine on which a run may begin is one with SP at the stack's top, but for SP
+set_start : Located → (began : Bool) → Machine → Machine
+set_start image began m = (with_respected_pointer image.regions began (world_of m)).machine
+
+begins_set : (image : Located) (began : Bool) (m : Machine) → MayStart image began m → IsStart image (set_start image began m)
+unfolding set_start
+begins_set image true m is = is
+begins_set image false m unset = record { pc = unset.pc; sp = refl; whole = unset.whole; code = unset.code }
+
+set_world : (image : Located) (began : Bool) (m : Machine) → with_respected_pointer image.regions began (world_of m) ≡ world_of (set_start image began m)
+unfolding set_start
+set_world image true m = refl
+set_world image false m = refl
+
+respected_bytes : (regions : Areas) (set : Bool) (w : World) → HoldsBytes w.machine → HoldsBytes (with_respected_pointer regions set w).machine
+respected_bytes regions true w held = held
+respected_bytes regions false w held = record { registers = held.registers; memory = held.memory; inputs = held.inputs }
+
+set_bytes : (image : Located) (began : Bool) (m : Machine) → HoldsBytes m → HoldsBytes (set_start image began m)
+unfolding set_start
+set_bytes image began m held = respected_bytes image.regions began (world_of m) held
+
+-- what disturbs a world disturbs it so, whatever its SP is
+respected_disturbs : (regions : Areas) (set : Bool) (w v : World) → Disturbs regions (respected_pointer regions set w) w v → Disturbs regions (with_respected_pointer regions set w).machine.cpu.sp (with_respected_pointer regions set w) (with_respected_pointer regions set v)
+respected_disturbs regions true w v by = by
+respected_disturbs regions false w v by = record { memory = by.memory; leaves = by.leaves; is = ap (with_respected_pointer regions false) by.is }
+
+respected_quiet : (regions : Areas) (quiet : ℕ → Bool) (set : Bool) (w v : World) (by : Disturbs regions (respected_pointer regions set w) w v) → StaysQuiet quiet w.machine.memory by.memory →
+    StaysQuiet quiet (with_respected_pointer regions set w).machine.memory (respected_disturbs regions set w v by).memory
+unfolding respected_disturbs
+respected_quiet regions quiet true w v by stays = stays
+respected_quiet regions quiet false w v by stays = stays
 
 not_outside : (declared : Option (List ℕ)) (hl : ℕ) → Contains (option_map_or (λ targets. targets) declared []) hl → leads_outside declared hl ≡ false
 not_outside None hl there = refl
@@ -94,143 +100,236 @@ not_outside (Some targets) hl there = ap (λ b. not b) (any_by hl targets there)
 is_jump : (i : Instr) → i ≡ Pchl → is_pchl i ≡ true
 is_jump i same = ap is_pchl same
 
-module _ (image : Located) (bytes : ℕ) (reached : List (Option Fetched)) (table : List Placed) (marks : List Bool) (spans : List (Option Span)) (addresses : List ℕ) (stores : List OpenStore) (jumps open_jumps : List ℕ)
-    (sound : NeverGoesWrongFromPowerOn image bytes) (walks : StaysOnWalks image) (are : AreReached (code_of image) reached) (whole : length reached ≡ 65536) (keeps : RunsKeepTo image table)
-    (are_marks : AreOpenMarks image.regions reached table marks) (are_spans : AreSpans reached table spans) (each_store : AreAllBelow (is_at stores_by_pair reached) 65536 addresses)
+module _ (image : Located) (bytes : ℕ) (quiet : ℕ → Bool) (reached : List (Option Fetched)) (marks : List Bool) (spans : List (Option Span)) (addresses : List ℕ) (stores : List OpenStore) (jumps open_jumps : List ℕ)
+    (sound : NeverGoesWrongFromPowerOn image bytes) (walks : StaysOnWalks image) (are : AreReached (code_of image) reached) (whole : length reached ≡ 65536) (keeps : (t : KeptTable image quiet) → RunsKeepTo image t.table)
+    (shown : AreShown image quiet reached marks spans) (each_store : AreAllBelow (is_at stores_by_pair reached) 65536 addresses)
     (open_below : AreOpenBelow reached marks spans 65536 stores) (each_jump : AreAllBelow (is_at is_pchl reached) 65536 jumps) (each_open_jump : AreAllBelow (is_marked_at is_pchl reached marks) 65536 open_jumps)
-    (ground : Ground image.regions) (known : AreKnown image bytes) (quiet : ℕ → Bool) (kept : IsKept image quiet table) (stay : BytesStayBytes)
-    (start : Machine) (is_start : MayStart image start) (start_bytes : HoldsBytes start) where
-  -- a world of the board, at which each step so far has stayed inside
-  record Stands (w : World) : Type 0 where
-    on : OnBoard image.regions Anywhere start w
-    keeps_calls : KeepsToCalls image quiet kept.effects table w
-    held : HoldsBytes w.machine
+    (known : AreKnown image bytes) (stay : BytesStayBytes) where
+  -- what a world of the board keeps to: each table, and what is owed to open calls
+  abbrev Keeps : KeptTable image quiet → World → Type 0
+  Keeps t w = KeepsToCalls image t.kept.returns t.table w
 
-  promise_of : (w : World) → Stands w → KeepsPromise image bytes w
-  promise_of w s = known.promise start is_start w s.on
+  keeps_now : (t : KeptTable image quiet) (w : World) (inputs : List (List ℕ)) → Keeps t w → Keeps t (record { machine = record w.machine { inputs = inputs }; places = w.places })
+  keeps_now t w inputs k = record { keeps = keeps_with image t.table w inputs k.keeps; owes = k.owes }
 
-  stands_of : (w : World) → Stands w → StandsOnWalk image w
-  stands_of w s = (known.boards start is_start w s.on).stands
+  keeps_then : (t : KeptTable image quiet) (w : World) (inputs : List (List ℕ)) (outputs : List (ℕ × ℕ)) (m : Machine) (places : List ℕ) → Keeps t (record { machine = m; places = places }) →
+      Keeps t (record { machine = record m { inputs = inputs; outputs = outputs }; places = places })
+  keeps_then t w inputs outputs m places k = record { keeps = keeps_so image t.table m places inputs outputs k.keeps; owes = k.owes }
 
-  goes_listed : (w : World) (s : Stands w) → All (GoesAsListed image.regions stores w.machine.cpu.pc) (pointed_bytes (promise_of w s).found.instr w.machine.cpu.registers)
-  goes_listed w s k d inside =
-      let p = promise_of w s in
-      goes_if image bytes reached table marks spans addresses stores jumps open_jumps sound walks are whole keeps are_marks are_spans each_store open_below each_jump each_open_jump w p.found (stands_of w s) s.keeps_calls.keeps p.inside
-      (get_or (pointed_bytes p.found.instr w.machine.cpu.registers) k d) (Contains-get_or (pointed_bytes p.found.instr w.machine.cpu.registers) k d inside)
+  abbrev Listed : ℕ → Type 0
+  Listed at = IsListedAt stores open_jumps at
 
-  -- a step that isn't listed stays inside, and one that is does so by the premise
-  module _ (w v : World) (s : Stands w) (e : Executes image.regions (IsListedAt stores open_jumps) w v) where
-    same : (promise_of w s).found ≡ e.found
-    same = let p = (promise_of w s).anywhere in let f = e.fetched in cc (p, f)
+  module _ (start : Machine) (is_start : IsStart image start) where
+    -- a world of the board with SP at the stack's top when it began, at which each step so far has stayed inside
+    record Stands (w : World) : Type 0 where
+      on : OnBoard image.regions Anywhere start true true w
+      first : Keeps shown.first w
+      others : All (λ other. Keeps other w) shown.others
+      held : HoldsBytes w.machine
 
-    stores_inside : Any (λ store. store.at ≡ w.machine.cpu.pc) stores ⊎ All (λ store. store.at ≢ w.machine.cpu.pc) stores → All (λ address. in_data image.regions address ≡ true) (pointed_bytes e.found.instr w.machine.cpu.registers)
-    stores_inside (inl listed) = (e.inside (inl listed)).stores
-    stores_inside (inr none) =
-        subst (λ (x : Fetched). All (λ address. in_data image.regions address ≡ true) (pointed_bytes x.instr w.machine.cpu.registers)) same
-        (λ k d inside. (goes_listed w s k d inside).unlisted none)
+    each_of : (w : World) (s : Stands w) → KeepsToEach image quiet shown.first shown.others w
+    each_of w s = record { first_too = s.first.keeps; others_too = λ k d inside. (s.others k d inside).keeps }
 
-    jumps_inside : e.found.instr ≡ Pchl → Contains open_jumps w.machine.cpu.pc ⊎ Contains (declared_targets image.regions w.machine.cpu.pc) (hl_of w.machine.cpu.registers) →
-        leads_outside (targets_at image.regions w.machine.cpu.pc) (hl_of w.machine.cpu.registers) ≡ false
-    jumps_inside is (inl listed) = (e.inside (inr listed)).jumps is
-    jumps_inside is (inr target) = not_outside (targets_at image.regions w.machine.cpu.pc) (hl_of w.machine.cpu.registers) target
+    promise_of : (w : World) → Stands w → KeepsPromise image Anywhere bytes w
+    promise_of w s = known.promise start true is_start w true s.on
 
-    stays : StaysInside image.regions w.machine e.found.instr
-    stays = record {
-      stores = stores_inside (listed_or_not w.machine.cpu.pc stores);
-      jumps = λ is.
+    stands_of : (w : World) → Stands w → StandsOnWalk image w
+    stands_of w s = (known.boards start true is_start w true s.on).stands
+
+    module _ (w : World) (s : Stands w) (found : Fetched) (fetched : fetched_anywhere w.machine.memory w.machine.cpu.pc ≡ Some found) where
+      same : (promise_of w s).found ≡ found
+      same = let p = (promise_of w s).anywhere in cc (p, fetched)
+
+      fetched_here : fetched_by image.regions w ≡ Some found
+      fetched_here = (promise_of w s).inside ∙ ap (λ (x : Fetched). Some x) same
+
+      goes_listed : All (GoesAsListed image.regions stores w.machine.cpu.pc) (pointed_bytes found.instr w.machine.cpu.registers)
+      goes_listed k d inside =
+          goes_if image bytes quiet reached marks spans addresses stores jumps open_jumps sound walks are whole keeps shown each_store open_below each_jump each_open_jump w found (stands_of w s) (each_of w s) fetched_here
+          (get_or (pointed_bytes found.instr w.machine.cpu.registers) k d) (Contains-get_or (pointed_bytes found.instr w.machine.cpu.registers) k d inside)
+
+      jump_listed : found.instr ≡ Pchl → Contains open_jumps w.machine.cpu.pc ⊎ Contains (declared_targets image.regions w.machine.cpu.pc) (hl_of w.machine.cpu.registers)
+      jump_listed is =
+          jump_there image bytes quiet reached marks spans addresses stores jumps open_jumps sound walks are whole keeps shown each_store open_below each_jump each_open_jump w found (stands_of w s) (each_of w s) fetched_here
+          (is_jump found.instr is)
+
+      -- a step that isn't listed stays inside, and one that is does so by the premise
+      module _ (inside : Listed w.machine.cpu.pc → StaysInside image.regions w.machine found.instr) where
+        stores_inside : Any (λ store. store.at ≡ w.machine.cpu.pc) stores ⊎ All (λ store. store.at ≢ w.machine.cpu.pc) stores → All (λ address. in_data image.regions address ≡ true) (pointed_bytes found.instr w.machine.cpu.registers)
+        stores_inside (inl listed) = (inside (inl listed)).stores
+        stores_inside (inr none) = λ k d within. (goes_listed k d within).unlisted none
+
+        jumps_inside : found.instr ≡ Pchl → Contains open_jumps w.machine.cpu.pc ⊎ Contains (declared_targets image.regions w.machine.cpu.pc) (hl_of w.machine.cpu.registers) →
+            leads_outside (targets_at image.regions w.machine.cpu.pc) (hl_of w.machine.cpu.registers) ≡ false
+        jumps_inside is (inl listed) = (inside (inr listed)).jumps is
+        jumps_inside is (inr target) = not_outside (targets_at image.regions w.machine.cpu.pc) (hl_of w.machine.cpu.registers) target
+
+        stays : StaysInside image.regions w.machine found.instr
+        stays = record { stores = stores_inside (listed_or_not w.machine.cpu.pc stores); jumps = λ is. jumps_inside is (jump_listed is) }
+
+    -- a step leads to such a world
+    module _ (w v : World) (s : Stands w) (e : Executes image.regions Anywhere w v) where
+      newest : (found : Fetched) → fetched_by image.regions w ≡ Some found → returns found.instr w.machine.cpu.registers.flags ≡ true → IsNewest (target found.instr found.next w.machine.memory w.machine.cpu) w.places
+      newest found fetched taken =
           let p = promise_of w s in
-          let jump : is_pchl p.found.instr ≡ true = is_jump p.found.instr (ap (λ (x : Fetched). x.instr) same ∙ is) in
-          jumps_inside is (jump_there image bytes reached table marks spans addresses stores jumps open_jumps sound walks are whole keeps are_marks are_spans each_store open_below each_jump each_open_jump w p.found (stands_of w s) s.keeps_calls.keeps p.inside jump);
+          let one : p.found ≡ found = (let f : fetched_by image.regions w ≡ Some p.found = p.inside in cc) in
+          subst (λ (x : Fetched). returns x.instr w.machine.cpu.registers.flags ≡ true → IsNewest (target x.instr x.next w.machine.memory w.machine.cpu) w.places) one p.returning taken
+
+      goes_on : Stands v
+      goes_on =
+          let on : OnBoard image.regions Anywhere start true true v = executed true true w v s.on e refl in
+          let g = known.guarded start true is_start w v true s.on e in
+          let places : List ℕ = places_after e.found.instr e.found.next w.machine.cpu.registers.flags w.places in
+          let u : World = record { machine = record w.machine { inputs = g.inputs }; places = w.places } in
+          let there : World = record { machine = g.there; places = places } in
+          let v_is : v ≡ record { machine = record g.there { inputs = w.machine.inputs; outputs = w.machine.outputs }; places = places } =
+          e.is ∙ ap (λ (m : Machine). record { machine = m; places = places }) (sym g.is) in
+          let held : HoldsBytes u.machine = record { registers = s.held.registers; memory = s.held.memory; inputs = g.bytes } in
+          let held_there : HoldsBytes g.there = stay image.regions false u.machine g.there held g.step in
+          let walk = known.boards start true is_start w true s.on in
+          let p = promise_of w s in
+          let known_here : IsKnown image u = record {
+            stands = record { reached = walk.stands.reached; found = walk.stands.found; looked = walk.stands.looked; fetched = walk.stands.fetched };
+            returning = λ found fetched taken. newest found fetched taken;
+            inside = record { found = p.found; fetched = p.inside; direct = p.direct; declared = p.declared };
+          } in
+          let stands_there : StandsOnWalk image there = stands_so image g.there places w.machine.inputs w.machine.outputs (subst (StandsOnWalk image) v_is (known.boards start true is_start v true on).stands) in
+          let newer : places ≡ places_then (fetched_by image.regions w) w.machine.cpu.registers.flags w.places =
+          sym (ap (λ (o : Option Fetched). places_then o w.machine.cpu.registers.flags w.places) (fetched_here w s e.found e.fetched)) in
+          record {
+            on = on;
+            first = subst (Keeps shown.first) (sym v_is)
+                (keeps_then shown.first w w.machine.inputs w.machine.outputs g.there places (shown.first.kept.steps false u there known_here stands_there held held_there (keeps_now shown.first w g.inputs s.first) g.step newer));
+            others = λ k d inside.
+                let t : KeptTable image quiet = get_or shown.others k d in
+                subst (Keeps t) (sym v_is)
+                (keeps_then t w w.machine.inputs w.machine.outputs g.there places (t.kept.steps false u there known_here stands_there held held_there (keeps_now t w g.inputs (s.others k d inside)) g.step newer));
+            held = subst (λ (x : World). HoldsBytes x.machine) (sym v_is) (record { registers = held_there.registers; memory = held_there.memory; inputs = s.held.inputs });
+          }
+
+    -- and so does what devices write
+    moves : (w v : World) → Stands w → (by : Disturbs image.regions w.machine.cpu.sp w v) → StaysQuiet quiet w.machine.memory by.memory → Stands v
+    moves w v s by stays = record {
+      on = disturbed true w v s.on by;
+      first = subst (Keeps shown.first) (sym by.is) (shown.first.kept.disturbed w by.memory by.leaves stays s.first);
+      others = λ k d inside.
+          let t : KeptTable image quiet = get_or shown.others k d in
+          subst (Keeps t) (sym by.is) (t.kept.disturbed w by.memory by.leaves stays (s.others k d inside));
+      held = subst (λ (x : World). HoldsBytes x.machine) (sym by.is) (record { registers = s.held.registers; memory = by.leaves.bytes; inputs = s.held.inputs });
     }
 
-    abbrev anywhere : Executes image.regions Anywhere w v
-    anywhere = record { found = e.found; byte = e.byte; after = e.after; fetched = e.fetched; small = e.small; inside = λ listed. stays; goes = e.goes; is = e.is }
-
-    newest : (found : Fetched) → fetched_by image.regions w ≡ Some found → returns found.instr w.machine.cpu.registers.flags ≡ true → IsNewest (target found.instr found.next w.machine.memory w.machine.cpu) w.places
-    newest found fetched taken =
-        let p = promise_of w s in
-        let one : p.found ≡ found = (let f : fetched_by image.regions w ≡ Some p.found = p.inside in cc) in
-        subst (λ (x : Fetched). returns x.instr w.machine.cpu.registers.flags ≡ true → IsNewest (target x.instr x.next w.machine.memory w.machine.cpu) w.places) one p.returning taken
-
-    goes_on : Stands v
-    goes_on =
-        let on : OnBoard image.regions Anywhere start v = executed w v s.on anywhere in
-        let g = known.guarded start is_start w v s.on anywhere in
-        let places : List ℕ = places_after e.found.instr e.found.next w.machine.cpu.registers.flags w.places in
-        let u : World = record { machine = record w.machine { inputs = g.inputs }; places = w.places } in
-        let there : World = record { machine = g.there; places = places } in
-        let v_is : v ≡ record { machine = record g.there { inputs = w.machine.inputs; outputs = w.machine.outputs }; places = places } =
-        e.is ∙ ap (λ (m : Machine). record { machine = m; places = places }) (sym g.is) in
-        let held : HoldsBytes u.machine = record { registers = s.held.registers; memory = s.held.memory; inputs = g.bytes } in
-        let held_there : HoldsBytes g.there = stay image.regions false u.machine g.there held g.step in
-        let walk = known.boards start is_start w s.on in
-        let p = promise_of w s in
-        let known_here : IsKnown image u = record {
-          stands = record { reached = walk.stands.reached; found = walk.stands.found; looked = walk.stands.looked; fetched = walk.stands.fetched };
-          returning = λ found fetched taken. newest found fetched taken;
-          inside = record { found = p.found; fetched = p.inside; direct = p.direct; declared = p.declared };
-        } in
-        let k = s.keeps_calls.keeps in
-        let keeps_here : KeepsToCalls image quiet kept.effects table u = record {
-          keeps = record {
-            place = k.place;
-            placed = k.placed;
-            there = k.there;
-            at = k.at;
-            holds = record { registers = k.holds.registers; words = k.holds.words; cells = k.holds.cells };
-            code = k.code;
-            whole = k.whole;
-          };
-          owes = s.keeps_calls.owes;
-        } in
-        let stands_there : StandsOnWalk image there = stands_so image g.there places w.machine.inputs w.machine.outputs (subst (StandsOnWalk image) v_is (known.boards start is_start v on).stands) in
-        let newer : places ≡ places_then (fetched_by image.regions w) w.machine.cpu.registers.flags w.places =
-        ap (λ (f : Fetched). places_then (Some f) w.machine.cpu.registers.flags w.places) (sym same) ∙ sym (ap (λ (o : Option Fetched). places_then o w.machine.cpu.registers.flags w.places) p.inside) in
-        let keeps_there : KeepsToCalls image quiet kept.effects table there = kept.steps false u there known_here stands_there held held_there keeps_here g.step newer in
+    begun : HoldsBytes start → Stands (world_of start)
+    begun held =
+        let on : OnBoard image.regions Anywhere start true true (world_of start) = begins true (world_of start) refl refl in
+        let stands = (known.boards start true is_start (world_of start) true on).stands in
         record {
           on = on;
-          keeps_calls = subst (KeepsToCalls image quiet kept.effects table) (sym v_is) (record {
-            keeps = keeps_so image table g.there places w.machine.inputs w.machine.outputs keeps_there.keeps;
-            owes = keeps_there.owes;
-          });
-          held = subst (λ (x : World). HoldsBytes x.machine) (sym v_is) (record { registers = held_there.registers; memory = held_there.memory; inputs = s.held.inputs });
+          first = shown.first.kept.starts start is_start.pc is_start.code is_start.whole held stands;
+          others = λ k d inside. (get_or shown.others k d).kept.starts start is_start.pc is_start.code is_start.whole held stands;
+          held = held;
         }
 
-  always : (w : World) → OnQuietBoard image.regions quiet (IsListedAt stores open_jumps) start w → Stands w
-  always w (begins_quiet _ is) =
-      let on : OnBoard image.regions Anywhere start (world_of start) = begins (world_of start) refl in
-      subst Stands (sym is) (record { on = on; keeps_calls = kept.starts start (starts_at image start is_start) (starts_with image start is_start).0 (starts_with image start is_start).1 start_bytes (known.boards start is_start (world_of start) on).stands; held = start_bytes })
-  always w (disturbed_quiet v _ on by stays) =
-      let s = always v on in
-      let moved : OnBoard image.regions Anywhere start w = disturbed v w s.on by in
-      record {
-        on = moved;
-        keeps_calls = subst (KeepsToCalls image quiet kept.effects table) (sym by.is) (record {
-          keeps = disturbed_keeps image ground quiet table v by.memory kept.knows by.leaves stays s.keeps_calls.keeps;
-          owes = disturbed_owes image quiet kept.effects table v by.memory by.leaves stays s.keeps_calls.owes;
-        });
-        held = subst (λ (x : World). HoldsBytes x.machine) (sym by.is) (record { registers = s.held.registers; memory = by.leaves.bytes; inputs = s.held.inputs });
-      }
-  always w (executed_quiet v _ on by) = goes_on v w (always v on) by
+    -- the same of a world with any SP, as long as that isn't set
+    respected_stays : (set : Bool) (w : World) → Stands (with_respected_pointer image.regions set w) → (found : Fetched) → fetched_anywhere w.machine.memory w.machine.cpu.pc ≡ Some found →
+        (Listed w.machine.cpu.pc → StaysInside image.regions w.machine found.instr) → StaysInside image.regions w.machine found.instr
+    respected_stays true w s found fetched inside = stays w s found fetched inside
+    respected_stays false w s found fetched inside =
+        let there = stays (with_respected_pointer image.regions false w) s found fetched (λ listed. record { stores = (inside listed).stores; jumps = (inside listed).jumps }) in
+        record { stores = there.stores; jumps = there.jumps }
 
-  keeps_whole : (w : World) → OnQuietBoard image.regions quiet (IsListedAt stores open_jumps) start w → KeepsWholePromise image bytes stores w
-  keeps_whole w on = let s = always w on in record { promise = promise_of w s; stores = goes_listed w s }
+    respected_stores : (set : Bool) (w : World) → Stands (with_respected_pointer image.regions set w) → (found : Fetched) → fetched_anywhere w.machine.memory w.machine.cpu.pc ≡ Some found →
+        All (GoesAsListed image.regions stores w.machine.cpu.pc) (pointed_bytes found.instr w.machine.cpu.registers)
+    respected_stores true w s found fetched = goes_listed w s found fetched
+    respected_stores false w s found fetched = goes_listed (with_respected_pointer image.regions false w) s found fetched
+
+    respected_jumps : (set : Bool) (w : World) → Stands (with_respected_pointer image.regions set w) → (found : Fetched) → fetched_anywhere w.machine.memory w.machine.cpu.pc ≡ Some found → found.instr ≡ Pchl →
+        Contains open_jumps w.machine.cpu.pc ⊎ Contains (declared_targets image.regions w.machine.cpu.pc) (hl_of w.machine.cpu.registers)
+    respected_jumps true w s found fetched is = jump_listed w s found fetched is
+    respected_jumps false w s found fetched is = jump_listed (with_respected_pointer image.regions false w) s found fetched is
+
+  module _ (start : Machine) (began : Bool) (may_start : MayStart image began start) (start_bytes : HoldsBytes start) where
+    abbrev StandsRespected : Bool → World → Type 0
+    StandsRespected set w = Stands (set_start image began start) (begins_set image began start may_start) (with_respected_pointer image.regions set w)
+
+    record Goes (set : Bool) (w : World) : Type 0 where
+      on : OnBoard image.regions Anywhere start began set w
+      stands : StandsRespected set w
+
+    always : (set : Bool) (w : World) → OnQuietBoard image.regions quiet Listed start began set w → Goes set w
+    always set w (begins_quiet _ _ is same) = record {
+      on = begins set w is same;
+      stands =
+          let s = begun (set_start image began start) (begins_set image began start may_start) (set_bytes image began start start_bytes) in
+          subst (λ (x : World). StandsRespected set x) (sym is)
+          (subst (λ (x : Bool). StandsRespected x (world_of start)) (sym same)
+          (subst (Stands (set_start image began start) (begins_set image began start may_start)) (sym (set_world image began start)) s));
+    }
+    always set w (disturbed_quiet _ v _ on by stays) =
+        let g = always set v on in
+        record {
+          on = disturbed set v w g.on by;
+          stands =
+              moves (set_start image began start) (begins_set image began start may_start) (with_respected_pointer image.regions set v) (with_respected_pointer image.regions set w) g.stands
+              (respected_disturbs image.regions set v w by) (respected_quiet image.regions quiet set v w by stays);
+        }
+    always set w (executed_quiet before _ v _ on by is) =
+        let g = always before v on in
+        let inside = respected_stays (set_start image began start) (begins_set image began start may_start) before v g.stands by.found by.fetched by.inside in
+        let e : Executes image.regions Anywhere v w =
+        record { found = by.found; byte = by.byte; after = by.after; fetched = by.fetched; small = by.small; inside = λ listed. inside; goes = by.goes; is = by.is } in
+        record {
+          on = executed before set v w g.on e is;
+          stands =
+              goes_on (set_start image began start) (begins_set image began start may_start) (with_respected_pointer image.regions before v) (with_respected_pointer image.regions set w) g.stands
+              (known.unset start began may_start v w before set g.on e is);
+        }
+
+    keeps_whole : (set : Bool) (w : World) → OnQuietBoard image.regions quiet Listed start began set w → KeepsWholePromise image bytes stores open_jumps w
+    keeps_whole set w on =
+        let g = always set w on in
+        let p = known.promise start began may_start w set g.on in
+        let set_begins = begins_set image began start may_start in
+        record {
+          promise = record {
+            found = p.found;
+            anywhere = p.anywhere;
+            inside = p.inside;
+            of_image = p.of_image;
+            direct = p.direct;
+            declared = p.declared;
+            returning = p.returning;
+            stack = p.stack;
+            halts = p.halts;
+            goes_on = λ not_halt inside byte small.
+                let f = p.goes_on not_halt (λ anywhere. respected_stays (set_start image began start) set_begins set w g.stands p.found p.anywhere inside) byte small in
+                let e = f.step in
+                record {
+                  next = f.next;
+                  step = record { found = e.found; byte = e.byte; after = e.after; fetched = e.fetched; small = e.small; inside = λ listed. e.inside tt; goes = e.goes; is = e.is };
+                  brought = f.brought;
+                };
+          };
+          walks = known.boards start began may_start w set g.on;
+          stores = respected_stores (set_start image began start) set_begins set w g.stands p.found p.anywhere;
+          jumps = respected_jumps (set_start image began start) set_begins set w g.stands p.found p.anywhere;
+        }
 
 -- so the promise holds on quiet boards
-pub holds_on_quiet_boards : (image : Located) (bytes : ℕ) (reached : List (Option Fetched)) (table : List Placed) (marks : List Bool) (spans : List (Option Span)) (addresses : List ℕ) (stores : List OpenStore) (jumps open_jumps : List ℕ)
-    (sound : NeverGoesWrongFromPowerOn image bytes) (walks : StaysOnWalks image) (are : AreReached (code_of image) reached) (whole : length reached ≡ 65536) (keeps : RunsKeepTo image table)
-    (are_marks : AreOpenMarks image.regions reached table marks) (are_spans : AreSpans reached table spans) (each_store : AreAllBelow (is_at stores_by_pair reached) 65536 addresses)
+pub holds_on_quiet_boards : (image : Located) (bytes : ℕ) (quiet : ℕ → Bool) (reached : List (Option Fetched)) (marks : List Bool) (spans : List (Option Span)) (addresses : List ℕ) (stores : List OpenStore) (jumps open_jumps : List ℕ)
+    (sound : NeverGoesWrongFromPowerOn image bytes) (walks : StaysOnWalks image) (are : AreReached (code_of image) reached) (whole : length reached ≡ 65536) (keeps : (t : KeptTable image quiet) → RunsKeepTo image t.table)
+    (shown : AreShown image quiet reached marks spans) (each_store : AreAllBelow (is_at stores_by_pair reached) 65536 addresses)
     (open_below : AreOpenBelow reached marks spans 65536 stores) (each_jump : AreAllBelow (is_at is_pchl reached) 65536 jumps) (each_open_jump : AreAllBelow (is_marked_at is_pchl reached marks) 65536 open_jumps)
-    (ground : Ground image.regions) (known : AreKnown image bytes) (quiet : ℕ → Bool) (kept : IsKept image quiet table) (stay : BytesStayBytes) → PromiseHoldsOnQuietBoards image quiet bytes stores open_jumps
-holds_on_quiet_boards image bytes reached table marks spans addresses stores jumps open_jumps sound walks are whole keeps are_marks are_spans each_store open_below each_jump each_open_jump ground known quiet kept stay start is_start start_bytes w on =
-    keeps_whole image bytes reached table marks spans addresses stores jumps open_jumps sound walks are whole keeps are_marks are_spans each_store open_below each_jump each_open_jump ground known quiet kept stay start is_start start_bytes w on
+    (known : AreKnown image bytes) (stay : BytesStayBytes) → PromiseHoldsOnQuietBoards image quiet bytes stores open_jumps
+holds_on_quiet_boards image bytes quiet reached marks spans addresses stores jumps open_jumps sound walks are whole keeps shown each_store open_below each_jump each_open_jump known stay start began may_start start_bytes w set on =
+    keeps_whole image bytes quiet reached marks spans addresses stores jumps open_jumps sound walks are whole keeps shown each_store open_below each_jump each_open_jump known stay start began may_start start_bytes set w on
 
 -- where nothing is quiet, each board is a quiet one
-all_quiet : (regions : Areas) (quiet : ℕ → Bool) (listed : ℕ → Type 0) (start : Machine) → ((at : ℕ) → quiet at ≡ false) → (w : World) → OnBoard regions listed start w → OnQuietBoard regions quiet listed start w
-all_quiet regions quiet listed start none w (begins _ is) = begins_quiet w is
-all_quiet regions quiet listed start none w (disturbed v _ on by) =
-    disturbed_quiet v w (all_quiet regions quiet listed start none v on) by (λ at here. absurd (true≢false (sym here ∙ none at)))
-all_quiet regions quiet listed start none w (executed v _ on by) = executed_quiet v w (all_quiet regions quiet listed start none v on) by
+all_quiet : (regions : Areas) (quiet : ℕ → Bool) (listed : ℕ → Type 0) (start : Machine) (began : Bool) → ((at : ℕ) → quiet at ≡ false) → (set : Bool) (w : World) → OnBoard regions listed start began set w →
+    OnQuietBoard regions quiet listed start began set w
+all_quiet regions quiet listed start began none set w (begins _ _ is same) = begins_quiet set w is same
+all_quiet regions quiet listed start began none set w (disturbed _ v _ on by) =
+    disturbed_quiet set v w (all_quiet regions quiet listed start began none set v on) by (λ at here. absurd (true≢false (sym here ∙ none at)))
+all_quiet regions quiet listed start began none set w (executed before _ v _ on by is) = executed_quiet before set v w (all_quiet regions quiet listed start began none before v on) by is
 
 nothing_is_quiet : (regions : Areas) (at : ℕ) → is_quiet regions [] at ≡ false
 nothing_is_quiet regions at = go (in_data regions at) where
@@ -240,6 +339,6 @@ nothing_is_quiet regions at = go (in_data regions at) where
 
 pub holds_on_boards : (image : Located) (ranges : List Range) (bytes : ℕ) (stores : List OpenStore) (open_jumps : List ℕ) → PromiseHoldsOnQuietBoards image (is_quiet image.regions ranges) bytes stores open_jumps → ranges ≡ [] →
     PromiseHoldsOnBoards image bytes stores open_jumps
-holds_on_boards image ranges bytes stores open_jumps holds none start is_start start_bytes w on =
-    holds start is_start start_bytes w
-    (all_quiet image.regions (is_quiet image.regions ranges) (IsListedAt stores open_jumps) start (λ at. ap (λ (r : List Range). is_quiet image.regions r at) none ∙ nothing_is_quiet image.regions at) w on)
+holds_on_boards image ranges bytes stores open_jumps holds none start began may_start start_bytes w set on =
+    holds start began may_start start_bytes w set
+    (all_quiet image.regions (is_quiet image.regions ranges) (IsListedAt stores open_jumps) start began (λ at. ap (λ (r : List Range). is_quiet image.regions r at) none ∙ nothing_is_quiet image.regions at) set w on)

@@ -63,7 +63,7 @@ loaded_go code cells memory s n false alone reads holds bytes inside =
 pub loaded_within : (code : List (Option ℕ)) (cells : Cells) (memory : List ℕ) (s : Span) (n : ℕ) → ReadsCode code memory → HoldsCells cells memory → HasBytes memory → Within s n → ByteWithin (loaded code cells s) (byte_in memory n)
 loaded_within code cells memory s n reads holds bytes inside = loaded_go code cells memory s n (is_alone s) refl reads holds bytes inside
 
-popped_within : (regions : Areas) (o : Option Span) (memory : List ℕ) (sp : ℕ) → HoldsWord regions o memory sp → HasBytes memory → Within (known_word o) (word_in memory sp)
+popped_within : (regions : Areas) (o : Option Span) (memory : List ℕ) (sp : ℕ) → HoldsWord regions o memory sp sp → HasBytes memory → Within (known_word o) (word_in memory sp)
 popped_within regions None memory sp holds bytes =
     any_word_within (word_in memory sp) (word_small _ _ (memory_byte memory (ahead sp 1) bytes) (memory_byte memory sp bytes))
 popped_within regions (Some span) memory sp holds bytes = holds.within

@@ -38,17 +38,18 @@ copy_around c E r inside same = subst (λ (x : Register). register_of r x ≡ r.
 copy_around c H r inside same = subst (λ (x : Register). register_of r x ≡ r.a) inside same
 copy_around c L r inside same = subst (λ (x : Register). register_of r x ≡ r.a) inside same
 
-word_around : (regions : Areas) (o u : Option Span) (memory : List ℕ) (at : ℕ) → IsWordInside o u → HoldsWord regions o memory at → HoldsWord regions u memory at
-word_around regions o None memory at inside holds = tt
-word_around regions None (Some t) memory at inside holds = absurd inside
-word_around regions (Some s) (Some t) memory at inside holds = record { low = holds.low; high = holds.high; within = inside_within s t _ inside holds.within }
+word_around : (regions : Areas) (o u : Option Span) (memory : List ℕ) (sp at : ℕ) → IsWordInside o u → HoldsWord regions o memory sp at → HoldsWord regions u memory sp at
+word_around regions o None memory sp at inside holds = tt
+word_around regions None (Some t) memory sp at inside holds = absurd inside
+word_around regions (Some s) (Some t) memory sp at inside holds =
+    record { low = holds.low; high = holds.high; above = holds.above; filled = holds.filled; within = inside_within s t _ inside holds.within }
 
 words_around : (regions : Areas) (w v : Words) (memory : List ℕ) (sp : ℕ) → AreWordsInside w v → HoldsWords regions w memory sp → HoldsWords regions v memory sp
 words_around regions w v memory sp inside holds = record {
-  first = word_around regions w.first v.first memory sp inside.first holds.first;
-  second = word_around regions w.second v.second memory (ahead sp 2) inside.second holds.second;
-  third = word_around regions w.third v.third memory (ahead sp 4) inside.third holds.third;
-  fourth = word_around regions w.fourth v.fourth memory (ahead sp 6) inside.fourth holds.fourth;
+  first = word_around regions w.first v.first memory sp sp inside.first holds.first;
+  second = word_around regions w.second v.second memory sp (ahead sp 2) inside.second holds.second;
+  third = word_around regions w.third v.third memory sp (ahead sp 4) inside.third holds.third;
+  fourth = word_around regions w.fourth v.fourth memory sp (ahead sp 6) inside.fourth holds.fourth;
 }
 
 pub state_around : (regions : Areas) (s t : State) (m : Machine) → HasBytes m.memory → IsStateInside s t → Holds regions s m → Holds regions t m

@@ -8,7 +8,7 @@ use Rattle.decode80.specs.declared.instr.Instr.TheVariants.{Pchl}
 use Rattle.decode80.specs.declared.fetching.Fetched.{Fetched}
 use Rattle.decode80.specs.declared.flow.Flow.{Flow}
 use Rattle.decode80.specs.declared.flow.Flow.TheVariants.{Continues, Jumps, JumpsIf, JumpsToHl, Calls, CallsIf, Returns, ReturnsIf, Pushes, Pops, Exchanges, Halts}
-use Rattle.decode80.specs.Facts.{flow, storing}
+use Rattle.decode80.specs.Facts.{flow}
 use Rattle.image80.specs.Regions.{Areas, in_data, targets_at}
 use Rattle.image80.specs.Image.{Located}
 use Rattle.machine80.specs.declared.cpu.Cpu.{Cpu}
@@ -21,29 +21,28 @@ use Rattle.machine80.specs.Run.{world_of}
 use Rattle.verify80.specs.Looking.{code_of, declared_targets}
 use Rattle.verify80.specs.Starts.{IsStart, IsWorldFrom, NeverGoesWrongFromPowerOn}
 use Rattle.verify80.specs.Reached.{IsReached, StandsOnWalk, StaysOnWalks}
+use Rattle.verify80.specs.Boards.{LeavesProgram, with_memory}
 use Rattle.verify80_stores.specs.declared.spans.span.Span.{Span}
-use Rattle.verify80_stores.specs.declared.states.cells.Cells.{Cells}
 use Rattle.verify80_stores.specs.declared.states.state.State.{State}
 use Rattle.verify80_stores.specs.declared.fitting.fitting.Placed.{Placed}
 use Rattle.verify80_stores.specs.Bytes.{AreBytes, HoldsBytes, BytesStayBytes, FetchedOperandsAreBounded, MemoryKeepsItsLength}
 use Rattle.verify80_stores.specs.Span.{Within}
-use Rattle.verify80_stores.specs.Cells.{AreQuietCells, HoldsCells}
-use Rattle.verify80_stores.specs.State.{Holds, HoldsRegisters, HoldsWord, anything, no_words}
+use Rattle.verify80_stores.specs.Cells.{AreQuietCells}
+use Rattle.verify80_stores.specs.State.{Holds, HoldsWord, anything}
 use Rattle.verify80_stores.specs.Following.{state_after}
 use Rattle.verify80_stores.specs.Given.{given}
 use Rattle.verify80_stores.specs.Steps.{is_taken, ReadsCode, AreCodeBytes, HasCode}
-use Rattle.verify80_stores.specs.Fitting.{CallsEntry, Has, HasAfter, FitsBy, KnowsQuiet}
-use Rattle.verify80_stores.specs.Calls.{AccountsFor, Effects, KeepsCalls, KnowsReturn, KnowsReturnIf, KnowsReturnsOf, MayStore, Owes, none, with_cells}
+use Rattle.verify80_stores.specs.Fitting.{Has, HasAfter, FitsBy, KnowsQuiet}
+use Rattle.verify80_stores.specs.Calls.{AccountsFor, ReturnFacts, KeepsCalls, KnowsReturn, KnowsReturnIf, KnowsReturnsOf, Owes, none}
 use Rattle.verify80_stores.specs.FittingTable.{Fits}
 use Rattle.verify80_stores.specs.Runs.{KeepsTo, KeepsToCalls, IsKnown, IsKept}
 use Rattle.verify80_stores.proofs.StateLemmas.{anything_holds}
-use Rattle.verify80_stores.proofs.MemoryLemmas.{Ground, none_hold}
+use Rattle.verify80_stores.proofs.MemoryLemmas.{Ground, none_hold, words_stay}
 use Rattle.verify80_stores.proofs.CellLemmas.{cells_beside, cells_quieter, none_hold as no_cells_hold}
-use Rattle.verify80_stores.proofs.CallLemmas.{owed_on, owed_return, owes_still, returned_places, returns_here}
-use Rattle.verify80_stores.proofs.DataLemmas.{calls_store_nowhere, data_kept}
+use Rattle.verify80_stores.proofs.CallLemmas.{owed_on, owed_return, returned_places, returns_here}
 use Rattle.verify80_stores.proofs.GivenLemmas.{given_holds}
 use Rattle.verify80_stores.proofs.InsideLemmas.{state_around}
-use Rattle.verify80_stores.proofs.StepLemmas.{other_words, passed, step_byte, step_state, step_code}
+use Rattle.verify80_stores.proofs.StepLemmas.{passed, step_state, step_code}
 use Rattle.verify80_stores.proofs.WayLemmas.{GoesOn, Leads, executes}
 
 world_or : World → Option World → World
@@ -123,8 +122,8 @@ module _ (regions : Areas) (targets : List ℕ) (table : List Placed) (after : B
   -- a return that is taken goes where the state says, if it knows that
   back_to : (t : State) → KnowsReturn table (after true) t → Holds regions t m → Holds regions (after true t) there → Meets regions table (word_in m.memory m.cpu.sp) there
   back_to t knows before now = record { state = after true t; has = subst (λ n. Has table n (after true t)) place knows.has; holds = now } where
-    pushed_there : HoldsWord regions (Some knows.span) m.memory m.cpu.sp
-    pushed_there = subst (λ (o : Option Span). HoldsWord regions o m.memory m.cpu.sp) knows.first before.words.first
+    pushed_there : HoldsWord regions (Some knows.span) m.memory m.cpu.sp m.cpu.sp
+    pushed_there = subst (λ (o : Option Span). HoldsWord regions o m.memory m.cpu.sp m.cpu.sp) knows.first before.words.first
 
     place : knows.span.first ≡ word_in m.memory m.cpu.sp
     place = let above = pushed_there.within.above in let below = pushed_there.within.below in let alone = knows.alone in grind (arith, nat_tests)
@@ -166,10 +165,7 @@ return_target (Calls to) next memory cpu taken = absurd (true≢false (sym taken
 return_target (CallsIf condition to) next memory cpu taken = absurd (true≢false (sym taken))
 return_target Halts next memory cpu taken = absurd (true≢false (sym taken))
 
--- a state that says nothing holds of any machine, and one that says nothing of its registers of any of these
-no_registers_hold : (m : Machine) (cells : Cells) → HoldsBytes m → HoldsRegisters (with_cells cells) m.cpu.registers
-no_registers_hold m cells bytes = other_words anything no_words cells m.cpu.registers (anything_holds m.cpu.registers bytes.registers)
-
+-- a state that says nothing holds of any machine
 pub nothing_holds : (regions : Areas) (ground : Ground regions) (m : Machine) → HoldsBytes m → Holds regions anything m
 nothing_holds regions ground m bytes = record { registers = anything_holds m.cpu.registers bytes.registers; words = none_hold regions ground m.memory m.cpu.sp; cells = no_cells_hold m.memory bytes.memory }
 
@@ -183,7 +179,24 @@ pub code_stays : (image : Located) (ground : Ground image.regions) (refused : Bo
     HasCode image m.memory → HasCode image after.memory
 code_stays image ground refused m after found fetched step code a here = step_code image.regions ground [] refused m after found a fetched step here ∙ code a here
 
-module _ (image : Located) (quiet : ℕ → Bool) (bytes : List (Option ℕ)) (effects : Effects) (table : List Placed) (ground : Ground image.regions) (are_code : AreCodeBytes image bytes) (quiet_data : (at : ℕ) → quiet at ≡ true → in_data image.regions at ≡ true) (fits : Fits quiet (code_of image) bytes effects table)
+-- what devices write leaves the words on the stack, the code and what is known of quiet addresses
+pub still_keeps : (image : Located) (ground : Ground image.regions) (quiet : ℕ → Bool) (table : List Placed) (w : World) (memory : List ℕ) → KnowsQuiet quiet table → LeavesProgram image.regions w.machine.cpu.sp w.machine.memory memory →
+    ((at : ℕ) → quiet at ≡ true → slice_index memory at ≡ slice_index w.machine.memory at) → KeepsTo image table w → KeepsTo image table (with_memory w memory)
+still_keeps image ground quiet table w memory knows leaves stays k = record {
+  place = k.place;
+  placed = k.placed;
+  there = k.there;
+  at = k.at;
+  holds = record {
+    registers = k.holds.registers;
+    words = words_stay image.regions ground k.placed.state.words w.machine.memory memory w.machine.cpu.sp (λ a in_stack above filled. leaves.pushed a (record { in_stack = in_stack; above = above; filled = filled })) k.holds.words;
+    cells = cells_beside quiet w.machine.memory memory k.placed.state.cells stays leaves.bytes (known_there quiet table k.place k.placed knows k.there) k.holds.cells;
+  };
+  code = λ address here. leaves.code address here ∙ k.code address here;
+  whole = leaves.size ∙ k.whole;
+}
+
+module _ (image : Located) (quiet : ℕ → Bool) (bytes : List (Option ℕ)) (returning : ReturnFacts) (table : List Placed) (ground : Ground image.regions) (are_code : AreCodeBytes image bytes) (quiet_data : (at : ℕ) → quiet at ≡ true → in_data image.regions at ≡ true) (fits : Fits quiet (code_of image) bytes returning table)
     (bounded : FetchedOperandsAreBounded) (length_stays : MemoryKeepsItsLength) where
   keeps_by : (w : World) (s : State) → Has table w.machine.cpu.pc s → HoldsBytes w.machine → Holds image.regions s w.machine → HasCode image w.machine.memory → length w.machine.memory ≡ 65536 → KeepsTo image table w
   keeps_by w s has held holds code whole = record {
@@ -212,7 +225,7 @@ module _ (image : Located) (quiet : ℕ → Bool) (bytes : List (Option ℕ)) (e
   reads_code memory code at byte is = let known = are_code at byte is in code at known.0 ∙ known.1
 
   module _ (refused : Bool) (w after : World) (found : Fetched) (fetched : fetched_by image.regions w ≡ Some found) (reached : IsReached (code_of image) w.machine.cpu.pc) (looked : (code_of image).look w.machine.cpu.pc ≡ Ok found)
-      (keeps : KeepsToCalls image quiet effects table w) (before : HoldsBytes w.machine) (now : HoldsBytes after.machine) (step : step_of image.regions refused w.machine ≡ Next after.machine)
+      (keeps : KeepsToCalls image returning table w) (before : HoldsBytes w.machine) (now : HoldsBytes after.machine) (step : step_of image.regions refused w.machine ≡ Next after.machine)
       (newer : after.places ≡ places_then (fetched_by image.regions w) w.machine.cpu.registers.flags w.places) where
     -- the state that holds
     abbrev holding : State
@@ -224,14 +237,11 @@ module _ (image : Located) (quiet : ℕ → Bool) (bytes : List (Option ℕ)) (e
     looked_here : (code_of image).look keeps.keeps.placed.at ≡ Ok found
     looked_here = subst (λ n. (code_of image).look n ≡ Ok found) (sym keeps.keeps.at) looked
 
-    calls : KeepsCalls effects bytes table w.machine.cpu.pc holding found
-    calls = subst (λ n. KeepsCalls effects bytes table n holding found) keeps.keeps.at (fits.calls keeps.keeps.place keeps.keeps.placed found keeps.keeps.there reached_here looked_here)
+    calls : KeepsCalls returning bytes table w.machine.cpu.pc holding found
+    calls = subst (λ n. KeepsCalls returning bytes table n holding found) keeps.keeps.at (fits.calls keeps.keeps.place keeps.keeps.placed found keeps.keeps.there reached_here looked_here)
 
-    accounts : AccountsFor effects (declared_targets image.regions w.machine.cpu.pc) w.machine.cpu.pc found.next (flow found.instr)
+    accounts : AccountsFor returning (declared_targets image.regions w.machine.cpu.pc) w.machine.cpu.pc found.next (flow found.instr)
     accounts = fits.accounts w.machine.cpu.pc found reached looked
-
-    are_quiet : AreQuietCells quiet holding.cells
-    are_quiet = known_there quiet table keeps.keeps.place keeps.keeps.placed fits.knows keeps.keeps.there
 
     places_now : after.places ≡ places_by (flow found.instr) found.next w.machine.cpu.registers.flags w.places
     places_now = newer ∙ ap (λ (o : Option Fetched). places_then o w.machine.cpu.registers.flags w.places) fetched
@@ -242,73 +252,53 @@ module _ (image : Located) (quiet : ℕ → Bool) (bytes : List (Option ℕ)) (e
     whole_now : length after.machine.memory ≡ 65536
     whole_now = length_stays image.regions refused w.machine after.machine step ∙ keeps.keeps.whole
 
-    -- a quiet byte stays if the instruction doesn't store there
-    same_byte : (a : ℕ) → quiet a ≡ true → (MayStore (storing found.instr) holding a → ⊥) → slice_index after.machine.memory a ≡ slice_index w.machine.memory a
-    same_byte a here apart =
-        step_byte image.regions ground [] refused w.machine after.machine found a fetched step
-        (λ pass. data_kept image.regions ground w.machine.memory a (quiet_data a here) found.instr found.next w.machine.cpu holding pass keeps.keeps.holds.registers apart)
-
-    not_stored : (a : ℕ) → effects.stored w.machine.cpu.pc a ≡ false → MayStore (storing found.instr) holding a → ⊥
-    not_stored a free there = true≢false (sym (calls.stores a there) ∙ free)
-
-    -- what was owed before is owed still
-    owed : Owes effects quiet table after.machine.memory (effects.stored w.machine.cpu.pc) (effects.returning w.machine.cpu.pc) (effects.known w.machine.cpu.pc) w.places
-    owed = owes_still effects quiet table w.machine.memory after.machine.memory (effects.stored w.machine.cpu.pc) (effects.returning w.machine.cpu.pc) (effects.known w.machine.cpu.pc) w.places now.memory
-        (λ a here free. same_byte a here (not_stored a free)) keeps.owes
-
     -- what the instruction makes of a state holds after the step
     abbrev follows : Follows image.regions (declared_targets image.regions w.machine.cpu.pc) table (λ taken t. state_after bytes found.instr taken found.next t) w.machine after.machine before.registers (flow found.instr)
     follows = λ t holds are.
         let bound = bounded image.regions w.machine.memory w.machine.cpu.pc found before.memory fetched in
         step_state image.regions ground bytes refused w.machine after.machine found t bound.operand before now keeps.keeps.whole (reads_code w.machine.memory keeps.keeps.code) are fetched step holds
 
-    -- a return brings what was kept behind its call, or what its state says
+    -- a return brings what its state says, or leads to where nothing is said
     brings : (to : ℕ) → after.machine.cpu.pc ≡ to → to ≡ word_in w.machine.memory w.machine.cpu.sp → is_return_taken (flow found.instr) w.machine.cpu.registers.flags ≡ true →
-        (effects.known w.machine.cpu.pc ≡ true) ⊎ ((cells : Cells) × Has table to (with_cells cells) × HoldsCells cells after.machine.memory) → KeepsTo image table after
+        (returning.known w.machine.cpu.pc ≡ true) ⊎ Has table to anything → KeepsTo image table after
     brings to at word taken (inl so) =
         let meets = arrives_back image.regions (declared_targets image.regions w.machine.cpu.pc) table (λ taken t. state_after bytes found.instr taken found.next t) w.machine after.machine before.registers
-        (flow found.instr) holding taken (calls.returns so) follows (quiet_in_data keeps.keeps.place keeps.keeps.placed keeps.keeps.there) keeps.keeps.holds in
+        (flow found.instr) holding taken (calls.known so) follows (quiet_in_data keeps.keeps.place keeps.keeps.placed keeps.keeps.there) keeps.keeps.holds in
         keeps_by after meets.state (subst (λ n. Has table n meets.state) (sym (at ∙ word)) meets.has) now meets.holds code_now whole_now
-    brings to at word taken (inr kept) =
-        keeps_by after (with_cells kept.0) (subst (λ n. Has table n (with_cells kept.0)) (sym at) kept.1) now
-        (record { registers = no_registers_hold after.machine kept.0 now; words = none_hold image.regions ground after.machine.memory after.machine.cpu.sp; cells = kept.2 }) code_now whole_now
+    brings to at word taken (inr has) =
+        keeps_by after anything (subst (λ n. Has table n anything) (sym at) has) now (nothing_holds image.regions ground after.machine now) code_now whole_now
 
-    returned : (to : ℕ) → after.machine.cpu.pc ≡ to → to ≡ word_in w.machine.memory w.machine.cpu.sp → IsNewest to w.places → is_return_taken (flow found.instr) w.machine.cpu.registers.flags ≡ true → KeepsToCalls image quiet effects table after
+    returned : (to : ℕ) → after.machine.cpu.pc ≡ to → to ≡ word_in w.machine.memory w.machine.cpu.sp → IsNewest to w.places → is_return_taken (flow found.instr) w.machine.cpu.registers.flags ≡ true → KeepsToCalls image returning table after
     returned to at word newest taken =
-        let may = returns_here effects (declared_targets image.regions w.machine.cpu.pc) w.machine.cpu.pc found.next (flow found.instr) w.machine.cpu.registers.flags accounts taken in
-        let r = owed_return effects quiet table after.machine.memory (effects.stored w.machine.cpu.pc) (effects.returning w.machine.cpu.pc) (effects.known w.machine.cpu.pc) w.places to newest.0 may newest.1 owed in
+        let may = returns_here returning (declared_targets image.regions w.machine.cpu.pc) w.machine.cpu.pc found.next (flow found.instr) w.machine.cpu.registers.flags accounts taken in
+        let r = owed_return returning table (returning.may w.machine.cpu.pc) (returning.known w.machine.cpu.pc) w.places to newest.0 may newest.1 keeps.owes in
         let older : after.places ≡ newest.0 = places_now ∙ returned_places (flow found.instr) found.next w.machine.cpu.registers.flags w.places taken ∙ ap (λ (l : List ℕ). drop 1 l) newest.1 in
         record {
-          keeps = brings to at word taken r.kept;
-          owes = subst (λ n. Owes effects quiet table after.machine.memory (effects.stored n) (effects.returning n) (effects.known n) after.places) (sym at)
-              (subst (λ (l : List ℕ). Owes effects quiet table after.machine.memory (effects.stored to) (effects.returning to) (effects.known to) l) (sym older) r.rest);
+          keeps = brings to at word taken r.has;
+          owes = subst (λ n. Owes returning table (returning.may n) (returning.known n) after.places) (sym at)
+              (subst (λ (l : List ℕ). Owes returning table (returning.may to) (returning.known to) l) (sym older) r.rest);
         }
 
-    -- what the state knows of memory before a call is so after it
-    held_behind : (entry : ℕ) → CallsEntry (flow found.instr) entry → HoldsCells holding.cells after.machine.memory
-    held_behind entry calls_it =
-        cells_beside quiet w.machine.memory after.machine.memory holding.cells (λ a here. same_byte a here (calls_store_nowhere found.instr entry calls_it holding a)) now.memory are_quiet keeps.keeps.holds.cells
-
     -- any other step brings what the state after it says
-    gone : Leads (flow found.instr) w.machine.cpu.registers.flags (declared_targets image.regions w.machine.cpu.pc) found.next (hl_of w.machine.cpu.registers) after.machine.cpu.pc → KeepsToCalls image quiet effects table after
+    gone : Leads (flow found.instr) w.machine.cpu.registers.flags (declared_targets image.regions w.machine.cpu.pc) found.next (hl_of w.machine.cpu.registers) after.machine.cpu.pc → KeepsToCalls image returning table after
     gone way =
         let fit = fits.entries keeps.keeps.place keeps.keeps.placed found keeps.keeps.there reached_here looked_here in
         let fit_here = subst (λ n. FitsBy (declared_targets image.regions n) table (λ taken t. state_after bytes found.instr taken found.next t) holding found.next (flow found.instr)) keeps.keeps.at fit in
         let meets = arrives image.regions (declared_targets image.regions w.machine.cpu.pc) table (λ taken t. state_after bytes found.instr taken found.next t) w.machine after.machine before.registers
         (flow found.instr) holding found.next after.machine.cpu.pc fit_here way
         follows (quiet_in_data keeps.keeps.place keeps.keeps.placed keeps.keeps.there) keeps.keeps.holds in
-        let owes = owed_on effects quiet table after.machine.memory now.memory (declared_targets image.regions w.machine.cpu.pc) w.machine.cpu.pc found.next (hl_of w.machine.cpu.registers) after.machine.cpu.pc
-        w.machine.cpu.registers.flags holding w.places are_quiet owed (flow found.instr) accounts calls.behind held_behind way in
+        let owes = owed_on returning table (declared_targets image.regions w.machine.cpu.pc) w.machine.cpu.pc found.next (hl_of w.machine.cpu.registers) after.machine.cpu.pc
+        w.machine.cpu.registers.flags w.places keeps.owes (flow found.instr) accounts calls.behind way in
         record {
           keeps = keeps_by after meets.state meets.has now meets.holds code_now whole_now;
-          owes = subst (λ (l : List ℕ). Owes effects quiet table after.machine.memory (effects.stored after.machine.cpu.pc) (effects.returning after.machine.cpu.pc) (effects.known after.machine.cpu.pc) l) (sym places_now) owes;
+          owes = subst (λ (l : List ℕ). Owes returning table (returning.may after.machine.cpu.pc) (returning.known after.machine.cpu.pc) l) (sym places_now) owes;
         }
 
-    either_way : IsKnown image w → GoesOn image.regions found.instr found.next w.machine after.machine → KeepsToCalls image quiet effects table after
+    either_way : IsKnown image w → GoesOn image.regions found.instr found.next w.machine after.machine → KeepsToCalls image returning table after
     either_way known goes = by goes.way where
       by : ((returns found.instr w.machine.cpu.registers.flags ≡ true) × (after.machine.cpu.pc ≡ target found.instr found.next w.machine.memory w.machine.cpu))
           ⊎ Leads (flow found.instr) w.machine.cpu.registers.flags (declared_targets image.regions w.machine.cpu.pc) found.next (hl_of w.machine.cpu.registers) after.machine.cpu.pc →
-          KeepsToCalls image quiet effects table after
+          KeepsToCalls image returning table after
       by (inl taken) =
           returned (target found.instr found.next w.machine.memory w.machine.cpu) taken.1 (return_target (flow found.instr) found.next w.machine.memory w.machine.cpu taken.0) (known.returning found fetched taken.0) taken.0
       by (inr way) = gone way
@@ -316,17 +306,17 @@ module _ (image : Located) (quiet : ℕ → Bool) (bytes : List (Option ℕ)) (e
   -- a step keeps to the table, and so does a start
   pub is_kept : IsKept image quiet table
   is_kept = record {
-    knows = fits.knows;
-    effects = effects;
+    returns = returning;
     starts = λ start pc code whole held stands. record {
       keeps = keeps_by (world_of start) anything (subst (λ n. Has table n anything) (sym pc) fits.start) held (nothing_holds image.regions ground start held) code whole;
-      owes = none (effects.stored start.cpu.pc) (effects.returning start.cpu.pc) (effects.known start.cpu.pc) [] refl;
+      owes = none (returning.may start.cpu.pc) (returning.known start.cpu.pc) [] refl;
     };
     steps = λ refused w after known on before now keeps step newer.
         let stands : StandsOnWalk image w = known.stands in
         let pass = passed image.regions refused w.machine after.machine stands.found stands.fetched step in
         either_way refused w after stands.found stands.fetched stands.reached stands.looked keeps before now step newer known
         (executes image.regions refused stands.found.instr stands.found.next w.machine after.machine (declared_at w known stands.found stands.fetched) pass.executed);
+    disturbed = λ w memory leaves stays keeps. record { keeps = still_keeps image ground quiet table w memory fits.knows leaves stays keeps.keeps; owes = keeps.owes };
   }
 
 -- runs keep to a table that is kept
@@ -340,7 +330,7 @@ module _ (image : Located) (bytes : ℕ) (quiet : ℕ → Bool) (table : List Pl
   }
 
   abbrev Keeps : World → Type 0
-  Keeps w = KeepsToCalls image quiet kept.effects table w
+  Keeps w = KeepsToCalls image kept.returns table w
 
   stepped : (w after : World) (t : Turn) (places : List ℕ) → IsWorldFrom image start most w → IsWorldFrom image start most after → Keeps w → HoldsBytes w.machine → HoldsBytes after.machine → turn_at image.regions most w ≡ t →
       places ≡ places_then (fetched_by image.regions w) w.machine.cpu.registers.flags w.places → world_after t places ≡ Some after → Keeps after

@@ -3,6 +3,7 @@ pub mod EndLemmas
 pub mod TableLemmas
 pub mod VecLemmas
 pub mod TallyLemmas
+pub mod ShownLemmas
 pub mod StoreLemmas
 mod BoardLemmas
 pub mod WatchedLemmas
@@ -23,8 +24,6 @@ pub mod GivenLemmas
 pub mod InsideLemmas
 pub mod StepLemmas
 pub mod WayLemmas
-pub mod AroundLemmas
 pub mod CallLemmas
-pub mod DataLemmas
 pub mod KeepLemmas
 pub mod StackLemmas

@@ -1,5 +1,5 @@
 -- The memory after a step: code stays, and the words on the stack are as the state has them.
-use Rattle.std.specs.Prelude.{◌≡◌, ◌≢◌, ◌<◌, ◌≤◌, ℕ, ◌+◌, ◌/◌, ◌%◌, Bool, true, false, not, List, [], ◌∷◌, Option, None, Some, length, slice_index, slice_set, refl, if◌then◌else◌}
+use Rattle.std.specs.Prelude.{◌≡◌, ◌≢◌, ◌<◌, ◌≤◌, ℕ, zero, suc, ◌+◌, ◌/◌, ◌%◌, Bool, true, false, not, List, [], ◌∷◌, Option, None, Some, length, slice_index, slice_set, refl, if◌then◌else◌}
 use Rattle.std.proofs.Common.{subst, sym, ap, ◌∙◌, arith, cond, get_or-set_other, true≢false}
 use Rattle.std.proofs.lemmas.List.{get_or-set_same, length-set}
 use Rattle.std.proofs.lemmas.List.Elements.{All-contains, Contains-append_left, Contains-append_right, Contains-push}
@@ -11,8 +11,9 @@ use Rattle.decode80.specs.declared.pair.StackPair.{StackPair}
 use Rattle.decode80.specs.declared.pair.StackPair.TheVariants.{Bc as StackBc, De as StackDe, Hl as StackHl, Psw}
 use Rattle.decode80.specs.Facts.{flow}
 use Rattle.decode80.specs.Fetch.{ahead, behind}
+use Rattle.image80.specs.declared.range.Range.{Range}
 use Rattle.image80.specs.Range.{in_range, IsInMemory}
-use Rattle.image80.specs.Regions.{Areas, AreRegions, all_ranges, in_code, in_data}
+use Rattle.image80.specs.Regions.{Areas, AreRegions, all_ranges, in_code, in_data, top_of}
 use Rattle.machine80.specs.declared.registers.Registers.{Registers}
 use Rattle.machine80.specs.declared.cpu.Cpu.{Cpu}
 use Rattle.machine80.specs.declared.end.End.{End}
@@ -36,6 +37,7 @@ pub record Ground (regions : Areas) : Type 0 where
   pub code_or_stack : (a : ℕ) → in_code regions a ≡ true → in_range regions.stack a ≡ false
   pub data_or_stack : (a : ℕ) → in_data regions a ≡ true → in_range regions.stack a ≡ false
   pub stack_ends : regions.stack.first + regions.stack.length ≤ 65536
+  pub stack_short : regions.stack.length < 65536
 
 pub ground_of : ((areas : Areas) (a : ℕ) → AreRegions areas → in_code areas a ≡ true → in_data areas a ≡ false) →
     ((areas : Areas) (a : ℕ) → AreRegions areas → in_code areas a ≡ true → in_range areas.stack a ≡ false) →
@@ -45,14 +47,36 @@ ground_of code_or_data code_or_stack data_or_stack regions rules = record {
   code_or_data = λ a. code_or_data regions a rules;
   code_or_stack = λ a. code_or_stack regions a rules;
   data_or_stack = λ a. data_or_stack regions a rules;
-  stack_ends =
-      (All-contains IsInMemory (all_ranges regions) regions.stack rules.in_memory
-      (Contains-append_right regions.code (regions.stack ∷ regions.data_ranges) regions.stack
-      (Contains-append_left (regions.stack ∷ []) regions.data_ranges regions.stack (Contains-push [] regions.stack)))).«end»;
+  stack_ends = lies.«end»;
+  stack_short = lies.length;
 }
+  where
+    lies : IsInMemory regions.stack
+    lies =
+        All-contains IsInMemory (all_ranges regions) regions.stack rules.in_memory
+        (Contains-append_right regions.code (regions.stack ∷ regions.data_ranges) regions.stack
+        (Contains-append_left (regions.stack ∷ []) regions.data_ranges regions.stack (Contains-push [] regions.stack)))
+
+above_first : (range : Range) (a : ℕ) → in_range range a ≡ true → range.first ≤ a
+above_first range a there = grind (arith, nat_tests, there)
+
+below_last : (range : Range) (a : ℕ) → in_range range a ≡ true → a < range.first + range.length
+below_last range a there = grind (arith, nat_tests, there)
 
 small_on_stack : (regions : Areas) (a : ℕ) → Ground regions → in_range regions.stack a ≡ true → a < 65536
 small_on_stack regions a ground stack = let ends = ground.stack_ends in grind (arith, nat_tests, ends, stack)
+
+-- an address of the stack isn't its top, and the next one on the stack is one up
+not_top : (regions : Areas) (a : ℕ) → Ground regions → in_range regions.stack a ≡ true → a ≢ top_of regions
+not_top regions a ground stack =
+    λ e. absurd (let ends = ground.stack_ends in let short = ground.stack_short in let low = above_first regions.stack a stack in let high = below_last regions.stack a stack in omega (arith, e, ends, short, low, high))
+
+next_up : (regions : Areas) (a : ℕ) → Ground regions → in_range regions.stack a ≡ true → in_range regions.stack (ahead a 1) ≡ true → ahead a 1 ≡ a + 1
+unfolding ahead
+next_up regions a ground stack next =
+    let short = ground.stack_short in let ends = ground.stack_ends in
+    let low = above_first regions.stack a stack in let high = below_last regions.stack a stack in
+    let next_low = above_first regions.stack (ahead a 1) next in omega (arith, ends, short, low, high, next_low)
 
 -- what is stored to data isn't on the stack
 pub stack_apart : (regions : Areas) (a b : ℕ) → Ground regions → in_range regions.stack a ≡ true → in_data regions b ≡ true → a ≢ b
@@ -120,28 +144,39 @@ module _ (regions : Areas) (ground : Ground regions) where
   code_kept Xthl next m cpu a pass code = code_two m a cpu.sp (ahead cpu.sp 1) _ _ code (passed_two (in_range regions.stack) cpu.sp (ahead cpu.sp 1) Stack _ pass)
   code_kept i next m cpu a pass code = refl
 
-  -- words stay where the bytes of the stack do
-  abbrev SameStack : List ℕ → List ℕ → Type 0
-  SameStack m m' = (a : ℕ) → in_range regions.stack a ≡ true → slice_index m' a ≡ slice_index m a
+  -- a word lies on the stack from the stack pointer up
+  record Lies (sp at : ℕ) : Type 0 where
+    low : in_range regions.stack at ≡ true
+    high : in_range regions.stack (ahead at 1) ≡ true
+    above : sp ≤ at
+    filled : sp ≢ top_of regions
 
-  pub word_moved : (o : Option Span) (m m' : List ℕ) (at at' : ℕ) → (in_range regions.stack at ≡ true → at ≡ at') →
-      (in_range regions.stack at ≡ true → in_range regions.stack (ahead at 1) ≡ true → (slice_index m' at ≡ slice_index m at) × (slice_index m' (ahead at 1) ≡ slice_index m (ahead at 1))) →
-      HoldsWord regions o m at → HoldsWord regions o m' at'
-  word_moved None m m' at at' place same holds = tt
-  word_moved (Some span) m m' at at' place same holds =
-      let bytes = same holds.low holds.high in
-      subst (λ n. IsOnStack regions span m' n) (place holds.low)
-      (record { low = holds.low; high = holds.high; within = subst (λ n. Within span n) (let one = bytes.0 in let two = bytes.1 in cc (one, two)) holds.within })
+  -- words stay where the bytes of the stack from the stack pointer up do
+  abbrev SameStack : (sp : ℕ) → List ℕ → List ℕ → Type 0
+  SameStack sp m m' = (a : ℕ) → in_range regions.stack a ≡ true → sp ≤ a → sp ≢ top_of regions → slice_index m' a ≡ slice_index m a
 
-  pub words_stay : (w : Words) (m m' : List ℕ) (sp : ℕ) → SameStack m m' → HoldsWords regions w m sp → HoldsWords regions w m' sp
+  word_moved : (o : Option Span) (m m' : List ℕ) (sp sp' at at' : ℕ) → (Lies sp at → (at ≡ at') × ((sp' ≤ at) × (sp' ≢ top_of regions))) →
+      (Lies sp at → (slice_index m' at ≡ slice_index m at) × (slice_index m' (ahead at 1) ≡ slice_index m (ahead at 1))) →
+      HoldsWord regions o m sp at → HoldsWord regions o m' sp' at'
+  word_moved None m m' sp sp' at at' place same holds = tt
+  word_moved (Some span) m m' sp sp' at at' place same holds =
+      let lies : Lies sp at = record { low = holds.low; high = holds.high; above = holds.above; filled = holds.filled } in
+      let bytes = same lies in
+      let there = place lies in
+      subst (λ n. IsOnStack regions span m' sp' n) there.0
+      (record { low = holds.low; high = holds.high; above = there.1.0; filled = there.1.1; within = subst (λ n. Within span n) (let one = bytes.0 in let two = bytes.1 in cc (one, two)) holds.within })
+
+  pub words_stay : (w : Words) (m m' : List ℕ) (sp : ℕ) → SameStack sp m m' → HoldsWords regions w m sp → HoldsWords regions w m' sp
   words_stay w m m' sp same holds = record {
     first = stay w.first sp holds.first;
     second = stay w.second (ahead sp 2) holds.second;
     third = stay w.third (ahead sp 4) holds.third;
     fourth = stay w.fourth (ahead sp 6) holds.fourth;
   } where
-    stay : (o : Option Span) (at : ℕ) → HoldsWord regions o m at → HoldsWord regions o m' at
-    stay o at h = word_moved o m m' at at (λ low. refl) (λ low high. (same at low, same (ahead at 1) high)) h
+    stay : (o : Option Span) (at : ℕ) → HoldsWord regions o m sp at → HoldsWord regions o m' sp at
+    stay o at h =
+        word_moved o m m' sp sp at at (λ lies. (refl, (lies.above, lies.filled)))
+        (λ lies. (same at lies.low lies.above lies.filled, same (ahead at 1) lies.high (let up = next_up regions at ground lies.low lies.high in let above = lies.above in omega (arith, up, above)) lies.filled)) h
 
   pub none_hold : (m : List ℕ) (sp : ℕ) → HoldsWords regions no_words m sp
   none_hold m sp = record { first = tt; second = tt; third = tt; fourth = tt }
@@ -179,6 +214,24 @@ module _ (regions : Areas) (ground : Ground regions) where
   unfolding behind
   low_apart sp = λ e. absurd (omega (arith, e))
 
+  pushed_below : (areas : Areas) (sp at : ℕ) → Ground areas → in_range areas.stack (behind sp 1) ≡ true → in_range areas.stack (behind sp 2) ≡ true → in_range areas.stack at ≡ true → sp ≤ at →
+      sp ≢ top_of areas → behind sp 2 ≤ at
+  unfolding behind
+  pushed_below areas sp at rules one two there above filled = by sp refl where
+    ends : areas.stack.first + areas.stack.length ≤ 65536
+    ends = rules.stack_ends
+
+    short : areas.stack.length < 65536
+    short = rules.stack_short
+
+    by : (n : ℕ) → sp ≡ n → behind sp 2 ≤ at
+    by zero is = absurd (filled (let high = below_last areas.stack (behind sp 1) one in omega (arith, is, ends, short, high)))
+    by (suc zero) is =
+        let low = above_first areas.stack (behind sp 1) one in
+        let high = below_last areas.stack (behind sp 2) two in
+        absurd (omega (arith, is, ends, short, low, high))
+    by (suc (suc n)) is = let small = small_on_stack areas at rules there in omega (arith, is, above, small)
+
   behind_small : (sp n : ℕ) → behind sp n < 65536
   unfolding behind
   behind_small sp n = omega arith
@@ -195,18 +248,23 @@ module _ (regions : Areas) (ground : Ground regions) where
         get_or-set_other (slice_set m (behind sp 1) high) (behind sp 2) (behind sp 1) low 0 (low_apart sp)
         ∙ get_or-set_same m (behind sp 1) high 0 (let small = behind_small sp 1 in omega (arith, small, whole))
 
-    deep_word : (o : Option Span) (k : ℕ) (at' : ℕ) → k < 5 → ahead sp k ≡ at' → HoldsWord regions o m (ahead sp k) → HoldsWord regions o after at'
-    deep_word o k at' small place holds =
-        word_moved o m after (ahead sp k) at' (λ low_in. place)
-        (λ low_in high_in. (kept k (omega arith), subst (λ n. slice_index after n ≡ slice_index m n) (sym (next_byte sp k)) (kept (k + 1) (omega arith)))) holds where
+    -- what lies from the stack pointer up does so still
+    lies_still : (at : ℕ) → (in_range regions.stack (behind sp 1) ≡ true) × (in_range regions.stack (behind sp 2) ≡ true) → Lies sp at → (behind sp 2 ≤ at) × (behind sp 2 ≢ top_of regions)
+    lies_still at there lies = (pushed_below regions sp at ground there.0 there.1 lies.low lies.above lies.filled, not_top regions (behind sp 2) ground there.1)
+
+    deep_word : (o : Option Span) (k : ℕ) (at' : ℕ) → (in_range regions.stack (behind sp 1) ≡ true) × (in_range regions.stack (behind sp 2) ≡ true) → k < 5 → ahead sp k ≡ at' → HoldsWord regions o m sp (ahead sp k) →
+        HoldsWord regions o after (behind sp 2) at'
+    deep_word o k at' there small place holds =
+        word_moved o m after sp (behind sp 2) (ahead sp k) at' (λ lies. (place, lies_still (ahead sp k) there lies))
+        (λ lies. (kept k (omega arith), subst (λ n. slice_index after n ≡ slice_index m n) (sym (next_byte sp k)) (kept (k + 1) (omega arith)))) holds where
           kept : (j : ℕ) → j < 6 → slice_index after (ahead sp j) ≡ slice_index m (ahead sp j)
           kept j less = let apart = top_apart sp j less in two_stored m (ahead sp j) (behind sp 1) (behind sp 2) high low apart.0 apart.1
 
-    first_word : (o : Option Span) → HoldsWord regions o m sp → HoldsWord regions o after (ahead (behind sp 2) 2)
-    first_word o holds =
-        word_moved o m after sp (ahead (behind sp 2) 2) (λ low_in. top_second sp (small_on_stack regions sp ground low_in))
-        (λ low_in high_in.
-        let apart = sp_apart sp (small_on_stack regions sp ground low_in) in
+    first_word : (o : Option Span) → (in_range regions.stack (behind sp 1) ≡ true) × (in_range regions.stack (behind sp 2) ≡ true) → HoldsWord regions o m sp sp → HoldsWord regions o after (behind sp 2) (ahead (behind sp 2) 2)
+    first_word o there holds =
+        word_moved o m after sp (behind sp 2) sp (ahead (behind sp 2) 2) (λ lies. (top_second sp (small_on_stack regions sp ground lies.low), lies_still sp there lies))
+        (λ lies.
+        let apart = sp_apart sp (small_on_stack regions sp ground lies.low) in
         let next = top_apart sp 1 (omega arith) in
         (two_stored m sp (behind sp 1) (behind sp 2) high low apart.0 apart.1, two_stored m (ahead sp 1) (behind sp 1) (behind sp 2) high low next.0 next.1)) holds
 
@@ -216,11 +274,13 @@ module _ (regions : Areas) (ground : Ground regions) where
       first = record {
         low = there.1;
         high = subst (λ n. in_range regions.stack n ≡ true) (sym (top_low sp)) there.0;
+        above = omega arith;
+        filled = not_top regions (behind sp 2) ground there.1;
         within = subst (λ n. Within span n) (let one = top_low sp in let two = pushed_high in let three = pushed_low in cc (one, two, three)) inside;
       };
-      second = first_word w.first holds.first;
-      third = deep_word w.second 2 (ahead (behind sp 2) 4) (omega arith) (top_third sp) holds.second;
-      fourth = deep_word w.third 4 (ahead (behind sp 2) 6) (omega arith) (top_fourth sp) holds.third;
+      second = first_word w.first there holds.first;
+      third = deep_word w.second 2 (ahead (behind sp 2) 4) there (omega arith) (top_third sp) holds.second;
+      fourth = deep_word w.third 4 (ahead (behind sp 2) 6) there (omega arith) (top_fourth sp) holds.third;
     }
 
   -- a word is popped
@@ -232,13 +292,24 @@ module _ (regions : Areas) (ground : Ground regions) where
   unfolding ahead
   pop_fourth sp = omega arith
 
+  -- what lies above the word on top lies from the stack pointer up when that is popped
+  above_popped : (sp k : ℕ) → 2 ≤ k → k < 8 → Lies sp (ahead sp k) → (ahead sp 2 ≤ ahead sp k) × (ahead sp 2 ≢ top_of regions)
+  unfolding ahead
+  above_popped sp k more less lies =
+      let ends = ground.stack_ends in
+      let above = lies.above in
+      let high = below_last regions.stack (ahead sp k) lies.low in
+      (omega (arith, more, less, above), λ e. absurd (omega (arith, more, less, above, ends, high, e)))
+
   words_popped : (w : Words) (m : List ℕ) (sp : ℕ) → HoldsWords regions w m sp → HoldsWords regions (popped w) m (ahead sp 2)
   words_popped w m sp holds = record {
-    first = holds.second;
-    second = subst (λ n. HoldsWord regions w.third m n) (pop_third sp) holds.third;
-    third = subst (λ n. HoldsWord regions w.fourth m n) (pop_fourth sp) holds.fourth;
+    first = still w.second 2 (ahead sp 2) (omega arith) (omega arith) refl holds.second;
+    second = still w.third 4 (ahead (ahead sp 2) 2) (omega arith) (omega arith) (pop_third sp) holds.third;
+    third = still w.fourth 6 (ahead (ahead sp 2) 4) (omega arith) (omega arith) (pop_fourth sp) holds.fourth;
     fourth = tt;
-  }
+  } where
+    still : (o : Option Span) (k at' : ℕ) → 2 ≤ k → k < 8 → ahead sp k ≡ at' → HoldsWord regions o m sp (ahead sp k) → HoldsWord regions o m (ahead sp 2) at'
+    still o k at' more less place h = word_moved o m m sp (ahead sp 2) (ahead sp k) at' (λ lies. (place, above_popped sp k more less lies)) (λ lies. (refl, refl)) h
 
   -- a word is exchanged
   sp_first : (sp k : ℕ) → sp < 65536 → 2 ≤ k → k < 8 → (ahead sp k ≢ sp) × (ahead sp k ≢ ahead sp 1)
@@ -268,27 +339,27 @@ module _ (regions : Areas) (ground : Ground regions) where
     exchanged_high : slice_index exchanged (ahead sp 1) ≡ high
     exchanged_high = get_or-set_same (slice_set m sp low) (ahead sp 1) high 0 (let size = length-set m sp low in let small = ahead_small sp 1 in omega (arith, size, small, whole))
 
-    below_word : (o : Option Span) (k : ℕ) → 2 ≤ k → k < 7 → HoldsWord regions o m (ahead sp k) → HoldsWord regions o exchanged (ahead sp k)
+    below_word : (o : Option Span) (k : ℕ) → 2 ≤ k → k < 7 → HoldsWord regions o m sp (ahead sp k) → HoldsWord regions o exchanged sp (ahead sp k)
     below_word o k more less holds =
-        word_moved o m exchanged (ahead sp k) (ahead sp k) (λ in_stack. refl)
-        (λ one two. (kept k more (omega arith), subst (λ n. slice_index exchanged n ≡ slice_index m n) (sym (next_byte sp k)) (kept (k + 1) (omega arith) (omega arith)))) holds where
+        word_moved o m exchanged sp sp (ahead sp k) (ahead sp k) (λ lies. (refl, (lies.above, lies.filled)))
+        (λ lies. (kept k more (omega arith), subst (λ n. slice_index exchanged n ≡ slice_index m n) (sym (next_byte sp k)) (kept (k + 1) (omega arith) (omega arith)))) holds where
           kept : (j : ℕ) → 2 ≤ j → j < 8 → slice_index exchanged (ahead sp j) ≡ slice_index m (ahead sp j)
           kept j from small = let apart = sp_first sp j sp_small from small in two_stored m (ahead sp j) sp (ahead sp 1) low high apart.0 apart.1
 
     words_exchanged : (w : Words) (span : Span) → Within span (word high low) → HoldsWords regions w m sp → HoldsWords regions (record w { first = Some span }) exchanged sp
     words_exchanged w span inside holds = record {
-      first = record { low = low_in; high = high_in; within = subst (λ n. Within span n) (let one = exchanged_high in let two = exchanged_low in cc (one, two)) inside };
+      first = record { low = low_in; high = high_in; above = omega arith; filled = not_top regions sp ground low_in; within = subst (λ n. Within span n) (let one = exchanged_high in let two = exchanged_low in cc (one, two)) inside };
       second = below_word w.second 2 (omega arith) (omega arith) holds.second;
       third = below_word w.third 4 (omega arith) (omega arith) holds.third;
       fourth = below_word w.fourth 6 (omega arith) (omega arith) holds.fourth;
     }
 
   -- a store to data leaves the stack
-  stack_one : (m : List ℕ) (b x : ℕ) → in_data regions b ≡ true → SameStack m (stored m ((b, x) ∷ []))
-  stack_one m b x there a stack = one_stored m a b x (stack_apart regions a b ground stack there)
+  stack_one : (m : List ℕ) (sp b x : ℕ) → in_data regions b ≡ true → SameStack sp m (stored m ((b, x) ∷ []))
+  stack_one m sp b x there a stack above filled = one_stored m a b x (stack_apart regions a b ground stack there)
 
-  stack_two : (m : List ℕ) (b c x y : ℕ) → (in_data regions b ≡ true) × (in_data regions c ≡ true) → SameStack m (stored m ((b, x) ∷ (c, y) ∷ []))
-  stack_two m b c x y there a stack = two_stored m a b c x y (stack_apart regions a b ground stack there.0) (stack_apart regions a c ground stack there.1)
+  stack_two : (m : List ℕ) (sp b c x y : ℕ) → (in_data regions b ≡ true) × (in_data regions c ≡ true) → SameStack sp m (stored m ((b, x) ∷ (c, y) ∷ []))
+  stack_two m sp b c x y there a stack above filled = two_stored m a b c x y (stack_apart regions a b ground stack there.0) (stack_apart regions a c ground stack there.1)
 
   -- the word that PUSH pushes
   psw_within : (s : State) (r : Registers) → HoldsRegisters s r → Within (pushed_words s Psw) (word r.a (flags_byte r.flags))
@@ -319,14 +390,14 @@ module _ (regions : Areas) (ground : Ground regions) where
 
     pub words_changed : (i : Instr) (next : ℕ) (cpu : Cpu) (s : State) → guard regions i cpu ≡ None → HoldsRegisters s cpu.registers → HoldsWords regions s.words m cpu.sp →
         HoldsWords regions (words_after i (is_taken (flow i) cpu.registers.flags) next s) (stored m (stores i next m cpu)) (changed i m cpu).sp
-    words_changed (Store r) next cpu s pass holds words = words_stay s.words m _ cpu.sp (stack_one m _ _ (passed (in_data regions) _ StoreOutside None pass)) words
-    words_changed (MviMemory b) next cpu s pass holds words = words_stay s.words m _ cpu.sp (stack_one m _ _ (passed (in_data regions) _ StoreOutside None pass)) words
-    words_changed InrMemory next cpu s pass holds words = words_stay s.words m _ cpu.sp (stack_one m _ _ (passed (in_data regions) _ StoreOutside None pass)) words
-    words_changed DcrMemory next cpu s pass holds words = words_stay s.words m _ cpu.sp (stack_one m _ _ (passed (in_data regions) _ StoreOutside None pass)) words
-    words_changed (Stax p) next cpu s pass holds words = words_stay s.words m _ cpu.sp (stack_one m _ _ (passed (in_data regions) _ StoreOutside None pass)) words
-    words_changed (Sta w) next cpu s pass holds words = words_stay s.words m _ cpu.sp (stack_one m w cpu.registers.a (passed (in_data regions) w Direct None pass)) words
+    words_changed (Store r) next cpu s pass holds words = words_stay s.words m _ cpu.sp (stack_one m cpu.sp _ _ (passed (in_data regions) _ StoreOutside None pass)) words
+    words_changed (MviMemory b) next cpu s pass holds words = words_stay s.words m _ cpu.sp (stack_one m cpu.sp _ _ (passed (in_data regions) _ StoreOutside None pass)) words
+    words_changed InrMemory next cpu s pass holds words = words_stay s.words m _ cpu.sp (stack_one m cpu.sp _ _ (passed (in_data regions) _ StoreOutside None pass)) words
+    words_changed DcrMemory next cpu s pass holds words = words_stay s.words m _ cpu.sp (stack_one m cpu.sp _ _ (passed (in_data regions) _ StoreOutside None pass)) words
+    words_changed (Stax p) next cpu s pass holds words = words_stay s.words m _ cpu.sp (stack_one m cpu.sp _ _ (passed (in_data regions) _ StoreOutside None pass)) words
+    words_changed (Sta w) next cpu s pass holds words = words_stay s.words m _ cpu.sp (stack_one m cpu.sp w cpu.registers.a (passed (in_data regions) w Direct None pass)) words
     words_changed (Shld w) next cpu s pass holds words =
-        words_stay s.words m _ cpu.sp (stack_two m w (ahead w 1) cpu.registers.l cpu.registers.h (passed_two (in_data regions) w (ahead w 1) Direct None pass)) words
+        words_stay s.words m _ cpu.sp (stack_two m cpu.sp w (ahead w 1) cpu.registers.l cpu.registers.h (passed_two (in_data regions) w (ahead w 1) Direct None pass)) words
     words_changed (Push pair) next cpu s pass holds words =
         words_pushed m cpu.sp (high_of cpu.registers pair) (low_of cpu.registers pair) whole s.words (pushed_words s pair)
         (passed_two (in_range regions.stack) (behind cpu.sp 1) (behind cpu.sp 2) Stack _ pass) (pushed_within s cpu.registers pair holds) words

@@ -34,11 +34,12 @@ use Rattle.verify80_stores.specs.State.{HoldsRegisters}
 use Rattle.verify80_stores.specs.Following.{entry_in}
 use Rattle.verify80_stores.specs.Marks.{is_marked}
 use Rattle.verify80_stores.specs.Runs.{KeepsTo, RunsKeepTo}
+use Rattle.verify80_stores.specs.Shown.{AreShown, IsShutAt, KeptTable}
 use Rattle.verify80_stores.specs.declared.stores.OpenStore.{OpenStore}
 use Rattle.verify80_stores.specs.Pointers.{stores_by_pair}
-use Rattle.verify80_stores.specs.Opening.{pointer_span, StaysIn, IsLeftOpen}
+use Rattle.verify80_stores.specs.Opening.{pointer_span, IsLeftOpen}
 use Rattle.verify80_stores.specs.Stores.{IsReachedAs, AreReachedAs, IsOpen, GoesAsListed, EndsAsListed, StoresGoAsListed, AreStoresOf}
-use Rattle.verify80_stores.specs.Listing.{AreAllBelow, AreOpenBelow, AreOpenMarks, AreSpans, IsSpanned, IsLeftAt, IsListed, is_kind, is_at, is_marked_at, reached_at}
+use Rattle.verify80_stores.specs.Listing.{AreAllBelow, AreOpenBelow, IsSpanned, IsLeftAt, IsListed, is_kind, is_at, is_marked_at, reached_at}
 use Rattle.verify80_stores.proofs.SpanLemmas.{inside_within}
 use Rattle.verify80_stores.proofs.TableLemmas.{there_if_reached, reached_if_there}
 
@@ -192,9 +193,14 @@ inside_targets (Some targets) hl outside there = (let any : list_any (λ y. y ==
 none_listed : (at : ℕ) (stores : List OpenStore) → Any (λ store. store.at ≡ at) stores → All (λ store. store.at ≢ at) stores → ⊥
 none_listed at stores (k, store, inside, is, same) none = none k store inside (ap (λ (s : OpenStore). s.at) is ∙ same)
 
-module _ (image : Located) (bytes : ℕ) (reached : List (Option Fetched)) (table : List Placed) (marks : List Bool) (spans : List (Option Span)) (addresses : List ℕ) (stores : List OpenStore) (jumps open_jumps : List ℕ)
-    (sound : NeverGoesWrongFromPowerOn image bytes) (walks : StaysOnWalks image) (are : AreReached (code_of image) reached) (whole : length reached ≡ 65536) (keeps : RunsKeepTo image table)
-    (are_marks : AreOpenMarks image.regions reached table marks) (are_spans : AreSpans reached table spans) (each_store : AreAllBelow (is_at stores_by_pair reached) 65536 addresses)
+-- a world keeps to each of some tables
+pub record KeepsToEach (image : Located) (quiet : ℕ → Bool) (first : KeptTable image quiet) (others : List (KeptTable image quiet)) (w : World) : Type 0 where
+  pub first_too : KeepsTo image first.table w
+  pub others_too : All (λ other. KeepsTo image other.table w) others
+
+module _ (image : Located) (bytes : ℕ) (quiet : ℕ → Bool) (reached : List (Option Fetched)) (marks : List Bool) (spans : List (Option Span)) (addresses : List ℕ) (stores : List OpenStore) (jumps open_jumps : List ℕ)
+    (sound : NeverGoesWrongFromPowerOn image bytes) (walks : StaysOnWalks image) (are : AreReached (code_of image) reached) (whole : length reached ≡ 65536) (keeps : (t : KeptTable image quiet) → RunsKeepTo image t.table)
+    (shown : AreShown image quiet reached marks spans) (each_store : AreAllBelow (is_at stores_by_pair reached) 65536 addresses)
     (open_below : AreOpenBelow reached marks spans 65536 stores) (each_jump : AreAllBelow (is_at is_pchl reached) 65536 jumps) (each_open_jump : AreAllBelow (is_marked_at is_pchl reached marks) 65536 open_jumps) where
   -- a world stands at an instruction that is reached
   record Here (w : World) (found : Fetched) : Type 0 where
@@ -214,25 +220,47 @@ module _ (image : Located) (bytes : ℕ) (reached : List (Option Fetched)) (tabl
       let here : is_at kind reached at ≡ true = ap (λ (o : Option Fetched). is_kind kind o) there ∙ is in
       rw (here, marked) refl
 
-  stays_here : (w : World) (found : Fetched) (keep : KeepsTo image table w) → reached_at reached w.machine.cpu.pc ≡ Some found → is_marked marks w.machine.cpu.pc ≡ false →
-      StaysIn image.regions (declared_targets image.regions w.machine.cpu.pc) found.instr keep.placed.state
-  stays_here w found keep there unmarked =
-      let at : keep.placed.at ≡ w.machine.cpu.pc = keep.at in
-      subst (λ n. StaysIn image.regions (declared_targets image.regions n) found.instr keep.placed.state) at
-      (are_marks.stays keep.place keep.placed found keep.there (subst (λ n. reached_at reached n ≡ Some found) (sym at) there) (subst (λ n. is_marked marks n ≡ false) (sym at) unmarked))
+  -- what a world that keeps to a table does at an address that the table shows
+  shut_stores : (table : List Placed) (w : World) (found : Fetched) (address : ℕ) → KeepsTo image table w → reached_at reached w.machine.cpu.pc ≡ Some found → Contains (pointed_bytes found.instr w.machine.cpu.registers) address →
+      IsShutAt image.regions reached table w.machine.cpu.pc → in_data image.regions address ≡ true
+  shut_stores table w found address keep instr there shut =
+      let points = points_by found.instr keep.placed.state w.machine.cpu.registers address keep.holds.registers there in
+      (shut keep.place keep.placed found keep.there keep.at instr).stores points.span points.is address points.within
 
-  spanned : (w : World) (found : Fetched) (keep : KeepsTo image table w) (span : Span) → reached_at reached w.machine.cpu.pc ≡ Some found → pointer_span found.instr keep.placed.state ≡ Some span →
+  shut_jumps : (table : List Placed) (w : World) (found : Fetched) → KeepsTo image table w → reached_at reached w.machine.cpu.pc ≡ Some found → is_pchl found.instr ≡ true →
+      IsShutAt image.regions reached table w.machine.cpu.pc → Contains (declared_targets image.regions w.machine.cpu.pc) (hl_of w.machine.cpu.registers)
+  shut_jumps table w found keep instr jump shut = (shut keep.place keep.placed found keep.there keep.at instr).jumps jump (hl_of w.machine.cpu.registers) keep.holds.registers.hl.words
+
+  other_there : (w : World) (k : ℕ) (other : KeptTable image quiet) → KeepsToEach image quiet shown.first shown.others w → k < length shown.others → get_or shown.others k other ≡ other → KeepsTo image other.table w
+  other_there w k other keep inside is = subst (λ (t : KeptTable image quiet). KeepsTo image t.table w) is (keep.others_too k other inside)
+
+  data_stores : (w : World) (found : Fetched) (address : ℕ) → KeepsToEach image quiet shown.first shown.others w → reached_at reached w.machine.cpu.pc ≡ Some found → Contains (pointed_bytes found.instr w.machine.cpu.registers) address → is_marked marks w.machine.cpu.pc ≡ false →
+      in_data image.regions address ≡ true
+  data_stores w found address keep instr there unmarked = by (shown.stays w.machine.cpu.pc unmarked) where
+    by : IsShutAt image.regions reached shown.first.table w.machine.cpu.pc ⊎ Any (λ other. IsShutAt image.regions reached other.table w.machine.cpu.pc) shown.others → in_data image.regions address ≡ true
+    by (inl shut) = shut_stores shown.first.table w found address keep.first_too instr there shut
+    by (inr (k, other, inside, is, shut)) = shut_stores other.table w found address (other_there w k other keep inside is) instr there shut
+
+  target_jumps : (w : World) (found : Fetched) → KeepsToEach image quiet shown.first shown.others w → reached_at reached w.machine.cpu.pc ≡ Some found → is_pchl found.instr ≡ true → is_marked marks w.machine.cpu.pc ≡ false →
+      Contains (declared_targets image.regions w.machine.cpu.pc) (hl_of w.machine.cpu.registers)
+  target_jumps w found keep instr jump unmarked = by (shown.stays w.machine.cpu.pc unmarked) where
+    by : IsShutAt image.regions reached shown.first.table w.machine.cpu.pc ⊎ Any (λ other. IsShutAt image.regions reached other.table w.machine.cpu.pc) shown.others →
+        Contains (declared_targets image.regions w.machine.cpu.pc) (hl_of w.machine.cpu.registers)
+    by (inl shut) = shut_jumps shown.first.table w found keep.first_too instr jump shut
+    by (inr (k, other, inside, is, shut)) = shut_jumps other.table w found (other_there w k other keep inside is) instr jump shut
+
+  spanned : (w : World) (found : Fetched) (keep : KeepsTo image shown.first.table w) (span : Span) → reached_at reached w.machine.cpu.pc ≡ Some found → pointer_span found.instr keep.placed.state ≡ Some span →
       IsSpanned spans w.machine.cpu.pc span
   spanned w found keep span there is =
       let at : keep.placed.at ≡ w.machine.cpu.pc = keep.at in
-      subst (λ n. IsSpanned spans n span) at (are_spans keep.place keep.placed found span keep.there (subst (λ n. reached_at reached n ≡ Some found) (sym at) there) is)
+      subst (λ n. IsSpanned spans n span) at (shown.are_spans keep.place keep.placed found span keep.there (subst (λ n. reached_at reached n ≡ Some found) (sym at) there) is)
 
-  pub goes_if : (w : World) (found : Fetched) → StandsOnWalk image w → KeepsTo image table w → fetched_by image.regions w ≡ Some found → (address : ℕ) →
+  pub goes_if : (w : World) (found : Fetched) → StandsOnWalk image w → KeepsToEach image quiet shown.first shown.others w → fetched_by image.regions w ≡ Some found → (address : ℕ) →
       Contains (pointed_bytes found.instr w.machine.cpu.registers) address → GoesAsListed image.regions stores w.machine.cpu.pc address
   goes_if w found stands keep fetched address there =
       let here = here_if w found stands fetched in
-      let points = points_by found.instr keep.placed.state w.machine.cpu.registers address keep.holds.registers there in
-      let whole_span = spanned w found keep points.span here.there points.is in
+      let points = points_by found.instr keep.first_too.placed.state w.machine.cpu.registers address keep.first_too.holds.registers there in
+      let whole_span = spanned w found keep.first_too points.span here.there points.is in
       let within : Within whole_span.whole address = inside_within points.span whole_span.whole address whole_span.inside points.within in
       record {
         listed = λ k d inside same.
@@ -240,26 +268,34 @@ module _ (image : Located) (bytes : ℕ) (reached : List (Option Fetched)) (tabl
             let other : entry_in (slice_get spans w.machine.cpu.pc) ≡ Some store.span = subst (λ n. entry_in (slice_get spans n) ≡ Some store.span) same (open_below.each k d inside).span in
             let mine : entry_in (slice_get spans w.machine.cpu.pc) ≡ Some whole_span.whole = whole_span.there in
             subst (λ (s : Span). Within s address) (let e : whole_span.whole ≡ store.span = cc in e) within;
-        unlisted = λ none. go here points.span points.is points.within whole_span.whole whole_span.there none (is_marked marks w.machine.cpu.pc) refl;
+        unlisted = λ none. go here points.span points.is whole_span.whole whole_span.there none (is_marked marks w.machine.cpu.pc) refl;
       } where
-        go : Here w found → (span : Span) → pointer_span found.instr keep.placed.state ≡ Some span → Within span address → (whole_one : Span) → entry_in (slice_get spans w.machine.cpu.pc) ≡ Some whole_one →
+        go : Here w found → (span : Span) → pointer_span found.instr keep.first_too.placed.state ≡ Some span → (whole_one : Span) → entry_in (slice_get spans w.machine.cpu.pc) ≡ Some whole_one →
             All (λ store. store.at ≢ w.machine.cpu.pc) stores → (b : Bool) → is_marked marks w.machine.cpu.pc ≡ b → in_data image.regions address ≡ true
-        go here span is inside whole_one there_one none true marked =
-            absurd (none_listed w.machine.cpu.pc stores (open_below.all w.machine.cpu.pc whole_one here.small (marked_so stores_by_pair w.machine.cpu.pc found here.there (by_any_pair found.instr keep.placed.state span is) marked) there_one) none)
-        go here span is inside whole_one there_one none false unmarked = (stays_here w found keep here.there unmarked).stores span is address inside
+        go here span is whole_one there_one none true marked =
+            absurd (none_listed w.machine.cpu.pc stores
+            (open_below.all w.machine.cpu.pc whole_one here.small (marked_so stores_by_pair w.machine.cpu.pc found here.there (by_any_pair found.instr keep.first_too.placed.state span is) marked) there_one) none)
+        go here span is whole_one there_one none false unmarked = data_stores w found address keep here.there there unmarked
 
   -- a PCHL is listed, or goes to a declared target
-  pub jump_there : (w : World) (found : Fetched) → StandsOnWalk image w → KeepsTo image table w → fetched_by image.regions w ≡ Some found → is_pchl found.instr ≡ true →
+  pub jump_there : (w : World) (found : Fetched) → StandsOnWalk image w → KeepsToEach image quiet shown.first shown.others w → fetched_by image.regions w ≡ Some found → is_pchl found.instr ≡ true →
       Contains open_jumps w.machine.cpu.pc ⊎ Contains (declared_targets image.regions w.machine.cpu.pc) (hl_of w.machine.cpu.registers)
   jump_there w found stands keep fetched jump = go (here_if w found stands fetched) (is_marked marks w.machine.cpu.pc) refl where
     go : Here w found → (b : Bool) → is_marked marks w.machine.cpu.pc ≡ b → Contains open_jumps w.machine.cpu.pc ⊎ Contains (declared_targets image.regions w.machine.cpu.pc) (hl_of w.machine.cpu.registers)
     go here true marked = inl (each_open_jump.all w.machine.cpu.pc here.small (marked_so is_pchl w.machine.cpu.pc found here.there jump marked))
-    go here false unmarked = inr ((stays_here w found keep here.there unmarked).jumps jump (hl_of w.machine.cpu.registers) keep.holds.registers.hl.words)
+    go here false unmarked = inr (target_jumps w found keep here.there jump unmarked)
+
+  -- each world of a run keeps to each table
+  run_keeps : (start : Machine) → IsStart image start → HoldsBytes start → (most : Option ℕ) (w : World) → IsWorldFrom image start most w → KeepsToEach image quiet shown.first shown.others w
+  run_keeps start begins held most w from = record {
+    first_too = keeps shown.first start begins held most w from;
+    others_too = λ k d inside. keeps (get_or shown.others k d) start begins held most w from;
+  }
 
   goes : (start : Machine) → IsStart image start → HoldsBytes start → (most : Option ℕ) (w : World) (found : Fetched) → IsWorldFrom image start most w → fetched_by image.regions w ≡ Some found → (address : ℕ) →
       Contains (pointed_bytes found.instr w.machine.cpu.registers) address → GoesAsListed image.regions stores w.machine.cpu.pc address
   goes start begins held most w found from fetched address there =
-      goes_if w found (walks.stands start begins most w from) (keeps start begins held most w from) fetched address there
+      goes_if w found (walks.stands start begins most w from) (run_keeps start begins held most w from) fetched address there
 
   go_as_listed : StoresGoAsListed image stores
   go_as_listed start begins held most w found from fetched k d inside =
@@ -292,7 +328,7 @@ module _ (image : Located) (bytes : ℕ) (reached : List (Option Fetched)) (tabl
   ends_so start begins held most w (JumpOutside to) from stops proper =
       let stands = walks.stands start begins most w from in
       let jump = jump_ends image.regions (guard image.regions stands.found.instr w.machine.cpu) (refuses most w.machine.outputs) stands.found w.machine to refl (turn_there most w stands.found (JumpOutside to) stands.fetched stops) in
-      jump_listed w to jump.1 (jump_there w stands.found stands (keeps start begins held most w from) stands.fetched jump.0)
+      jump_listed w to jump.1 (jump_there w stands.found stands (run_keeps start begins held most w from) stands.fetched jump.0)
   ends_so start begins held most w (Fetch at) from stops proper = absurd proper
   ends_so start begins held most w (Stack at) from stops proper = absurd proper
   ends_so start begins held most w (Direct at) from stops proper = absurd proper
@@ -324,12 +360,12 @@ module _ (image : Located) (bytes : ℕ) (reached : List (Option Fetched)) (tabl
   open_jump_there at there = kind_there is_pchl at (reached_at reached at) refl (first_of (is_at is_pchl reached at) (is_marked marks at) (each_open_jump.each at there).1)
 
   -- a state that leaves a store open shows an address of its whole span that is no data
-  open_by : (store : OpenStore) (l : IsListed reached marks spans 65536 store) (left : IsLeftAt image.regions reached table store.at) → left.found ≡ l.found → IsOpen image store
+  open_by : (store : OpenStore) (l : IsListed reached marks spans 65536 store) (left : IsLeftAt image.regions reached shown.first.table store.at) → left.found ≡ l.found → IsOpen image store
   open_by store l left same = go left.leaves where
     go : IsLeftOpen image.regions left.found.instr left.placed.state → IsOpen image store
     go (inl may) =
         let at : left.placed.at ≡ store.at = left.here in
-        let whole_span = are_spans left.place left.placed left.found may.span left.there (subst (λ n. reached_at reached n ≡ Some left.found) (sym at) left.instr) may.is in
+        let whole_span = shown.are_spans left.place left.placed left.found may.span left.there (subst (λ n. reached_at reached n ≡ Some left.found) (sym at) left.instr) may.is in
         let mine : entry_in (slice_get spans store.at) ≡ Some whole_span.whole = subst (λ n. entry_in (slice_get spans n) ≡ Some whole_span.whole) at whole_span.there in
         let its : whole_span.whole ≡ store.span = (let e : entry_in (slice_get spans store.at) ≡ Some store.span = l.span in cc) in
         let walk = reached_if_there (code_of image) reached are store.at l.found l.there in
@@ -349,7 +385,7 @@ module _ (image : Located) (bytes : ℕ) (reached : List (Option Fetched)) (tabl
 
   open_there : (store : OpenStore) → IsListed reached marks spans 65536 store → IsOpen image store
   open_there store l =
-      let left = are_marks.leaves store.at l.marked in
+      let left = shown.leaves store.at l.marked in
       open_by store l left (let f : reached_at reached store.at ≡ Some left.found = left.instr in let g : reached_at reached store.at ≡ Some l.found = l.there in let e : left.found ≡ l.found = cc in e)
 
   pub are_stores : AreStoresOf image addresses stores jumps open_jumps

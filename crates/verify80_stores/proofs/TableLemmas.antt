@@ -17,13 +17,13 @@ use Rattle.verify80_stores.specs.State.{anything}
 use Rattle.verify80_stores.specs.Following.{entry_in}
 use Rattle.verify80_stores.specs.Steps.{HasCode}
 use Rattle.verify80_stores.specs.Fitting.{Has, KnowsQuiet}
-use Rattle.verify80_stores.specs.Calls.{Effects, never, no_effects}
+use Rattle.verify80_stores.specs.Calls.{ReturnFacts, never, no_returns}
 use Rattle.verify80_stores.specs.FittingTable.{AllFit, Fits}
 use Rattle.verify80_stores.specs.Runs.{KeepsToCalls, IsKept}
 use Rattle.verify80_stores.specs.Listing.{reached_at, SaysNothingAt}
 use Rattle.verify80_stores.proofs.MemoryLemmas.{Ground}
 use Rattle.verify80_stores.proofs.CellLemmas.{none_quiet}
-use Rattle.verify80_stores.proofs.KeepLemmas.{nothing_holds, code_stays}
+use Rattle.verify80_stores.proofs.KeepLemmas.{nothing_holds, code_stays, still_keeps}
 
 -- two ways to read a table of entries
 pub same_entry : {A : Type 0} (table : List (Option A)) (at : ℕ) → entry_in (slice_get table at) ≡ slice_index_or table at None
@@ -57,9 +57,9 @@ module _ (code : Code) (reached : List (Option Fetched)) (are : AreReached code 
   pub reached_if_there : (at : ℕ) (found : Fetched) → reached_at reached at ≡ Some found → IsReached code at × (code.look at ≡ Ok found)
   reached_if_there at found there = are.found at found (sym (same_entry reached at) ∙ there)
 
-pub fits_program : (image : Located) (quiet : ℕ → Bool) (reached : List (Option Fetched)) (bytes : List (Option ℕ)) (effects : Effects) (table : List Placed) → AreReached (code_of image) reached → length reached ≡ 65536 →
-    Has table image.start anything → AllFit image.regions bytes effects reached table → KnowsQuiet quiet table → Fits quiet (code_of image) bytes effects table
-fits_program image quiet reached bytes effects table are whole start fit knows = record {
+pub fits_program : (image : Located) (quiet : ℕ → Bool) (reached : List (Option Fetched)) (bytes : List (Option ℕ)) (returns : ReturnFacts) (table : List Placed) → AreReached (code_of image) reached → length reached ≡ 65536 →
+    Has table image.start anything → AllFit image.regions bytes returns reached table → KnowsQuiet quiet table → Fits quiet (code_of image) bytes returns table
+fits_program image quiet reached bytes returns table are whole start fit knows = record {
   start = start;
   knows = knows;
   entries = λ place placed found there walk looked. fit.entries place placed found there (here placed.at found looked (there_if_reached (code_of image) reached are placed.at walk));
@@ -77,14 +77,17 @@ fits_program image quiet reached bytes effects table are whole start fit knows =
 pub nothing_is_kept : (image : Located) (quiet : ℕ → Bool) (reached : List (Option Fetched)) (table : List Placed) → AreReached (code_of image) reached → length reached ≡ 65536 → Ground image.regions → MemoryKeepsItsLength →
     ((at : ℕ) → at < 65536 → SaysNothingAt table at) → All (λ placed. placed.state ≡ anything) table → IsKept image quiet table
 nothing_is_kept image quiet reached table are whole ground length_stays everywhere nothing = record {
-  knows = λ k d inside. subst (λ (s : State). AreQuietCells quiet s.cells) (sym (nothing k d inside)) (none_quiet quiet);
-  effects = no_effects;
+  returns = no_returns;
   starts = λ start pc code size held stands. here (world_of start) stands held code size;
   steps = λ refused w after known stands before now keeps step newer.
       here after stands now (code_stays image ground refused w.machine after.machine known.stands.found known.stands.fetched step keeps.keeps.code)
       (length_stays image.regions refused w.machine after.machine step ∙ keeps.keeps.whole);
+  disturbed = λ w memory leaves stays keeps. record { keeps = still_keeps image ground quiet table w memory knows leaves stays keeps.keeps; owes = keeps.owes };
 } where
-  here : (w : World) → StandsOnWalk image w → HoldsBytes w.machine → HasCode image w.machine.memory → length w.machine.memory ≡ 65536 → KeepsToCalls image quiet no_effects table w
+  knows : KnowsQuiet quiet table
+  knows = λ k d inside. subst (λ (s : State). AreQuietCells quiet s.cells) (sym (nothing k d inside)) (none_quiet quiet)
+
+  here : (w : World) → StandsOnWalk image w → HoldsBytes w.machine → HasCode image w.machine.memory → length w.machine.memory ≡ 65536 → KeepsToCalls image no_returns table w
   here w stands held code size =
       let there = there_if_reached (code_of image) reached are w.machine.cpu.pc stands.reached in
       let says = everywhere w.machine.cpu.pc (omega (arith, there.within, whole)) in
@@ -98,7 +101,7 @@ nothing_is_kept image quiet reached table are whole ground length_stays everywhe
           code = code;
           whole = size;
         };
-        owes = never (no_effects.stored w.machine.cpu.pc) false false w.places refl;
+        owes = never false false w.places refl;
       }
 
 -- what holds of an answer, if there is one

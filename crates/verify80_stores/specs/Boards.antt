@@ -1,14 +1,17 @@
 -- What is known of a program on every board. (This project's own; what a board is and does stands in verify80, specs/Boards.)
-use Rattle.std.specs.Prelude.{◌≡◌, ◌⊎◌, ◌&&◌, ℕ, Bool, true, List, All, Any, Contains, slice_index}
+use Rattle.std.specs.Prelude.{◌≡◌, ◌⊎◌, ◌&&◌, ◌||◌, ℕ, Bool, true, List, All, Any, Contains, slice_index}
 use Rattle.image80.specs.declared.range.Range.{Range}
 use Rattle.image80.specs.Range.{in_ranges}
 use Rattle.image80.specs.Regions.{Areas, in_data}
 use Rattle.image80.specs.Image.{Located}
+use Rattle.decode80.specs.declared.instr.Instr.TheVariants.{Pchl}
+use Rattle.machine80.specs.Cpu.{hl_of}
 use Rattle.machine80.specs.Effects.{pointed_bytes}
 use Rattle.machine80.specs.Step.{Machine}
 use Rattle.machine80.specs.World.{World}
 use Rattle.machine80.specs.Run.{world_of}
-use Rattle.verify80.specs.Boards.{Disturbs, Executes, MayStart, OnBoard, KeepsPromise}
+use Rattle.verify80.specs.Looking.{declared_targets}
+use Rattle.verify80.specs.Boards.{Disturbs, Executes, KeepsPromise, KeepsToWalks, MayStart, OnBoard, respected_pointer, sets_sp}
 use Rattle.verify80_stores.specs.Bytes.{HoldsBytes}
 use Rattle.verify80_stores.specs.declared.stores.OpenStore.{OpenStore}
 use Rattle.verify80_stores.specs.Stores.{GoesAsListed}
@@ -17,19 +20,23 @@ use Rattle.verify80_stores.specs.Stores.{GoesAsListed}
 abbrev pub IsListedAt : List OpenStore → (jumps : List ℕ) → ℕ → Type 0
 IsListedAt open_stores jumps at = Any (λ store. store.at ≡ at) open_stores ⊎ Contains jumps at
 
--- a world keeps the promise, and its register-indirect stores go where they are listed to go, or to data
-pub record KeepsWholePromise (image : Located) (bytes : ℕ) (open_stores : List OpenStore) (w : World) : Type 0 where
-  pub promise : KeepsPromise image bytes w
+-- a world keeps the promise, and is on a walk of the program; its register-indirect stores go where they are listed to go, or to data;
+-- and a PCHL is listed, or goes to one of its declared targets
+pub record KeepsWholePromise (image : Located) (bytes : ℕ) (open_stores : List OpenStore) (open_jumps : List ℕ) (w : World) : Type 0 where
+  pub promise : KeepsPromise image (IsListedAt open_stores open_jumps) bytes w
+  pub walks : KeepsToWalks image w
   pub stores : All (GoesAsListed image.regions open_stores w.machine.cpu.pc) (pointed_bytes promise.found.instr w.machine.cpu.registers)
+  pub jumps : promise.found.instr ≡ Pchl →
+      Contains open_jumps w.machine.cpu.pc ⊎ Contains (declared_targets image.regions w.machine.cpu.pc) (hl_of w.machine.cpu.registers)
 
 -- On every board, from the image's start, if SP is at the stack's top or the program sets it before it uses it, whatever bytes registers
--- and memory outside the code hold, and whatever devices write to any byte that is neither code nor stack: each world keeps the promise,
+-- and memory outside the code hold, and whatever devices write to any byte that is neither code nor pushed: each world keeps the promise,
 -- up to the first step at a listed address that stores outside data or jumps by HL to none of its declared targets. If nothing is listed,
 -- that is each world of the run.
 abbrev pub PromiseHoldsOnBoards : Located → (bytes : ℕ) → List OpenStore → (jumps : List ℕ) → Type 0
 PromiseHoldsOnBoards image bytes open_stores jumps =
-    (start : Machine) → MayStart image start → HoldsBytes start → (w : World) →
-    OnBoard image.regions (IsListedAt open_stores jumps) start w → KeepsWholePromise image bytes open_stores w
+    (start : Machine) (began : Bool) → MayStart image began start → HoldsBytes start → (w : World) (set : Bool) →
+    OnBoard image.regions (IsListedAt open_stores jumps) start began set w → KeepsWholePromise image bytes open_stores jumps w
 
 -- Quiet addresses: those of data in some ranges. Nobody but the program writes there.
 abbrev pub is_quiet : Areas → List Range → (address : ℕ) → Bool
@@ -39,15 +46,17 @@ abbrev pub StaysQuiet : (quiet : ℕ → Bool) → (old new : List ℕ) → Type
 StaysQuiet quiet old new = (address : ℕ) → quiet address ≡ true → slice_index new address ≡ slice_index old address
 
 -- the worlds of a board whose devices leave quiet addresses as they are
-pub data OnQuietBoard (regions : Areas) (quiet : ℕ → Bool) (listed : ℕ → Type 0) (start : Machine) : World → Type 0 where
-  begins : (v : World) → v ≡ world_of start → OnQuietBoard regions quiet listed start v
-  disturbed : (w v : World) → OnQuietBoard regions quiet listed start w → (by : Disturbs regions w v) →
-      StaysQuiet quiet w.machine.memory by.memory → OnQuietBoard regions quiet listed start v
-  executed : (w v : World) → OnQuietBoard regions quiet listed start w → Executes regions listed w v →
-      OnQuietBoard regions quiet listed start v
+pub data OnQuietBoard (regions : Areas) (quiet : ℕ → Bool) (listed : ℕ → Type 0) (start : Machine) (began : Bool) :
+    (set : Bool) → World → Type 0 where
+  begins : (set : Bool) (v : World) → v ≡ world_of start → set ≡ began → OnQuietBoard regions quiet listed start began set v
+  disturbed : (set : Bool) (w v : World) → OnQuietBoard regions quiet listed start began set w →
+      (by : Disturbs regions (respected_pointer regions set w) w v) → StaysQuiet quiet w.machine.memory by.memory →
+      OnQuietBoard regions quiet listed start began set v
+  executed : (before set : Bool) (w v : World) → OnQuietBoard regions quiet listed start began before w →
+      (by : Executes regions listed w v) → set ≡ (before || sets_sp by.found.instr) → OnQuietBoard regions quiet listed start began set v
 
 -- the same promise on every board whose devices leave quiet addresses as they are
 abbrev pub PromiseHoldsOnQuietBoards : Located → (quiet : ℕ → Bool) → (bytes : ℕ) → List OpenStore → (jumps : List ℕ) → Type 0
 PromiseHoldsOnQuietBoards image quiet bytes open_stores jumps =
-    (start : Machine) → MayStart image start → HoldsBytes start → (w : World) →
-    OnQuietBoard image.regions quiet (IsListedAt open_stores jumps) start w → KeepsWholePromise image bytes open_stores w
+    (start : Machine) (began : Bool) → MayStart image began start → HoldsBytes start → (w : World) (set : Bool) →
+    OnQuietBoard image.regions quiet (IsListedAt open_stores jumps) start began set w → KeepsWholePromise image bytes open_stores jumps w

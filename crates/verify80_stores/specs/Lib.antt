@@ -20,3 +20,4 @@ pub mod Kinds
 pub mod StackPointer
 pub mod Opening
 pub mod Listing
+pub mod Shown

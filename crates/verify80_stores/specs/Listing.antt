@@ -1,5 +1,5 @@
 -- What is listed of the instructions that are reached, by the states that a table has for them. (This project's own.)
-use Rattle.std.specs.Prelude.{◌≡◌, ◌<◌, ◌&&◌, ℕ, Bool, true, false, List, All, AllPairs, Any, Contains, Option, None, Some, slice_get}
+use Rattle.std.specs.Prelude.{◌≡◌, ◌<◌, ◌&&◌, ◌||◌, ℕ, Bool, true, false, List, All, AllPairs, Any, Contains, Option, None, Some, slice_get}
 use Rattle.decode80.specs.declared.instr.Instr.{Instr}
 use Rattle.decode80.specs.declared.fetching.Fetched.{Fetched}
 use Rattle.image80.specs.Regions.{Areas, AreRegions}
@@ -7,7 +7,7 @@ use Rattle.image80.specs.Image.{Located}
 use Rattle.machine80.specs.Step.{Machine}
 use Rattle.machine80.specs.World.{World}
 use Rattle.verify80.specs.Starts.{NeverGoesWrongFromPowerOn}
-use Rattle.verify80.specs.Boards.{Anywhere, Executes, IsGuarded, KeepsPromise, KeepsToWalks, MayStart, OnBoard}
+use Rattle.verify80.specs.Boards.{Anywhere, Executes, IsGuarded, KeepsPromise, KeepsToWalks, MayStart, OnBoard, with_respected_pointer, sets_sp}
 use Rattle.verify80.specs.Reached.{StaysOnWalks}
 use Rattle.verify80.specs.Looking.{declared_targets}
 use Rattle.verify80_stores.specs.declared.spans.span.Span.{Span}
@@ -25,10 +25,17 @@ pub record AreKnown (image : Located) (bytes : ℕ) : Type 0 where
   pub rules : AreRegions image.regions
   pub sound : NeverGoesWrongFromPowerOn image bytes
   pub walks : StaysOnWalks image
-  pub promise : (start : Machine) → MayStart image start → (w : World) → OnBoard image.regions Anywhere start w → KeepsPromise image bytes w
-  pub boards : (start : Machine) → MayStart image start → (w : World) → OnBoard image.regions Anywhere start w → KeepsToWalks image w
-  pub guarded : (start : Machine) → MayStart image start → (w v : World) → OnBoard image.regions Anywhere start w →
-      (step : Executes image.regions Anywhere w v) → IsGuarded image.regions w.machine step.after
+  pub promise : (start : Machine) (began : Bool) → MayStart image began start → (w : World) (set : Bool) →
+      OnBoard image.regions Anywhere start began set w → KeepsPromise image Anywhere bytes w
+  pub boards : (start : Machine) (began : Bool) → MayStart image began start → (w : World) (set : Bool) →
+      OnBoard image.regions Anywhere start began set w → KeepsToWalks image w
+  pub guarded : (start : Machine) (began : Bool) → MayStart image began start → (w v : World) (set : Bool) →
+      OnBoard image.regions Anywhere start began set w → (step : Executes image.regions Anywhere w v) →
+      IsGuarded image.regions w.machine step.after
+  pub unset : (start : Machine) (began : Bool) → MayStart image began start → (w v : World) (before set : Bool) →
+      OnBoard image.regions Anywhere start began before w → (step : Executes image.regions Anywhere w v) →
+      set ≡ (before || sets_sp step.found.instr) →
+      Executes image.regions Anywhere (with_respected_pointer image.regions before w) (with_respected_pointer image.regions set v)
 
 -- the instruction that is reached at an address
 abbrev pub reached_at : List (Option Fetched) → ℕ → Option Fetched

@@ -1,5 +1,5 @@
 -- What a table of states says of runs. (This project's own.)
-use Rattle.std.specs.Prelude.{◌≡◌, ℕ, Bool, true, List, Option, Some, length, slice_get}
+use Rattle.std.specs.Prelude.{◌≡◌, ℕ, Bool, true, List, Option, Some, length, slice_get, slice_index}
 use Rattle.decode80.specs.declared.fetching.Fetched.{Fetched}
 use Rattle.image80.specs.Image.{Located}
 use Rattle.image80.specs.Regions.{AreRegions, in_data}
@@ -10,12 +10,12 @@ use Rattle.machine80.specs.Run.{world_of}
 use Rattle.verify80.specs.Looking.{code_of}
 use Rattle.verify80.specs.Starts.{IsStart, IsWorldFrom, NeverGoesWrongFromPowerOn}
 use Rattle.verify80.specs.Reached.{StandsOnWalk, StaysOnWalks}
+use Rattle.verify80.specs.Boards.{LeavesProgram, with_memory}
 use Rattle.verify80_stores.specs.declared.fitting.fitting.Placed.{Placed}
 use Rattle.verify80_stores.specs.Bytes.{HoldsBytes}
 use Rattle.verify80_stores.specs.State.{Holds}
 use Rattle.verify80_stores.specs.Steps.{AreCodeBytes, HasCode}
-use Rattle.verify80_stores.specs.Fitting.{KnowsQuiet}
-use Rattle.verify80_stores.specs.Calls.{Effects, Owes}
+use Rattle.verify80_stores.specs.Calls.{ReturnFacts, Owes}
 use Rattle.verify80_stores.specs.FittingTable.{Fits}
 
 -- one of the states that the table has at a world's address holds, and the world's memory has the image's code
@@ -29,10 +29,9 @@ pub record KeepsTo (image : Located) (table : List Placed) (w : World) : Type 0 
   pub whole : length w.machine.memory ≡ 65536
 
 -- the same, and what is owed to its open calls
-pub record KeepsToCalls (image : Located) (quiet : ℕ → Bool) (effects : Effects) (table : List Placed) (w : World) : Type 0 where
+pub record KeepsToCalls (image : Located) (returns : ReturnFacts) (table : List Placed) (w : World) : Type 0 where
   pub keeps : KeepsTo image table w
-  pub owes : Owes effects quiet table w.machine.memory (effects.stored w.machine.cpu.pc) (effects.returning w.machine.cpu.pc)
-      (effects.known w.machine.cpu.pc) w.places
+  pub owes : Owes returns table (returns.may w.machine.cpu.pc) (returns.known w.machine.cpu.pc) w.places
 
 -- so it is for each world of each run from power-on, whatever bytes are in the registers, in memory outside the code and at the
 -- ports
@@ -49,21 +48,23 @@ pub record IsKnown (image : Located) (w : World) : Type 0 where
       IsNewest (target found.instr found.next w.machine.memory w.machine.cpu) w.places
   pub inside : FetchesInside image.regions w
 
--- each start keeps to a table, and each step of a known world that keeps to it
+-- each start keeps to a table, and each step of a known world that keeps to it; and so it does when devices write to any byte that is
+-- neither code nor pushed nor quiet
 pub record IsKept (image : Located) (quiet : ℕ → Bool) (table : List Placed) : Type 0 where
-  pub knows : KnowsQuiet quiet table
-  pub effects : Effects
+  pub returns : ReturnFacts
   pub starts : (start : Machine) → start.cpu.pc ≡ image.start → HasCode image start.memory → length start.memory ≡ 65536 → HoldsBytes start → StandsOnWalk image (world_of start) →
-      KeepsToCalls image quiet effects table (world_of start)
+      KeepsToCalls image returns table (world_of start)
   pub steps : (refused : Bool) (w after : World) → IsKnown image w → StandsOnWalk image after → HoldsBytes w.machine →
-      HoldsBytes after.machine → KeepsToCalls image quiet effects table w → step_of image.regions refused w.machine ≡ Next after.machine →
+      HoldsBytes after.machine → KeepsToCalls image returns table w → step_of image.regions refused w.machine ≡ Next after.machine →
       after.places ≡ places_then (fetched_by image.regions w) w.machine.cpu.registers.flags w.places →
-      KeepsToCalls image quiet effects table after
+      KeepsToCalls image returns table after
+  pub disturbed : (w : World) (memory : List ℕ) → LeavesProgram image.regions w.machine.cpu.sp w.machine.memory memory → ((at : ℕ) → quiet at ≡ true → slice_index memory at ≡ slice_index w.machine.memory at) →
+      KeepsToCalls image returns table w → KeepsToCalls image returns table (with_memory w memory)
 
 -- a table that fits is kept, and runs that stay on walks keep to a table that is
 abbrev pub FittingTablesAreKept : Type 0
-FittingTablesAreKept = (image : Located) (quiet : ℕ → Bool) (code : List (Option ℕ)) (effects : Effects) (table : List Placed) → AreRegions image.regions →
-    AreCodeBytes image code → ((at : ℕ) → quiet at ≡ true → in_data image.regions at ≡ true) → Fits quiet (code_of image) code effects table → IsKept image quiet table
+FittingTablesAreKept = (image : Located) (quiet : ℕ → Bool) (code : List (Option ℕ)) (returns : ReturnFacts) (table : List Placed) → AreRegions image.regions →
+    AreCodeBytes image code → ((at : ℕ) → quiet at ≡ true → in_data image.regions at ≡ true) → Fits quiet (code_of image) code returns table → IsKept image quiet table
 
 abbrev pub RunsKeepToKeptTables : Type 0
 RunsKeepToKeptTables = (image : Located) (bytes : ℕ) (quiet : ℕ → Bool) (table : List Placed) → NeverGoesWrongFromPowerOn image bytes →

@@ -1,14 +1,14 @@
 -- What is known of a machine at an instruction: what its registers may hold, some of its flags, what was compared last, the words on top
 -- of its stack, and bytes of memory; and what becomes of that when registers, flags and words are written. (The registers and flags are those of the
 -- Intel 8080 Microcomputer Systems User's Manual, chapter 4; that they are followed by spans is this project's own.)
-use Rattle.std.specs.Prelude.{◌≡◌, ◌==◌, ℕ, Bool, true, List, Option, None, Some, nat_lt, if◌then◌else◌}
+use Rattle.std.specs.Prelude.{◌≡◌, ◌≢◌, ◌≤◌, ◌==◌, ℕ, Bool, true, List, Option, None, Some, nat_lt, if◌then◌else◌}
 use Rattle.decode80.specs.declared.register.Register.{Register}
 use Rattle.decode80.specs.declared.register.Register.TheVariants.{A, B, C, D, E, H, L}
 use Rattle.decode80.specs.declared.pair.Pair.{Pair}
 use Rattle.decode80.specs.declared.pair.Pair.TheVariants.{Bc, De, Hl, Sp}
 use Rattle.decode80.specs.Fetch.{ahead}
 use Rattle.image80.specs.Range.{in_range}
-use Rattle.image80.specs.Regions.{Areas}
+use Rattle.image80.specs.Regions.{Areas, top_of}
 use Rattle.machine80.specs.declared.flags.Flags.{Flags}
 use Rattle.machine80.specs.declared.registers.Registers.{Registers}
 use Rattle.machine80.specs.Cpu.{word, register_of}
@@ -45,22 +45,24 @@ pub record HoldsRegisters (s : State) (r : Registers) : Type 0 where
   pub sign : IsKnown s.sign r.flags.sign
   pub compared : Compares s.compared r.a r.flags
 
--- a word of a span lies at an address, both of its bytes on the stack
-pub record IsOnStack (regions : Areas) (span : Span) (memory : List ℕ) (at : ℕ) : Type 0 where
+-- a word of a span lies at an address from the stack pointer up, both of its bytes on the stack
+pub record IsOnStack (regions : Areas) (span : Span) (memory : List ℕ) (sp at : ℕ) : Type 0 where
   pub low : in_range regions.stack at ≡ true
   pub high : in_range regions.stack (ahead at 1) ≡ true
+  pub above : sp ≤ at
+  pub filled : sp ≢ top_of regions
   pub within : Within span (word_in memory at)
 
-abbrev pub HoldsWord : Areas → Option Span → List ℕ → (at : ℕ) → Type 0
-HoldsWord regions None memory at = Unit {0}
-HoldsWord regions (Some span) memory at = IsOnStack regions span memory at
+abbrev pub HoldsWord : Areas → Option Span → List ℕ → (sp at : ℕ) → Type 0
+HoldsWord regions None memory sp at = Unit {0}
+HoldsWord regions (Some span) memory sp at = IsOnStack regions span memory sp at
 
 -- what a state says of the words from the stack pointer on
 pub record HoldsWords (regions : Areas) (w : Words) (memory : List ℕ) (sp : ℕ) : Type 0 where
-  pub first : HoldsWord regions w.first memory sp
-  pub second : HoldsWord regions w.second memory (ahead sp 2)
-  pub third : HoldsWord regions w.third memory (ahead sp 4)
-  pub fourth : HoldsWord regions w.fourth memory (ahead sp 6)
+  pub first : HoldsWord regions w.first memory sp sp
+  pub second : HoldsWord regions w.second memory sp (ahead sp 2)
+  pub third : HoldsWord regions w.third memory sp (ahead sp 4)
+  pub fourth : HoldsWord regions w.fourth memory sp (ahead sp 6)
 
 -- what a state says of a machine
 pub record Holds (regions : Areas) (s : State) (m : Machine) : Type 0 where

@@ -5,6 +5,7 @@ use Rattle.std.specs.Fmt.{decimal}
 use Rattle.std.specs.List.{flat_map}
 use Rattle.text80.specs.Digits.{word_text}
 use Rattle.decode80.specs.Text.{text}
+use Rattle.image80.specs.declared.range.Range.{Range}
 use Rattle.verify80_stores.specs.declared.stores.OpenStore.{OpenStore}
 
 -- how many of the stores are shown to stay in data
@@ -29,9 +30,21 @@ abbrev pub stack_line : (sets_stack : Bool) → List ℕ
 stack_line true = []
 stack_line false = codes "SP NOT SET\n"
 
+-- a range of addresses that only the program writes, and the line of a program that begins elsewhere than a board does
+abbrev pub quiet_line : Range → List ℕ
+quiet_line range = codes "QUIET " ++ (word_text range.first ++ 32 ∷ (word_text range.length ++ 10 ∷ []))
+
+abbrev pub start_line : (start : ℕ) → List ℕ
+start_line start = if start == 0 then [] else codes "START " ++ (word_text start ++ 10 ∷ [])
+
+-- the lines of what a list rests on
+abbrev pub premise_lines : (sets_stack : Bool) → (quiet : List Range) → (start : ℕ) → List ℕ
+premise_lines sets_stack quiet start = stack_line sets_stack ++ (flat_map quiet_line quiet ++ start_line start)
+
 -- all lines
-abbrev pub stores_text_of : (sets_stack : Bool) → (addresses : List ℕ) → (open_stores : List OpenStore) → (jumps open_jumps : List ℕ) → List ℕ
-stores_text_of sets_stack addresses open_stores jumps open_jumps =
+abbrev pub stores_text_of : (start : ℕ) → (quiet : List Range) → (sets_stack : Bool) → (addresses : List ℕ) → (open_stores : List OpenStore) →
+    (jumps open_jumps : List ℕ) → List ℕ
+stores_text_of start quiet sets_stack addresses open_stores jumps open_jumps =
     count_line (length addresses - length open_stores) (length addresses)
     ++ (jumps_line (length jumps - length open_jumps) (length jumps)
-    ++ (stack_line sets_stack ++ flat_map store_line open_stores ++ flat_map jump_line open_jumps))
+    ++ (premise_lines sets_stack quiet start ++ (flat_map store_line open_stores ++ flat_map jump_line open_jumps)))

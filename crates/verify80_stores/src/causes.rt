@@ -1,6 +1,6 @@
 //! What sets the pair of a store or a jump that isn't shown to stay inside. This is advice: nothing is promised of it.
 
-use crate::fitting::CallEffects;
+use crate::fitting::CallReturns;
 use crate::search::{Groups, ReachedProgram};
 use crate::stores::Stores;
 use decode80::{Fetched, Flow, IndexPair, Instr, Pair, Storing};
@@ -57,11 +57,12 @@ pub fn find_causes(
 ) -> Result<Vec<Cause>, AllocError> {
     let image = vouched.image();
     let found = find_reached(alloc, vouched)?;
-    let none = CallEffects::none(alloc);
+    let none = CallReturns::none(alloc);
     let program = ReachedProgram {
         code: &[],
         instructions: found.instructions(),
-        effects: &none,
+        returns: &none,
+        groups: &[],
         start: image.start,
         regions: &image.regions,
         quiet: &[],

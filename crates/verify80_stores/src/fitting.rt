@@ -4,7 +4,7 @@
 //! |---|---|
 //! | [`Placed`] | a state at an address |
 //! | [`fits`] | whether a table fits |
-//! | [`CallEffects`] | what the procedure at each address may still do before it returns |
+//! | [`CallReturns`] | whether the procedure at each address may still return, and where to |
 //! | [`fitting_states_hold`] | runs keep to a table that fits, as a contract |
 
 mod calls;
@@ -12,7 +12,7 @@ mod fitting;
 mod laws;
 mod marks;
 
-pub(crate) use calls::{CallEffect, CallEffects};
+pub(crate) use calls::CallReturns;
 pub(crate) use fitting::{Placed, fits, reached_at, targets_at};
 pub(crate) use laws::fitting_states_hold;
 pub(crate) use marks::{is_marked, unmarked};

@@ -7,6 +7,7 @@
 //! | [`find_stores`] | goes over a vouched image, and answers which of its stores may leave data |
 //! | [`Stores`], [`OpenStore`] | what is found |
 //! | [`stores_text`] | the same, as it is printed |
+//! | [`first_outside_data`] | the first address of a range that is no data, so that it can't be quiet as a whole |
 //! | [`find_causes`], [`Cause`] | what sets the pairs of stores and jumps that are listed: advice |
 //! | [`watched_runs_go_as_listed`] | what is found holds of the runs of the watched machine, as a contract |
 //! | [`Span`] | the words from a first to a last one |
@@ -23,7 +24,9 @@ mod lines;
 mod listing;
 mod pointer;
 mod quiet;
+mod quiet_ranges;
 mod search;
+mod showing;
 mod spans;
 mod stack_pointer;
 mod states;
@@ -33,5 +36,6 @@ pub use causes::{Cause, Setter, find_causes};
 pub use finding::find_stores;
 pub use laws::watched_runs_go_as_listed;
 pub use lines::stores_text;
+pub use quiet_ranges::first_outside_data;
 pub use spans::{Span, bytes_stay_bytes};
 pub use stores::{OpenStore, Stores};

@@ -7,23 +7,23 @@
 //!
 //! | Item | What it is |
 //! |---|---|
-//! | [`propose`] | a table of states, and its hints |
-//! | [`propose_kept`] | a second one, in which calls keep what they can |
+//! | [`propose_table`] | one table after the other |
+//! | [`Proposal`] | a table of states, and its hints |
 //! | [`ReachedProgram`] | the program that they are proposed for |
-//! | [`Groups`] | what its procedures may do before they return |
+//! | [`Groups`] | which of its procedures return |
 
 mod compacting;
 mod groups;
-mod keeping;
 mod landmarks;
 mod needs;
 mod nodes;
 mod program;
+mod proposals;
 mod proposing;
 mod slots;
 mod units;
 
 pub(crate) use groups::Groups;
-pub(crate) use keeping::{KeptProposal, propose_kept};
 pub(crate) use program::ReachedProgram;
-pub(crate) use proposing::{Proposal, propose};
+pub(crate) use proposals::propose_table;
+pub(crate) use proposing::Proposal;

@@ -7,7 +7,6 @@
 //! | [`state_after`] | what they may be after an instruction |
 //! | [`given`] | what a condition says of them |
 
-mod behind;
 mod cells;
 mod following;
 mod given;

@@ -2,7 +2,7 @@
 
 ghost use Rattle.std.specs.Prelude.{◌≡◌, ◌<◌, ℕ, true, false, Contains, Some, length, slice_get};
 ghost use Rattle.decode80.specs.declared.fetching.Fetched.{Fetched};
-ghost use Rattle.decode80.specs.Facts.{flow, storing};
+ghost use Rattle.decode80.specs.Facts.{flow};
 ghost use Rattle.verify80.specs.Looking.{declared_targets};
 ghost use Rattle.verify80_stores.specs.declared.fitting.fitting.Placed.{Placed};
 ghost use Rattle.verify80_stores.specs.Span.{Within};
@@ -11,13 +11,13 @@ ghost use Rattle.verify80_stores.specs.Following.{state_after};
 ghost use Rattle.verify80_stores.specs.Listing.{reached_at};
 ghost use Rattle.verify80_stores.specs.Marks.{is_marked};
 ghost use Rattle.verify80_stores.specs.Fitting.{CallsEntry, Has, HasAfter, FitsAt, KnowsQuiet};
-ghost use Rattle.verify80_stores.specs.Calls.{AccountsFor, KeepsCalls, KnowsReturn, KnowsReturnsOf, MayStore, behind_call, effects_of};
+ghost use Rattle.verify80_stores.specs.Calls.{AccountsFor, KeepsCalls, KnowsReturn, KnowsReturnsOf, returns_of};
 ghost use Rattle.verify80_stores.specs.FittingTable.{AllFit};
 
-use crate::fitting::calls::CallEffects;
+use crate::fitting::calls::CallReturns;
 use crate::spans::Span;
-use crate::states::{State, given, index_words, state_after};
-use decode80::{Fetched, Flow, Instr, Storing, ahead};
+use crate::states::{State, given, state_after};
+use decode80::{Fetched, Flow};
 use image80::Regions;
 
 /// A state at an address.
@@ -179,11 +179,11 @@ fn state_fits(
 }
 
 /// Whether a table of states fits a program that begins at `start`, of which these instructions are reached, by address, and whose
-/// procedures have these effects; something is known of the bytes at quiet addresses alone. The first of the hints is that of the start.
+/// procedures return so; something is known of the bytes at quiet addresses alone. The first of the hints is that of the start.
 pub(crate) fn fits(
     table: &[Placed],
     hints: &[u32],
-    effects: &CallEffects,
+    returns: &CallReturns,
     code: &[Option<u8>],
     start: u16,
     regions: &Regions,
@@ -192,40 +192,40 @@ pub(crate) fn fits(
 ) -> bool
     ensures quiet { result ≡ true → KnowsQuiet (is_marked quiet.now) table.now }
     ensures start { result ≡ true → Has table.now start anything }
-    ensures fit { result ≡ true → AllFit regions.now code.now (effects_of effects.now) reached.now table.now }
+    ensures fit { result ≡ true → AllFit regions.now code.now (returns_of returns.now) reached.now table.now }
 {
-    all_know_quiet(table, quiet) && leads_on(table, hints, effects, code, start, regions, reached)
+    all_know_quiet(table, quiet) && leads_on(table, hints, returns, code, start, regions, reached)
 }
 
 /// Whether the table has a state wherever the program begins, goes on and returns to.
 fn leads_on(
     table: &[Placed],
     hints: &[u32],
-    effects: &CallEffects,
+    returns: &CallReturns,
     code: &[Option<u8>],
     start: u16,
     regions: &Regions,
     reached: &[Option<Fetched>],
 ) -> bool
     ensures start { result ≡ true → Has table.now start anything }
-    ensures fit { result ≡ true → AllFit regions.now code.now (effects_of effects.now) reached.now table.now }
+    ensures fit { result ≡ true → AllFit regions.now code.now (returns_of returns.now) reached.now table.now }
 {
     has(table, hints, 0, start, State::ANY)
-        && goes_on(table, hints, effects, code, regions, reached)
+        && goes_on(table, hints, returns, code, regions, reached)
 }
 
 /// Whether it has one wherever the program goes on and returns to.
 fn goes_on(
     table: &[Placed],
     hints: &[u32],
-    effects: &CallEffects,
+    returns: &CallReturns,
     code: &[Option<u8>],
     regions: &Regions,
     reached: &[Option<Fetched>],
 ) -> bool
-    ensures { result ≡ true → AllFit regions.now code.now (effects_of effects.now) reached.now table.now }
+    ensures { result ≡ true → AllFit regions.now code.now (returns_of returns.now) reached.now table.now }
 {
-    all_account(effects, regions, reached) && all_fit(table, hints, effects, code, regions, reached)
+    all_account(returns, regions, reached) && all_fit(table, hints, returns, code, regions, reached)
 }
 
 /// Whether a table knows bytes of quiet addresses alone.
@@ -241,12 +241,12 @@ fn all_know_quiet(table: &[Placed], quiet: &[bool]) -> bool
 }
 
 /// Whether each address accounts for what may come where its instruction leads.
-fn all_account(effects: &CallEffects, regions: &Regions, reached: &[Option<Fetched>]) -> bool
+fn all_account(returns: &CallReturns, regions: &Regions, reached: &[Option<Fetched>]) -> bool
     ensures { result ≡ true → (at : ℕ) (found : Fetched) → at < 65536 → reached_at reached.now at ≡ Some found →
-        AccountsFor (effects_of effects.now) (declared_targets regions.now at) at found.next (flow found.instr) }
+        AccountsFor (returns_of returns.now) (declared_targets regions.now at) at found.next (flow found.instr) }
 {
     for at in 0..65_536_usize {
-        if !accounts_at(effects, regions, reached, at as u16) {
+        if !accounts_at(returns, regions, reached, at as u16) {
             return false;
         }
     }
@@ -255,16 +255,16 @@ fn all_account(effects: &CallEffects, regions: &Regions, reached: &[Option<Fetch
 
 /// Whether one does, if an instruction is reached there.
 fn accounts_at(
-    effects: &CallEffects,
+    returns: &CallReturns,
     regions: &Regions,
     reached: &[Option<Fetched>],
     at: u16,
 ) -> bool
     ensures { result ≡ true → (found : Fetched) → reached_at reached.now at ≡ Some found →
-        AccountsFor (effects_of effects.now) (declared_targets regions.now at) at found.next (flow found.instr) }
+        AccountsFor (returns_of returns.now) (declared_targets regions.now at) at found.next (flow found.instr) }
 {
     match reached_at(reached, at) {
-        Some(found) => effects.accounts_for(targets_at(regions, at), at, found),
+        Some(found) => returns.accounts_for(targets_at(regions, at), at, found),
         None => true,
     }
 }
@@ -273,7 +273,7 @@ fn accounts_at(
 fn all_fit(
     table: &[Placed],
     hints: &[u32],
-    effects: &CallEffects,
+    returns: &CallReturns,
     code: &[Option<u8>],
     regions: &Regions,
     reached: &[Option<Fetched>],
@@ -281,10 +281,10 @@ fn all_fit(
     ensures entries { result ≡ true → (place : ℕ) (placed : Placed) (found : Fetched) → slice_get table.now place ≡ Some placed →
         reached_at reached.now placed.at ≡ Some found → FitsAt code.now (declared_targets regions.now placed.at) table.now placed.state found }
     ensures calls { result ≡ true → (place : ℕ) (placed : Placed) (found : Fetched) → slice_get table.now place ≡ Some placed →
-        reached_at reached.now placed.at ≡ Some found → KeepsCalls (effects_of effects.now) code.now table.now placed.at placed.state found }
+        reached_at reached.now placed.at ≡ Some found → KeepsCalls (returns_of returns.now) code.now table.now placed.at placed.state found }
 {
     for placed in table {
-        if !placed_fits(table, hints, effects, code, regions, reached, *placed) {
+        if !placed_fits(table, hints, returns, code, regions, reached, *placed) {
             return false;
         }
     }
@@ -295,7 +295,7 @@ fn all_fit(
 fn placed_fits(
     table: &[Placed],
     hints: &[u32],
-    effects: &CallEffects,
+    returns: &CallReturns,
     code: &[Option<u8>],
     regions: &Regions,
     reached: &[Option<Fetched>],
@@ -304,7 +304,7 @@ fn placed_fits(
     ensures entries { result ≡ true → (found : Fetched) → reached_at reached.now placed.at ≡ Some found →
         FitsAt code.now (declared_targets regions.now placed.at) table.now placed.state found }
     ensures calls { result ≡ true → (found : Fetched) → reached_at reached.now placed.at ≡ Some found →
-        KeepsCalls (effects_of effects.now) code.now table.now placed.at placed.state found }
+        KeepsCalls (returns_of returns.now) code.now table.now placed.at placed.state found }
 {
     match reached_at(reached, placed.at) {
         Some(found) => {
@@ -315,58 +315,40 @@ fn placed_fits(
                 targets_at(regions, placed.at),
                 placed,
                 found,
-            ) && keeps_calls(table, hints, effects, code, placed, found)
+            ) && keeps_calls(table, hints, returns, code, placed, found)
         }
         None => true,
     }
 }
 
-/// Whether a state accounts for what its instruction stores, and the table has what is left of it behind a call or a return.
+/// Whether the table has what comes behind a call or a return of a state.
 fn keeps_calls(
     table: &[Placed],
     hints: &[u32],
-    effects: &CallEffects,
+    returns: &CallReturns,
     code: &[Option<u8>],
     placed: Placed,
     found: Fetched,
 ) -> bool
-    ensures { result ≡ true → KeepsCalls (effects_of effects.now) code.now table.now placed.at placed.state found }
+    ensures { result ≡ true → KeepsCalls (returns_of returns.now) code.now table.now placed.at placed.state found }
 {
-    accounts_for_stores(effects, placed.at, found.instr, placed.state)
-        && has_what_is_left(table, hints, effects, code, placed, found)
-}
-
-/// Whether the table has what is left of a state behind a call or a return.
-fn has_what_is_left(
-    table: &[Placed],
-    hints: &[u32],
-    effects: &CallEffects,
-    code: &[Option<u8>],
-    placed: Placed,
-    found: Fetched,
-) -> bool
-    ensures behind { result ≡ true → (entry : ℕ) → CallsEntry (flow found.instr) entry → (effects_of effects.now).returning entry ≡ true →
-        (effects_of effects.now).known entry ≡ false → Has table.now found.next (behind_call ((effects_of effects.now).stored entry) placed.state) }
-    ensures returns { result ≡ true → (effects_of effects.now).known placed.at ≡ true →
-        KnowsReturnsOf table.now (λ t. state_after code.now found.instr true found.next t) placed.state (flow found.instr) }
-{
-    keeps_behind(table, hints, effects, placed, found)
-        && keeps_returns(table, hints, effects, code, placed, found)
+    keeps_behind(table, hints, returns, placed, found)
+        && keeps_returns(table, hints, returns, code, placed, found)
 }
 
 /// Whether a state knows where a return goes, if the states at its address are to.
 fn keeps_returns(
     table: &[Placed],
     hints: &[u32],
-    effects: &CallEffects,
+    returns: &CallReturns,
     code: &[Option<u8>],
     placed: Placed,
     found: Fetched,
 ) -> bool
-    ensures { result ≡ true → (effects_of effects.now).known placed.at ≡ true →
+    ensures { result ≡ true → (returns_of returns.now).known placed.at ≡ true →
         KnowsReturnsOf table.now (λ t. state_after code.now found.instr true found.next t) placed.state (flow found.instr) }
 {
-    !effects.knows_returns(placed.at) || knows_returns(table, hints, code, placed, found)
+    !returns.know_return(placed.at) || knows_returns(table, hints, code, placed, found)
 }
 
 /// Whether a state knows where a return goes, and the table has there what the return makes of it.
@@ -418,41 +400,26 @@ fn knows_return(
     }
 }
 
-/// Whether an address accounts for all that its instruction may store to in a state.
-fn accounts_for_stores(effects: &CallEffects, at: u16, instr: Instr, state: State) -> bool
-    ensures { result ≡ true → (address : ℕ) → MayStore (storing instr) state address → (effects_of effects.now).stored at address ≡ true }
-{
-    match instr.storing() {
-        Storing::Nowhere => true,
-        Storing::Byte(address) => effects.stores_to(at, address),
-        Storing::Word(address) => {
-            effects.stores_to(at, address) && effects.stores_to(at, ahead(address, 1))
-        }
-        Storing::ThroughHl => effects.stores_to_all(at, state.hl.words),
-        Storing::Through(pair) => effects.stores_to_all(at, index_words(state, pair)),
-    }
-}
-
-/// Whether behind a call whose callee may return, to where its states don't know, the table has what is left of a state.
+/// Whether behind a call whose callee may return, to where its states don't know, the table has a state that says nothing.
 fn keeps_behind(
     table: &[Placed],
     hints: &[u32],
-    effects: &CallEffects,
+    returns: &CallReturns,
     placed: Placed,
     found: Fetched,
 ) -> bool
-    ensures { result ≡ true → (entry : ℕ) → CallsEntry (flow found.instr) entry → (effects_of effects.now).returning entry ≡ true →
-        (effects_of effects.now).known entry ≡ false → Has table.now found.next (behind_call ((effects_of effects.now).stored entry) placed.state) }
+    ensures { result ≡ true → (entry : ℕ) → CallsEntry (flow found.instr) entry → (returns_of returns.now).may entry ≡ true →
+        (returns_of returns.now).known entry ≡ false → Has table.now found.next anything }
 {
     let Fetched { instr, next } = found;
     match instr.flow() {
         Flow::Calls(entry) => {
             let hint = placed.hint.saturating_add(1);
-            has_behind(table, hints, hint, effects, entry, next, placed.state)
+            has_behind(table, hints, hint, returns, entry, next)
         }
         Flow::CallsIf(_, entry) => {
             let hint = placed.hint.saturating_add(2);
-            has_behind(table, hints, hint, effects, entry, next, placed.state)
+            has_behind(table, hints, hint, returns, entry, next)
         }
         _ => true,
     }
@@ -463,17 +430,16 @@ fn has_behind(
     table: &[Placed],
     hints: &[u32],
     hint: u32,
-    effects: &CallEffects,
+    returns: &CallReturns,
     entry: u16,
     next: u16,
-    state: State,
 ) -> bool
-    ensures { result ≡ true → (effects_of effects.now).returning entry ≡ true → (effects_of effects.now).known entry ≡ false →
-        Has table.now next (behind_call ((effects_of effects.now).stored entry) state) }
+    ensures { result ≡ true → (returns_of returns.now).may entry ≡ true → (returns_of returns.now).known entry ≡ false →
+        Has table.now next anything }
 {
-    !effects.returns(entry)
-        || effects.knows_returns(entry)
-        || has(table, hints, hint, next, state.behind(effects, entry))
+    !returns.may_return(entry)
+        || returns.know_return(entry)
+        || has(table, hints, hint, next, State::ANY)
 }
 
 /// The instruction that is reached at an address.

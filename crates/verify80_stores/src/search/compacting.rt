@@ -1,6 +1,6 @@
 //! States that were joined are narrowed, and those that are left are put together.
 
-use crate::fitting::Placed;
+use crate::fitting::{CallReturns, Placed};
 use crate::search::landmarks::Landmarks;
 use crate::search::nodes::{NOWHERE, Node, Nodes, place_of};
 use crate::search::program::ReachedProgram;
@@ -101,6 +101,7 @@ pub(crate) fn compact(
     let mut proposal = Proposal {
         table: Vec::new(alloc),
         hints: Vec::new(alloc),
+        returns: CallReturns::none(alloc),
     };
     proposal
         .hints

@@ -1,19 +1,14 @@
-//! What procedures may do before they return, as far as a first table of states says. Nothing is promised of it: whoever uses it has to see
-//! that it fits.
+//! Which procedures return. Nothing is promised of it: whoever uses it has to see that it fits.
 //!
 //! Instructions that may follow one another without a call or a return are a group: a procedure, or several that share a piece of code.
 
-use crate::fitting::{CallEffect, CallEffects, Placed};
-use crate::pointer::pointer_span;
+use crate::fitting::{CallReturns, Placed};
 use crate::search::program::ReachedProgram;
-use crate::spans::Span;
-use decode80::{Flow, Storing};
+use decode80::Flow;
 use std::alloc::{AllocError, Global};
 use verify80::ProcRow;
 
-/// How many spans a group has, at most: then those that lie closest become one.
-const SPANS: usize = 16;
-/// How often the calls are gone through, at most, in either direction.
+/// How often the calls are gone through, at most.
 const SWEEPS: usize = 64;
 
 /// The groups of a program's instructions.
@@ -73,6 +68,11 @@ impl Groups {
         }
     }
 
+    /// By address the number of its group.
+    pub fn numbers(&self) -> &[u16] {
+        &self.numbers
+    }
+
     /// The number of the group at an address.
     pub fn number(&self, at: u16) -> u16 {
         match self.numbers.get(usize::from(at)) {
@@ -126,244 +126,26 @@ impl Groups {
         is_changed
     }
 
-    /// The effects of the groups if each may store anywhere.
+    /// By address whether the groups return, and whether they know where to: the marked ones.
     ///
     /// # Errors
     /// `AllocError` if memory runs out.
-    pub fn any_effects(&self, alloc: Global) -> Result<CallEffects, AllocError> {
-        let anywhere = vec![in alloc; SpanSet::ANY; self.count()]?;
-        self.with_stores(alloc, &anywhere, &[])
-    }
-
-    /// The effects of the groups if each stores as the states of a table say, and the marked ones know where they return to.
-    ///
-    /// # Errors
-    /// `AllocError` if memory runs out.
-    pub fn effects(
-        &self,
-        alloc: Global,
-        program: ReachedProgram<'_>,
-        table: &[Placed],
-        knows: &[bool],
-    ) -> Result<CallEffects, AllocError> {
-        let mut stores = vec![in alloc; SpanSet::NONE; self.count()]?;
-        for placed in table {
-            self.add_stores(&mut stores, program, *placed);
-        }
-        self.add_callees(&mut stores);
-        self.with_stores(alloc, &stores, knows)
-    }
-
-    /// Adds what the instruction at an address stores to in a state.
-    fn add_stores(&self, stores: &mut [SpanSet], program: ReachedProgram<'_>, placed: Placed) {
-        let Some(found) = program.at(placed.at) else {
-            return;
-        };
-        let Some(set) = stores.get_mut(usize::from(self.number(placed.at))) else {
-            return;
-        };
-        match found.instr.storing() {
-            Storing::Byte(address) => set.add(Span::alone(address)),
-            Storing::Word(address) => {
-                set.add(Span::alone(address));
-                set.add(Span::alone(address.wrapping_add(1)));
+    pub fn returns(&self, alloc: Global, knows: &[bool]) -> Result<CallReturns, AllocError> {
+        let mut may_return = vec![in alloc; false; 65_536]?;
+        let mut know_return = vec![in alloc; false; 65_536]?;
+        for number in 0..65_536_u32 {
+            let group = self.number(number as u16);
+            if is_set(&self.returns, group) {
+                set(&mut may_return, number as u16);
             }
-            _ => {
-                if let Some(span) = pointer_span(found.instr, placed.state) {
-                    set.add(span);
-                }
+            if is_set(knows, group) {
+                set(&mut know_return, number as u16);
             }
         }
-    }
-
-    /// Adds to each group what its callees store to; each may store anywhere, if that takes too long.
-    fn add_callees(&self, stores: &mut [SpanSet]) {
-        for sweep in 0..SWEEPS {
-            let mut is_changed = false;
-            for number in 0..self.calls.len() {
-                let place = if sweep % 2 == 0 {
-                    self.calls.len() - 1 - number
-                } else {
-                    number
-                };
-                if let Some((caller, callee)) = self.calls.get(place) {
-                    is_changed |= add_callee(stores, usize::from(*caller), usize::from(*callee));
-                }
-            }
-            if !is_changed {
-                return;
-            }
-        }
-        for set in stores {
-            *set = SpanSet::ANY;
-        }
-    }
-
-    /// The effects of the groups, given what they store to.
-    fn with_stores(
-        &self,
-        alloc: Global,
-        stores: &[SpanSet],
-        knows: &[bool],
-    ) -> Result<CallEffects, AllocError> {
-        let mut effects = Vec::new(alloc);
-        for number in 0..stores.len() {
-            effects.push(CallEffect {
-                stores: match stores.get(number) {
-                    Some(set) if number > 0 => set.spans(alloc)?,
-                    _ => Vec::new(alloc),
-                },
-                returns: is_set_at(&self.returns, number),
-                knows_returns: is_set_at(knows, number),
-            })?;
-        }
-        Ok(CallEffects {
-            effects,
-            numbers: Vec::from_slice(alloc, &self.numbers)?,
+        Ok(CallReturns {
+            may_return,
+            know_return,
         })
-    }
-}
-
-/// Adds what a callee stores to, and says whether that is more.
-fn add_callee(stores: &mut [SpanSet], caller: usize, callee: usize) -> bool {
-    let Some(added) = stores.get(callee) else {
-        return false;
-    };
-    let added = *added;
-    let Some(set) = stores.get_mut(caller) else {
-        return false;
-    };
-    let before = *set;
-    for place in 0..SPANS {
-        if let Some(span) = added.at(place) {
-            set.add(span);
-        }
-    }
-    *set != before
-}
-
-/// Some spans, in order, that don't touch one another.
-#[derive(Clone, Copy, PartialEq, Eq)]
-struct SpanSet {
-    spans: [Span; SPANS],
-    count: usize,
-}
-
-impl SpanSet {
-    const NONE: SpanSet = SpanSet {
-        spans: [Span::ANY; SPANS],
-        count: 0,
-    };
-
-    const ANY: SpanSet = SpanSet {
-        spans: [Span::ANY; SPANS],
-        count: 1,
-    };
-
-    /// The span at a place, if there is one.
-    fn at(&self, place: usize) -> Option<Span> {
-        if place >= self.count {
-            return None;
-        }
-        match self.spans.get(place) {
-            Some(span) => Some(*span),
-            None => None,
-        }
-    }
-
-    /// Adds the words of a span; if there are too many spans, also those between the two that lie closest.
-    fn add(&mut self, span: Span) {
-        let mut added = span;
-        let mut rest = [Span::ANY; SPANS + 1];
-        let mut count = 0;
-        let mut is_added = false;
-        for place in 0..SPANS {
-            let Some(other) = self.at(place) else {
-                break;
-            };
-            if touches(other, added) {
-                added = added.hull(other);
-            } else {
-                if !is_added && added.last < other.first {
-                    put(&mut rest, count, added);
-                    count = count.saturating_add(1);
-                    is_added = true;
-                }
-                put(&mut rest, count, other);
-                count = count.saturating_add(1);
-            }
-        }
-        if !is_added {
-            put(&mut rest, count, added);
-            count = count.saturating_add(1);
-        }
-        if count > SPANS {
-            join_closest(&mut rest, count);
-            count -= 1;
-        }
-        for place in 0..count {
-            if let (Some(to), Some(from)) = (self.spans.get_mut(place), rest.get(place)) {
-                *to = *from;
-            }
-        }
-        for place in count..SPANS {
-            if let Some(to) = self.spans.get_mut(place) {
-                *to = Span::ANY;
-            }
-        }
-        self.count = count;
-    }
-
-    /// The spans as a list.
-    fn spans(&self, alloc: Global) -> Result<Vec<Span>, AllocError> {
-        let mut spans = Vec::new(alloc);
-        for place in 0..SPANS {
-            if let Some(span) = self.at(place) {
-                spans.push(span)?;
-            }
-        }
-        Ok(spans)
-    }
-}
-
-/// Sets a span.
-fn put(spans: &mut [Span], place: usize, span: Span) {
-    if let Some(to) = spans.get_mut(place) {
-        *to = span;
-    }
-}
-
-/// Whether no word lies between two spans.
-fn touches(one: Span, other: Span) -> bool {
-    u32::from(one.first) <= u32::from(other.last) + 1
-        && u32::from(other.first) <= u32::from(one.last) + 1
-}
-
-/// Joins the two of these spans between which the fewest words lie; those behind them move up.
-fn join_closest(spans: &mut [Span], count: usize) {
-    let mut closest = 0;
-    let mut least = u32::MAX;
-    for place in 1..count {
-        if let (Some(below), Some(above)) = (spans.get(place - 1), spans.get(place)) {
-            let between = u32::from(above.first).saturating_sub(u32::from(below.last));
-            if between < least {
-                least = between;
-                closest = place;
-            }
-        }
-    }
-    for place in closest..count {
-        let Some(span) = spans.get(place) else {
-            break;
-        };
-        let span = *span;
-        if let Some(to) = spans.get_mut(place.saturating_sub(1)) {
-            *to = if place == closest {
-                to.hull(span)
-            } else {
-                span
-            };
-        }
     }
 }
 
@@ -537,11 +319,7 @@ fn number_groups(
 }
 
 fn is_set(marks: &[bool], at: u16) -> bool {
-    is_set_at(marks, usize::from(at))
-}
-
-fn is_set_at(marks: &[bool], place: usize) -> bool {
-    match marks.get(place) {
+    match marks.get(usize::from(at)) {
         Some(mark) => *mark,
         None => false,
     }

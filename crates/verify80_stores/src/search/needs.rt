@@ -107,7 +107,7 @@ fn named_by(
     Ok(named)
 }
 
-/// Goes through the program once, from its end, and says whether something changed. `behind` has for each effect what is needed behind the
+/// Goes through the program once, from its end, and says whether something changed. `behind` has for each group what is needed behind the
 /// calls of its procedures, if these know where they return to.
 fn sweep(
     program: ReachedProgram<'_>,
@@ -136,8 +136,8 @@ fn sweep(
 
 /// Notes what is needed behind a call of the procedure at `entry`, and says whether that is more.
 fn note_behind(program: ReachedProgram<'_>, behind: &mut [Need], entry: u16, need: Need) -> bool {
-    match behind.get_mut(usize::from(program.effects.number(entry))) {
-        Some(place) if program.effects.knows_returns(entry) => {
+    match behind.get_mut(usize::from(program.group(entry))) {
+        Some(place) if program.returns.know_return(entry) => {
             let before = *place;
             *place = before.and(need);
             *place != before
@@ -148,10 +148,10 @@ fn note_behind(program: ReachedProgram<'_>, behind: &mut [Need], entry: u16, nee
 
 /// What is needed before a return that is taken.
 fn returned(program: ReachedProgram<'_>, behind: &[Need], at: u16) -> Need {
-    if !program.effects.knows_returns(at) {
+    if !program.returns.know_return(at) {
         return Need::NONE;
     }
-    let need = need_at(behind, program.effects.number(at));
+    let need = need_at(behind, program.group(at));
     let parts = need.parts;
     Need {
         parts: parts
@@ -198,9 +198,8 @@ fn need_before(
         Flow::ReturnsIf(condition) => need_at(needs, next)
             .and(returned(program, behind, at))
             .with(Units::of_condition(condition)),
-        Flow::Calls(to) => called(need_at(needs, to)).and(kept(program, to, need_at(needs, next))),
+        Flow::Calls(to) => called(need_at(needs, to)),
         Flow::CallsIf(condition, to) => called(need_at(needs, to))
-            .and(kept(program, to, need_at(needs, next)))
             .and(need_at(needs, next))
             .with(Units::of_condition(condition)),
         Flow::JumpsToHl => {
@@ -219,14 +218,6 @@ fn called(need: Need) -> Need {
     Need {
         parts: parts.without(Units::WORDS).and(parts.shallower()),
         slots: need.slots,
-    }
-}
-
-/// What is needed before a call of the procedure at `entry` of that which is needed behind it: bytes of memory that stay.
-fn kept(program: ReachedProgram<'_>, entry: u16, need: Need) -> Need {
-    Need {
-        parts: Units::NONE,
-        slots: program.kept(entry, need.slots),
     }
 }
 

@@ -71,6 +71,8 @@ pub(crate) struct Nodes {
     has_grown: bool,
     /// Whether each address is to have one state from now on.
     is_late: bool,
+    /// How many states an address has, at most.
+    most: u32,
 }
 
 impl Nodes {
@@ -94,6 +96,7 @@ impl Nodes {
             landmarks,
             has_grown: false,
             is_late: false,
+            most: STATES,
         })
     }
 
@@ -105,6 +108,11 @@ impl Nodes {
     /// Whether a state has taken in another.
     pub fn has_grown(&self) -> bool {
         self.has_grown
+    }
+
+    /// From now on each address has so many states, at most.
+    pub fn keep(&mut self, most: u32) {
+        self.most = most;
     }
 
     /// From now on each address has one state, and spans grow at once to any word.
@@ -189,9 +197,9 @@ impl Nodes {
             1
         } else if self.nodes.len() < MANY {
             if self.group(at).joined == Units::NONE {
-                STATES
+                self.most
             } else {
-                JOINED
+                JOINED.min(self.most)
             }
         } else if self.nodes.len() < TOO_MANY {
             FEWER

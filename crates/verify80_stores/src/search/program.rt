@@ -1,21 +1,22 @@
 //! The program that states are proposed for, and its ways.
 
-use crate::fitting::CallEffects;
-use crate::search::slots::{SLOTS, Slots};
-use crate::spans::Span;
+use crate::fitting::CallReturns;
+use crate::search::slots::Slots;
 use crate::states::{State, given, state_after};
 use decode80::{Fetched, Flow, Instr};
 use image80::Regions;
 
-/// A program: its code, its instructions that may be reached, and what its procedures may do.
+/// A program: its code, its instructions that may be reached, and which of its procedures return.
 #[derive(Clone, Copy)]
 pub(crate) struct ReachedProgram<'a> {
     /// The byte of code at each address: by address, 65,536 places.
     pub code: &'a [Option<u8>],
     /// The instruction at each address that the program may reach, and the address after it: by address, 65,536 places.
     pub instructions: &'a [Option<Fetched>],
-    /// What the procedure that runs at an address may do before it returns.
-    pub effects: &'a CallEffects,
+    /// Whether the procedure that runs at an address may return, and whether its states know where to.
+    pub returns: &'a CallReturns,
+    /// The group of each address: by address, 65,536 places.
+    pub groups: &'a [u16],
     /// The address of the first instruction.
     pub start: u16,
     /// Where data is, and the targets of each PCHL.
@@ -25,11 +26,24 @@ pub(crate) struct ReachedProgram<'a> {
 }
 
 impl<'a> ReachedProgram<'a> {
+    /// The same program, as if no address were quiet.
+    pub fn without_quiet(self) -> ReachedProgram<'a> {
+        ReachedProgram { quiet: &[], ..self }
+    }
+
     /// The instruction at an address.
     pub fn at(self, address: u16) -> Option<Fetched> {
         match self.instructions.get(usize::from(address)) {
             Some(found) => *found,
             None => None,
+        }
+    }
+
+    /// The number of the group at an address.
+    pub fn group(self, address: u16) -> u16 {
+        match self.groups.get(usize::from(address)) {
+            Some(number) => *number,
+            None => 0,
         }
     }
 
@@ -48,35 +62,6 @@ impl<'a> ReachedProgram<'a> {
             Some(targets) => targets,
             None => &[],
         }
-    }
-
-    /// The address behind the call at an address, if its callee may return, its states don't know where to, and it may store anywhere: then
-    /// nothing is known there.
-    pub fn behind(self, at: u16) -> Option<u16> {
-        let Fetched { instr, next } = self.at(at)?;
-        match instr.flow() {
-            Flow::Calls(entry) | Flow::CallsIf(_, entry)
-                if self.effects.returns(entry)
-                    && !self.effects.knows_returns(entry)
-                    && self.effects.stores_to_all(entry, Span::ANY) => { Some(next) }
-            _ => None,
-        }
-    }
-
-    /// The bytes of memory that stay behind a call of the procedure at `entry`.
-    pub fn kept(self, entry: u16, slots: Slots) -> Slots {
-        let mut kept = Slots::NONE;
-        if self.effects.returns(entry) && !self.effects.knows_returns(entry) {
-            for place in 0..SLOTS {
-                match slots.at(place) {
-                    Some(address) if !self.effects.stores_to(entry, address) => {
-                        kept = kept.with(address);
-                    }
-                    _ => {}
-                }
-            }
-        }
-        kept
     }
 
     /// How many ways an instruction has, each with a hint of its own.
@@ -112,7 +97,7 @@ impl<'a> ReachedProgram<'a> {
             Flow::CallsIf(condition, to) => match number {
                 0 => self.left(found, true, to, given(condition, true, state)),
                 1 => self.left(found, false, next, given(condition, false, state)),
-                _ => self.returned(to, next, state),
+                _ => self.returned(to, next),
             },
             Flow::ReturnsIf(condition) => match number {
                 0 => self.left(found, false, next, given(condition, false, state)),
@@ -120,7 +105,7 @@ impl<'a> ReachedProgram<'a> {
             },
             Flow::Calls(to) => match number {
                 0 => Some((to, self.after(found, true, state))),
-                _ => self.returned(to, next, state),
+                _ => self.returned(to, next),
             },
             Flow::JumpsToHl => {
                 let to = *self.targets(at).get(number)?;
@@ -133,10 +118,10 @@ impl<'a> ReachedProgram<'a> {
         }
     }
 
-    /// Where a callee returns to, and with what, if it may return.
-    fn returned(self, entry: u16, next: u16, state: State) -> Option<(u16, State)> {
-        if self.effects.returns(entry) && !self.effects.knows_returns(entry) {
-            Some((next, state.behind(self.effects, entry)))
+    /// Where a callee returns to, if it may return and its states don't know where to: then nothing is known there.
+    fn returned(self, entry: u16, next: u16) -> Option<(u16, State)> {
+        if self.returns.may_return(entry) && !self.returns.know_return(entry) {
+            Some((next, State::ANY))
         } else {
             None
         }
@@ -145,7 +130,7 @@ impl<'a> ReachedProgram<'a> {
     /// Where a return goes, and with what, if the states there are to know it, and this one does.
     fn back(self, at: u16, found: Fetched, state: State) -> Option<(u16, State)> {
         let span = state.words.first?;
-        if self.effects.knows_returns(at) && span.is_alone() {
+        if self.returns.know_return(at) && span.is_alone() {
             Some((span.first, self.after(found, true, state)))
         } else {
             None

@@ -1,6 +1,6 @@
 //! A table of states is proposed.
 
-use crate::fitting::Placed;
+use crate::fitting::{CallReturns, Placed};
 use crate::search::compacting::{compact, narrow};
 use crate::search::landmarks::Landmarks;
 use crate::search::needs::Needs;
@@ -18,16 +18,18 @@ const LATE_STEPS: u32 = 4_000_000;
 /// How often the table is narrowed, if states were joined.
 const NARROWINGS: u32 = 3;
 
-/// A table of states, and for each of their ways a place of the table. The first hint is that of the start.
+/// A table of states, for each of their ways a place of the table, and the returns by which it was made. The first hint is that of the
+/// start.
 #[derive(Drop)]
 pub(crate) struct Proposal {
     pub table: Vec<Placed>,
     pub hints: Vec<u32>,
+    pub returns: CallReturns,
 }
 
 /// What is known at each address that the program may reach.
 ///
-/// At the start nothing is, and behind a call only what the callee leaves. Nothing is promised of the table: whoever uses it has to see
+/// At the start nothing is, and behind a call nothing, unless the callee's states know where they return to. Nothing is promised of the table: whoever uses it has to see
 /// that it fits.
 ///
 /// # Errors
@@ -39,7 +41,7 @@ pub(crate) fn propose(alloc: Global, program: ReachedProgram<'_>) -> Result<Prop
         Landmarks::new(alloc, program)?,
     )?;
     let mut hints = Vec::new(alloc);
-    let start = enter_first(alloc, &mut nodes, program)?;
+    let start = nodes.enter(alloc, program.start, State::ANY)?;
     if !follow_all(alloc, &mut nodes, &mut hints, program, STEPS)? {
         nodes.hurry();
         follow_all(alloc, &mut nodes, &mut hints, program, LATE_STEPS)?;
@@ -47,36 +49,27 @@ pub(crate) fn propose(alloc: Global, program: ReachedProgram<'_>) -> Result<Prop
     finish(alloc, nodes, hints, program, start)
 }
 
-/// The same, or `None` if too many states would have to be followed.
+/// The same with at most so many states at an address, or `None` if too many would have to be followed.
 ///
 /// # Errors
 /// `AllocError` only if memory runs out.
 pub(crate) fn try_propose(
     alloc: Global,
     program: ReachedProgram<'_>,
+    most: u32,
 ) -> Result<Option<Proposal>, AllocError> {
     let mut nodes = Nodes::new(
         alloc,
         Needs::of(alloc, program)?,
         Landmarks::new(alloc, program)?,
     )?;
+    nodes.keep(most);
     let mut hints = Vec::new(alloc);
-    let start = enter_first(alloc, &mut nodes, program)?;
+    let start = nodes.enter(alloc, program.start, State::ANY)?;
     if !follow_all(alloc, &mut nodes, &mut hints, program, TRIAL_STEPS)? {
         return Ok(None);
     }
     Ok(Some(finish(alloc, nodes, hints, program, start)?))
-}
-
-/// Enters the states of which it is clear that nothing is known, and gives the place of that at the start.
-fn enter_first(
-    alloc: Global,
-    nodes: &mut Nodes,
-    program: ReachedProgram<'_>,
-) -> Result<u32, AllocError> {
-    let start = nodes.enter(alloc, program.start, State::ANY)?;
-    enter_behind(alloc, nodes, program)?;
-    Ok(start)
 }
 
 /// Puts together what was followed.
@@ -94,20 +87,6 @@ fn finish(
         }
     }
     compact(alloc, &nodes, &hints, program, start)
-}
-
-/// Enters those behind calls that may store anywhere.
-fn enter_behind(
-    alloc: Global,
-    nodes: &mut Nodes,
-    program: ReachedProgram<'_>,
-) -> Result<(), AllocError> {
-    for number in 0..65_536_u32 {
-        if let Some(next) = program.behind(number as u16) {
-            nodes.enter(alloc, next, State::ANY)?;
-        }
-    }
-    Ok(())
 }
 
 /// Follows states until none waits, but no more than these, and says whether none waits.

@@ -2,9 +2,8 @@
 
 ghost use Rattle.std.specs.Prelude.{◌≡◌, true};
 ghost use Rattle.verify80_stores.specs.Marks.{is_marked};
-ghost use Rattle.verify80_stores.specs.Calls.{effects_of, kept_cell, kept_cells};
 
-use crate::fitting::{CallEffects, is_marked};
+use crate::fitting::is_marked;
 use crate::spans::{ByteSpan, Span};
 
 /// What the byte at an address may be.
@@ -42,17 +41,6 @@ impl Cell {
         ensures { result ≡ cell_or self at otherwise }
     {
         if self.at == at { self.bytes } else { otherwise }
-    }
-
-    /// The cell behind a call of the procedure at `entry`: what is known stays if nothing is stored there.
-    fn kept(self, effects: &CallEffects, entry: u16) -> Cell
-        ensures { result ≡ kept_cell ((effects_of effects.now).stored entry) self }
-    {
-        if effects.stores_to(entry, self.at) {
-            Cell::ANY
-        } else {
-            self
-        }
     }
 
     /// The cell when one of these bytes is stored at one of these addresses.
@@ -139,22 +127,6 @@ impl Cells {
         let bytes = self.third.or(at, bytes);
         let bytes = self.second.or(at, bytes);
         self.first.or(at, bytes)
-    }
-
-    /// What is left of these cells behind a call of the procedure at `entry`.
-    pub fn kept(self, effects: &CallEffects, entry: u16) -> Cells
-        ensures { result ≡ kept_cells ((effects_of effects.now).stored entry) self }
-    {
-        Cells {
-            first: self.first.kept(effects, entry),
-            second: self.second.kept(effects, entry),
-            third: self.third.kept(effects, entry),
-            fourth: self.fourth.kept(effects, entry),
-            fifth: self.fifth.kept(effects, entry),
-            sixth: self.sixth.kept(effects, entry),
-            seventh: self.seventh.kept(effects, entry),
-            eighth: self.eighth.kept(effects, entry),
-        }
     }
 
     /// The cells when one of these bytes is stored at one of these addresses.

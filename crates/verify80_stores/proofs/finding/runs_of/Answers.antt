@@ -15,5 +15,6 @@ returns c =
       walks = c.accepted_images_stay_on_walks.ensures vouched.image vouched.rows vouched.stack_bytes rules known.accepted;
       promise = c.promise_is_kept_on_boards.ensures.promise vouched.image vouched.stack_bytes rules known.accepted.fitted known.accepted.within;
       boards = c.walks_are_kept_on_boards.ensures vouched.image vouched.rows vouched.stack_bytes rules known.accepted;
+      unset = c.promise_is_kept_on_boards.ensures.unset vouched.image vouched.stack_bytes rules known.accepted.fitted known.accepted.within;
       guarded = c.promise_is_kept_on_boards.ensures.steps vouched.image vouched.stack_bytes rules known.accepted.fitted known.accepted.within;
     }

@@ -5,7 +5,7 @@ use Rattle.decode80.specs.declared.fetching.Fetched.{Fetched}
 use Rattle.verify80.specs.Looking.{declared_targets}
 use Rattle.verify80_stores.specs.declared.fitting.fitting.Placed.{Placed}
 use Rattle.verify80_stores.specs.Fitting.{FitsAt}
-use Rattle.verify80_stores.specs.Calls.{KeepsCalls, effects_of}
+use Rattle.verify80_stores.specs.Calls.{KeepsCalls, returns_of}
 use Rattle.verify80_stores.specs.Listing.{reached_at}
 use Rattle.verify80_stores.proofs.VecLemmas.{for_this}
 use Rattle.verify80_stores.proofs.fitting.fitting.all_fit.Goals as goal
@@ -21,9 +21,9 @@ loop-placed-preserved c = record {
       place less;
   calls = λ place less.
       below_more (λ place. (placed : Placed) (found : Fetched) → slice_get c.args.table.now place ≡ Some placed → reached_at c.args.reached.now placed.at ≡ Some found →
-      KeepsCalls (effects_of c.args.effects.now) c.args.code.now c.args.table.now placed.at placed.state found)
+      KeepsCalls (returns_of c.args.returns.now) c.args.code.now c.args.table.now placed.at placed.state found)
       c.loop-placed.placed-index c.loop-placed.invariant.calls
-      (λ placed found there instr. for_this (λ (p : Placed). (found : Fetched) → reached_at c.args.reached.now p.at ≡ Some found → KeepsCalls (effects_of c.args.effects.now) c.args.code.now c.args.table.now p.at p.state found)
+      (λ placed found there instr. for_this (λ (p : Placed). (found : Fetched) → reached_at c.args.reached.now p.at ≡ Some found → KeepsCalls (returns_of c.args.returns.now) c.args.code.now c.args.table.now p.at p.state found)
       c.args.table.now c.loop-placed.placed-index _ placed there (c.if-not-placed_fits.ensures.calls refl) found instr)
       place less;
 }

@@ -3,7 +3,7 @@ use Rattle.std.proofs.lemmas.List.Elements.{All-push}
 use Rattle.verify80_stores.specs.declared.fitting.fitting.Placed.{Placed}
 use Rattle.verify80_stores.specs.State.{anything}
 use Rattle.verify80_stores.proofs.TallyLemmas.{nothing_more}
-use Rattle.verify80_stores.proofs.finding.anything.Goals as goal
+use Rattle.verify80_stores.proofs.showing.anything.Goals as goal
 
 pub loop-at-preserved : goal.loop-at-preserved
 loop-at-preserved c = record {

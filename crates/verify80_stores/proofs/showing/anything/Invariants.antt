@@ -2,7 +2,7 @@ use Rattle.std.proofs.Common.{◌≡◌, ℕ, ◌<◌}
 use Rattle.std.specs.Prelude.{All}
 use Rattle.verify80_stores.specs.State.{anything}
 use Rattle.verify80_stores.specs.Listing.{SaysNothingAt}
-use Rattle.verify80_stores.proofs.finding.anything.Given as goal
+use Rattle.verify80_stores.proofs.showing.anything.Given as goal
 
 abbrev pub invariant-loop-at : goal.invariant-loop-at
 invariant-loop-at l = record {

@@ -1,0 +1,94 @@
+-- What is shown by one table, and by another one too.
+use Rattle.std.specs.Prelude.{◌≡◌, ◌≢◌, ◌⊎◌, ◌<◌, ◌+◌, ◌&&◌, ℕ, suc, Bool, true, false, List, [], ◌∷◌, Any, Option, Some, length, slice_set, refl}
+use Rattle.std.proofs.Common.{subst, sym, ◌∙◌, inl, inr, arith, get_or-set_other, true≢false}
+use Rattle.std.proofs.lemmas.List.{get_or-set_same, length-set}
+use Rattle.decode80.specs.declared.fetching.Fetched.{Fetched}
+use Rattle.image80.specs.Image.{Located}
+use Rattle.verify80.specs.Looking.{declared_targets}
+use Rattle.verify80_stores.specs.declared.spans.span.Span.{Span}
+use Rattle.verify80_stores.specs.declared.fitting.fitting.Placed.{Placed}
+use Rattle.verify80_stores.specs.Marks.{is_marked}
+use Rattle.verify80_stores.specs.Opening.{StaysIn}
+use Rattle.verify80_stores.specs.Runs.{IsKept}
+use Rattle.verify80_stores.specs.Listing.{AreOpenMarks, AreSpans, reached_at}
+use Rattle.verify80_stores.specs.Shown.{AreShown, BothBelow, IsShutAt, KeptTable}
+use Rattle.verify80_stores.proofs.TableLemmas.{entry_within}
+use Rattle.verify80_stores.proofs.TallyLemmas.{marks_set}
+use Rattle.verify80_stores.proofs.VecLemmas.{nat_same}
+
+first_of : (a b : Bool) → (a && b) ≡ true → a ≡ true
+first_of true b h = refl
+first_of false b h = h
+
+one_false : (a b : Bool) → (a && b) ≡ false → (a ≡ false) ⊎ (b ≡ false)
+one_false true b h = inr h
+one_false false b h = inl refl
+
+split : (a n : ℕ) → a < n + 1 → (a < n) ⊎ (a ≡ n)
+split a n h = grind arith
+
+module _ (one other : List Bool) where
+  pub both_none : (marks : List Bool) → length marks ≡ 65536 → ((at : ℕ) → is_marked marks at ≡ false) → BothBelow one other 0 marks
+  both_none marks whole none = record {
+    whole = whole;
+    marked = λ at marked. absurd (true≢false (sym marked ∙ none at));
+    unmarked = λ at less. absurd (omega (arith, less));
+  }
+
+  pub both_more : (n : ℕ) (marks : List Bool) (b : Bool) → n < 65536 → b ≡ (is_marked one n && is_marked other n) → BothBelow one other n marks → BothBelow one other (n + 1) (slice_set marks n b)
+  both_more n marks b small is below = record {
+    whole = length-set marks n b ∙ below.whole;
+    marked = marks_set (λ k. is_marked one k ≡ true) marks n b below.whole small below.marked (λ so. first_of (is_marked one n) (is_marked other n) (sym is ∙ so));
+    unmarked = λ at less none. go at none (nat_same at n) (split at n less);
+  } where
+    go : (at : ℕ) → is_marked (slice_set marks n b) at ≡ false → (at ≡ n) ⊎ (at ≢ n) → (at < n) ⊎ (at ≡ n) → (is_marked one at ≡ false) ⊎ (is_marked other at ≡ false)
+    go at none (inl same) less =
+        let it : is_marked (slice_set marks n b) n ≡ b = get_or-set_same marks n b false (let whole = below.whole in omega (arith, small, whole)) in
+        let so : is_marked (slice_set marks n b) n ≡ false = subst (λ k. is_marked (slice_set marks n b) k ≡ false) same none in
+        subst (λ k. (is_marked one k ≡ false) ⊎ (is_marked other k ≡ false)) (sym same) (one_false (is_marked one n) (is_marked other n) (sym is ∙ sym it ∙ so))
+    go at none (inr apart) (inl less) = below.unmarked at less (sym (get_or-set_other marks n at b false apart) ∙ none)
+    go at none (inr apart) (inr same) = absurd (apart same)
+
+module _ (image : Located) (quiet : ℕ → Bool) (reached : List (Option Fetched)) where
+  shut_by : (table : List Placed) (marks : List Bool) → AreOpenMarks image.regions reached table marks → (at : ℕ) → is_marked marks at ≡ false → IsShutAt image.regions reached table at
+  shut_by table marks are at unmarked place placed found there here instr =
+      subst (λ n. StaysIn image.regions (declared_targets image.regions n) found.instr placed.state) here
+      (are.stays place placed found there (subst (λ n. reached_at reached n ≡ Some found) (sym here) instr) (subst (λ n. is_marked marks n ≡ false) (sym here) unmarked))
+
+  -- what the first table shows
+  pub shown_first : (table : List Placed) (marks : List Bool) (spans : List (Option Span)) → IsKept image quiet table → AreOpenMarks image.regions reached table marks → AreSpans reached table spans →
+      AreShown image quiet reached marks spans
+  shown_first table marks spans kept are are_spans = record {
+    first = record { table = table; kept = kept };
+    others = [];
+    stays = λ at unmarked. inl (shut_by table marks are at unmarked);
+    leaves = are.leaves;
+    are_spans = are_spans;
+  }
+
+  abbrev Shut : (first : KeptTable image quiet) (others : List (KeptTable image quiet)) → ℕ → Type 0
+  Shut first others at = IsShutAt image.regions reached first.table at ⊎ Any (λ (other : KeptTable image quiet). IsShutAt image.regions reached other.table at) others
+
+  -- and with another one
+  pub shown_more : (table : List Placed) (marks before both : List Bool) (spans : List (Option Span)) → length reached ≡ 65536 → IsKept image quiet table → AreOpenMarks image.regions reached table marks →
+      AreShown image quiet reached before spans → BothBelow before marks 65536 both → AreShown image quiet reached both spans
+  shown_more table marks before both spans whole kept are shown below = record {
+    first = shown.first;
+    others = record { table = table; kept = kept } ∷ shown.others;
+    stays = λ at unmarked. stay at unmarked (in_memory at);
+    leaves = λ at marked. shown.leaves at (below.marked at marked);
+    are_spans = shown.are_spans;
+  } where
+    in_memory : (at : ℕ) → (at < 65536) ⊎ ((at < 65536) → ⊥)
+    in_memory at = grind arith
+
+    before_shut : (at : ℕ) → Shut shown.first shown.others at → Shut shown.first (record { table = table; kept = kept } ∷ shown.others) at
+    before_shut at (inl first) = inl first
+    before_shut at (inr (k, x, inside, is, shut)) = inr (suc k, x, omega (arith, inside), is, shut)
+
+    stay : (at : ℕ) → is_marked both at ≡ false → (at < 65536) ⊎ ((at < 65536) → ⊥) → Shut shown.first (record { table = table; kept = kept } ∷ shown.others) at
+    stay at unmarked (inr beyond) = inl (λ place placed found there here instr. absurd (beyond (let within = entry_within reached at found instr in omega (arith, within, whole))))
+    stay at unmarked (inl small) = by (below.unmarked at small unmarked) where
+      by : (is_marked before at ≡ false) ⊎ (is_marked marks at ≡ false) → Shut shown.first (record { table = table; kept = kept } ∷ shown.others) at
+      by (inl none) = before_shut at (shown.stays at none)
+      by (inr none) = inr (0, record { table = table; kept = kept }, omega arith, refl, shut_by table marks are at none)

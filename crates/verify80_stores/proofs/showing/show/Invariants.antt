@@ -1,0 +1,7 @@
+use Rattle.std.specs.Prelude.{IfSome}
+use Rattle.verify80_stores.specs.Boards.{is_quiet}
+use Rattle.verify80_stores.specs.Shown.{AreShown}
+use Rattle.verify80_stores.proofs.showing.show.Given as goal
+
+abbrev pub invariant-loop-number : goal.invariant-loop-number
+invariant-loop-number l = IfSome l.shown (λ s. AreShown l.image (is_quiet l.image.regions l.quiet) l.reached s.marks.items s.spans.items)

@@ -1,0 +1,37 @@
+-- What tables of states that fit leave open of a program. (This project's own.)
+use Rattle.std.specs.Prelude.{◌≡◌, ◌⊎◌, ◌<◌, ℕ, Bool, true, false, List, Any, Option, Some, length, slice_get}
+use Rattle.decode80.specs.declared.fetching.Fetched.{Fetched}
+use Rattle.image80.specs.Image.{Located}
+use Rattle.image80.specs.Regions.{Areas}
+use Rattle.verify80.specs.Looking.{declared_targets}
+use Rattle.verify80_stores.specs.declared.spans.span.Span.{Span}
+use Rattle.verify80_stores.specs.declared.fitting.fitting.Placed.{Placed}
+use Rattle.verify80_stores.specs.Marks.{is_marked}
+use Rattle.verify80_stores.specs.Opening.{StaysIn}
+use Rattle.verify80_stores.specs.Runs.{IsKept}
+use Rattle.verify80_stores.specs.Listing.{AreSpans, IsLeftAt, reached_at}
+
+-- marks that others have too, below an address
+pub record BothBelow (one other : List Bool) (n : ℕ) (marks : List Bool) : Type 0 where
+  pub whole : length marks ≡ 65536
+  pub marked : (at : ℕ) → is_marked marks at ≡ true → is_marked one at ≡ true
+  pub unmarked : (at : ℕ) → at < n → is_marked marks at ≡ false → (is_marked one at ≡ false) ⊎ (is_marked other at ≡ false)
+
+-- a table to which all runs keep
+pub record KeptTable (image : Located) (quiet : ℕ → Bool) : Type 0 where
+  pub table : List Placed
+  pub kept : IsKept image quiet table
+
+-- each state that a table has at an address stores to data and jumps to a declared target
+abbrev pub IsShutAt : Areas → List (Option Fetched) → List Placed → (at : ℕ) → Type 0
+IsShutAt regions reached table at = (place : ℕ) (placed : Placed) (found : Fetched) → slice_get table place ≡ Some placed → placed.at ≡ at →
+    reached_at reached at ≡ Some found → StaysIn regions (declared_targets regions at) found.instr placed.state
+
+-- Marks and spans by address, for some tables that are kept. At each unmarked address one of them lets the instruction stay inside. One of
+-- them leaves the instruction open at each marked address: the spans are those of its states.
+pub record AreShown (image : Located) (quiet : ℕ → Bool) (reached : List (Option Fetched)) (marks : List Bool) (spans : List (Option Span)) : Type 0 where
+  pub first : KeptTable image quiet
+  pub others : List (KeptTable image quiet)
+  pub stays : (at : ℕ) → is_marked marks at ≡ false → IsShutAt image.regions reached first.table at ⊎ Any (λ other. IsShutAt image.regions reached other.table at) others
+  pub leaves : (at : ℕ) → is_marked marks at ≡ true → IsLeftAt image.regions reached first.table at
+  pub are_spans : AreSpans reached first.table spans

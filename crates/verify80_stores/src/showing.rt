@@ -1,0 +1,245 @@
+//! What is shown of a program's register-indirect stores and jumps, by one table of states after the other.
+
+ghost use Rattle.std.specs.Prelude.{◌≡◌, ◌<◌, ℕ, true, All, IfOk, IfSome, length};
+ghost use Rattle.image80.specs.Regions.{AreRegions};
+ghost use Rattle.verify80.specs.Looking.{code_of};
+ghost use Rattle.verify80.specs.Reached.{AreReached};
+ghost use Rattle.verify80_stores.specs.Boards.{is_quiet};
+ghost use Rattle.verify80_stores.specs.State.{anything};
+ghost use Rattle.verify80_stores.specs.Marks.{is_marked};
+ghost use Rattle.verify80_stores.specs.Steps.{AreCodeBytes};
+ghost use Rattle.verify80_stores.specs.Runs.{IsKept};
+ghost use Rattle.verify80_stores.specs.Shown.{AreShown, BothBelow};
+ghost use Rattle.verify80_stores.specs.Listing.{SaysNothingAt};
+
+use crate::code_bytes::code_bytes;
+use crate::fitting::{CallReturns, Placed, fits, fitting_states_hold, is_marked, unmarked};
+use crate::listing::{open_marks, spans_of};
+use crate::quiet::mark_quiet;
+use crate::search::{Groups, Proposal, ReachedProgram, propose_table};
+use crate::spans::{Span, bytes_stay_bytes};
+use crate::states::State;
+use decode80::Fetched;
+use image80::laws::code_data_and_stack_are_apart;
+use image80::{Image, Range};
+use std::alloc::{AllocError, Global};
+use verify80::ProcRow;
+
+/// How many tables are tried.
+const TABLES: usize = 4;
+
+/// What is shown by tables that fit.
+#[derive(Drop)]
+pub(crate) struct Shown {
+    /// By address whether each table leaves the store or jump open.
+    pub marks: Vec<bool>,
+    /// By address the words that a pair may be, if the instruction stores by it.
+    pub spans: Vec<Option<Span>>,
+}
+
+/// What is shown of a program, in whose quiet ranges of data nobody but it writes.
+///
+/// A table is tried only if those before left something open. The spans are those of the first that fits.
+///
+/// # Errors
+/// `AllocError` if memory runs out.
+pub(crate) fn show(
+    alloc: Global,
+    image: &Image,
+    rows: &[ProcRow],
+    reached: &[Option<Fetched>],
+    quiet: &[Range],
+) -> Result<Shown, AllocError>
+    requires reached { AreReached (code_of image.now) reached.now }
+    requires whole { length reached.now ≡ 65536 }
+    requires rules { AreRegions image.now.regions }
+    ensures { IfOk result (λ shown. AreShown image.now (is_quiet image.now.regions quiet.now) reached.now shown.marks.items shown.spans.items) }
+{
+    let code = code_bytes(alloc, image)?;
+    let marks = mark_quiet(alloc, &image.regions, quiet)?;
+    let none = CallReturns::none(alloc);
+    let program = ReachedProgram {
+        code: &code,
+        instructions: reached,
+        returns: &none,
+        groups: &[],
+        start: image.start,
+        regions: &image.regions,
+        quiet: &marks,
+    };
+    let groups = Groups::new(alloc, program, rows)?;
+    let mut shown = None;
+    for number in 0..TABLES {
+        if is_open(&shown) {
+            let found = propose_table(alloc, program, &groups, number)?;
+            shown = show_more(alloc, image, reached, quiet, &code, &marks, found, shown)?;
+        }
+    }
+    match shown {
+        Some(shown) => Ok(shown),
+        None => show_nothing(alloc, image, reached, quiet),
+    }
+}
+
+/// Whether something is still open.
+fn is_open(shown: &Option<Shown>) -> bool {
+    match shown {
+        Some(shown) => shown.marks.contains(&true),
+        None => true,
+    }
+}
+
+/// What is shown with a table that is proposed, if it fits.
+///
+/// # Errors
+/// `AllocError` if memory runs out.
+fn show_more(
+    alloc: Global,
+    image: &Image,
+    reached: &[Option<Fetched>],
+    quiet: &[Range],
+    code: &[Option<u8>],
+    marks: &[bool],
+    found: Option<Proposal>,
+    shown: Option<Shown>,
+) -> Result<Option<Shown>, AllocError>
+    requires reached { AreReached (code_of image.now) reached.now }
+    requires whole { length reached.now ≡ 65536 }
+    requires rules { AreRegions image.now.regions }
+    requires code { AreCodeBytes image.now code.now }
+    requires marks { (at : ℕ) → is_marked marks.now at ≡ true → is_quiet image.now.regions quiet.now at ≡ true }
+    requires shown { IfSome shown (λ s. AreShown image.now (is_quiet image.now.regions quiet.now) reached.now s.marks.items s.spans.items) }
+    ensures { IfOk result (λ more. IfSome more (λ s. AreShown image.now (is_quiet image.now.regions quiet.now) reached.now s.marks.items s.spans.items)) }
+{
+    match fitting_table(image, reached, quiet, code, marks, found) {
+        Some(table) => Ok(Some(show_with(alloc, image, reached, quiet, &table, shown)?)),
+        None => Ok(shown),
+    }
+}
+
+/// What is shown with a table that fits.
+///
+/// # Errors
+/// `AllocError` if memory runs out.
+fn show_with(
+    alloc: Global,
+    image: &Image,
+    reached: &[Option<Fetched>],
+    quiet: &[Range],
+    table: &[Placed],
+    shown: Option<Shown>,
+) -> Result<Shown, AllocError>
+    requires whole { length reached.now ≡ 65536 }
+    requires kept { IsKept image.now (is_quiet image.now.regions quiet.now) table.now }
+    requires shown { IfSome shown (λ s. AreShown image.now (is_quiet image.now.regions quiet.now) reached.now s.marks.items s.spans.items) }
+    ensures { IfOk result (λ s. AreShown image.now (is_quiet image.now.regions quiet.now) reached.now s.marks.items s.spans.items) }
+{
+    let marks = open_marks(alloc, &image.regions, reached, table)?;
+    match shown {
+        Some(
+            Shown {
+                marks: before,
+                spans,
+            },
+        ) => Ok(Shown {
+            marks: both(alloc, &before, &marks)?,
+            spans,
+        }),
+        None => Ok(Shown {
+            marks,
+            spans: spans_of(alloc, reached, table)?,
+        }),
+    }
+}
+
+/// Marks for the addresses that both of these mark.
+///
+/// # Errors
+/// `AllocError` if memory runs out.
+fn both(alloc: Global, one: &[bool], other: &[bool]) -> Result<Vec<bool>, AllocError>
+    ensures { IfOk result (λ marks. BothBelow one.now other.now 65536 marks.items) }
+{
+    let mut marks = unmarked(alloc, 65_536)?;
+    for at in 0..65_536_usize {
+        marks[at] = is_marked(one, at as u16) && is_marked(other, at as u16);
+    }
+    Ok(marks)
+}
+
+/// What is shown by a table that says nothing.
+///
+/// # Errors
+/// `AllocError` if memory runs out.
+fn show_nothing(
+    alloc: Global,
+    image: &Image,
+    reached: &[Option<Fetched>],
+    quiet: &[Range],
+) -> Result<Shown, AllocError>
+    requires reached { AreReached (code_of image.now) reached.now }
+    requires whole { length reached.now ≡ 65536 }
+    requires rules { AreRegions image.now.regions }
+    ensures { IfOk result (λ s. AreShown image.now (is_quiet image.now.regions quiet.now) reached.now s.marks.items s.spans.items) }
+{
+    bytes_stay_bytes();
+    code_data_and_stack_are_apart();
+    let table = anything(alloc)?;
+    show_with(alloc, image, reached, quiet, &table, None)
+}
+
+/// A table that is proposed, if one is and it fits the image.
+fn fitting_table(
+    image: &Image,
+    reached: &[Option<Fetched>],
+    quiet: &[Range],
+    code: &[Option<u8>],
+    marks: &[bool],
+    found: Option<Proposal>,
+) -> Option<Vec<Placed>>
+    requires reached { AreReached (code_of image.now) reached.now }
+    requires whole { length reached.now ≡ 65536 }
+    requires rules { AreRegions image.now.regions }
+    requires code { AreCodeBytes image.now code.now }
+    requires marks { (at : ℕ) → is_marked marks.now at ≡ true → is_quiet image.now.regions quiet.now at ≡ true }
+    ensures { IfSome result (λ table. IsKept image.now (is_quiet image.now.regions quiet.now) table.items) }
+{
+    fitting_states_hold();
+    let Proposal {
+        table,
+        hints,
+        returns,
+    } = found?;
+    if fits(
+        &table,
+        &hints,
+        &returns,
+        code,
+        image.start,
+        &image.regions,
+        reached,
+        marks,
+    ) {
+        Some(table)
+    } else {
+        None
+    }
+}
+
+/// A table of which the state at each address says nothing.
+///
+/// # Errors
+/// `AllocError` if memory runs out.
+fn anything(alloc: Global) -> Result<Vec<Placed>, AllocError>
+    ensures everywhere { IfOk result (λ table. (at : ℕ) → at < 65536 → SaysNothingAt table.items at) }
+    ensures nothing { IfOk result (λ table. All (λ placed. placed.state ≡ anything) table.items) }
+{
+    let mut table = Vec::with_capacity(alloc, 65_536)?;
+    for at in 0..65_536_usize {
+        table.push(Placed {
+            at: at as u16,
+            state: State::ANY,
+            hint: 0,
+        })?;
+    }
+    Ok(table)
+}
