@@ -133,7 +133,11 @@ fn require_data<C: Console>(
 }
 
 /// The text of the first of the quiet ranges that isn't all data, and the first address there that isn't.
-fn first_no_data<'a>(regions: &Regions, texts: &[&'a str], quiet: &[Range]) -> Option<(&'a str, u16)> {
+fn first_no_data<'a>(
+    regions: &Regions,
+    texts: &[&'a str],
+    quiet: &[Range],
+) -> Option<(&'a str, u16)> {
     for (text, range) in texts.iter().zip(quiet) {
         if let Some(at) = first_outside_data(regions, *range) {
             return Some((*text, at));
