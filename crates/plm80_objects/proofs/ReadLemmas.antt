@@ -1,5 +1,6 @@
 -- Files that are read one after another, and what they are.
-use Rattle.std.specs.Prelude.{◌≡◌, ℕ, List, [], ◌∷◌, ◌++◌, drop, refl}
+use Rattle.std.specs.Prelude.{◌≡◌, ℕ, List, [], ◌∷◌, ◌++◌, drop, take, refl}
+use Rattle.std.specs.Borrow.{Bor}
 use Rattle.std.proofs.Common.{◌∙◌, ap, subst, sym}
 use Rattle.std.proofs.lemmas.List.{append-nil, append_assoc}
 use Rattle.omf_model.specs.Modules.{ModuleValue}
@@ -18,7 +19,7 @@ use Rattle.plm80_objects.specs.Link.{AddsFile, AreLinkFilesOf, AreLinkFilesRead}
 use Rattle.plm80_objects.specs.Link.AreLinkFilesOf.{none as no_links, more as more_links}
 use Rattle.plm80_objects.specs.Modules.{AreAllRead, AreModulesOf}
 use Rattle.plm80_objects.specs.Modules.AreModulesOf.{none, more}
-use Rattle.plm80_objects.proofs.GivenLemmas.{file_value, paths_more, read_more}
+use Rattle.plm80_objects.proofs.GivenLemmas.{file_value, paths_more, read_more, texts}
 
 read_on : (old between new : Journal) (files : List FileValue) (path bytes : List ℕ) → between ≡ and_read_files old files
     → new ≡ and_read between path bytes → new ≡ and_read_files old (files ++ file_value path bytes ∷ [])
@@ -30,8 +31,9 @@ named_on files paths more path bytes are on = paths_more files path bytes ∙ ap
 
 -- ---- modules
 
-pub all_none : (old : Journal) (modules : List ModuleValue) → modules ≡ [] → AreAllRead [] old old modules
-all_none old modules none_are = record { files = []; paths_are = refl; are = subst (AreModulesOf []) (sym none_are) none; journal = refl }
+pub all_none : (ps : List (Bor (List ℕ))) (old : Journal) (modules : List ModuleValue) → modules ≡ [] → AreAllRead (texts (take 0 ps)) old old modules
+all_none [] old modules none_are = record { files = []; paths_are = refl; are = subst (AreModulesOf []) (sym none_are) none; journal = refl }
+all_none (p ∷ ps) old modules none_are = record { files = []; paths_are = refl; are = subst (AreModulesOf []) (sym none_are) none; journal = refl }
 
 pub all_more : (paths next : List (List ℕ)) (path : List ℕ) (old between after new : Journal) (modules own all : List ModuleValue)
     → AreAllRead paths old between modules → paths ++ path ∷ [] ≡ next → AreModulesRead path between after own → all ≡ modules ++ own → new ≡ after
@@ -45,8 +47,9 @@ all_more paths next path old between after new modules own all read on one are s
 
 -- ---- object files and libraries
 
-pub files_none : (old : Journal) (are : List LinkFile) → are ≡ [] → AreFilesRead [] old old are
-files_none old are none_are = record { files = []; paths_are = refl; are_files = subst (AreLinkFiles []) (sym none_are) no_files; journal = refl }
+pub files_none : (ps : List (Bor (List ℕ))) (old : Journal) (are : List LinkFile) → are ≡ [] → AreFilesRead (texts (take 0 ps)) old old are
+files_none [] old are none_are = record { files = []; paths_are = refl; are_files = subst (AreLinkFiles []) (sym none_are) no_files; journal = refl }
+files_none (p ∷ ps) old are none_are = record { files = []; paths_are = refl; are_files = subst (AreLinkFiles []) (sym none_are) no_files; journal = refl }
 
 pub files_more : (paths next : List (List ℕ)) (path : List ℕ) (old between new : Journal) (are all : List LinkFile) (is : LinkFile)
     → AreFilesRead paths old between are → paths ++ path ∷ [] ≡ next → IsLinkFileRead path between new is → all ≡ are ++ is ∷ []
@@ -58,9 +61,11 @@ files_more paths next path old between new are all is read on one same = record 
   journal = read_on old between new read.files path one.0 read.journal one.1;
 }
 
-pub links_none : (old : Journal) (files : LinkFiles) → files.roots.items ≡ [] → files.root_files.items ≡ [] → files.libraries.items ≡ []
-    → files.paths.items ≡ [] → AreLinkFilesRead [] old old files
-links_none old files roots root_files libraries paths =
+pub links_none : (ps : List (Bor (List ℕ))) (old : Journal) (files : LinkFiles) → files.roots.items ≡ [] → files.root_files.items ≡ []
+    → files.libraries.items ≡ [] → files.paths.items ≡ [] → AreLinkFilesRead (texts (take 0 ps)) old old files
+links_none [] old files roots root_files libraries paths =
+    record { read = []; paths_are = refl; are = no_links files roots root_files libraries paths; journal = refl }
+links_none (p ∷ ps) old files roots root_files libraries paths =
     record { read = []; paths_are = refl; are = no_links files roots root_files libraries paths; journal = refl }
 
 pub links_more : (paths next : List (List ℕ)) (path : List ℕ) (old between new : Journal) (before after : LinkFiles) (is : LinkFile)
@@ -88,8 +93,9 @@ rom_paths_more : (roms : List RomFile) (rom : RomFile) → rom_paths (roms ++ ro
 rom_paths_more [] rom = refl
 rom_paths_more (r ∷ roms) rom = ap (λ (ps : List (List ℕ)). r.path.now ∷ ps) (rom_paths_more roms rom)
 
-pub dumps_none : (old : Journal) (chunks : List PlacedBytes) → chunks ≡ [] → AreDumpsRead [] old old chunks
-dumps_none old chunks none_are = record { files = []; paths_are = refl; chunks_are = none_are; journal = refl }
+pub dumps_none : (roms : List RomFile) (old : Journal) (chunks : List PlacedBytes) → chunks ≡ [] → AreDumpsRead (take 0 roms) old old chunks
+dumps_none [] old chunks none_are = record { files = []; paths_are = refl; chunks_are = none_are; journal = refl }
+dumps_none (rom ∷ roms) old chunks none_are = record { files = []; paths_are = refl; chunks_are = none_are; journal = refl }
 
 pub dumps_more : (roms next : List RomFile) (rom : RomFile) (bytes : List ℕ) (old between new : Journal) (chunks all : List PlacedBytes)
     → AreDumpsRead roms old between chunks → roms ++ rom ∷ [] ≡ next → new ≡ and_read between rom.path.now bytes
