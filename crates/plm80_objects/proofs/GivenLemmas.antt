@@ -1,12 +1,13 @@
 -- Answers that are given to files that were read.
-use Rattle.std.specs.Prelude.{◌≡◌, ℕ, ◌+◌, ◌<◌, List, [], ◌∷◌, ◌++◌, length, map, take, Result, Ok, Err, IfOk, IfErr, IsOkAnd, refl}
+use Rattle.std.specs.Prelude.{◌≡◌, ℕ, ◌+◌, ◌<◌, Bool, true, if◌then◌else◌, List, [], ◌∷◌, ◌++◌, length, map, take, Result, Ok, Err, IfOk, IfErr, IsOkAnd, refl}
 use Rattle.std.specs.Borrow.{Bor}
-use Rattle.std.proofs.Common.{◌∙◌, ap, get_or, subst, sym}
+use Rattle.std.proofs.Common.{◌∙◌, ap, arith, get_or, subst, sym}
+use Rattle.std.proofs.lemmas.Bool.{cond-true}
 use Rattle.std.proofs.lemmas.List.{take_more}
 use Rattle.plm80_console.specs.Answer.{AnswerValue, GaveUp, Gives, GivesUp, IsGiven, IsGivenUp, paths_of}
 use Rattle.plm80_console.specs.Answer.GivesUp.{before, within}
 use Rattle.plm80_console.specs.Answer.IsGivenUp.{before as before_it, within as within_it}
-use Rattle.plm80_console.specs.Journal.{AddsSome, FileValue, Journal, OnlyReports, and_read, and_read_files}
+use Rattle.plm80_console.specs.Journal.{AddsSome, FileValue, Journal, OnlyReports, and_read, and_read_files, and_reported}
 
 abbrev pub file_value : (path bytes : List ℕ) → FileValue
 file_value path bytes = record { path = path; bytes = bytes }
@@ -66,6 +67,21 @@ pub reports_after : {A E : Type 0} (old between new : Journal) (files : List Fil
 reports_after old between new files (Ok x) read is = tt
 reports_after old between new files (Err e) read is = only_reports old between new files read is
 
+pub err_from : {A E P : Type 0} (r : Result A E) → P → IfErr r (λ _. P)
+err_from (Ok x) p = tt
+err_from (Err e) p = p
+
+-- a report behind what was read
+pub reported : (old between new : Journal) (files : List FileValue) → between ≡ and_read_files old files → new ≡ and_reported between → OnlyReports old new
+reported old between new files read is =
+    only_reports old between new files read
+    (record {
+      reported = let more : new.reported ≡ between.reported + 1 = ap (λ (j : Journal). j.reported) is in omega (arith, more);
+      written = ap (λ (j : Journal). j.written) is;
+      spoiled = ap (λ (j : Journal). j.spoiled) is;
+      copies = ap (λ (j : Journal). j.copies) is;
+    })
+
 gave_up_after : (old between new : Journal) (files written : List FileValue) → between ≡ and_read_files old files → GaveUp written between new
     → GaveUp written old new
 gave_up_after old between new files written read is =
@@ -117,3 +133,18 @@ module _ (Answers : List FileValue → AnswerValue → Type 0) (paths : List (Li
   pub gives_up_before : {A E : Type 0} (r : Result A E) → IfErr r (λ _. OnlyReports between new) → IfErr r (λ _. GivesUp Answers paths old new)
   gives_up_before (Ok x) only = tt
   gives_up_before (Err e) only = before (only_reports old between new files read only)
+
+  -- of an answer that was made
+  pub gives_up_made : {F : Type 0} (made : Result AnswerValue F) → IfOk made (Answers files) → IsGivenUp (λ a. made ≡ Ok a) between new
+      → GivesUp Answers paths old new
+  gives_up_made {F = F} made answers gave = go gave
+    where
+      go : IsGivenUp (λ a. made ≡ Ok a) between new → GivesUp Answers paths old new
+      go (before_it only) = before (only_reports old between new files read only)
+      go (within_it answer is gave) =
+          within files answer named (subst (λ (m : Result AnswerValue F). IfOk m (Answers files)) is answers)
+          (gave_up_after old between new files answer.files read gave)
+
+-- a push that went well
+pub pushed : {X : Type 0} (ok : Bool) (old more new : List X) → new ≡ (if ok then more else old) → ok ≡ true → new ≡ more
+pushed ok old more new is well = is ∙ cond-true ok more old well

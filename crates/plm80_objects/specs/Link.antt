@@ -10,7 +10,7 @@ use Rattle.link80.specs.declared.linking.Linked.{Linked}
 use Rattle.link80.specs.Selection.{IsSelection}
 use Rattle.link80_text.specs.Parts.{IsMade, modules_of, parts_text, unresolved_text}
 use Rattle.link80_text.specs.Reasons.{PrintsReasons}
-use Rattle.plm80_console.specs.Answer.{AnswerValue, paths_of, writes}
+use Rattle.plm80_console.specs.Answer.{AnswerValue, paths_of as paths_read, writes}
 use Rattle.plm80_console.specs.Journal.{FileValue, Journal, and_read_files}
 use Rattle.plm80_console.specs.Pieces.{SpellsEither}
 use Rattle.plm80_console.specs.declared.link_feed.LinkFile.{LinkFile}
@@ -55,7 +55,7 @@ pub data AreLinkFilesOf : List FileValue → LinkFiles → Type 0 where
 
 pub record AreLinkFilesRead (paths : List (List ℕ)) (old new : Journal) (files : LinkFiles) : Type 0 where
   pub read : List FileValue
-  pub paths_are : paths_of read ≡ paths
+  pub paths_are : paths_read read ≡ paths
   pub are : AreLinkFilesOf read files
   pub journal : new ≡ and_read_files old read
 

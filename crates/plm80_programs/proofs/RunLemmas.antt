@@ -19,7 +19,7 @@ use Rattle.loader80_trace.specs.declared.limits.Limits.{Limits}
 use Rattle.loader80_trace.specs.declared.limits.Span.{Span}
 use Rattle.loader80_trace.specs.Traces.{last_number, run_lines}
 use Rattle.plm80_console.specs.Answer.{AnswerValue, GaveUp, IsAnswered, IsGiven, IsGivenUp, and_files, and_given, prints}
-use Rattle.plm80_console.specs.Answer.IsGivenUp.{within}
+use Rattle.plm80_console.specs.Answer.IsGivenUp.{within as unfinished}
 use Rattle.plm80_console.specs.Journal.{FileValue, Journal, and_printed, and_written}
 use Rattle.plm80_programs.specs.Running.{EndsRun, TracesRun, IsTraceOf, WatchesRun, ending, last_lines, start_of, trace_ending, trace_lines, with_memory}
 
@@ -176,6 +176,6 @@ module _ (inputs : List (ℕ × ℕ)) (limits : Limits) (last : ℕ) (dump : Opt
   run_given_up (Ok x) gave = tt
   run_given_up (Err e) gave =
       let up = subst (λ (j : Journal). GaveUp answer.files j new) printed gave in
-      within (record answer { lines = text ++ answer.lines })
+      unfinished (record answer { lines = text ++ answer.lines })
       (record { text = text; ended = ended; behind = answer; watched = watched; answer_is = refl })
       (record { reported = up.reported; written = up.written; spoiled = up.spoiled; copies = up.copies })

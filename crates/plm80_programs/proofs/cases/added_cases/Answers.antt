@@ -3,6 +3,7 @@ use Rattle.std.proofs.Common.{◌∙◌, ap, arith, refl, subst}
 use Rattle.image80.specs.Case.{DeclaredCase}
 use Rattle.image80.specs.Image.{Located}
 use Rattle.image80.specs.Regions.{Areas}
+use Rattle.image80.specs.RegionsText.{cases_text}
 use Rattle.verify80_cases.specs.declared.search.Note.{Note}
 use Rattle.verify80_cases.specs.Added.{AddsCases}
 use Rattle.plm80_console.specs.Answer.{AnswerValue, behind_file, prints}
@@ -27,5 +28,5 @@ returns c =
       );
       answer_is = c.behind_file.ensures ∙ ap (behind_file c.args.path.now text)
           (c.prints.ensures ∙ ap (λ (l : List ℕ). prints l c.notes_status-status.result) c.in_ok-kept.ensures.lines
-          ∙ ap (λ (n : ℕ). prints c.in_ok-kept.kept.lines.items n) (c.notes_status-status.ensures ∙ ap notes_status c.deref-2.ensures.value));
+          ∙ ap (λ (n : ℕ). prints (cases_text cases) n) (c.notes_status-status.ensures ∙ ap notes_status c.deref-2.ensures.value));
     }
