@@ -1,5 +1,5 @@
 -- What was written to an output that was taken back.
-use Rattle.std.specs.Prelude.{◌≡◌, ℕ, List, [], ◌++◌, Option, None, Some, Result, Ok, Err, IfErr, refl}
+use Rattle.std.specs.Prelude.{◌≡◌, ℕ, List, [], ◌++◌, Option, None, Some, Result, Ok, Err, IfErr, IfOk, refl}
 use Rattle.std.specs.Io.KnownBytes.{Appends}
 use Rattle.std.proofs.Common.{◌∙◌, ap, subst, sym}
 use Rattle.loader80.specs.declared.replies.Outcome.{Outcome}
@@ -9,9 +9,19 @@ use Rattle.loader80.specs.Sends.{Sends}
 use Rattle.loader80.specs.Session.{Says}
 use Rattle.loader80.specs.Texts.{Texts}
 use Rattle.loader80_trace.specs.declared.limits.Limits.{Limits}
-use Rattle.plm80_console.specs.Answer.{IsAnswered, prints}
-use Rattle.plm80_console.specs.Journal.{IsTakenBack, Journal, OnlyReports, and_printed}
-use Rattle.plm80_programs.specs.Running.{AnswersTexts, session_status}
+use Rattle.image80.specs.Case.{DeclaredCase}
+use Rattle.image80.specs.Image.{Located}
+use Rattle.image80.specs.RegionsText.{cases_text}
+use Rattle.verify80_cases.specs.declared.search.Note.{Note}
+use Rattle.plm80_console.specs.Answer.{AnswerValue, GaveUp, Gives, IsAnswered, IsGiven, IsGivenUp, prints}
+use Rattle.plm80_console.specs.Answer.IsGivenUp.{within as given_up}
+use Rattle.plm80_console.specs.Journal.{IsTakenBack, Journal, OnlyReports, and_printed, and_read_files}
+use Rattle.plm80_programs.specs.declared.helpers.run_arguments.RunFiles.{RunFiles}
+use Rattle.plm80_programs.specs.declared.helpers.run_arguments.RunTexts.{RunTexts}
+use Rattle.plm80_programs.specs.Arguments.{run_paths}
+use Rattle.plm80_programs.specs.Cases.{FindsCases, PrintsCases}
+use Rattle.plm80_programs.specs.Running.{AnswersSession, AnswersTexts, run_files, session_status, texts_of}
+use Rattle.plm80_programs.specs.Status.{notes_status}
 
 -- these bytes, which are printed then
 pub printed : (before after : Option (List ℕ)) (lines : List ℕ) (old between new : Journal) → before ≡ Some [] → between ≡ old
@@ -60,3 +70,37 @@ pub session_given : (limits : Limits) (texts : Texts) (said : Result Outcome Ses
 session_given limits texts said before after old between new status empty same sends is printed =
     session_sent limits texts said after old new status (subst (λ (w : Option (List ℕ)). Sends limits.outputs limits.steps texts said w after) empty sends) is
     (subst (λ (j : Journal). IsTakenBack after j new) same printed)
+
+-- of three files
+pub session_gives : {E : Type 0} (paths : RunFiles) (texts : RunTexts) (limits : Limits) (old between new : Journal) (r : Result ℕ E)
+    → between ≡ and_read_files old (run_files paths texts) → IfOk r (IsAnswered (AnswersTexts limits (texts_of texts)) between new)
+    → IfOk r (Gives (AnswersSession limits) (run_paths paths) old new)
+session_gives paths texts limits old between new (Ok status) read gave = record {
+  files = run_files paths texts;
+  paths_are = refl;
+  answer = gave.answer;
+  answers = record {
+    image = record { path = paths.image.now; bytes = texts.program.image.bytes.items };
+    regions = record { path = paths.regions.now; bytes = texts.program.regions.bytes.items };
+    inputs = record { path = paths.inputs.now; bytes = texts.inputs.bytes.items };
+    files_are = refl;
+    answers = gave.answers;
+  };
+  given = subst (λ (j : Journal). IsGiven gave.answer j new status) read gave.given;
+}
+session_gives paths texts limits old between new (Err e) read gave = tt
+
+-- the lines of cases, which are printed as they are found
+pub cases_printed : (image : Located) (cases : List DeclaredCase) (notes : List Note) (old new : Journal) (status : ℕ) → FindsCases image cases notes
+    → new ≡ and_printed old (cases_text cases) → status ≡ notes_status notes → IsAnswered (PrintsCases None image) old new status
+cases_printed image cases notes old new status found printed is = record {
+  answer = prints (cases_text cases) (notes_status notes);
+  answers = record { cases = cases; notes = notes; found = found; files = []; added = refl; answer_is = refl };
+  given = record { journal = printed; status_is = is };
+}
+
+-- an answer that can't be given whole
+pub unfinished : {A E : Type 0} (Answers : AnswerValue → Type 0) (answer : AnswerValue) (old new : Journal) (r : Result A E) → Answers answer
+    → GaveUp answer.files old new → IfErr r (λ _. IsGivenUp Answers old new)
+unfinished Answers answer old new (Ok x) answers gave = tt
+unfinished Answers answer old new (Err e) answers gave = given_up answer answers gave

@@ -174,6 +174,13 @@ fn judged(
     }
 }
 
+/// Where a program starts.
+fn start_of(vouched: &Vouched) -> u16
+    ensures { result ≡ vouched.now.image.start }
+{
+    vouched.image().start
+}
+
 /// The lines of a program's stores, with their names.
 fn stores_of(
     alloc: Global,
@@ -187,7 +194,7 @@ fn stores_of(
 {
     let code = vouched.image().regions.code();
     let stores = find_stores(alloc, vouched, quiet)?;
-    let text = stores_text(alloc, &stores, quiet, vouched.image().start)?;
+    let text = stores_text(alloc, &stores, quiet, start_of(vouched))?;
     let text = names.name(alloc, code, b"STORE ", text)?;
     let text = names.name(alloc, code, b"JUMP ", text)?;
     let causes = if explains {
