@@ -1,1 +1,2 @@
-mod StatusLemmas
+mod BundleLemmas
+mod RequestLemmas

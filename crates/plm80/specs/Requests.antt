@@ -1,13 +1,28 @@
--- The command that a request is of, and the exit statuses of the program. (The statuses are this project's own.)
-use Rattle.std.specs.Prelude.{◌≡◌, ◌⊎◌, ℕ, List, map, codes}
-use Rattle.plm80_names.specs.Arguments.{asks_names}
-use Rattle.plm80_names.specs.Verdict.{IsStatusFor}
-use Rattle.plm80_objects.specs.Compare.{IsCompareStatus}
-use Rattle.plm80_objects.specs.Find.{IsFindStatus}
-use Rattle.plm80_programs.specs.Cases.{IsCasesStatus}
-use Rattle.plm80_programs.specs.Printed.{IsStoresStatus, PrintsCalls, PrintsExplanation, PrintsListing, PrintsReport}
-use Rattle.plm80_programs.specs.Running.{IsCoverStatus, IsRunStatus, IsSessionStatus, IsTraceStatus}
-use Rattle.plm80_programs.specs.Suggest.{IsAdviceStatus}
+-- What each request is, and what is done for it. (The commands and their statuses are this project's own.)
+use Rattle.std.specs.Prelude.{◌≡◌, ◌⊎◌, ℕ, Bool, true, false, List, [], ◌∷◌, Some, String, map, codes, string_bytes}
+use Rattle.std.specs.Str.{bytes_eq}
+use Rattle.clap.specs.declared.parser.matches.ArgMatches.{ArgMatches}
+use Rattle.clap.specs.Matches.{found_of, subcommand_name_of}
+use Rattle.clap.specs.Simple.{subcommand_rows_of}
+use Rattle.clap.specs.Walk.{rows_of}
+use Rattle.plm80_console.specs.Answer.{Gives, GivesUp}
+use Rattle.plm80_console.specs.Arguments.{argument_text}
+use Rattle.plm80_console.specs.Journal.{Journal, OnlyReports, and_reported}
+use Rattle.plm80_names.specs.Arguments.{AreNamedFiles, asks_names, program_paths}
+use Rattle.plm80_names.specs.Verdict.{AnswersProgram}
+use Rattle.plm80_objects.specs.Absolute.{ExtractsFile, GivesDumps, GivesUpDumps}
+use Rattle.plm80_objects.specs.Arguments.{AreAbsoluteArguments, AreCompareArguments, AreExtractArguments, AreFindArguments, AreLibraryArguments, AreLinkArguments, AreLocateArguments, AreMapArguments}
+use Rattle.plm80_objects.specs.Compare.{ComparesFiles}
+use Rattle.plm80_objects.specs.Find.{FindsModules}
+use Rattle.plm80_objects.specs.Link.{LinksFiles}
+use Rattle.plm80_objects.specs.Modules.{AnswersModules, DescribesModules, GivesUpLibrary, LocatesFile, MapsFile, WritesLibrary}
+use Rattle.plm80_programs.specs.Arguments.{AreCallsArguments, AreCasesArguments, AreCoverArguments, AreListArguments, AreRegionsArguments, AreRunArguments, AreStoresArguments, AreTraceArguments, cases_path, run_paths}
+use Rattle.plm80_programs.specs.Cases.{AnswersCases}
+use Rattle.plm80_programs.specs.InputWords.{AnswersWords, AreInputsArguments}
+use Rattle.plm80_programs.specs.Printed.{AnswersStores, PrintsCalls, PrintsExplanation, PrintsListing, PrintsReport}
+use Rattle.plm80_programs.specs.Running.{CoversFiles, RunsFiles, TracesFiles}
+use Rattle.plm80_programs.specs.Suggest.{AnswersAdvice, AreSuggestArguments}
+use Rattle.plm80_programs.specs.Written.{AnswersRegions}
 use Rattle.plm80.specs.declared.commands.arguments.Request.{Request}
 use Rattle.plm80.specs.declared.commands.arguments.Request.TheVariants as request
 
@@ -35,35 +50,97 @@ command_name (request.Module arguments) = codes "module"
 command_name (request.Find arguments) = codes "find"
 command_name (request.Suggest arguments) = codes "suggest"
 
--- the exit status of a command that is done
-abbrev pub HasStatus : Request → (status : ℕ) → Type 0
-HasStatus (request.Link arguments) status = status ≡ 0
-HasStatus (request.Locate arguments) status = status ≡ 0
-HasStatus (request.Run arguments) status = IsRunStatus arguments status
-HasStatus (request.List arguments) status = IsStatusFor (PrintsListing arguments.reached) (asks_names arguments.files) status
-HasStatus (request.Check files) status = IsStatusFor PrintsReport (asks_names files) status
-HasStatus (request.Explain files) status = IsStatusFor PrintsExplanation (asks_names files) status
-HasStatus (request.Library arguments) status = status ≡ 0
-HasStatus (request.Regions arguments) status = status ≡ 0
-HasStatus (request.Cases arguments) status = IsCasesStatus status
-HasStatus (request.Map arguments) status = status ≡ 0
-HasStatus (request.Extract arguments) status = status ≡ 0
-HasStatus (request.Absolute arguments) status = status ≡ 0
-HasStatus (request.Stores arguments) status = IsStoresStatus (map (λ range. range.now) arguments.quiet.items) (asks_names arguments.files) status
-HasStatus (request.Compare arguments) status = IsCompareStatus arguments status
-HasStatus (request.Inputs arguments) status = status ≡ 0
-HasStatus (request.Calls arguments) status = IsStatusFor (PrintsCalls arguments.dot) (asks_names arguments.files) status
-HasStatus (request.Trace arguments) status = IsTraceStatus arguments status
-HasStatus (request.Cover arguments) status = IsCoverStatus arguments status
-HasStatus (request.Module arguments) status = status ≡ 0
-HasStatus (request.Find arguments) status = IsFindStatus arguments status
-HasStatus (request.Suggest arguments) status =
-    IsAdviceStatus (map (λ range. range.now) arguments.rom.items) (map (λ range. range.now) arguments.ram.items) status
+-- its arguments are those that clap has read of its subcommand
+abbrev pub AreArgumentsOf : ArgMatches → Request → Type 0
+AreArgumentsOf matches (request.Link arguments) = AreLinkArguments matches arguments
+AreArgumentsOf matches (request.Locate arguments) = AreLocateArguments matches arguments
+AreArgumentsOf matches (request.Run arguments) = AreRunArguments matches arguments
+AreArgumentsOf matches (request.List arguments) = AreListArguments matches arguments
+AreArgumentsOf matches (request.Check arguments) = AreNamedFiles matches arguments
+AreArgumentsOf matches (request.Explain arguments) = AreNamedFiles matches arguments
+AreArgumentsOf matches (request.Library arguments) = AreLibraryArguments matches arguments
+AreArgumentsOf matches (request.Regions arguments) = AreRegionsArguments matches arguments
+AreArgumentsOf matches (request.Cases arguments) = AreCasesArguments matches arguments
+AreArgumentsOf matches (request.Map arguments) = AreMapArguments matches arguments
+AreArgumentsOf matches (request.Extract arguments) = AreExtractArguments matches arguments
+AreArgumentsOf matches (request.Absolute arguments) = AreAbsoluteArguments matches arguments
+AreArgumentsOf matches (request.Stores arguments) = AreStoresArguments matches arguments
+AreArgumentsOf matches (request.Compare arguments) = AreCompareArguments matches arguments
+AreArgumentsOf matches (request.Inputs arguments) = AreInputsArguments matches arguments
+AreArgumentsOf matches (request.Calls arguments) = AreCallsArguments matches arguments
+AreArgumentsOf matches (request.Trace arguments) = AreTraceArguments matches arguments
+AreArgumentsOf matches (request.Cover arguments) = AreCoverArguments matches arguments
+AreArgumentsOf matches (request.Module arguments) = arguments.object.now ≡ argument_text matches (codes "FILE")
+AreArgumentsOf matches (request.Find arguments) = AreFindArguments matches arguments
+AreArgumentsOf matches (request.Suggest arguments) = AreSuggestArguments matches arguments
 
--- that of a command line: 2 at a fault, else that of the command
-abbrev pub IsCommandStatus : (status : ℕ) → Type 0
-IsCommandStatus status = (status ≡ 2) ⊎ ((request : Request) × HasStatus request status)
+-- it is the one that clap has read
+pub record IsRequestOf (matches : ArgMatches) (request : Request) : Type 0 where
+  pub arguments : ArgMatches
+  pub name : subcommand_name_of matches ≡ Some (command_name request)
+  pub rows : Some (rows_of (found_of arguments)) ≡ option_map (λ p. p.1) (subcommand_rows_of matches)
+  pub are : AreArgumentsOf arguments request
 
--- that of a bundle: 2 at a fault, else that of its session, which ends or is refused
-abbrev pub IsBundleStatus : (status : ℕ) → Type 0
-IsBundleStatus status = (status ≡ 2) ⊎ IsSessionStatus status
+-- it is done: its files were read, its answer was given, and the status is the answer's
+abbrev pub IsPerformed : Request → (old new : Journal) → (status : ℕ) → Type 0
+IsPerformed (request.Link arguments) old new status = Gives (LinksFiles arguments) (map (λ path. path.now) arguments.files.items) old new status
+IsPerformed (request.Locate arguments) old new status = Gives (LocatesFile arguments) (arguments.object.now ∷ []) old new status
+IsPerformed (request.Run arguments) old new status = Gives (RunsFiles arguments) (run_paths arguments.files) old new status
+IsPerformed (request.List arguments) old new status = Gives (AnswersProgram (PrintsListing arguments.reached) (asks_names arguments.files)) (program_paths arguments.files) old new status
+IsPerformed (request.Check files) old new status = Gives (AnswersProgram PrintsReport (asks_names files)) (program_paths files) old new status
+IsPerformed (request.Explain files) old new status = Gives (AnswersProgram PrintsExplanation (asks_names files)) (program_paths files) old new status
+IsPerformed (request.Library arguments) old new status = WritesLibrary arguments old new status
+IsPerformed (request.Regions arguments) old new status = Gives (AnswersRegions arguments.new.now) (arguments.old.now ∷ []) old new status
+IsPerformed (request.Cases arguments) old new status = Gives (AnswersCases (cases_path arguments)) (arguments.image.now ∷ arguments.regions.now ∷ []) old new status
+IsPerformed (request.Map arguments) old new status = Gives (MapsFile arguments) (arguments.object.now ∷ []) old new status
+IsPerformed (request.Extract arguments) old new status = Gives (ExtractsFile arguments) (arguments.image.now ∷ []) old new status
+IsPerformed (request.Absolute arguments) old new status = GivesDumps arguments old new status
+IsPerformed (request.Stores arguments) old new status = Gives (AnswersStores arguments) (program_paths arguments.files) old new status
+IsPerformed (request.Compare arguments) old new status = Gives (ComparesFiles arguments) (arguments.image.now ∷ arguments.dump.now ∷ []) old new status
+IsPerformed (request.Inputs arguments) old new status = Gives (AnswersWords arguments) ([]) old new status
+IsPerformed (request.Calls arguments) old new status = Gives (AnswersProgram (PrintsCalls arguments.dot) (asks_names arguments.files)) (program_paths arguments.files) old new status
+IsPerformed (request.Trace arguments) old new status = Gives (TracesFiles arguments) (run_paths arguments.files) old new status
+IsPerformed (request.Cover arguments) old new status = Gives (CoversFiles arguments) (run_paths arguments.files) old new status
+IsPerformed (request.Module arguments) old new status = Gives (AnswersModules DescribesModules) (arguments.object.now ∷ []) old new status
+IsPerformed (request.Find arguments) old new status = Gives (FindsModules arguments) (arguments.dump.now ∷ map (λ path. path.now) arguments.files.items) old new status
+IsPerformed (request.Suggest arguments) old new status = Gives (AnswersAdvice arguments) (arguments.image.now ∷ []) old new status
+
+-- it isn't: a fault was reported. Twelve commands have written nothing; the nine that write files may have written some of their answer's
+abbrev pub IsFailed : Request → (old new : Journal) → Type 0
+IsFailed (request.Link arguments) old new = GivesUp (LinksFiles arguments) (map (λ path. path.now) arguments.files.items) old new
+IsFailed (request.Locate arguments) old new = GivesUp (LocatesFile arguments) (arguments.object.now ∷ []) old new
+IsFailed (request.Run arguments) old new = GivesUp (RunsFiles arguments) (run_paths arguments.files) old new
+IsFailed (request.List arguments) old new = OnlyReports old new
+IsFailed (request.Check files) old new = OnlyReports old new
+IsFailed (request.Explain files) old new = OnlyReports old new
+IsFailed (request.Library arguments) old new = GivesUpLibrary arguments.library.now old new
+IsFailed (request.Regions arguments) old new = GivesUp (AnswersRegions arguments.new.now) (arguments.old.now ∷ []) old new
+IsFailed (request.Cases arguments) old new = GivesUp (AnswersCases (cases_path arguments)) (arguments.image.now ∷ arguments.regions.now ∷ []) old new
+IsFailed (request.Map arguments) old new = OnlyReports old new
+IsFailed (request.Extract arguments) old new = GivesUp (ExtractsFile arguments) (arguments.image.now ∷ []) old new
+IsFailed (request.Absolute arguments) old new = GivesUpDumps arguments old new
+IsFailed (request.Stores arguments) old new = OnlyReports old new
+IsFailed (request.Compare arguments) old new = OnlyReports old new
+IsFailed (request.Inputs arguments) old new = GivesUp (AnswersWords arguments) ([]) old new
+IsFailed (request.Calls arguments) old new = OnlyReports old new
+IsFailed (request.Trace arguments) old new = OnlyReports old new
+IsFailed (request.Cover arguments) old new = OnlyReports old new
+IsFailed (request.Module arguments) old new = OnlyReports old new
+IsFailed (request.Find arguments) old new = OnlyReports old new
+IsFailed (request.Suggest arguments) old new = OnlyReports old new
+
+-- one of both, with the exit status
+abbrev pub IsDone : Request → (old new : Journal) → (status : ℕ) → Type 0
+IsDone request old new status = IsPerformed request old new status ⊎ ((status ≡ 2) × IsFailed request old new)
+
+-- what comes of a command line: help or what is wrong with it was printed; or the request that clap has read is done
+abbrev pub IsCommandDone : (old new : Journal) → (status : ℕ) → Type 0
+IsCommandDone old new status = ((status ≡ 2) × (new ≡ and_reported old))
+    ⊎ ((matches : ArgMatches) × (request : Request) × IsRequestOf matches request × IsDone request old new status)
+
+-- the program's name alone, or `--why` alone behind it, asks for a bundle; every other command line for a command
+abbrev pub asks_bundle : {Z : Type 0} → List (String Z) → Bool
+asks_bundle [] = true
+asks_bundle (name ∷ []) = true
+asks_bundle (name ∷ why ∷ []) = bytes_eq (string_bytes why) (codes "--why")
+asks_bundle (name ∷ why ∷ more ∷ words) = false

@@ -1,8 +1,9 @@
 //! The commands of the program, done with files. Tests show what they print.
 
-ghost use Rattle.std.specs.Prelude.{◌≡◌, IfOk};
+ghost use Rattle.std.specs.Prelude.{◌≡◌, IfErr, IfOk};
 ghost use Rattle.std.specs.Process.{exit_status};
-ghost use Rattle.plm80.specs.Requests.{HasStatus, IsCommandStatus};
+ghost use Rattle.plm80_console.specs.Journal.{and_reported};
+ghost use Rattle.plm80.specs.Requests.{IsCommandDone, IsDone, IsFailed, IsPerformed};
 
 mod arguments;
 
@@ -19,31 +20,43 @@ use plm80_programs::{
 use std::process::ExitCode;
 
 /// Does the command, and gives the exit status: 1 if an image is refused, 2 at a fault, 3 or 4 as a run ends, and else 0. A fault is
-/// one line on standard error, with words below it if the command asks for them, or `always`; clap's errors and help are printed
-/// there too.
-pub fn run_command(rt: &HostRuntime, arguments: &[String], always: bool) -> ExitCode
-    ensures { IsCommandStatus (exit_status result) }
+/// one line on standard error, with words below it if the command asks for them; clap's errors and help are printed there too.
+pub fn run_command<C: Console>(console: &mut C, arguments: &[String]) -> ExitCode
+    ensures { IsCommandDone (C.journal console.old) (C.journal console.new) (exit_status result) }
 {
-    let (request, why) = match read_arguments(rt, arguments) {
+    let (request, why) = match read_arguments(console, arguments) {
         Ok(asked) => asked,
-        Err(error) => return print_error(rt, &error),
+        Err(error) => return console.report_usage(&error).status(),
     };
-    match perform(Console::new(rt, why || always), request) {
+    if why {
+        console.explain_faults();
+    }
+    do_request(console, request)
+}
+
+/// Does what is asked for, and gives the exit status: that of its answer, or 2 at a fault.
+fn do_request<C: Console>(console: &mut C, request: Request<'_>) -> ExitCode
+    ensures { IsDone request.entry (C.journal console.old) (C.journal console.new) (exit_status result) }
+{
+    match perform(console, request) {
         Ok(status) => ExitCode::from(status),
-        Err(Reported) => ExitCode::from(2),
+        Err(reported) => reported.status(),
     }
 }
 
 /// Prints the error of arguments that are no text, and gives the exit status.
-pub fn refuse_arguments(rt: &HostRuntime) -> ExitCode
-    ensures { exit_status result ≡ 2 }
+pub fn refuse_arguments<C: Console>(console: &mut C) -> ExitCode
+    ensures status { exit_status result ≡ 2 }
+    ensures reported { C.journal console.new ≡ and_reported (C.journal console.old) }
 {
-    print_error(rt, &arguments::no_text(rt.alloc()))
+    let error = arguments::no_text(console.alloc());
+    console.report_usage(&error).status()
 }
 
-/// Does what is asked for, and gives the exit status.
-fn perform(console: Console<'_>, request: Request<'_>) -> Result<u8, Reported>
-    ensures { IfOk result (HasStatus request.entry) }
+/// Does what is asked for, and gives the status of its answer.
+fn perform<C: Console>(console: &mut C, request: Request<'_>) -> Result<u8, Reported>
+    ensures done { IfOk result (IsPerformed request.entry (C.journal console.old) (C.journal console.new)) }
+    ensures fault { IfErr result (λ _. IsFailed request.entry (C.journal console.old) (C.journal console.new)) }
 {
     match request {
         Request::Link(arguments) => link_files(console, &arguments),
@@ -68,16 +81,4 @@ fn perform(console: Console<'_>, request: Request<'_>) -> Result<u8, Reported>
         Request::Find(arguments) => find_modules(console, &arguments),
         Request::Suggest(arguments) => advise_file(console, &arguments),
     }
-}
-
-/// Prints an error of clap, which may be a help text, on standard error, and gives the exit status.
-fn print_error(rt: &HostRuntime, error: &clap::Error) -> ExitCode
-    ensures { exit_status result ≡ 2 }
-{
-    if error.kind() == clap::error::ErrorKind::OutOfMemory {
-        let Reported = Console::new(rt, false).report_memory();
-        return ExitCode::from(2);
-    }
-    let _ = eprint!(rt; "{error}");
-    ExitCode::from(2)
 }

@@ -8,24 +8,28 @@
 //! | `commands` | the commands of the command line, with their arguments |
 #![tactic(auto)]
 
-ghost use Rattle.std.specs.Prelude.{◌⊎◌};
+ghost use Rattle.std.specs.Prelude.{◌≡◌, ◌<◌, ◌≤◌, true, false, length, IfErr, IfOk};
 ghost use Rattle.std.specs.Process.{exit_status};
-ghost use Rattle.plm80.specs.Requests.{IsBundleStatus, IsCommandStatus};
+ghost use Rattle.loader80_text.specs.Bundle.{BundleSends, bundle_limit};
+ghost use Rattle.loader80_text.specs.BundleText.{bundle_texts};
+ghost use Rattle.plm80_console.specs.Journal.{OnlyReports};
+ghost use Rattle.plm80.specs.Bundles.{GivesBundle, IsBundleDone, bundle_status};
+ghost use Rattle.plm80.specs.Requests.{IsCommandDone, asks_bundle};
 
 mod bundle_words;
 mod commands;
 
-use bundle_words::{CopiedReader, explain_bundle};
+use bundle_words::explain_bundle;
 use commands::{refuse_arguments, run_command};
-use loader80::SessionFault;
+use loader80::{Outcome, SessionFault};
 pub use loader80_text::{BUNDLE_LIMIT, BundleFault, bundle};
-use plm80_console::{Console, NotedWriter, Reported};
+use plm80_console::{Console, HostConsole, Reported};
 use plm80_programs::{explain_end, status_of};
-use std::alloc::AllocError;
+use std::alloc::{AllocError, Global};
 use std::env;
-use std::io::{ErrorKind, IsTerminal};
+use std::io::ErrorKind;
 use std::process::ExitCode;
-use stream80::{Reading, Writing};
+use stream80::{Reading, Sink};
 
 /// The steps that a bundle's run makes at most.
 const STEPS: u64 = 1_000_000;
@@ -40,59 +44,107 @@ const OUTPUTS: usize = 65_536;
 /// port, a store outside data or a jump outside its declared targets, and 4 if its steps were used up. A fault is one line on
 /// standard error; with `--why`, or if the environment has `PLM80_WHY`, words about it follow.
 fn main(rt: HostRuntime) -> ExitCode {
+    let mut console = HostConsole::new(&rt, is_explained(&rt));
     let arguments = match env::args(&rt) {
         Ok(arguments) => arguments.collect::<Vec<String>>(rt.alloc()),
         Err(error) if error.kind() == ErrorKind::OutOfMemory => Err(AllocError),
-        Err(_) => return refuse_arguments(&rt),
+        Err(_) => return refuse_arguments(&mut console),
     };
     match arguments {
-        Ok(arguments) => run(&rt, &arguments),
-        Err(AllocError) => {
-            let Reported = Console::new(&rt, false).report_memory();
-            ExitCode::from(2)
-        }
+        Ok(arguments) => run(&mut console, &arguments),
+        Err(AllocError) => console.report_memory().status(),
     }
 }
 
-/// Does what the arguments ask for, the first of which is the program's own name.
-fn run(rt: &HostRuntime, arguments: &[String]) -> ExitCode
-    ensures { IsCommandStatus (exit_status result) ⊎ IsBundleStatus (exit_status result) }
-{
-    // Words about every fault are asked for if the variable is set, and neither empty nor 0.
-    let always = match env::var(rt, "PLM80_WHY") {
+/// Whether words about every fault are asked for: the variable is set, and neither empty nor 0.
+fn is_explained(rt: &HostRuntime) -> bool {
+    match env::var(rt, "PLM80_WHY") {
         Ok(value) => !matches!(value.as_str(), "" | "0"),
         Err(_) => false,
-    };
-    match arguments {
-        [] | [_] => run_bundle(Console::new(rt, always)),
-        [_, why] if why.as_str() == "--why" => run_bundle(Console::new(rt, true)),
-        _ => run_command(rt, arguments, always),
     }
 }
 
-/// Runs the bundle on standard input, and gives the exit status. At a terminal it says first what is read there.
-fn run_bundle(console: Console<'_>) -> ExitCode
-    ensures { IsBundleStatus (exit_status result) }
+/// Does what the arguments ask for, the first of which is the program's own name: the program, over whatever console.
+pub fn run<C: Console>(console: &mut C, arguments: &[String]) -> ExitCode
+    ensures bundle { asks_bundle arguments.now ≡ true → IsBundleDone (C.journal console.old) (C.journal console.new) (exit_status result) }
+    ensures command { asks_bundle arguments.now ≡ false → IsCommandDone (C.journal console.old) (C.journal console.new) (exit_status result) }
 {
-    if console.runtime().stdin().is_terminal() {
-        let _ = eprintln!(console.runtime();
-            "plm80: reads a bundle from standard input; plm80 --help lists the commands"
-        );
+    if asks_bundle(arguments) {
+        return run_bundle(console, arguments.len() > 1);
     }
-    let mut copied = CopiedReader::new(console, console.runtime().stdin());
-    let mut output = NotedWriter::new(console.runtime().stdout());
-    let mut input = Reading::new(&mut copied);
-    let mut out = Writing::new(&mut output);
-    match bundle(console.alloc(), &mut input, &mut out, STEPS, OUTPUTS) {
-        Ok(outcome) => {
-            explain_end(console, outcome.end, outcome.at);
-            ExitCode::from(status_of(outcome.end))
+    run_command(console, arguments)
+}
+
+/// Whether a bundle is asked for: there are no arguments but the program's name, or `--why` alone behind it.
+fn asks_bundle(arguments: &[String]) -> bool
+    ensures { result ≡ asks_bundle arguments.now }
+{
+    match arguments {
+        [] | [_] => true,
+        [_, why] => why.as_str() == "--why",
+        _ => false,
+    }
+}
+
+/// Runs the bundle on standard input, and gives the exit status; with `why`, faults are explained.
+fn run_bundle<C: Console>(console: &mut C, why: bool) -> ExitCode
+    ensures { IsBundleDone (C.journal console.old) (C.journal console.new) (exit_status result) }
+{
+    if why {
+        console.explain_faults();
+    }
+    match transcribe(console) {
+        Ok(status) => ExitCode::from(status),
+        Err(reported) => reported.status(),
+    }
+}
+
+/// Runs the bundle on standard input, prints its transcript, and gives the exit status.
+fn transcribe<C: Console>(console: &mut C) -> Result<u8, Reported>
+    ensures done { IfOk result (GivesBundle (C.journal console.old) (C.journal console.new)) }
+    ensures fault { IfErr result (λ _. OnlyReports (C.journal console.old) (C.journal console.new)) }
+{
+    let text = console.read_input(BUNDLE_LIMIT)?;
+    let mut output = console.output();
+    let answer = answer_of(console.alloc(), &text, &mut output);
+    let failure = console.take_back(output);
+    match bundle_status(answer) {
+        Ok(status) => {
+            explain_outcome(console, answer);
+            Ok(status)
         }
-        Err(BundleFault::Session(SessionFault::Refused(_))) => ExitCode::from(1),
         Err(fault) => {
-            let Reported = console.report(fault);
-            explain_bundle(console, fault, &copied, output.failure());
-            ExitCode::from(2)
+            let reported = console.report(fault);
+            explain_bundle(console, fault, &text, failure);
+            Err(reported)
         }
+    }
+}
+
+/// The answer of a bundle, whose transcript is written.
+fn answer_of<K: Sink>(alloc: Global, text: &[u8], out: &mut K) -> Result<Outcome, BundleFault>
+    requires countable { K.failed out.old < u64.MAX }
+    requires within { length text.now ≤ bundle_limit }
+    ensures { BundleSends 65536 1000000 (bundle_texts text.now) result (K.written out.old) (K.written out.new) }
+{
+    let mut input = Reading::new(text);
+    bundle(alloc, &mut input, out, STEPS, OUTPUTS)
+}
+
+/// The exit status of a bundle's answer: that of the run, or 1 of a refusal.
+fn bundle_status(answer: Result<Outcome, BundleFault>) -> Result<u8, BundleFault>
+    ensures { result ≡ bundle_status answer }
+{
+    match answer {
+        Ok(outcome) => Ok(status_of(outcome.end)),
+        Err(BundleFault::Session(SessionFault::Refused(_))) => Ok(1),
+        Err(fault) => Err(fault),
+    }
+}
+
+/// Says how a run ended, if it ran.
+fn explain_outcome<C: Console>(console: &C, answer: Result<Outcome, BundleFault>) {
+    if let Ok(outcome) = answer {
+        explain_end(console, outcome.end, outcome.at);
     }
 }

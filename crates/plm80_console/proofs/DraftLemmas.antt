@@ -1,8 +1,9 @@
 -- The names of drafts.
-use Rattle.std.specs.Prelude.{◌≡◌, ℕ, List, ◌++◌, codes, Result, Ok, Err, IfOk}
-use Rattle.std.proofs.Common.{◌∙◌}
+use Rattle.std.specs.Prelude.{◌≡◌, ℕ, ◌+◌, List, ◌++◌, codes, Result, Ok, Err, IfErr, IfOk, refl}
+use Rattle.std.proofs.Common.{◌∙◌, ap, arith, inl}
 use Rattle.std.specs.Fmt.{decimal}
-use Rattle.plm80_console.specs.Drafts.{IsBeginning, IsDraft, IsDraftOf}
+use Rattle.plm80_console.specs.Drafts.{GaveUpKeeping, IsBeginning, IsDraft, IsDraftOf}
+use Rattle.plm80_console.specs.Journal.{Journal, and_reported}
 use Rattle.plm80_console.specs.declared.replacing.Draft.{Draft}
 use Rattle.plm80_console.specs.declared.replacing.Draft.TheVariants.{Beside, InPlace}
 use Rattle.plm80_console.specs.declared.replacing.DraftFault.{DraftFault}
@@ -20,3 +21,21 @@ pub drafts_of : (path beginning : List ℕ) (number : ℕ) (name : List ℕ) (an
     → IfOk answer (IsDraftOf path)
 drafts_of path beginning number name (Ok draft) begins named is = draft_of path beginning number name draft begins named is
 drafts_of path beginning number name (Err fault) begins named is = tt
+
+-- a fault before a copy is kept
+pub unkept : (path : List ℕ) (old between new : Journal) → between ≡ old → new ≡ and_reported between → GaveUpKeeping path old new
+unkept path old between new same is = record {
+  between = old;
+  kept = inl refl;
+  fault = record {
+    reported = let more : new.reported ≡ old.reported + 1 = ap (λ (j : Journal). j.reported) is ∙ ap (λ (j : Journal). j.reported + 1) same in omega (arith, more);
+    written = ap (λ (j : Journal). j.written) is ∙ ap (λ (j : Journal). j.written) same;
+    spoiled = inl (ap (λ (j : Journal). j.spoiled) is ∙ ap (λ (j : Journal). j.spoiled) same);
+    copies = ap (λ (j : Journal). j.copies) is ∙ ap (λ (j : Journal). j.copies) same;
+  };
+}
+
+pub unkept_err : {A E : Type 0} (r : Result A E) (path : List ℕ) (old between new : Journal) → between ≡ old → new ≡ and_reported between
+    → IfErr r (λ _. GaveUpKeeping path old new)
+unkept_err (Ok x) path old between new same is = tt
+unkept_err (Err e) path old between new same is = unkept path old between new same is

@@ -20,9 +20,7 @@ use Rattle.omf_library.specs.Fault.{OrNoMemory as OrNoLibraryMemory}
 use Rattle.omf_library.specs.FeedLaws.{LastingFaultsLast}
 use Rattle.omf_library.specs.Spelled.{FaultsLibrary}
 use Rattle.omf_library.specs.LibraryFeed.{LibraryFeedValue, LastingLibraryFault}
-use Rattle.plm80_console.specs.declared.file_fault.FileFault.{FileFault}
-use Rattle.plm80_console.specs.declared.file_fault.FileFault.TheVariants.{Unread, Module, Library}
-use Rattle.plm80_console.specs.Pieces.{begins_library, file_failures, HasBegun, HasTaken, HasTakenFile, HasTakenLibrary, WasRead}
+use Rattle.plm80_console.specs.Pieces.{begins_library, HasBegun, HasTaken, HasTakenFile, HasTakenLibrary}
 
 pub implied : {A E P Q : Type 0} (r : Result A E) → OnOk r P → (P → Q) → OnOk r Q
 implied (Ok x) p f = f p
@@ -162,11 +160,3 @@ begun_by is_library (byte ∷ bytes) first is kind = record { first = byte; rest
 
 pub not_header : (byte : ℕ) → byte ≢ 0x2C → (byte == kind_byte LibraryHeader) ≡ false
 not_header byte other = grind (arith, nat_tests, other)
-
--- ---- what was read whole
-
-pub no_failures : {A : Type 0} (r : Result A FileFault) → WasRead r → file_failures r ≡ 0
-no_failures (Ok x) read = refl
-no_failures (Err (Unread f)) read = absurd read
-no_failures (Err (Module f)) read = refl
-no_failures (Err (Library f)) read = refl

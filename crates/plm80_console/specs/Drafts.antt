@@ -1,6 +1,7 @@
 -- How a new file comes into its place.
-use Rattle.std.specs.Prelude.{◌≡◌, ◌⊎◌, ℕ, ◌==◌, Bool, true, false, ◌&&◌, not, if◌then◌else◌, List, ◌++◌, take, codes, string_bytes}
+use Rattle.std.specs.Prelude.{◌≡◌, ◌⊎◌, ℕ, ◌<◌, ◌==◌, Bool, true, false, ◌&&◌, not, if◌then◌else◌, List, [], ◌∷◌, ◌++◌, take, codes, string_bytes}
 use Rattle.std.specs.Fmt.{decimal}
+use Rattle.plm80_console.specs.Journal.{FileValue, Journal, and_copied, and_written}
 use Rattle.plm80_console.specs.declared.replacing.BothDrafts.{BothDrafts}
 use Rattle.plm80_console.specs.declared.replacing.Draft.{Draft}
 use Rattle.plm80_console.specs.declared.replacing.Draft.TheVariants.{Beside, InPlace}
@@ -41,3 +42,39 @@ IsDraft name InPlace = Unit {0}
 abbrev pub IsDraftOf : (path : List ℕ) → Draft → Type 0
 IsDraftOf path (Beside beside) = IsNamed path (string_bytes beside)
 IsDraftOf path InPlace = Unit {0}
+
+-- ---- what becomes of a file
+
+abbrev pub new_file_value : NewFile → FileValue
+new_file_value file = record { path = file.path.now; bytes = file.bytes.now }
+
+-- ---- drafts that aren't brought to their places, which is reported
+
+-- nothing was written; the file was spoiled, or not
+pub record NotSettled (path : List ℕ) (old new : Journal) : Type 0 where
+  pub reported : old.reported < new.reported
+  pub written : new.written ≡ old.written
+  pub spoiled : (new.spoiled ≡ old.spoiled) ⊎ (new.spoiled ≡ old.spoiled ++ path ∷ [])
+  pub copies : new.copies ≡ old.copies
+
+-- the first of two was not, and nothing was written; or the second was not, and the first was written
+abbrev pub NotBothSettled : (first second : NewFile) → (old new : Journal) → Type 0
+NotBothSettled first second old new =
+    NotSettled first.path.now old new
+    ⊎ ((between : Journal) × NotSettled second.path.now old between × (new ≡ and_written between first.path.now first.bytes.now))
+
+-- ---- copies of old files
+
+-- a copy of the old file was kept under one of its names, or none was
+abbrev pub IsKept : (path : List ℕ) → (old new : Journal) → Type 0
+IsKept path old new = (new ≡ old) ⊎ ((number : ℕ) × (new ≡ and_copied old (kept_text path number)))
+
+-- it was replaced, and the copy, if there is one, was kept before
+abbrev pub IsReplacedKeeping : (path bytes : List ℕ) → (old new : Journal) → Type 0
+IsReplacedKeeping path bytes old new = (between : Journal) × IsKept path old between × (new ≡ and_written between path bytes)
+
+-- it wasn't, which was reported, and nothing was written
+pub record GaveUpKeeping (path : List ℕ) (old new : Journal) : Type 0 where
+  pub between : Journal
+  pub kept : IsKept path old between
+  pub fault : NotSettled path between new

@@ -1,12 +1,14 @@
 pub mod Answer
+pub mod Journal
+pub mod Noted
 pub mod ApartPaths
 pub mod Arguments
 pub mod Kinds
 pub mod Pieces
 pub mod NumberText
 pub mod Refusals
--- what the crate's own functions promise one another: no public contract cites these
 pub mod Drafts
+-- what the crate's own functions promise one another: no public contract cites these
 pub mod FileKinds
 pub mod Lines
 pub mod PathParts

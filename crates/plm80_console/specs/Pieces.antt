@@ -1,8 +1,9 @@
 -- What becomes of feeds that take all bytes of a file, piece after piece.
-use Rattle.std.specs.Prelude.{◌≡◌, ℕ, Bool, true, false, ◌==◌, List, [], ◌∷◌, Option, Some, None, Result, Ok, Err}
+use Rattle.std.specs.Prelude.{◌≡◌, ℕ, Bool, true, false, ◌==◌, List, [], ◌∷◌, Option, Some, None}
 use Rattle.omf_core.specs.Kind.{kind_byte}
 use Rattle.omf_core.specs.declared.kind.RecordKind.TheVariants.{LibraryHeader}
-use Rattle.stream80.specs.WholeText.{read_all_failures}
+use Rattle.omf_model.specs.Modules.{ModuleValue}
+use Rattle.plm80_console.specs.Journal.{Journal, and_read}
 use Rattle.omf_module.specs.FileFeed.{FileFeedValue, LastingFileFault}
 use Rattle.omf_module.specs.Reading.{OrNoMemory as OrNoModuleMemory}
 use Rattle.omf_module.specs.Spelled.{SpellsFile, FaultsFile}
@@ -52,28 +53,15 @@ abbrev pub SpellsEither : List ℕ → LinkFile → Type 0
 SpellsEither bytes (file.Modules ms) = SpellsFile bytes ms.items × (begins_library bytes ≡ false)
 SpellsEither bytes (file.Library ms) = SpellsLibrary bytes ms × (begins_library bytes ≡ true)
 
--- why bytes that were read whole aren't what their first byte says
+-- why bytes aren't what their first byte says
 abbrev pub FaultsEither : List ℕ → FileFault → Type 0
-FaultsEither bytes (fault.Unread f) = Unit {0}
 FaultsEither bytes (fault.Module f) = OrNoModuleMemory (FaultsFile bytes) f × (begins_library bytes ≡ false)
 FaultsEither bytes (fault.Library f) = OrNoLibraryMemory (FaultsLibrary bytes) f × (begins_library bytes ≡ true)
 
--- why they are no object file, whatever their first byte says
-abbrev pub FaultsObjectFile : List ℕ → FileFault → Type 0
-FaultsObjectFile bytes (fault.Unread f) = Unit {0}
-FaultsObjectFile bytes (fault.Module f) = OrNoModuleMemory (FaultsFile bytes) f
-FaultsObjectFile bytes (fault.Library f) = ⊥
+-- the file of a path was read, and this is what it is
+abbrev pub IsLinkFileRead : (path : List ℕ) → (old new : Journal) → LinkFile → Type 0
+IsLinkFileRead path old new file = (bytes : List ℕ) × (new ≡ and_read old path bytes) × SpellsEither bytes file
 
--- what was answered of a file whose bytes were all read
-abbrev pub WasRead : {A : Type 0} → Result A FileFault → Type 0
-WasRead (Ok x) = Unit {0}
-WasRead (Err (fault.Unread f)) = ⊥
-WasRead (Err (fault.Module f)) = Unit {0}
-WasRead (Err (fault.Library f)) = Unit {0}
-
--- how many reads that failed an answer stands for: one that says so, and no other
-abbrev pub file_failures : {A : Type 0} → Result A FileFault → ℕ
-file_failures (Ok x) = 0
-file_failures (Err (fault.Unread f)) = read_all_failures {A = Unit {0}} (Err f)
-file_failures (Err (fault.Module f)) = 0
-file_failures (Err (fault.Library f)) = 0
+-- it was read, and these are its modules
+abbrev pub AreModulesRead : (path : List ℕ) → (old new : Journal) → List ModuleValue → Type 0
+AreModulesRead path old new modules = (bytes : List ℕ) × (new ≡ and_read old path bytes) × SpellsFile bytes modules

@@ -1,11 +1,10 @@
 //! What a command answers, and what becomes of an answer: its files are written, its lines are printed, and its status is given.
 
-ghost use Rattle.std.specs.Prelude.{◌≡◌, IfOk, IsOkAnd};
-ghost use Rattle.plm80_console.specs.Answer.{file_of, prints, writes, writes_both};
+ghost use Rattle.std.specs.Prelude.{◌≡◌};
+ghost use Rattle.plm80_console.specs.Answer.{behind_file, file_of, prints, writes, writes_both};
 
-use crate::console::{Console, Reported};
 use crate::replacing::NewFile;
-use std::alloc::{AllocError, Global};
+use std::alloc::Global;
 use std::marker::Model;
 
 /// A file to write: its path, and all bytes that it gets.
@@ -28,9 +27,9 @@ pub enum WrittenFiles<'a> {
 /// exit status. A contract sees all three.
 #[derive(Drop)]
 pub struct Answer<'a> {
-    files: WrittenFiles<'a>,
-    lines: Vec<u8>,
-    status: u8,
+    pub(crate) files: WrittenFiles<'a>,
+    pub(crate) lines: Vec<u8>,
+    pub(crate) status: u8,
 }
 
 impl<'a> Model for Answer<'a> {
@@ -64,6 +63,22 @@ impl<'a> Answer<'a> {
         }
     }
 
+    /// The same lines and status; a file is written before the lines are printed, and no other.
+    pub fn behind_file<'b>(self, path: &'b str, bytes: Vec<u8>) -> Answer<'b>
+        ensures { result ≡ behind_file path.now bytes.items self.entry }
+    {
+        let Answer {
+            files: _,
+            lines,
+            status,
+        } = self;
+        Answer {
+            files: WrittenFiles::One(WrittenFile { path, bytes }),
+            lines,
+            status,
+        }
+    }
+
     /// Two files are written. The status is 0.
     pub fn writes_both(alloc: Global, first: WrittenFile<'a>, second: WrittenFile<'a>) -> Answer<'a>
         ensures { result ≡ writes_both (file_of first.entry) (file_of second.entry) }
@@ -78,43 +93,13 @@ impl<'a> Answer<'a> {
 
 impl<'a> WrittenFile<'a> {
     /// The same file, whose bytes stay here.
-    fn lent(&self) -> NewFile<'_>
+    pub(crate) fn lent(&self) -> NewFile<'_>
         ensures path { result.path.now ≡ self.now.path.now }
         ensures bytes { result.bytes.now ≡ self.now.bytes.items }
     {
         NewFile {
             path: self.path,
             bytes: &self.bytes,
-        }
-    }
-}
-
-impl<'a> Console<'a> {
-    /// Writes the files of an answer, then prints its lines, and gives its status.
-    pub fn give(self, answer: Answer<'_>) -> Result<u8, Reported>
-        ensures { IfOk result (λ status. status ≡ answer.entry.status) }
-    {
-        let Answer {
-            files,
-            lines,
-            status,
-        } = answer;
-        match &files {
-            WrittenFiles::Nothing => {}
-            WrittenFiles::One(file) => self.replace(file.path, &file.bytes)?,
-            WrittenFiles::Both(first, second) => self.replace_both(first.lent(), second.lent())?,
-        }
-        self.print(&lines)?;
-        Ok(status)
-    }
-
-    /// Does an answer, unless memory ran out for it.
-    pub fn give_if_made(self, answer: Result<Answer<'_>, AllocError>) -> Result<u8, Reported>
-        ensures { IfOk result (λ status. IsOkAnd answer.entry (λ made. status ≡ made.status)) }
-    {
-        match answer {
-            Ok(answer) => self.give(answer),
-            Err(AllocError) => Err(self.report_memory()),
         }
     }
 }

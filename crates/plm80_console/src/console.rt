@@ -1,95 +1,219 @@
-//! What a command runs on, and its faults: each is one line on standard error, and words below it if they are asked for.
+//! What a command runs on: files, standard input and output, and faults, each a line on standard error.
 
-ghost use Rattle.std.specs.Prelude.{◌≡◌};
+ghost use Rattle.std.specs.Prelude.{◌≡◌, ◌<◌, ◌≤◌, ◌∷◌, ℕ, List, [], Ok, Some, IfErr, IfOk, IfSome, IsOkAnd, vec_len};
+ghost use Rattle.std.specs.Process.{exit_status};
+ghost use Rattle.stream80.specs.WholeText.{text_limit};
+ghost use Rattle.plm80_console.specs.Answer.{GaveUp, IsGiven, IsGivenUp, and_files, files_of};
+ghost use Rattle.plm80_console.specs.Drafts.{GaveUpKeeping, IsReplacedKeeping, new_file_value};
+ghost use Rattle.plm80_console.specs.Journal.{IsTakenBack, Journal, OnlyReports, and_input, and_printed, and_read, and_reported, and_written};
 
-use std::alloc::Global;
+use crate::answer::{Answer, WrittenFiles};
+use crate::pieces::TakePieces;
+use crate::read_file::ReadFile;
+use crate::replacing::NewFile;
+use std::alloc::{AllocError, Global};
 use std::fmt::Display;
 use std::io::ErrorKind;
+use std::process::ExitCode;
+use stream80::{Failed, Sink, write_all};
 
-/// A fault has been reported on standard error.
-#[derive(Clone, Copy)]
-pub struct Reported;
+/// A fault has been reported on standard error. Only a console makes one, and nothing but an exit status comes of it.
+pub struct Reported(());
 
-/// What a command runs on, and whether its faults are explained.
-#[derive(Clone, Copy)]
-pub struct Console<'a> {
-    pub rt: &'a HostRuntime,
-    pub why: bool,
+impl Reported {
+    pub(crate) fn new() -> Reported {
+        Reported(())
+    }
+
+    /// The exit status of a fault.
+    pub fn status(self) -> ExitCode
+        ensures { exit_status result ≡ 2 }
+    {
+        let Reported(()) = self;
+        ExitCode::from(2)
+    }
 }
 
-impl<'a> Console<'a> {
-    /// The console of the program; with `why`, words about a fault follow its line.
-    pub fn new(rt: &'a HostRuntime, why: bool) -> Console<'a>
-        ensures runtime { result.rt ≡ rt.entry }
-        ensures explains { result.why ≡ why }
-    {
-        Console { rt, why }
-    }
+/// What a command runs on. Its journal says what was done with it so far.
+pub trait Console {
+    // What was done so far.
+    ghost journal: { Self → Journal };
 
-    /// What the program runs on.
-    pub fn runtime(self) -> &'a HostRuntime
-        ensures { result ≡ self.entry.rt }
-    {
-        self.rt
-    }
+    /// Standard output, lent out: it must be taken back.
+    type Output: Sink;
 
     /// The allocator of the program.
-    pub fn alloc(self) -> Global {
-        self.rt.alloc()
-    }
+    fn alloc(&self) -> Global;
 
     /// Whether faults are explained.
-    pub fn explains(self) -> bool
-        ensures { result ≡ self.entry.why }
-    {
-        self.why
-    }
+    fn explains(&self) -> bool;
 
-    /// Reports a fault.
-    pub fn report(self, fault: impl Display + Drop) -> Reported {
-        let _ = eprintln!(self.rt; "plm80: {fault}");
-        Reported
-    }
+    /// All bytes of the file of this path, of which there are no more than a text may have.
+    fn read(&mut self, path: &str) -> Result<Vec<u8>, Reported>
+        ensures read { IfOk result (λ bytes. journal self.new ≡ and_read (journal self.old) path.now bytes.items) }
+        ensures within { IfOk result (λ bytes. vec_len bytes ≤ text_limit) }
+        ensures fault { IfErr result (λ _. OnlyReports (journal self.old) (journal self.new)) };
+
+    /// All bytes of standard input, of which there are no more than `limit`. They are a bundle: at a terminal it is said that one is read.
+    fn read_input(&mut self, limit: usize) -> Result<Vec<u8>, Reported>
+        requires { limit < usize.MAX }
+        ensures read { IfOk result (λ bytes. journal self.new ≡ and_input (journal self.old) bytes.items) }
+        ensures within { IfOk result (λ bytes. vec_len bytes ≤ limit) }
+        ensures fault { IfErr result (λ _. OnlyReports (journal self.old) (journal self.new)) };
+
+    /// Hands all bytes of the file of this path to the feed, in pieces of 512 bytes at most.
+    fn read_in_pieces<F: TakePieces>(&mut self, path: &str, feed: &mut F) -> Result<(), Reported>
+        ensures read { IfOk result (λ _. (bytes : List ℕ) × (journal self.new ≡ and_read (journal self.old) path.now bytes)
+            × (F.has_taken feed.old [] → F.has_taken feed.new bytes)) }
+        ensures fault { IfErr result (λ _. OnlyReports (journal self.old) (journal self.new)) };
+
+    /// Replaces the file of this path by one with these bytes.
+    fn replace(&mut self, path: &str, bytes: &[u8]) -> Result<(), Reported>
+        ensures written { IfOk result (λ _. journal self.new ≡ and_written (journal self.old) path.now bytes.now) }
+        ensures fault { IfErr result (λ _. GaveUp (record { path = path.now; bytes = bytes.now } ∷ []) (journal self.old) (journal self.new)) };
+
+    /// Replaces two files. Neither is changed before both are written, unless both are written in place.
+    fn replace_both(&mut self, first: NewFile<'_>, second: NewFile<'_>) -> Result<(), Reported>
+        ensures written { IfOk result (λ _. journal self.new ≡ and_written (and_written (journal self.old) first.entry.path.now
+            first.entry.bytes.now) second.entry.path.now second.entry.bytes.now) }
+        ensures fault { IfErr result (λ _. GaveUp (new_file_value first.entry ∷ new_file_value second.entry ∷ [])
+            (journal self.old) (journal self.new)) };
+
+    /// Replaces the file of this path. If the path names an object file now, a copy of it is kept beside the path first.
+    fn replace_keeping_objects(&mut self, path: &str, bytes: &[u8]) -> Result<(), Reported>
+        ensures written { IfOk result (λ _. IsReplacedKeeping path.now bytes.now (journal self.old) (journal self.new)) }
+        ensures fault { IfErr result (λ _. GaveUpKeeping path.now (journal self.old) (journal self.new)) };
+
+    /// Standard output, to which nothing was written yet.
+    fn output(&mut self) -> Self::Output
+        ensures written { Self.Output.written result ≡ Some [] }
+        ensures unfailed { Self.Output.failed result ≡ 0 }
+        ensures unchanged { journal self.new ≡ journal self.old };
+
+    /// Takes the output back: what was written to it is printed. Why a write failed last; `None` if none did.
+    fn take_back(&mut self, output: Self::Output) -> Option<ErrorKind>
+        ensures { IsTakenBack (Self.Output.written output) (journal self.old) (journal self.new) };
+
+    /// Reports a fault, in a line of its own.
+    fn report<F: Display + Drop>(&mut self, fault: F) -> Reported
+        ensures { journal self.new ≡ and_reported (journal self.old) };
+
+    /// Prints an error of clap, or the help text that was asked for, on standard error.
+    fn report_usage(&mut self, error: &clap::Error) -> Reported
+        ensures { journal self.new ≡ and_reported (journal self.old) };
+
+    /// From now on faults are explained.
+    fn explain_faults(&mut self)
+        ensures { journal self.new ≡ journal self.old };
+
+    /// Prints words below the fault that was reported, if they are asked for.
+    fn explain<F: Display + Drop>(&self, words: F);
+
+    /// Prints a line on standard error that is no fault.
+    fn remark<F: Display + Drop>(&self, words: F);
+
+    /// The bytes of a file that was read, to say more of it; `None` if that isn't asked for, or if it can't be read again, as a pipe
+    /// can't.
+    fn text_to_explain(&self, path: &str) -> Option<Vec<u8>>
+        ensures { IfSome result (λ bytes. vec_len bytes ≤ text_limit) };
+
+    /// Whether both paths name one file, by whatever spellings and links.
+    fn is_one_file(&self, first: &str, second: &str) -> bool;
 
     /// Reports a fault of the file of this path.
-    pub fn report_file(self, path: &str, fault: impl Display + Drop) -> Reported {
-        let _ = eprintln!(self.rt; "plm80: {path} {fault}");
-        Reported
+    fn report_file<F: Display + Drop>(&mut self, path: &str, fault: F) -> Reported
+        ensures { journal self.new ≡ and_reported (journal self.old) }
+    {
+        self.report(format_args!("{path} {fault}"))
     }
 
     /// Reports that memory ran out.
-    pub fn report_memory(self) -> Reported {
+    fn report_memory(&mut self) -> Reported
+        ensures { journal self.new ≡ and_reported (journal self.old) }
+    {
         self.report("Memory")
     }
 
-    /// Reports a fault of the system at the file of this path.
-    pub fn report_system(self, path: &str, fault: &str, failure: Option<ErrorKind>) -> Reported {
-        let reported = self.report_file(path, fault);
-        self.explain_failure(failure);
-        reported
-    }
-
     /// Reports that standard output takes nothing more.
-    pub fn report_output(self, failure: Option<ErrorKind>) -> Reported {
+    fn report_output(&mut self, failure: Option<ErrorKind>) -> Reported
+        ensures { journal self.new ≡ and_reported (journal self.old) }
+    {
         let reported = self.report("Write");
         self.explain_failure(failure);
         reported
     }
 
-    /// Prints words about the fault that was reported, if they are asked for.
-    pub fn explain(self, words: impl Display + Drop) {
-        if self.why {
-            let _ = eprintln!(self.rt; "  {words}");
-        }
-    }
-
     /// Says why the system failed, if it is known.
-    pub fn explain_failure(self, failure: Option<ErrorKind>) {
+    fn explain_failure(&self, failure: Option<ErrorKind>) {
         match failure {
             Some(ErrorKind::NotFound) => self.explain("no such file or directory"),
             Some(ErrorKind::InvalidFilename) => self.explain("a name in the path is too long"),
             Some(ErrorKind::OutOfMemory) | None => {}
             Some(kind) => self.explain(kind),
+        }
+    }
+
+    /// The file of this path, read whole.
+    fn read_file<'a>(&mut self, path: &'a str) -> Result<ReadFile<'a>, Reported>
+        ensures path { IfOk result (λ file. file.path.now ≡ path.now) }
+        ensures read { IfOk result (λ file. journal self.new ≡ and_read (journal self.old) path.now file.bytes.items) }
+        ensures fault { IfErr result (λ _. OnlyReports (journal self.old) (journal self.new)) }
+    {
+        let bytes = self.read(path)?;
+        Ok(ReadFile { path, bytes })
+    }
+
+    /// Prints bytes on standard output.
+    fn print(&mut self, bytes: &[u8]) -> Result<(), Reported>
+        ensures printed { IfOk result (λ _. journal self.new ≡ and_printed (journal self.old) bytes.now) }
+        ensures fault { IfErr result (λ _. OnlyReports (journal self.old) (journal self.new)) }
+    {
+        let mut output = self.output();
+        let answer = write_all(&mut output, bytes);
+        let failure = self.take_back(output);
+        match answer {
+            Ok(()) => Ok(()),
+            Err(Failed) => Err(self.report_output(failure)),
+        }
+    }
+
+    /// Writes files, in order.
+    fn write_files(&mut self, files: &WrittenFiles<'_>) -> Result<(), Reported>
+        ensures written { IfOk result (λ _. journal self.new ≡ and_files (journal self.old) (files_of files.now)) }
+        ensures fault { IfErr result (λ _. GaveUp (files_of files.now) (journal self.old) (journal self.new)) }
+    {
+        match files {
+            WrittenFiles::Nothing => Ok(()),
+            WrittenFiles::One(file) => self.replace(file.path, &file.bytes),
+            WrittenFiles::Both(first, second) => self.replace_both(first.lent(), second.lent()),
+        }
+    }
+
+    /// Writes the files of an answer, then prints its lines, and gives its status.
+    fn give(&mut self, answer: Answer<'_>) -> Result<u8, Reported>
+        ensures given { IfOk result (IsGiven answer.entry (journal self.old) (journal self.new)) }
+        ensures fault { IfErr result (λ _. GaveUp answer.entry.files (journal self.old) (journal self.new)) }
+        ensures no_file { answer.entry.files ≡ [] → IfErr result (λ _. OnlyReports (journal self.old) (journal self.new)) }
+    {
+        let Answer {
+            files,
+            lines,
+            status,
+        } = answer;
+        self.write_files(&files)?;
+        self.print(&lines)?;
+        Ok(status)
+    }
+
+    /// Does an answer, unless memory ran out for it.
+    fn give_if_made(&mut self, answer: Result<Answer<'_>, AllocError>) -> Result<u8, Reported>
+        ensures given { IfOk result (λ status. IsOkAnd answer.entry (λ made. IsGiven made (journal self.old) (journal self.new) status)) }
+        ensures fault { IfErr result (λ _. IsGivenUp (λ made. answer.entry ≡ Ok made) (journal self.old) (journal self.new)) }
+        ensures no_file { IfOk answer.entry (λ made. made.files ≡ []) → IfErr result (λ _. OnlyReports (journal self.old) (journal self.new)) }
+    {
+        match answer {
+            Ok(answer) => self.give(answer),
+            Err(AllocError) => Err(self.report_memory()),
         }
     }
 }

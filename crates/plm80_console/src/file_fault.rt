@@ -1,35 +1,20 @@
 //! Why an object file or a library isn't read.
 
 ghost use Rattle.std.specs.Prelude.{◌≡◌};
+ghost use Rattle.plm80_console.specs.Journal.{and_reported};
 
 use crate::console::{Console, Reported};
-use crate::file_kinds::FileRole;
+use crate::file_kinds::{FileRole, explain_file};
 use omf_library::LibraryFault;
 use omf_module::{Cause, ModuleFault};
-use std::io::ErrorKind;
-use stream80::ReadAllFault;
 
 /// Why an object file or a library isn't read.
 #[derive(Clone, Copy, Debug)]
 pub enum FileFault {
-    /// Not all of its bytes were read.
-    Unread(ReadAllFault),
     /// Its bytes are no object file.
     Module(ModuleFault),
     /// Its bytes are no library.
     Library(LibraryFault),
-}
-
-impl From<ReadAllFault> for FileFault {
-    ghost use Rattle.plm80_console.specs.declared.file_fault.FileFault.TheVariants.{Unread};
-
-    ghost from_gives = { λ given fault. fault ≡ Unread given };
-
-    fn from(fault: ReadAllFault) -> FileFault
-        ensures { result ≡ Unread fault }
-    {
-        FileFault::Unread(fault)
-    }
 }
 
 impl From<ModuleFault> for FileFault {
@@ -57,22 +42,28 @@ impl From<LibraryFault> for FileFault {
 }
 
 impl FileFault {
-    /// Reports the fault of the file of this path, and why reading it failed, if that is known.
-    pub fn report(self, console: Console<'_>, path: &str, failure: Option<ErrorKind>) -> Reported {
+    /// Reports the fault of the file of this path, which was read.
+    pub fn report<C: Console>(self, console: &mut C, path: &str) -> Reported
+        ensures { C.journal console.new ≡ and_reported (C.journal console.old) }
+    {
         match self {
-            FileFault::Unread(fault) => console.report_unread(path, fault, failure),
             FileFault::Module(fault) => match fault.cause {
                 Cause::Memory => console.report_memory(),
-                _ => {
-                    let reported = console.report_file(path, fault);
-                    if let Some(bytes) = console.text_to_explain(path) {
-                        console.explain_file(&bytes, FileRole::ObjectFile);
-                    }
-                    reported
-                }
+                _ => report_module(console, path, fault),
             },
             FileFault::Library(LibraryFault::Memory) => console.report_memory(),
             FileFault::Library(fault) => console.report_file(path, fault),
         }
     }
+}
+
+/// Reports why a file is no object file, and what it seems to be.
+fn report_module<C: Console>(console: &mut C, path: &str, fault: ModuleFault) -> Reported
+    ensures { C.journal console.new ≡ and_reported (C.journal console.old) }
+{
+    let reported = console.report_file(path, fault);
+    if let Some(bytes) = console.text_to_explain(path) {
+        explain_file(console, &bytes, FileRole::ObjectFile);
+    }
+    reported
 }

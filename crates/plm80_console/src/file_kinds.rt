@@ -12,6 +12,7 @@ ghost use Rattle.plm80_console.specs.FileKinds.{
 };
 
 use crate::console::Console;
+use crate::line_words::explain_line;
 use crate::number_text::are_digits;
 
 /// The first byte of an object file, the type of a module header.
@@ -205,41 +206,37 @@ fn begins_with_digits(bytes: &[u8], count: usize) -> bool
     count <= bytes.len() && are_digits(&bytes[..count])
 }
 
-impl<'a> Console<'a> {
-    /// Says what these bytes seem to be, which were to be the file of this role, and which path it has, if that helps; whether it said
-    /// what they seem to be.
-    pub(crate) fn explain_file(self, bytes: &[u8], role: FileRole) -> bool
-        ensures { result ≡ is_explained role (kind_of bytes.now) }
-    {
-        let kind = FileKind::of(bytes);
-        let words = role.words(kind);
-        if let Some(words) = words {
-            self.explain(words);
-        }
-        if let Some(words) = role.place(kind) {
-            self.explain(words);
-        }
-        words.is_some()
+/// Says what these bytes seem to be, which were to be the file of this role, and which path it has, if that helps; whether it said
+/// what they seem to be.
+pub(crate) fn explain_file<C: Console>(console: &C, bytes: &[u8], role: FileRole) -> bool
+    ensures { result ≡ is_explained role (kind_of bytes.now) }
+{
+    let kind = FileKind::of(bytes);
+    let words = role.words(kind);
+    if let Some(words) = words {
+        console.explain(words);
     }
-
-    /// Says what the file of this path seems to be, which was to be an image, unless it begins as one.
-    pub fn explain_image_file(self, path: &str) {
-        if let Some(bytes) = self.text_to_explain(path) {
-            self.explain_file(&bytes, FileRole::Image);
-        }
+    if let Some(words) = role.place(kind) {
+        console.explain(words);
     }
+    words.is_some()
+}
 
-    /// Says which path is that of the regions, if this text, which isn't theirs, seems to be another file of the command.
-    pub fn explain_regions_place(self, text: &[u8]) {
-        if matches!(FileKind::of(text), FileKind::ObjectFile | FileKind::Inputs) {
-            self.explain("REGIONS is the second path");
-        }
+/// Says which path is that of the regions, if this text, which isn't theirs, seems to be another file of the command.
+pub fn explain_regions_place<C: Console>(console: &C, text: &[u8]) {
+    if matches!(FileKind::of(text), FileKind::ObjectFile | FileKind::Inputs) {
+        console.explain("REGIONS is the second path");
     }
+}
 
-    /// Says what is wrong with the line of this number of a text that was to be that of inputs.
-    pub fn explain_inputs(self, text: &[u8], number: usize) {
-        if !self.explain_file(text, FileRole::Inputs) {
-            self.explain_line(text, number);
-        }
+/// Says what the file with these bytes seems to be, which was to be an image, unless it begins as one.
+pub fn explain_image<C: Console>(console: &C, bytes: &[u8]) {
+    explain_file(console, bytes, FileRole::Image);
+}
+
+/// Says what is wrong with the line of this number of a text that was to be that of inputs.
+pub fn explain_inputs<C: Console>(console: &C, text: &[u8], number: usize) {
+    if !explain_file(console, text, FileRole::Inputs) {
+        explain_line(console, text, number);
     }
 }

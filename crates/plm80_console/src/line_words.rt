@@ -67,20 +67,23 @@ pub(crate) struct Line<'a> {
     pub(crate) is_ended: bool,
 }
 
-impl<'a> Console<'a> {
-    /// Says what is wrong with the line of this number, counted from 1, if it has one of the forms that occur most: each in a line
-    /// of its own.
-    pub fn explain_line(self, text: &[u8], number: usize) {
-        self.explain_flaws(text, number, FLAWS);
-    }
+/// Says what is wrong with the line of this number, counted from 1, if it has one of the forms that occur most: each in a line of its
+/// own.
+pub fn explain_line<C: Console>(console: &C, text: &[u8], number: usize) {
+    explain_flaws(console, text, number, FLAWS);
+}
 
-    /// Says which of these flaws the line of this number has, each in a line of its own.
-    pub(crate) fn explain_flaws(self, text: &[u8], number: usize, flaws: &[LineFlaw]) {
-        if let Some(line) = line_of(text, number) {
-            for flaw in flaws {
-                if line.has(*flaw) {
-                    self.explain(*flaw);
-                }
+/// Says which of these flaws the line of this number has, each in a line of its own.
+pub(crate) fn explain_flaws<C: Console>(
+    console: &C,
+    text: &[u8],
+    number: usize,
+    flaws: &[LineFlaw],
+) {
+    if let Some(line) = line_of(text, number) {
+        for flaw in flaws {
+            if line.has(*flaw) {
+                console.explain(*flaw);
             }
         }
     }

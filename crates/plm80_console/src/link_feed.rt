@@ -1,19 +1,17 @@
 //! The files that `link` takes: object files and libraries, by their first byte.
 
-ghost use Rattle.std.specs.Prelude.{◌≡◌, ◌<◌, ◌≤◌, ◌+◌, List, ℕ, length, Err, IfOk, IfErr, IfSome};
-ghost use Rattle.stream80.specs.declared.whole.ReadAllFault.TheVariants as read;
-ghost use Rattle.stream80.specs.WholeText.{text_limit};
-ghost use Rattle.omf_module.specs.Spelled.{SpellsFile};
-ghost use Rattle.plm80_console.specs.declared.file_fault.FileFault.TheVariants as fault;
-ghost use Rattle.plm80_console.specs.Pieces.{HasTakenEither, SpellsEither, FaultsEither, FaultsObjectFile, WasRead, file_failures};
+ghost use Rattle.std.specs.Prelude.{List, ℕ, IfOk, IfErr};
+ghost use Rattle.plm80_console.specs.Journal.{OnlyReports};
+ghost use Rattle.plm80_console.specs.Pieces.{FaultsEither, HasTakenEither, IsLinkFileRead, SpellsEither};
 
+use crate::console::{Console, Reported};
 use crate::file_fault::FileFault;
-use crate::pieces::{TakePieces, read_in_pieces};
+use crate::pieces::TakePieces;
+use crate::unread_bytes::explain_unread;
 use omf_core::RecordKind;
 use omf_library::{Library, LibraryFeed};
 use omf_module::{FileFeed, Module};
 use std::alloc::{AllocError, Global};
-use stream80::{Source, TEXT_LIMIT};
 
 /// The type of a library header, which no module begins with.
 const LIBRARY_HEADER: u8 = RecordKind::LibraryHeader as u8;
@@ -77,7 +75,6 @@ impl LinkFeed {
     fn finish(self) -> Result<LinkFile, FileFault>
         ensures file { (text : List ℕ) → HasTakenEither self text → IfOk result (SpellsEither text) }
         ensures fault { (text : List ℕ) → HasTakenEither self text → IfErr result (FaultsEither text) }
-        ensures read { WasRead result }
     {
         match self {
             LinkFeed::Empty(alloc) => Ok(LinkFile::Modules(FileFeed::new(alloc).finish()?)),
@@ -87,38 +84,18 @@ impl LinkFeed {
     }
 }
 
-/// The object file or the library that all bytes of `source` are, read in pieces.
-///
-/// # Errors
-/// `Unread` if not all bytes were read: `Read` exactly if a read failed, `TooLong` only if there are more than 1,048,576 bytes, and
-/// `Memory` if memory runs out. `Library` of a file that begins as a library does, `Module` of any other: the first fault of its
-/// bytes, or that memory ran out.
-pub fn read_link_file<S: Source>(alloc: Global, source: &mut S) -> Result<LinkFile, FileFault>
-    requires { S.failed source.old < u64.MAX }
-    ensures file { IfOk result (λ file. IfSome (S.left source.old) (λ text. SpellsEither text file)) }
-    ensures fault { IfErr result (λ fault. IfSome (S.left source.old) (λ text. FaultsEither text fault)) }
-    ensures within { WasRead result → IfSome (S.left source.old) (λ text. length text ≤ text_limit) }
-    ensures too_long { result ≡ Err (fault.Unread read.TooLong) → IfSome (S.left source.old) (λ text. text_limit < length text) }
-    ensures count { S.failed source.new ≡ S.failed source.old + file_failures result }
+/// The object file or the library that the file of this path is, read in pieces.
+pub fn read_link_file<C: Console>(console: &mut C, path: &str) -> Result<LinkFile, Reported>
+    ensures read { IfOk result (IsLinkFileRead path.now (C.journal console.old) (C.journal console.new)) }
+    ensures fault { IfErr result (λ _. OnlyReports (C.journal console.old) (C.journal console.new)) }
 {
-    let mut feed = LinkFeed::Empty(alloc);
-    read_in_pieces(source, TEXT_LIMIT, &mut feed)?;
-    feed.finish()
-}
-
-/// The modules of the object file that all bytes of `source` are, read in pieces; also of one that begins as a library.
-///
-/// # Errors
-/// `Unread` as of `read_link_file`. `Module` with the first fault of its bytes, or that memory ran out.
-pub fn read_object_file<S: Source>(alloc: Global, source: &mut S) -> Result<Vec<Module>, FileFault>
-    requires { S.failed source.old < u64.MAX }
-    ensures modules { IfOk result (λ modules. IfSome (S.left source.old) (λ text. SpellsFile text modules.items)) }
-    ensures fault { IfErr result (λ fault. IfSome (S.left source.old) (λ text. FaultsObjectFile text fault)) }
-    ensures within { WasRead result → IfSome (S.left source.old) (λ text. length text ≤ text_limit) }
-    ensures too_long { result ≡ Err (fault.Unread read.TooLong) → IfSome (S.left source.old) (λ text. text_limit < length text) }
-    ensures count { S.failed source.new ≡ S.failed source.old + file_failures result }
-{
-    let mut feed = FileFeed::new(alloc);
-    read_in_pieces(source, TEXT_LIMIT, &mut feed)?;
-    Ok(feed.finish()?)
+    let mut feed = LinkFeed::Empty(console.alloc());
+    console.read_in_pieces(path, &mut feed)?;
+    match feed.finish() {
+        Ok(file) => {
+            explain_unread(console, path);
+            Ok(file)
+        }
+        Err(fault) => Err(fault.report(console, path)),
+    }
 }

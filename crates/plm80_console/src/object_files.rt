@@ -1,34 +1,40 @@
 //! The modules of object files, for the commands that take them.
 
-ghost use Rattle.std.specs.Prelude.{◌≡◌, ◌++◌, [], OnOk};
+ghost use Rattle.std.specs.Prelude.{◌≡◌, ◌++◌, [], IfErr, IfOk, OnOk};
+ghost use Rattle.plm80_console.specs.Journal.{OnlyReports};
+ghost use Rattle.plm80_console.specs.Pieces.{AreModulesRead};
 
 use crate::console::{Console, Reported};
-use crate::files::LateFile;
-use crate::link_feed::read_object_file;
-use omf_module::Module;
-use stream80::Reading;
+use crate::file_fault::FileFault;
+use crate::unread_bytes::explain_unread;
+use omf_module::{FileFeed, Module};
 
-/// The modules of the object file of this path, in order.
-pub fn read_modules(console: Console<'_>, path: &str) -> Result<Vec<Module>, Reported> {
-    let mut file = LateFile::new(console.runtime(), path);
-    let mut source = Reading::new(&mut file);
-    match read_object_file(console.alloc(), &mut source) {
+/// The modules of the object file of this path, in order; also of one that begins as a library. It is read in pieces.
+pub fn read_modules<C: Console>(console: &mut C, path: &str) -> Result<Vec<Module>, Reported>
+    ensures read { IfOk result (λ modules. AreModulesRead path.now (C.journal console.old) (C.journal console.new) modules.items) }
+    ensures fault { IfErr result (λ _. OnlyReports (C.journal console.old) (C.journal console.new)) }
+{
+    let mut feed = FileFeed::new(console.alloc());
+    console.read_in_pieces(path, &mut feed)?;
+    match feed.finish() {
         Ok(modules) => {
-            console.explain_unread(path);
+            explain_unread(console, path);
             Ok(modules)
         }
-        Err(fault) => Err(fault.report(console, path, file.failure())),
+        Err(fault) => Err(FileFault::Module(fault).report(console, path)),
     }
 }
 
 /// Appends modules that were read.
-pub fn append_modules(
-    console: Console<'_>,
+pub fn append_modules<C: Console>(
+    console: &mut C,
     modules: &mut Vec<Module>,
     read: &mut Vec<Module>,
 ) -> Result<(), Reported>
     ensures appended { OnOk result (modules.new.items ≡ modules.old.items ++ read.old.items) }
     ensures taken { OnOk result (read.new.items ≡ []) }
+    ensures unchanged { IfOk result (λ _. C.journal console.new ≡ C.journal console.old) }
+    ensures fault { IfErr result (λ _. OnlyReports (C.journal console.old) (C.journal console.new)) }
 {
     match modules.append(read) {
         Ok(()) => Ok(()),

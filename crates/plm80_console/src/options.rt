@@ -1,8 +1,9 @@
 //! The values of options: numbers and names.
 
-ghost use Rattle.std.specs.Prelude.{◌≡◌, unwrap_or, option_map, IfOk, IfSome, IsSomeAnd, OnErr};
+ghost use Rattle.std.specs.Prelude.{◌≡◌, unwrap_or, option_map, IfErr, IfOk, IfSome, IsSomeAnd, OnErr};
 ghost use Rattle.clap.specs.Matches.{first_value, found_of};
 ghost use Rattle.plm80_console.specs.Arguments.{argument_text};
+ghost use Rattle.plm80_console.specs.Journal.{OnlyReports, and_reported};
 ghost use Rattle.plm80_console.specs.NumberText.{IsByteText, IsCountText, IsLengthText, IsWordText, count_value, word_value};
 
 use crate::argument_texts::argument_text;
@@ -67,93 +68,109 @@ impl<'a> OptionText<'a> {
     {
         self.text
     }
-}
 
-impl<'a> Console<'a> {
     /// The word that the option's value writes, of one to four hexadecimal digits.
-    pub fn word(self, option: OptionText<'_>) -> Result<u16, Reported>
-        ensures word { let text = option.entry.text.now in IfOk result (λ word. IsWordText text × (word ≡ word_value text)) }
-        ensures fault { OnErr result (IsWordText option.entry.text.now → ⊥) }
+    pub fn word<C: Console>(self, console: &mut C) -> Result<u16, Reported>
+        ensures word { let text = self.entry.text.now in IfOk result (λ word. IsWordText text × (word ≡ word_value text)) }
+        ensures fault { OnErr result (IsWordText self.entry.text.now → ⊥) }
+        ensures unchanged { IfOk result (λ _. C.journal console.new ≡ C.journal console.old) }
+        ensures failed { IfErr result (λ _. OnlyReports (C.journal console.old) (C.journal console.new)) }
     {
-        match word_of_digits(option.text) {
+        match word_of_digits(self.text) {
             Some(word) => Ok(word),
-            None => Err(self.report_number(option, "one to four hexadecimal digits")),
+            None => Err(self.report_number(console, "one to four hexadecimal digits")),
         }
     }
 
     /// The word of an option that needn't be given.
-    pub fn word_if_given(self, option: Option<OptionText<'_>>) -> Result<Option<u16>, Reported>
+    pub fn word_if_given<C: Console>(
+        option: Option<OptionText<'_>>,
+        console: &mut C,
+    ) -> Result<Option<u16>, Reported>
         ensures word { IfOk result (λ word. word ≡ option_map (λ given. word_value given.text.now) option.entry) }
         ensures text { IfOk result (λ word. IfSome option.entry (λ given. IsWordText given.text.now)) }
         ensures fault { OnErr result (IsSomeAnd option.entry (λ given. IsWordText given.text.now → ⊥)) }
+        ensures unchanged { IfOk result (λ _. C.journal console.new ≡ C.journal console.old) }
+        ensures failed { IfErr result (λ _. OnlyReports (C.journal console.old) (C.journal console.new)) }
     {
         match option {
-            Some(option) => Ok(Some(self.word(option)?)),
+            Some(option) => Ok(Some(option.word(console)?)),
             None => Ok(None),
         }
     }
 
     /// The number that the option's value writes, of one to five hexadecimal digits.
-    pub fn length(self, option: OptionText<'_>) -> Result<u32, Reported>
-        ensures length { let text = option.entry.text.now in IfOk result (λ length. IsLengthText text × (length ≡ word_value text)) }
-        ensures fault { OnErr result (IsLengthText option.entry.text.now → ⊥) }
+    pub fn length<C: Console>(self, console: &mut C) -> Result<u32, Reported>
+        ensures length { let text = self.entry.text.now in IfOk result (λ length. IsLengthText text × (length ≡ word_value text)) }
+        ensures fault { OnErr result (IsLengthText self.entry.text.now → ⊥) }
+        ensures unchanged { IfOk result (λ _. C.journal console.new ≡ C.journal console.old) }
+        ensures failed { IfErr result (λ _. OnlyReports (C.journal console.old) (C.journal console.new)) }
     {
-        match length_of_digits(option.text) {
+        match length_of_digits(self.text) {
             Some(length) => Ok(length),
-            None => Err(self.report_number(option, "one to five hexadecimal digits")),
+            None => Err(self.report_number(console, "one to five hexadecimal digits")),
         }
     }
 
     /// The byte that the option's value writes, of two hexadecimal digits.
-    pub fn byte(self, option: OptionText<'_>) -> Result<u8, Reported>
-        ensures byte { let text = option.entry.text.now in IfOk result (λ byte. IsByteText text × (byte ≡ word_value text)) }
-        ensures fault { OnErr result (IsByteText option.entry.text.now → ⊥) }
+    pub fn byte<C: Console>(self, console: &mut C) -> Result<u8, Reported>
+        ensures byte { let text = self.entry.text.now in IfOk result (λ byte. IsByteText text × (byte ≡ word_value text)) }
+        ensures fault { OnErr result (IsByteText self.entry.text.now → ⊥) }
+        ensures unchanged { IfOk result (λ _. C.journal console.new ≡ C.journal console.old) }
+        ensures failed { IfErr result (λ _. OnlyReports (C.journal console.old) (C.journal console.new)) }
     {
-        match byte_of_digits(option.text) {
+        match byte_of_digits(self.text) {
             Some(byte) => Ok(byte),
-            None => Err(self.report_number(option, "two hexadecimal digits")),
+            None => Err(self.report_number(console, "two hexadecimal digits")),
         }
     }
 
     /// The number that the option's value writes in decimal.
-    pub fn count(self, option: OptionText<'_>) -> Result<u64, Reported>
-        ensures count { let text = option.entry.text.now in IfOk result (λ count. IsCountText text × (count ≡ count_value text)) }
-        ensures fault { OnErr result (IsCountText option.entry.text.now → ⊥) }
+    pub fn count<C: Console>(self, console: &mut C) -> Result<u64, Reported>
+        ensures count { let text = self.entry.text.now in IfOk result (λ count. IsCountText text × (count ≡ count_value text)) }
+        ensures fault { OnErr result (IsCountText self.entry.text.now → ⊥) }
+        ensures unchanged { IfOk result (λ _. C.journal console.new ≡ C.journal console.old) }
+        ensures failed { IfErr result (λ _. OnlyReports (C.journal console.old) (C.journal console.new)) }
     {
-        match count_of_digits(option.text) {
+        match count_of_digits(self.text) {
             Some(count) => Ok(count),
             None => {
                 let wanted = "decimal digits, a number up to 18446744073709551615";
-                Err(self.report_number(option, wanted))
+                Err(self.report_number(console, wanted))
             }
         }
     }
 
-    /// The name that the option's value is.
-    pub fn name(self, option: OptionText<'_>) -> Result<Name, Reported>
-        ensures { IfOk result (λ name. name ≡ option.entry.text.now) }
+    /// The name that the option's value is, of a module.
+    pub fn module_name<C: Console>(self, console: &mut C) -> Result<Name, Reported>
+        ensures name { IfOk result (λ name. name ≡ self.entry.text.now) }
+        ensures unchanged { IfOk result (λ _. C.journal console.new ≡ C.journal console.old) }
+        ensures failed { IfErr result (λ _. OnlyReports (C.journal console.old) (C.journal console.new)) }
     {
-        match Name::new(self.alloc(), option.text.as_bytes()) {
+        match Name::new(console.alloc(), self.text.as_bytes()) {
             Ok(name) => Ok(name),
             Err(NameFault::BadName) => {
                 let wanted = "1 to 255 characters, 21 to 7E, without a blank";
-                Err(self.report_option(option, "BadName", wanted))
+                Err(self.report(console, "BadName", wanted))
             }
-            Err(NameFault::Memory) => Err(self.report_memory()),
+            Err(NameFault::Memory) => Err(console.report_memory()),
         }
     }
 
     /// Reports that the option's value isn't a number of its form.
-    pub fn report_number(self, option: OptionText<'_>, wanted: &str) -> Reported {
-        self.report_option(option, "BadNumber", wanted)
+    pub fn report_number<C: Console>(self, console: &mut C, wanted: &str) -> Reported
+        ensures { C.journal console.new ≡ and_reported (C.journal console.old) }
+    {
+        self.report(console, "BadNumber", wanted)
     }
 
-    /// Reports a fault of an option's value, and says which option has which value, and what is wanted.
-    fn report_option(self, option: OptionText<'_>, fault: &str, wanted: &str) -> Reported {
-        let reported = self.report(fault);
-        if self.explains() {
-            let _ = eprintln!(self.runtime(); "  --{} {}: {wanted}", option.name, option.text);
-        }
+    /// Reports a fault of the option's value, and says which option has which value, and what is wanted.
+    fn report<C: Console>(self, console: &mut C, fault: &str, wanted: &str) -> Reported
+        ensures { C.journal console.new ≡ and_reported (C.journal console.old) }
+    {
+        let reported = console.report(fault);
+        let (name, text) = (self.name, self.text);
+        console.explain(format_args!("--{name} {text}: {wanted}"));
         reported
     }
 }

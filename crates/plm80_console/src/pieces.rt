@@ -1,8 +1,6 @@
 //! Files read in pieces, each handed on before the next one is read.
 
-ghost use Rattle.std.specs.Prelude.{◌≡◌, ◌≢◌, ℕ, ◌+◌, ◌<◌, ◌≤◌, ◌++◌, List, [], length, IfSome, OnOk, Err};
-ghost use Rattle.std.specs.Io.KnownBytes.{IsAtEnd};
-ghost use Rattle.stream80.specs.WholeText.{TakesAtMost, read_all_failures};
+ghost use Rattle.std.specs.Prelude.{◌≢◌, ℕ, ◌++◌, List, OnOk, Err};
 ghost use Rattle.omf_module.specs.Fault.{no_memory};
 
 use omf_library::laws::lasting_faults_last;
@@ -10,10 +8,6 @@ use omf_library::{LibraryFault, LibraryFeed};
 use omf_module::laws::lasting_file_faults_last;
 use omf_module::{Cause, FileFeed, ModuleFault};
 use std::alloc::AllocError;
-use stream80::{ReadAllFault, Source};
-
-// How many bytes are read at a time.
-const PIECE: usize = 512;
 
 /// What takes the pieces of a file.
 pub trait TakePieces {
@@ -70,37 +64,4 @@ fn unless_library_memory(answer: Result<usize, LibraryFault>) -> Result<(), Allo
         Err(LibraryFault::Memory) => Err(AllocError),
         _ => Ok(()),
     }
-}
-
-/// Hands all bytes of `source`, which are at most `limit`, to the feed, in pieces of 512 bytes at most. It takes no more than
-/// `limit` + 1 of them, the last of which shows that they are too many. It reads on to the end also if the feed has a fault.
-///
-/// # Errors
-/// `Read` if a read fails; `TooLong` if there are more than `limit` bytes; `Memory` if memory runs out.
-pub fn read_in_pieces<S: Source, F: TakePieces>(
-    source: &mut S,
-    limit: usize,
-    feed: &mut F,
-) -> Result<(), ReadAllFault>
-    requires countable { S.failed source.old < u64.MAX }
-    requires bounded { limit < usize.MAX }
-    ensures whole { OnOk result (IfSome (S.left source.old) (λ text. F.has_taken feed.old [] → F.has_taken feed.new text)) }
-    ensures at_end { OnOk result (IsAtEnd (S.left source.new)) }
-    ensures within { OnOk result (IfSome (S.left source.old) (λ text. length text ≤ limit)) }
-    ensures too_long { result ≡ Err ReadAllFault.TooLong → IfSome (S.left source.old) (λ text. limit < length text) }
-    ensures taken { TakesAtMost (limit + 1) (S.left source.old) (S.left source.new) }
-    ensures count { S.failed source.new ≡ S.failed source.old + read_all_failures result }
-{
-    let mut taken = 0;
-    let mut piece = [0u8; PIECE];
-    'pieces: while taken <= limit {
-        let room = PIECE.min(limit - taken + 1);
-        let count = source.read(&mut piece[..room])?;
-        if count == 0 {
-            return Ok(());
-        }
-        taken += count;
-        feed.take(&piece[..count])?;
-    }
-    Err(ReadAllFault::TooLong)
 }

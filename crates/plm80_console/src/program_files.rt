@@ -1,13 +1,15 @@
 //! The image and its regions, which several commands read.
 
-ghost use Rattle.std.specs.Prelude.{◌≡◌, IfOk};
+ghost use Rattle.std.specs.Prelude.{◌≡◌, IfErr, IfOk};
 ghost use Rattle.image80.specs.RegionsText.{Spells};
 ghost use Rattle.image80_file.specs.ImageFile.{SpellsImage, without_regions};
+ghost use Rattle.plm80_console.specs.Journal.{OnlyReports, and_reported};
 
 use crate::console::{Console, Reported};
-use crate::file_kinds::FileRole;
+use crate::file_kinds::{FileRole, explain_file, explain_regions_place};
 use crate::regions_words::explain_regions;
 use crate::syntax::{Argument, Kind};
+use crate::unread_bytes::explain_unread_bytes;
 use image80::{Image, Regions, RegionsFault, read_regions};
 use image80_file::{ImageFault, read_image};
 
@@ -26,26 +28,30 @@ pub const REGIONS: Argument<'static> = Argument {
 };
 
 /// The regions that the file's text spells.
-pub fn regions_of(console: Console<'_>, path: &str, text: &[u8]) -> Result<Regions, Reported>
-    ensures { IfOk result (Spells text.now) }
+pub fn regions_of<C: Console>(console: &mut C, path: &str, text: &[u8]) -> Result<Regions, Reported>
+    ensures regions { IfOk result (Spells text.now) }
+    ensures unchanged { IfOk result (λ _. C.journal console.new ≡ C.journal console.old) }
+    ensures fault { IfErr result (λ _. OnlyReports (C.journal console.old) (C.journal console.new)) }
 {
     match read_regions(console.alloc(), text) {
         Ok(regions) => Ok(regions),
         Err(fault) => {
             let reported = report_regions(console, path, text, fault);
-            console.explain_regions_place(text);
+            explain_regions_place(console, text);
             Err(reported)
         }
     }
 }
 
 /// Reports why the text of the file of this path spells no regions.
-pub fn report_regions(
-    console: Console<'_>,
+pub fn report_regions<C: Console>(
+    console: &mut C,
     path: &str,
     text: &[u8],
     fault: RegionsFault,
-) -> Reported {
+) -> Reported
+    ensures { C.journal console.new ≡ and_reported (C.journal console.old) }
+{
     if let RegionsFault::Memory = fault {
         return console.report_memory();
     }
@@ -55,24 +61,26 @@ pub fn report_regions(
 }
 
 /// The image that the file's bytes spell, with these regions.
-pub fn image_of(
-    console: Console<'_>,
+pub fn image_of<C: Console>(
+    console: &mut C,
     path: &str,
     bytes: &[u8],
     regions: Regions,
 ) -> Result<Image, Reported>
     ensures image { IfOk result (λ image. SpellsImage bytes.now (without_regions image)) }
     ensures regions { IfOk result (λ image. image.regions ≡ regions) }
+    ensures unchanged { IfOk result (λ _. C.journal console.new ≡ C.journal console.old) }
+    ensures fault { IfErr result (λ _. OnlyReports (C.journal console.old) (C.journal console.new)) }
 {
     match read_image(console.alloc(), bytes, regions) {
         Ok(image) => {
-            console.explain_unread_bytes(path, bytes);
+            explain_unread_bytes(console, path, bytes);
             Ok(image)
         }
         Err((_, ImageFault::Memory)) => Err(console.report_memory()),
         Err((_, fault)) => {
             let reported = console.report_file(path, fault);
-            console.explain_file(bytes, FileRole::Image);
+            explain_file(console, bytes, FileRole::Image);
             Err(reported)
         }
     }

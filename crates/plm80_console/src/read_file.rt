@@ -1,8 +1,6 @@
 //! Files with their paths, so that a fault of their bytes is reported with the path of the file that has it.
 
-ghost use Rattle.std.specs.Prelude.{◌≡◌, IfOk};
-
-use crate::console::{Console, Reported};
+ghost use Rattle.std.specs.Prelude.{◌≡◌};
 
 /// A file that was read whole: its path and its bytes.
 #[derive(Drop)]
@@ -28,15 +26,5 @@ impl<'a> ReadFile<'a> {
             path: self.path,
             fault,
         }
-    }
-}
-
-impl<'c> Console<'c> {
-    /// The file of this path, read whole.
-    pub fn read_file<'a>(self, path: &'a str) -> Result<ReadFile<'a>, Reported>
-        ensures { IfOk result (λ file. file.path.now ≡ path.now) }
-    {
-        let bytes = self.read_whole(path)?;
-        Ok(ReadFile { path, bytes })
     }
 }

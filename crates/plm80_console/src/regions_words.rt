@@ -5,8 +5,8 @@ ghost use Rattle.plm80_console.specs.Lines.{needs_version_2};
 ghost use Rattle.plm80_console.specs.RangeWords.{IsBehindKeyword, IsInWords};
 
 use crate::console::Console;
-use crate::file_kinds::FileRole;
-use crate::line_words::{UPPER_FLAWS, VERSION_FLAWS, line_of};
+use crate::file_kinds::{FileRole, explain_file};
+use crate::line_words::{UPPER_FLAWS, VERSION_FLAWS, explain_flaws, line_of};
 use crate::number_text::word_of_digits;
 use image80::{Range, RegionsFault};
 use std::alloc::{AllocError, Global};
@@ -19,39 +19,40 @@ const ADDRESSES: usize = 65_536;
 const NO_LINE: usize = 0;
 
 /// Says what is wrong with the text of regions that has this fault.
-pub fn explain_regions(console: Console<'_>, text: &[u8], fault: RegionsFault) {
+pub fn explain_regions<C: Console>(console: &C, text: &[u8], fault: RegionsFault) {
     match fault {
         RegionsFault::BadVersion => {
-            if !console.explain_file(text, FileRole::Regions) {
-                console.explain_flaws(text, 1, VERSION_FLAWS);
+            if !explain_file(console, text, FileRole::Regions) {
+                explain_flaws(console, text, 1, VERSION_FLAWS);
             }
         }
         RegionsFault::BadLine(number) => {
             if needs_version_2(text, number) {
                 console.explain("a CASE line needs REGIONS 2 as the first line");
             }
-            console.explain_flaws(text, number, UPPER_FLAWS);
+            explain_flaws(console, text, number, UPPER_FLAWS);
         }
-        RegionsFault::RegionsOverlap => console.explain_overlap(text),
+        RegionsFault::RegionsOverlap => explain_overlap(console, text),
         RegionsFault::NoStack | RegionsFault::Memory => {}
     }
 }
 
-impl<'a> Console<'a> {
-    /// Says which two lines share an address. If memory runs out for that, it says nothing.
-    fn explain_overlap(self, text: &[u8]) {
-        if !self.explains() {
-            return;
-        }
-        if let Ok(Some((first, second))) = overlapping_lines(self.alloc(), text) {
-            for number in [first, second] {
-                let Some(line) = line_of(text, number) else {
-                    continue;
-                };
-                if let Ok(words) = str::from_utf8(line.bytes) {
-                    let _ = eprintln!(self.runtime(); "  line {number}: {words}");
-                }
-            }
+/// Says which two lines share an address. If memory runs out for that, it says nothing.
+fn explain_overlap<C: Console>(console: &C, text: &[u8]) {
+    if !console.explains() {
+        return;
+    }
+    if let Ok(Some((first, second))) = overlapping_lines(console.alloc(), text) {
+        explain_range_line(console, text, first);
+        explain_range_line(console, text, second);
+    }
+}
+
+/// Shows the line of this number.
+fn explain_range_line<C: Console>(console: &C, text: &[u8], number: usize) {
+    if let Some(line) = line_of(text, number) {
+        if let Ok(words) = str::from_utf8(line.bytes) {
+            console.explain(format_args!("line {number}: {words}"));
         }
     }
 }

@@ -3,11 +3,15 @@
 //! A file is written beside its place, synced, and renamed, so that the place has the old file or the new one, never a part. A
 //! place that is no regular file with one link, or beside which no file of the same owner can be made, is written in place.
 
-ghost use Rattle.std.specs.Prelude.{◌≡◌, IfOk, string_bytes};
+ghost use Rattle.std.specs.Prelude.{◌≡◌, ◌∷◌, [], IfErr, IfOk, string_bytes};
 ghost use Rattle.std.specs.IoError.{error_kind};
-ghost use Rattle.plm80_console.specs.Drafts.{IsBeginning, IsDraft, IsDraftOf, in_order, is_in_place};
+ghost use Rattle.plm80_console.specs.Answer.{GaveUp};
+ghost use Rattle.plm80_console.specs.Drafts.{IsBeginning, IsDraft, IsDraftOf, NotSettled, NotBothSettled, in_order, is_in_place, new_file_value};
+ghost use Rattle.plm80_console.specs.Journal.{and_reported, and_written};
 
 use crate::console::{Console, Reported};
+use crate::host::HostConsole;
+use crate::notes::Note;
 use crate::path_parts::folder_and_name;
 use std::alloc::AllocError;
 use std::fs::{File, Metadata, OpenOptions};
@@ -26,8 +30,7 @@ pub struct NewFile<'a> {
     pub bytes: &'a [u8],
 }
 
-/// A new file before it is in its place.
-#[derive(Drop)]
+/// A new file before it is in its place. It is settled or dropped, by name.
 pub(crate) enum Draft {
     /// It is whole and synced, in the file of this path.
     Beside(String),
@@ -44,7 +47,6 @@ impl Draft {
 }
 
 /// Two new files with their drafts.
-#[derive(Drop)]
 struct BothDrafts<'a> {
     first: NewFile<'a>,
     first_draft: Draft,
@@ -101,24 +103,39 @@ impl From<io::Error> for DraftFault {
     }
 }
 
-impl<'a> Console<'a> {
+impl<'a> HostConsole<'a> {
     /// Makes these bytes all that the file of this path has. After a fault it is as it was, unless it is written in place.
-    pub fn replace(self, path: &str, bytes: &[u8]) -> Result<(), Reported> {
-        let file = NewFile { path, bytes };
+    pub(crate) fn replace_file(&mut self, file: NewFile<'_>) -> Result<(), Reported>
+        ensures written { IfOk result (λ _. self.new.notes.journal
+            ≡ and_written self.old.notes.journal file.entry.path.now file.entry.bytes.now) }
+        ensures fault { IfErr result (λ _. GaveUp (new_file_value file.entry ∷ []) self.old.notes.journal self.new.notes.journal) }
+    {
         let draft = self.draft(file)?;
-        self.settle(file, draft)
+        self.settle(file, draft)?;
+        self.note(&Note::Written(file.path, file.bytes));
+        Ok(())
     }
 
     /// Replaces two files. Neither is changed before both are written, unless both are written in place.
-    pub fn replace_both(self, first: NewFile<'_>, second: NewFile<'_>) -> Result<(), Reported> {
+    pub(crate) fn replace_two(
+        &mut self,
+        first: NewFile<'_>,
+        second: NewFile<'_>,
+    ) -> Result<(), Reported>
+        ensures written { IfOk result (λ _. self.new.notes.journal ≡ and_written (and_written self.old.notes.journal
+            first.entry.path.now first.entry.bytes.now) second.entry.path.now second.entry.bytes.now) }
+        ensures fault { IfErr result (λ _. GaveUp (new_file_value first.entry ∷ new_file_value second.entry ∷ [])
+            self.old.notes.journal self.new.notes.journal) }
+    {
         let first_draft = self.draft(first)?;
         match self.draft(second) {
-            Ok(second_draft) => self.settle_both(in_order(
-                first,
-                first_draft,
-                second,
-                second_draft,
-            )),
+            Ok(second_draft) => {
+                let both = in_order(first, first_draft, second, second_draft);
+                self.settle_both(both)?;
+                self.note(&Note::Written(first.path, first.bytes));
+                self.note(&Note::Written(second.path, second.bytes));
+                Ok(())
+            }
             Err(reported) => {
                 self.drop_draft(first_draft);
                 Err(reported)
@@ -127,19 +144,49 @@ impl<'a> Console<'a> {
     }
 
     /// Moves both drafts to their places, in their order.
-    fn settle_both(self, both: BothDrafts<'_>) -> Result<(), Reported> {
-        match self.settle(both.first, both.first_draft) {
-            Ok(()) => self.settle(both.second, both.second_draft),
+    fn settle_both(&mut self, both: BothDrafts<'_>) -> Result<(), Reported>
+        ensures unchanged { IfOk result (λ _. self.new.notes.journal ≡ self.old.notes.journal) }
+        ensures fault { IfErr result (λ _. NotBothSettled both.entry.first both.entry.second self.old.notes.journal self.new.notes.journal) }
+    {
+        let BothDrafts {
+            first,
+            first_draft,
+            second,
+            second_draft,
+        } = both;
+        match self.settle(first, first_draft) {
+            Ok(()) => self.settle_second(first, second, second_draft),
             Err(reported) => {
-                self.drop_draft(both.second_draft);
+                self.drop_draft(second_draft);
+                Err(reported)
+            }
+        }
+    }
+
+    /// Moves the draft of the second file to its place, when that of the first one is in its own.
+    fn settle_second(
+        &mut self,
+        first: NewFile<'_>,
+        second: NewFile<'_>,
+        draft: Draft,
+    ) -> Result<(), Reported>
+        ensures unchanged { IfOk result (λ _. self.new.notes.journal ≡ self.old.notes.journal) }
+        ensures fault { IfErr result (λ _. NotBothSettled first.entry second.entry self.old.notes.journal self.new.notes.journal) }
+    {
+        match self.settle(second, draft) {
+            Ok(()) => Ok(()),
+            Err(reported) => {
+                self.note(&Note::Written(first.path, first.bytes));
                 Err(reported)
             }
         }
     }
 
     /// Writes the file beside its place, if it can be renamed from there.
-    pub(crate) fn draft(self, file: NewFile<'_>) -> Result<Draft, Reported>
-        ensures { IfOk result (IsDraftOf file.entry.path.now) }
+    pub(crate) fn draft(&mut self, file: NewFile<'_>) -> Result<Draft, Reported>
+        ensures draft { IfOk result (IsDraftOf file.entry.path.now) }
+        ensures unchanged { IfOk result (λ _. self.new.notes.journal ≡ self.old.notes.journal) }
+        ensures fault { IfErr result (λ _. self.new.notes.journal ≡ and_reported self.old.notes.journal) }
     {
         match self.try_draft(file) {
             Ok(draft) => Ok(draft),
@@ -152,30 +199,49 @@ impl<'a> Console<'a> {
         }
     }
 
-    /// Moves the draft to the file's place.
-    pub(crate) fn settle(self, file: NewFile<'_>, draft: Draft) -> Result<(), Reported> {
-        let answer = match &draft {
-            Draft::Beside(beside) => fs::rename(self.runtime(), beside, file.path),
-            Draft::InPlace => fs::write(self.runtime(), file.path, file.bytes),
-        };
-        match answer {
+    /// Moves the draft to the file's place. If that fails in place, the file may have lost its bytes.
+    pub(crate) fn settle(&mut self, file: NewFile<'_>, draft: Draft) -> Result<(), Reported>
+        ensures unchanged { IfOk result (λ _. self.new.notes.journal ≡ self.old.notes.journal) }
+        ensures fault { IfErr result (λ _. NotSettled file.entry.path.now self.old.notes.journal self.new.notes.journal) }
+    {
+        match draft {
+            Draft::Beside(beside) => self.move_draft(&beside, file.path),
+            Draft::InPlace => match fs::write(self.rt, file.path, file.bytes) {
+                Ok(()) => Ok(()),
+                Err(error) => {
+                    self.note(&Note::Spoiled(file.path));
+                    Err(self.report_system(file.path, "Write", Some(error.kind())))
+                }
+            },
+        }
+    }
+
+    /// Gives the file beside its place the place's name, or removes it.
+    fn move_draft(&mut self, beside: &str, path: &str) -> Result<(), Reported>
+        ensures unchanged { IfOk result (λ _. self.new.notes.journal ≡ self.old.notes.journal) }
+        ensures fault { IfErr result (λ _. self.new.notes.journal ≡ and_reported self.old.notes.journal) }
+    {
+        match fs::rename(self.rt, beside, path) {
             Ok(()) => Ok(()),
             Err(error) => {
-                self.drop_draft(draft);
-                Err(self.report_system(file.path, "Write", Some(error.kind())))
+                let _ = fs::remove_file(self.rt, beside);
+                Err(self.report_system(path, "Write", Some(error.kind())))
             }
         }
     }
 
     /// Removes what was written of a draft.
-    pub(crate) fn drop_draft(self, draft: Draft) {
-        if let Draft::Beside(beside) = draft {
-            let _ = fs::remove_file(self.runtime(), &beside);
+    pub(crate) fn drop_draft(&self, draft: Draft) {
+        match draft {
+            Draft::Beside(beside) => {
+                let _ = fs::remove_file(self.rt, &beside);
+            }
+            Draft::InPlace => {}
         }
     }
 
-    /// The same, or why there is none.
-    fn try_draft(self, file: NewFile<'_>) -> Result<Draft, DraftFault>
+    /// The draft of a file, or why there is none.
+    fn try_draft(&self, file: NewFile<'_>) -> Result<Draft, DraftFault>
         ensures { IfOk result (IsDraftOf file.entry.path.now) }
     {
         let old = match self.replaced(file.path)? {
@@ -185,30 +251,21 @@ impl<'a> Console<'a> {
         };
         let beginning = with_short_name(file.path);
         for number in 0..u32::MAX {
-            let beside = format!(in self.alloc(); "{beginning}.new{number}")?;
-            match File::create_new(self.runtime(), &beside) {
+            let beside = format!(in self.rt.alloc(); "{beginning}.new{number}")?;
+            match File::create_new(self.rt, &beside) {
                 Ok(target) => return self.fill(target, beside, file.bytes, old),
-                Err(error) if error.kind() == ErrorKind::AlreadyExists => self.explain_left(
-                    &beside,
-                ),
+                Err(error) if error.kind() == ErrorKind::AlreadyExists => self.explain(format_args!(
+                    "{beside} is there: if a run that was killed left it, remove it"
+                )),
                 Err(_) => return Ok(Draft::InPlace),
             }
         }
         Err(DraftFault::System(ErrorKind::AlreadyExists))
     }
 
-    /// Says that there is a file already that a draft might be.
-    fn explain_left(self, beside: &str) {
-        if self.explains() {
-            let _ = eprintln!(self.runtime();
-                "  {beside} is there: if a run that was killed left it, remove it"
-            );
-        }
-    }
-
     /// Writes the bytes to the file beside the place, which gets the old file's permissions.
     fn fill(
-        self,
+        &self,
         target: File,
         beside: String,
         bytes: &[u8],
@@ -233,12 +290,12 @@ impl<'a> Console<'a> {
     }
 
     /// What the path names now. An old file that can't be written is an error, as it is for one that is written in place.
-    fn replaced(self, path: &str) -> io::Result<Replaced> {
-        match fs::symlink_metadata(self.runtime(), path) {
+    fn replaced(&self, path: &str) -> io::Result<Replaced> {
+        match fs::symlink_metadata(self.rt, path) {
             Err(error) if error.kind() == ErrorKind::NotFound => Ok(Replaced::Nothing),
             Err(_) => Ok(Replaced::Other),
             Ok(metadata) if metadata.is_file() && metadata.nlink() == 1 => {
-                OpenOptions::new().write(true).open(self.runtime(), path)?;
+                OpenOptions::new().write(true).open(self.rt, path)?;
                 Ok(Replaced::File(metadata))
             }
             Ok(_) => Ok(Replaced::Other),

@@ -4,6 +4,8 @@ ghost use Rattle.std.specs.Prelude.{◌≡◌, ◌==◌, ◌&&◌, IfSome};
 ghost use Rattle.std.specs.Str.{bytes_eq};
 ghost use Rattle.plm80_console.specs.Places.{IsNewFile, is_one_place};
 
+use crate::console::Console;
+use crate::host::HostConsole;
 use crate::path_parts::folder_and_name;
 use std::fs;
 use std::fs::Metadata;
@@ -12,24 +14,31 @@ use std::os::unix::fs::MetadataExt;
 
 /// How paths are compared.
 #[derive(Clone, Copy)]
-pub(crate) enum Comparison<'a> {
+pub(crate) enum Comparison {
     /// By their letters.
     Letters,
     /// By the files that they name.
-    Files(&'a HostRuntime),
+    Files,
 }
 
-impl<'a> Comparison<'a> {
+impl Comparison {
     /// Whether the paths are one.
-    pub(crate) fn is_one(self, first: &str, second: &str) -> bool
-        ensures { self.entry ≡ Comparison.Letters → result ≡ bytes_eq first.now second.now }
+    pub(crate) fn is_one<C: Console>(self, console: &C, first: &str, second: &str) -> bool
+        ensures { self ≡ Comparison.Letters → result ≡ bytes_eq first.now second.now }
     {
         match self {
             Comparison::Letters => first == second,
-            Comparison::Files(rt) => match (place_of(rt, first), place_of(rt, second)) {
-                (Some(first), Some(second)) => first.is(second),
-                _ => false,
-            },
+            Comparison::Files => console.is_one_file(first, second),
+        }
+    }
+}
+
+impl<'a> HostConsole<'a> {
+    /// Whether both paths name one file.
+    pub(crate) fn is_one_place(&self, first: &str, second: &str) -> bool {
+        match (place_of(self.rt, first), place_of(self.rt, second)) {
+            (Some(first), Some(second)) => first.is(second),
+            _ => false,
         }
     }
 }

@@ -8,6 +8,7 @@ ghost use Rattle.plm80_console.specs.Kinds.{may_replace, names_no_file, shown_te
 ghost use Rattle.plm80_console.specs.Refusals.{IsConflict};
 ghost use Rattle.plm80_console.specs.SharedPaths.{IsWrittenBy};
 
+use crate::console::Console;
 use crate::same_file::Comparison;
 use crate::syntax::{Argument, Kind, Syntax};
 use clap::error::ErrorKind;
@@ -17,34 +18,35 @@ use std::alloc::{AllocError, Global};
 impl<'a> Syntax<'a> {
     /// Refuses arguments by which a file would be read and written, or written twice: those in which the path of a file to write is
     /// that of another file, letter for letter or by another spelling or a link.
-    pub fn refuse_shared_paths(
+    pub fn refuse_shared_paths<C: Console>(
         &self,
-        rt: &HostRuntime,
+        console: &C,
         matches: &ArgMatches<'_>,
     ) -> Result<(), Error>
         ensures apart { OnOk result (AreApart matches.now self.now.arguments.now) }
         ensures conflict { IfErr result IsConflict }
     {
-        if let Some(shared) = self.shared_path(matches, Comparison::Letters) {
-            return Err(self.refusal(rt.alloc(), shared)?);
+        if let Some(shared) = self.shared_path(console, matches, Comparison::Letters) {
+            return Err(self.refusal(console.alloc(), shared)?);
         }
-        match self.shared_path(matches, Comparison::Files(rt)) {
-            Some(shared) => Err(self.refusal(rt.alloc(), shared)?),
+        match self.shared_path(console, matches, Comparison::Files) {
+            Some(shared) => Err(self.refusal(console.alloc(), shared)?),
             None => Ok(()),
         }
     }
 
     /// The first path of a file to write that another argument has too, so compared.
-    fn shared_path<'m>(
+    fn shared_path<'m, C: Console>(
         &self,
+        console: &C,
         matches: &ArgMatches<'m>,
-        comparison: Comparison<'_>,
+        comparison: Comparison,
     ) -> Option<SharedPath<'m, 'a>>
         ensures shared { IfSome result (IsWrittenBy matches.now) }
-        ensures apart { comparison.entry ≡ Comparison.Letters → IfNone result (AreApart matches.now self.now.arguments.now) }
+        ensures apart { comparison ≡ Comparison.Letters → IfNone result (AreApart matches.now self.now.arguments.now) }
     {
         for index in 0..self.arguments.len() {
-            if let Some(shared) = self.shared_by(matches, comparison, index) {
+            if let Some(shared) = self.shared_by(console, matches, comparison, index) {
                 return Some(shared);
             }
         }
@@ -53,19 +55,20 @@ impl<'a> Syntax<'a> {
 
     /// The path of the argument with this index, if it is that of a file to write and another argument has it too.
     #[tactic(auto, using(crate::proofs::SharedLemmas::is_written_by))]
-    fn shared_by<'m>(
+    fn shared_by<'m, C: Console>(
         &self,
+        console: &C,
         matches: &ArgMatches<'m>,
-        comparison: Comparison<'_>,
+        comparison: Comparison,
         index: usize,
     ) -> Option<SharedPath<'m, 'a>>
         ensures shared { IfSome result (IsWrittenBy matches.now) }
-        ensures apart { comparison.entry ≡ Comparison.Letters → IfNone result (IsApart matches.now self.now.arguments.now index) }
+        ensures apart { comparison ≡ Comparison.Letters → IfNone result (IsApart matches.now self.now.arguments.now index) }
     {
         let written = *self.arguments.get(index)?;
         let path = written.path_to_write(matches)?;
         for (other, argument) in self.arguments.iter().enumerate() {
-            if other != index && written.shares(path, argument, matches, comparison) {
+            if other != index && written.shares(console, path, argument, matches, comparison) {
                 return Some(SharedPath {
                     path,
                     written,
@@ -142,23 +145,30 @@ impl<'a> Argument<'a> {
     }
 
     /// Whether the other argument has the path of the file that this one writes, which may not be.
-    fn shares(
+    fn shares<C: Console>(
         &self,
+        console: &C,
         path: &str,
         other: &Argument<'_>,
         matches: &ArgMatches<'_>,
-        comparison: Comparison<'_>,
+        comparison: Comparison,
     ) -> bool
         ensures replaced { result ≡ true → may_replace self.now.kind other.now.name.now ≡ false }
-        ensures apart { comparison.entry ≡ Comparison.Letters → result ≡ false → IsApartFrom matches.now self.now path.now other.now }
+        ensures apart { comparison ≡ Comparison.Letters → result ≡ false → IsApartFrom matches.now self.now path.now other.now }
     {
-        !self.may_replace(other) && other.has_path(matches, comparison, path)
+        !self.may_replace(other) && other.has_path(console, matches, comparison, path)
     }
 
     /// Whether the path is given here.
-    fn has_path(&self, matches: &ArgMatches<'_>, comparison: Comparison<'_>, path: &str) -> bool
+    fn has_path<C: Console>(
+        &self,
+        console: &C,
+        matches: &ArgMatches<'_>,
+        comparison: Comparison,
+        path: &str,
+    ) -> bool
         ensures no_file { names_no_file self.now.kind ≡ true → result ≡ false }
-        ensures letters { comparison.entry ≡ Comparison.Letters → result ≡ has_path self.now.kind matches.now self.now.name.now path.now }
+        ensures letters { comparison ≡ Comparison.Letters → result ≡ has_path self.now.kind matches.now self.now.name.now path.now }
     {
         match self.kind {
             Kind::Path
@@ -166,12 +176,22 @@ impl<'a> Argument<'a> {
             | Kind::WrittenOption(_)
             | Kind::WrittenIfGiven(_)
             | Kind::Replaced { .. } => match matches.get_str(self.name) {
-                Some(own) => comparison.is_one(own, path),
+                Some(own) => comparison.is_one(console, own, path),
                 None => false,
             },
-            Kind::Paths => is_among(comparison, matches.get_strs(self.name).unwrap_or(&[]), path),
+            Kind::Paths => is_among(
+                console,
+                comparison,
+                matches.get_strs(self.name).unwrap_or(&[]),
+                path,
+            ),
             Kind::PathsAt(_) => {
-                is_behind(comparison, matches.get_strs(self.name).unwrap_or(&[]), path)
+                is_behind(
+                    console,
+                    comparison,
+                    matches.get_strs(self.name).unwrap_or(&[]),
+                    path,
+                )
             }
             Kind::Words | Kind::Required(_) | Kind::Number(_) | Kind::Count(_) | Kind::Flag =>
                 false,
@@ -198,11 +218,11 @@ impl<'a> Argument<'a> {
 }
 
 /// Whether the path is one of these.
-fn is_among(comparison: Comparison<'_>, paths: &[&str], path: &str) -> bool
-    ensures { comparison.entry ≡ Comparison.Letters → result ≡ list_any (λ own. bytes_eq own.now path.now) paths.now }
+fn is_among<C: Console>(console: &C, comparison: Comparison, paths: &[&str], path: &str) -> bool
+    ensures { comparison ≡ Comparison.Letters → result ≡ list_any (λ own. bytes_eq own.now path.now) paths.now }
 {
     for own in paths {
-        if comparison.is_one(own, path) {
+        if comparison.is_one(console, own, path) {
             return true;
         }
     }
@@ -210,11 +230,11 @@ fn is_among(comparison: Comparison<'_>, paths: &[&str], path: &str) -> bool
 }
 
 /// Whether the path is that of one of these values, each a number, an equals sign and a path.
-fn is_behind(comparison: Comparison<'_>, values: &[&str], path: &str) -> bool
-    ensures { comparison.entry ≡ Comparison.Letters → result ≡ list_any (λ value. stands_behind value.now path.now) values.now }
+fn is_behind<C: Console>(console: &C, comparison: Comparison, values: &[&str], path: &str) -> bool
+    ensures { comparison ≡ Comparison.Letters → result ≡ list_any (λ value. stands_behind value.now path.now) values.now }
 {
     for value in values {
-        if is_path_of(comparison, value, path) {
+        if is_path_of(console, comparison, value, path) {
             return true;
         }
     }
@@ -222,11 +242,11 @@ fn is_behind(comparison: Comparison<'_>, values: &[&str], path: &str) -> bool
 }
 
 /// Whether the path stands behind the first equals sign of a value.
-fn is_path_of(comparison: Comparison<'_>, value: &str, path: &str) -> bool
-    ensures { comparison.entry ≡ Comparison.Letters → result ≡ stands_behind value.now path.now }
+fn is_path_of<C: Console>(console: &C, comparison: Comparison, value: &str, path: &str) -> bool
+    ensures { comparison ≡ Comparison.Letters → result ≡ stands_behind value.now path.now }
 {
     match value.split_once('=') {
-        Some((_, own)) => comparison.is_one(own, path),
+        Some((_, own)) => comparison.is_one(console, own, path),
         None => false,
     }
 }

@@ -13,23 +13,22 @@ const END_OF_FILE: u8 = RecordKind::EndOfFile as u8;
 /// What CP/M fills the last part of a file with.
 const CONTROL_Z: u8 = 0x1A;
 
-impl<'a> Console<'a> {
-    /// As [`Console::explain_unread_bytes`], of the file of this path, which was read.
-    pub fn explain_unread(self, path: &str) {
-        if let Some(bytes) = self.text_to_explain(path) {
-            self.explain_unread_bytes(path, &bytes);
-        }
+/// As [`explain_unread_bytes`], of the file of this path, which was read.
+pub(crate) fn explain_unread<C: Console>(console: &C, path: &str) {
+    if let Some(bytes) = console.text_to_explain(path) {
+        explain_unread_bytes(console, path, &bytes);
     }
+}
 
-    /// Says that an object file has bytes behind its end record, which aren't read, unless these only fill it up.
-    pub(crate) fn explain_unread_bytes(self, path: &str, bytes: &[u8]) {
-        let unread = behind_end(bytes);
-        if self.explains() && !is_filling(unread) {
-            let _ = eprintln!(self.runtime();
-                "  {} bytes behind the end record of {path} aren't read",
-                unread.len()
-            );
-        }
+/// Says that an object file has bytes behind its end record, which aren't read, unless these only fill it up.
+pub fn explain_unread_bytes<C: Console>(console: &C, path: &str, bytes: &[u8]) {
+    if !console.explains() {
+        return;
+    }
+    let unread = behind_end(bytes);
+    if !is_filling(unread) {
+        let count = unread.len();
+        console.explain(format_args!("{count} bytes behind the end record of {path} aren't read"));
     }
 }
 

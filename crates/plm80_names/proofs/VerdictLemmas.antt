@@ -10,15 +10,22 @@ use Rattle.verify80_flow.specs.declared.refusal.Refusal.TheVariants.{Memory}
 use Rattle.verify80_flow.specs.Faults.{Holds}
 use Rattle.verify80.specs.Looking.{code_of}
 use Rattle.plm80_names.specs.Printed.{AreNamesOf, named_refusal_line}
-use Rattle.plm80_names.specs.Verdict.{AreOfFiles, IsRefusal}
+use Rattle.plm80_names.specs.Verdict.{AreOfFiles, IsProgramRead, IsRefusal}
+use Rattle.plm80_console.specs.Journal.{Journal, and_read}
 
--- an image and its names are those of the files that they were read from
-pub read_of : {E : Type 0} (asked : Bool) (file text : List ℕ) (r : Result (Located × List Public) E)
+-- what was read of two files is a program's
+pub program_read : {E : Type 0} (image_path regions_path : List ℕ) (asked : Bool) (file text : List ℕ) (old between new : Journal)
+    (r : Result (Located × List Public) E) → between ≡ and_read (and_read old image_path file) regions_path text
     → IfOk r (λ read. SpellsImage file (without_regions read.0)) → IfOk r (λ read. Spells text read.0.regions)
-    → IfOk r (λ read. AreNamesOf asked file read.1) → IfOk r (λ read. AreOfFiles asked read.0 read.1)
-read_of asked file text (Ok read) contents regions names =
-    record { file = file; text = text; contents = contents; regions = regions; names = names }
-read_of asked file text (Err e) contents regions names = tt
+    → IfOk r (λ read. AreNamesOf asked file read.1) → IfOk r (λ _. new ≡ between)
+    → IfOk r (λ read. IsProgramRead image_path regions_path asked old new read.0 read.1)
+program_read image_path regions_path asked file text old between new (Ok read) were contents regions names unchanged = record {
+  file = file;
+  text = text;
+  are_read = record { contents = contents; regions = regions; names = names };
+  journal = unchanged ∙ were;
+}
+program_read image_path regions_path asked file text old between new (Err e) were contents regions names unchanged = tt
 
 -- the line of a refusal of an image that was handed back
 pub refusal_of : (image back : Located) (publics : List Public) (refusal : Refusal) (line : List ℕ) → back ≡ image

@@ -1,5 +1,5 @@
 -- Which argument of the command line each path and each flag is.
-use Rattle.std.specs.Prelude.{◌≡◌, ℕ, Bool, true, false, None, Some, List, codes}
+use Rattle.std.specs.Prelude.{◌≡◌, ℕ, Bool, true, false, None, Some, List, [], ◌∷◌, codes}
 use Rattle.clap.specs.declared.parser.matches.ArgMatches.{ArgMatches}
 use Rattle.clap.specs.Matches.{found_of, one_text}
 use Rattle.plm80_console.specs.Arguments.{argument_text}
@@ -19,3 +19,7 @@ pub record AreNamedFiles (matches : ArgMatches) (files : NamedFiles) : Type 0 wh
 -- whether names are asked for
 abbrev pub asks_names : NamedFiles → Bool
 asks_names files = files.names
+
+-- the paths of both files, in the order in which they are read
+abbrev pub program_paths : NamedFiles → List (List ℕ)
+program_paths files = files.image.now ∷ files.regions.now ∷ []

@@ -1,6 +1,6 @@
 -- What is answered of a program by what the verifier says of it.
 -- (That a refusal is printed alone, and its exit status, are this project's own.)
-use Rattle.std.specs.Prelude.{◌≡◌, ◌≢◌, ℕ, Bool, List}
+use Rattle.std.specs.Prelude.{◌≡◌, ◌≢◌, ℕ, Bool, List, [], ◌∷◌}
 use Rattle.omf_model.specs.declared.symbols.Public.{Public}
 use Rattle.image80.specs.Image.{Located}
 use Rattle.image80.specs.RegionsText.{Spells}
@@ -11,17 +11,23 @@ use Rattle.verify80_flow.specs.Faults.{Holds}
 use Rattle.verify80.specs.Looking.{code_of}
 use Rattle.verify80.specs.Vouched.{IsVouched, Voucher}
 use Rattle.plm80_console.specs.Answer.{AnswerValue, prints}
+use Rattle.plm80_console.specs.Journal.{FileValue, Journal, and_read}
 use Rattle.plm80_names.specs.declared.refusing.Verdict.{Verdict}
 use Rattle.plm80_names.specs.declared.refusing.Verdict.TheVariants.{Accepted, Refused}
 use Rattle.plm80_names.specs.Printed.{AreNamesOf, named_refusal_line}
 
 -- An image, its regions and its names are those of two files: the names are the image's file's, if they are asked for.
-pub record AreOfFiles (asked : Bool) (image : Located) (publics : List Public) : Type 0 where
-  pub file : List ℕ
-  pub text : List ℕ
+pub record AreOfFiles (asked : Bool) (file text : List ℕ) (image : Located) (publics : List Public) : Type 0 where
   pub contents : SpellsImage file (without_regions image)
   pub regions : Spells text image.regions
   pub names : AreNamesOf asked file publics
+
+-- the files of two paths were read, and these are the image, its regions and its names
+pub record IsProgramRead (image_path regions_path : List ℕ) (asked : Bool) (old new : Journal) (image : Located) (publics : List Public) : Type 0 where
+  pub file : List ℕ
+  pub text : List ℕ
+  pub are_read : AreOfFiles asked file text image publics
+  pub journal : new ≡ and_read (and_read old image_path file) regions_path text
 
 -- the verifier accepts the image, with what is known of the program then
 pub record IsAccepted (image : Located) (program : Voucher) : Type 0 where
@@ -44,11 +50,24 @@ pub data AnswersVerdict (Answers : Voucher → AnswerValue → Type 0) (image : 
   accepted : (program : Voucher) → IsAccepted image program → Answers program answer → AnswersVerdict Answers image publics answer
   refused : (line : List ℕ) → IsRefusal image publics line → answer ≡ prints line 1 → AnswersVerdict Answers image publics answer
 
--- the exit status of the answer to files: an image, its regions and its names
-pub record IsStatusFor (Answers : Located → List Public → AnswerValue → Type 0) (asked : Bool) (status : ℕ) : Type 0 where
+-- an answer to an image, its regions and its names, as two files have them
+pub record AnswersProgram (Answers : Located → List Public → AnswerValue → Type 0) (asked : Bool) (files : List FileValue)
+    (answer : AnswerValue) : Type 0 where
+  pub image_file : FileValue
+  pub regions_file : FileValue
+  pub files_are : files ≡ image_file ∷ regions_file ∷ []
   pub image : Located
   pub publics : List Public
-  pub are_read : AreOfFiles asked image publics
+  pub are_read : AreOfFiles asked image_file.bytes regions_file.bytes image publics
+  pub answers : Answers image publics answer
+
+-- the exit status of the answer to files: an image, its regions and its names
+pub record IsStatusFor (Answers : Located → List Public → AnswerValue → Type 0) (asked : Bool) (status : ℕ) : Type 0 where
+  pub file : List ℕ
+  pub text : List ℕ
+  pub image : Located
+  pub publics : List Public
+  pub are_read : AreOfFiles asked file text image publics
   pub answer : AnswerValue
   pub answers : Answers image publics answer
   pub status_is : status ≡ answer.status

@@ -1,11 +1,12 @@
 //! The image, its regions and its names, which several commands read.
 
-ghost use Rattle.std.specs.Prelude.{◌≡◌, IfOk};
+ghost use Rattle.std.specs.Prelude.{◌≡◌, IfErr, IfOk};
 ghost use Rattle.image80.specs.RegionsText.{Spells};
 ghost use Rattle.image80_file.specs.ImageFile.{SpellsImage, without_regions};
 ghost use Rattle.plm80_names.specs.Printed.{AreNamesOf};
 ghost use Rattle.plm80_names.specs.Arguments.{AreNamedFiles};
-ghost use Rattle.plm80_names.specs.Verdict.{AreOfFiles};
+ghost use Rattle.plm80_console.specs.Journal.{OnlyReports, and_read};
+ghost use Rattle.plm80_names.specs.Verdict.{IsProgramRead};
 
 use crate::names::Names;
 use clap::ArgMatches;
@@ -54,31 +55,28 @@ impl<'a> NamedFiles<'a> {
 
     /// The image with its regions, as the files have them, and its names if they are asked for. Both files are read before one is
     /// checked.
-    pub fn read(self, console: Console<'_>) -> Result<(Image, Names), Reported>
-        ensures { IfOk result (λ read. AreOfFiles self.entry.names read.0 read.1) }
+    pub fn read<C: Console>(self, console: &mut C) -> Result<(Image, Names), Reported>
+        ensures read { IfOk result (λ read. IsProgramRead self.entry.image.now self.entry.regions.now self.entry.names
+            (C.journal console.old) (C.journal console.new) read.0 read.1) }
+        ensures fault { IfErr result (λ _. OnlyReports (C.journal console.old) (C.journal console.new)) }
     {
-        let texts = self.texts(console)?;
+        let texts = ProgramTexts::read(console, self.image, self.regions)?;
         texts.program(console, self.names)
-    }
-
-    /// Both files.
-    fn texts(self, console: Console<'_>) -> Result<ProgramTexts<'a>, Reported>
-        ensures image { IfOk result (λ texts. texts.image.path.now ≡ self.entry.image.now) }
-        ensures regions { IfOk result (λ texts. texts.regions.path.now ≡ self.entry.regions.now) }
-    {
-        ProgramTexts::read(console, self.image, self.regions)
     }
 }
 
 impl<'a> ProgramTexts<'a> {
     /// Both files, the image first.
-    pub fn read(
-        console: Console<'_>,
+    pub fn read<C: Console>(
+        console: &mut C,
         image: &'a str,
         regions: &'a str,
     ) -> Result<ProgramTexts<'a>, Reported>
         ensures image { IfOk result (λ texts. texts.image.path.now ≡ image.now) }
         ensures regions { IfOk result (λ texts. texts.regions.path.now ≡ regions.now) }
+        ensures read { IfOk result (λ texts. C.journal console.new ≡ and_read (and_read (C.journal console.old)
+            image.now texts.image.bytes.items) regions.now texts.regions.bytes.items) }
+        ensures fault { IfErr result (λ _. OnlyReports (C.journal console.old) (C.journal console.new)) }
     {
         let image = console.read_file(image)?;
         let regions = console.read_file(regions)?;
@@ -87,10 +85,16 @@ impl<'a> ProgramTexts<'a> {
 
     /// The image of the one file, with the regions that the text of the other one spells, and its names if they are asked for. The
     /// regions are checked first.
-    pub fn program(&self, console: Console<'_>, asked: bool) -> Result<(Image, Names), Reported>
+    pub fn program<C: Console>(
+        &self,
+        console: &mut C,
+        asked: bool,
+    ) -> Result<(Image, Names), Reported>
         ensures contents { IfOk result (λ read. SpellsImage self.now.image.bytes.items (without_regions read.0)) }
         ensures regions { IfOk result (λ read. Spells self.now.regions.bytes.items read.0.regions) }
         ensures names { IfOk result (λ read. AreNamesOf asked self.now.image.bytes.items read.1) }
+        ensures unchanged { IfOk result (λ _. C.journal console.new ≡ C.journal console.old) }
+        ensures fault { IfErr result (λ _. OnlyReports (C.journal console.old) (C.journal console.new)) }
     {
         let areas = regions_of(console, self.regions.path, &self.regions.bytes)?;
         let image = image_of(console, self.image.path, &self.image.bytes, areas)?;

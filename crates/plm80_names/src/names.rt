@@ -1,7 +1,8 @@
 //! The names of an image's addresses, as commands print them.
 
-ghost use Rattle.std.specs.Prelude.{◌≡◌, ◌==◌, ◌++◌, [], length, IfOk, OnOk};
+ghost use Rattle.std.specs.Prelude.{◌≡◌, ◌==◌, ◌++◌, [], length, IfErr, IfOk, OnOk};
 ghost use Rattle.image80_text.specs.NameText.{label_text, labelled_text, name_text, named_text};
+ghost use Rattle.plm80_console.specs.Journal.{OnlyReports};
 ghost use Rattle.plm80_names.specs.Printed.{named_end, AreNamesOf};
 
 use image80::Range;
@@ -31,13 +32,15 @@ impl Model for Names {
 
 impl Names {
     /// The names that the bytes of the image's file have, if they are asked for.
-    pub fn of(
-        console: Console<'_>,
+    pub fn of<C: Console>(
+        console: &mut C,
         asked: bool,
         path: &str,
         bytes: &[u8],
     ) -> Result<Names, Reported>
-        ensures { IfOk result (AreNamesOf asked bytes.now) }
+        ensures names { IfOk result (AreNamesOf asked bytes.now) }
+        ensures unchanged { IfOk result (λ _. C.journal console.new ≡ C.journal console.old) }
+        ensures fault { IfErr result (λ _. OnlyReports (C.journal console.old) (C.journal console.new)) }
     {
         if !asked {
             return Ok(Names {
@@ -153,11 +156,17 @@ impl Names {
 }
 
 /// These publics as names; says that there are none, if that is so.
-fn names_of(console: Console<'_>, path: &str, publics: Vec<Public>) -> Result<Names, Reported>
-    ensures { IfOk result (λ names. names ≡ publics.items) }
+fn names_of<C: Console>(
+    console: &mut C,
+    path: &str,
+    publics: Vec<Public>,
+) -> Result<Names, Reported>
+    ensures names { IfOk result (λ names. names ≡ publics.items) }
+    ensures unchanged { IfOk result (λ _. C.journal console.new ≡ C.journal console.old) }
+    ensures fault { IfErr result (λ _. OnlyReports (C.journal console.old) (C.journal console.new)) }
 {
-    if publics.is_empty() && console.explains() {
-        let _ = eprintln!(console.runtime(); "  {path} has no names: locate --publics keeps them");
+    if publics.is_empty() {
+        console.explain(format_args!("{path} has no names: locate --publics keeps them"));
     }
     match PublicTable::new(console.alloc(), publics) {
         Ok(publics) => Ok(Names { publics }),

@@ -6,7 +6,7 @@ use Rattle.std.proofs.Common.{◌∙◌, ap, sym, refl, add-one, append_assoc, l
 use Rattle.plm80_console.specs.declared.link_feed.LinkFile.{LinkFile}
 use Rattle.plm80_console.specs.declared.link_feed.LinkFile.TheVariants.{Modules, Library}
 use Rattle.std.proofs.lemmas.List.{flat_map_more, take_more}
-use Rattle.plm80_objects.specs.Link.{AddsFile, HavePaths, paths_of, root_paths}
+use Rattle.plm80_objects.specs.Link.{paths_of, root_paths}
 use Rattle.plm80_objects.specs.declared.link.RootFile.{RootFile}
 use Rattle.plm80_objects.specs.declared.link.LinkFiles.{LinkFiles}
 
@@ -59,31 +59,3 @@ pub one_more_file : (files : List RootFile) (n : ℕ) (file : RootFile) → n < 
 one_more_file files n file less is =
     flat_map_more paths_of [] (take n files) file
     ∙ sym (ap root_paths (take_more files n file less ∙ ap (λ (f : RootFile). take n files ++ f ∷ []) is))
-
-pub paths_kept : (file : LinkFile) (path : List ℕ) (before after : LinkFiles) → AddsFile file path before after
-    → HavePaths before → HavePaths after
-paths_kept (Modules ms) path before after adds have = record {
-  roots =
-      ap length adds.paths_of_roots ∙ (length-append (root_paths before.root_files.items) (repeat (length ms.items) (path ∷ []))
-      ∙ omega (
-        arith,
-        length_repeat path (length ms.items),
-        have.roots,
-        ap length adds.roots,
-        length-append before.roots.items ms.items,
-      ));
-  libraries = cc (adds.paths, adds.libraries, have.libraries);
-}
-paths_kept (Library library) path before after adds have = record {
-  roots = cc (adds.root_files, adds.roots, have.roots);
-  libraries =
-      sym (length_texts after.paths.items) ∙ (ap length adds.paths
-      ∙ (length-append (map (λ p. p.now) before.paths.items) (path ∷ [])
-      ∙ omega (
-        arith,
-        length_texts before.paths.items,
-        have.libraries,
-        ap length adds.libraries,
-        length-append before.libraries.items (library ∷ []),
-      )));
-}

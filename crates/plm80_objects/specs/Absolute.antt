@@ -1,13 +1,19 @@
--- What `absolute` writes: the image of dumps.
+-- What `absolute` writes: the image of dumps; and `extract`: bytes of an image.
 -- (ISIS-II User's Guide: absolute object modules.)
-use Rattle.std.specs.Prelude.{◌≡◌, ℕ, List, [], ◌∷◌, ◌++◌}
+use Rattle.std.specs.Prelude.{◌≡◌, ℕ, if◌then◌else◌, List, [], ◌∷◌, ◌++◌, map}
 use Rattle.std.specs.Borrow.{Bor}
 use Rattle.std.specs.List.{AllZip}
 use Rattle.image80.specs.Image.{Located, PlacedBytes}
-use Rattle.image80_file.specs.ImageFile.{image_bytes}
-use Rattle.plm80_console.specs.Answer.{AnswerValue, writes}
+use Rattle.image80_file.specs.ImageFile.{SpellsImage, image_bytes, without_regions}
+use Rattle.rom80.specs.Rom.{bytes_over, chunks_of, sum_line}
+use Rattle.plm80_console.specs.Answer.{AnswerValue, Gives, GivesUp, paths_of, writes}
+use Rattle.plm80_console.specs.Journal.{FileValue, Journal, OnlyReports, and_read_files}
 use Rattle.plm80_console.specs.NumberText.{IsWordText, word_value}
+use Rattle.plm80_objects.specs.declared.absolute.AbsoluteArguments.{AbsoluteArguments}
 use Rattle.plm80_objects.specs.declared.absolute.RomFile.{RomFile}
+use Rattle.plm80_objects.specs.declared.extract.Extent.{Extent}
+use Rattle.plm80_objects.specs.declared.extract.ExtractArguments.{ExtractArguments}
+use Rattle.plm80_objects.specs.Arguments.{IsExtentOf}
 
 -- the image of a name, with these chunks and this start, goes to its path
 pub record WritesImage (path name : List ℕ) (chunks : List PlacedBytes) (start : ℕ) (answer : AnswerValue) : Type 0 where
@@ -29,3 +35,50 @@ abbrev pub AreRomFiles : (path first : List ℕ) → (further : List (Bor (List 
 AreRomFiles path first further [] = ⊥
 AreRomFiles path first further (file ∷ files) =
     (file.path.now ≡ path) × (file.first ≡ word_value first) × AllZip (λ text rom. IsRomFile text.now rom) further files
+
+-- the chunks of files' bytes, each from its address on, one after another
+abbrev pub chunks_from : List RomFile → List FileValue → List PlacedBytes
+chunks_from (rom ∷ roms) (file ∷ files) = chunks_of rom.first file.bytes ++ chunks_from roms files
+chunks_from roms files = []
+
+abbrev pub rom_paths : List RomFile → List (List ℕ)
+rom_paths roms = map (λ (rom : RomFile). rom.path.now) roms
+
+-- all of these files were read, and these are the chunks of their bytes
+pub record AreDumpsRead (roms : List RomFile) (old new : Journal) (chunks : List PlacedBytes) : Type 0 where
+  pub files : List FileValue
+  pub paths_are : paths_of files ≡ rom_paths roms
+  pub chunks_are : chunks ≡ chunks_from roms files
+  pub journal : new ≡ and_read_files old files
+
+-- the image of their dumps goes to its path
+abbrev pub WritesDumps : AbsoluteArguments → List RomFile → List FileValue → AnswerValue → Type 0
+WritesDumps arguments roms files answer =
+    WritesImage arguments.image.now arguments.name.text.now (chunks_from roms files) (word_value arguments.start.text.now) answer
+
+-- the files and their addresses are those that the arguments write
+abbrev pub AreRomsOf : AbsoluteArguments → List RomFile → Type 0
+AreRomsOf arguments roms = AreRomFiles arguments.bytes.now arguments.first.text.now arguments.further.items roms
+
+pub record GivesDumps (arguments : AbsoluteArguments) (old new : Journal) (status : ℕ) : Type 0 where
+  pub roms : List RomFile
+  pub are_roms : AreRomsOf arguments roms
+  pub gives : Gives (WritesDumps arguments roms) (rom_paths roms) old new status
+
+pub data GivesUpDumps (arguments : AbsoluteArguments) (old new : Journal) : Type 0 where
+  before : OnlyReports old new → GivesUpDumps arguments old new
+  within : (roms : List RomFile) → AreRomsOf arguments roms → GivesUp (WritesDumps arguments roms) (rom_paths roms) old new
+      → GivesUpDumps arguments old new
+
+-- ---- extract
+
+-- the bytes of an image over a range go to a file, and the line of their sum is printed if it is asked for
+pub record ExtractsFile (arguments : ExtractArguments) (files : List FileValue) (answer : AnswerValue) : Type 0 where
+  pub file : FileValue
+  pub files_are : files ≡ file ∷ []
+  pub image : Located
+  pub contents : SpellsImage file.bytes (without_regions image)
+  pub extent : Extent
+  pub is_extent : IsExtentOf arguments extent
+  pub answer_is : let bytes = bytes_over extent.fill image.chunks extent.first extent.length in
+      answer ≡ writes arguments.out.now bytes (if arguments.sum then sum_line bytes else [])

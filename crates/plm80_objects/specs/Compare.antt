@@ -10,6 +10,7 @@ use Rattle.rom80.specs.declared.comparing.Difference.{Difference}
 use Rattle.rom80.specs.Compare.{AreDifferences, comparison_text}
 use Rattle.rom80.specs.Rom.{bytes_over}
 use Rattle.plm80_console.specs.Answer.{AnswerValue, prints}
+use Rattle.plm80_console.specs.Journal.{FileValue}
 use Rattle.plm80_console.specs.NumberText.{word_value}
 use Rattle.plm80_names.specs.Printed.{AreNamesOf}
 use Rattle.plm80_objects.specs.declared.compare.CompareArguments.{CompareArguments}
@@ -30,18 +31,17 @@ pub record PrintsDifferences (image dump : List ℕ) (first : ℕ) (publics : Li
   pub answer_is : answer ≡ prints (named_text whole_memory publics (codes "DIFFERS ") (comparison_text image dump first ranges))
       (status_of ranges)
 
--- the exit status of `compare`: that of what is printed of an image's file and of a dump, by the options
-pub record IsCompareStatus (arguments : CompareArguments) (status : ℕ) : Type 0 where
+-- what is printed of an image's file and of a dump, by the options
+pub record ComparesFiles (arguments : CompareArguments) (files : List FileValue) (answer : AnswerValue) : Type 0 where
+  pub file : FileValue
+  pub dump : FileValue
+  pub files_are : files ≡ file ∷ dump ∷ []
   pub first : ℕ
   pub first_is : first ≡ word_value arguments.first.text.now
   pub fill : ℕ
   pub fill_is : fill ≡ word_value arguments.fill.text.now
-  pub file : List ℕ
-  pub dump : List ℕ
   pub image : Located
-  pub contents : SpellsImage file (without_regions image)
+  pub contents : SpellsImage file.bytes (without_regions image)
   pub publics : List Public
-  pub names : AreNamesOf arguments.names file publics
-  pub answer : AnswerValue
-  pub answer_is : PrintsDifferences (bytes_over fill image.chunks first (length dump)) dump first publics answer
-  pub status_is : status ≡ answer.status
+  pub names : AreNamesOf arguments.names file.bytes publics
+  pub answer_is : PrintsDifferences (bytes_over fill image.chunks first (length dump.bytes)) dump.bytes first publics answer

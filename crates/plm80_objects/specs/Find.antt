@@ -5,7 +5,9 @@ use Rattle.rom80_find.specs.Dump.{DumpValue}
 use Rattle.rom80_find.specs.Found.{PrintsMembers, PrintsModules}
 use Rattle.plm80_console.specs.declared.link_feed.LinkFile.{LinkFile}
 use Rattle.plm80_console.specs.declared.link_feed.LinkFile.TheVariants.{Modules, Library}
-use Rattle.plm80_console.specs.Answer.{AnswerValue, prints}
+use Rattle.plm80_console.specs.Answer.{AnswerValue, paths_of, prints}
+use Rattle.plm80_console.specs.Journal.{FileValue, Journal, and_read_files}
+use Rattle.plm80_console.specs.Pieces.{SpellsEither}
 use Rattle.plm80_console.specs.NumberText.{word_value}
 use Rattle.plm80_objects.specs.declared.find.FindArguments.{FindArguments}
 
@@ -32,15 +34,27 @@ pub record PrintsFound (dump : DumpValue) (files : List LinkFile) (answer : Answ
   pub found : PrintsFiles dump files are_there text
   pub answer_is : answer ≡ prints text (status_of are_there)
 
--- the exit status of `find`: that of what is printed of a dump and of files
-pub record IsStatusIn (dump : DumpValue) (status : ℕ) : Type 0 where
-  pub files : List LinkFile
-  pub answer : AnswerValue
-  pub answer_is : PrintsFound dump files answer
-  pub status_is : status ≡ answer.status
+-- what files are, each by its bytes, in order
+pub data AreLinkFiles : List FileValue → List LinkFile → Type 0 where
+  none : AreLinkFiles [] []
+  more : (files : List FileValue) (are : List LinkFile) (file : FileValue) (is : LinkFile)
+      → AreLinkFiles files are → SpellsEither file.bytes is → AreLinkFiles (files ++ file ∷ []) (are ++ is ∷ [])
 
--- of a dump from the option's first address on
-pub record IsFindStatus (arguments : FindArguments) (status : ℕ) : Type 0 where
-  pub dump : DumpValue
-  pub first_is : dump.first ≡ word_value arguments.first.text.now
-  pub is : IsStatusIn dump status
+-- all of these files were read, and this is what they are
+pub record AreFilesRead (paths : List (List ℕ)) (old new : Journal) (are : List LinkFile) : Type 0 where
+  pub files : List FileValue
+  pub paths_are : paths_of files ≡ paths
+  pub are_files : AreLinkFiles files are
+  pub journal : new ≡ and_read_files old files
+
+-- what is printed of a dump and of files
+pub record FindsIn (dump : DumpValue) (files : List FileValue) (answer : AnswerValue) : Type 0 where
+  pub are : List LinkFile
+  pub are_files : AreLinkFiles files are
+  pub answer_is : PrintsFound dump are answer
+
+-- of the dump that the first file has, from the option's first address on
+abbrev pub FindsModules : FindArguments → List FileValue → AnswerValue → Type 0
+FindsModules arguments (dump ∷ files) answer =
+    FindsIn (record { first = word_value arguments.first.text.now; bytes = dump.bytes }) files answer
+FindsModules arguments [] answer = ⊥

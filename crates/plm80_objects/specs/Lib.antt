@@ -1,8 +1,9 @@
 pub mod Arguments
 pub mod Compare
 pub mod Find
--- what the crate's own functions promise one another: no public contract cites these
+pub mod Modules
 pub mod Link
 pub mod Locate
-pub mod RomFaults
 pub mod Absolute
+-- what the crate's own functions promise one another: no public contract cites these
+pub mod RomFaults

@@ -7,11 +7,15 @@ use Rattle.omf_module.specs.Writing.{file_bytes}
 use Rattle.link80_select.specs.declared.chosen.Chosen.{Chosen}
 use Rattle.link80_select.specs.Selected.{module_at}
 use Rattle.link80.specs.declared.linking.Linked.{Linked}
-use Rattle.link80_text.specs.Parts.{modules_of, parts_text, unresolved_text}
+use Rattle.link80.specs.Selection.{IsSelection}
+use Rattle.link80_text.specs.Parts.{IsMade, modules_of, parts_text, unresolved_text}
 use Rattle.link80_text.specs.Reasons.{PrintsReasons}
-use Rattle.plm80_console.specs.Answer.{AnswerValue, writes}
+use Rattle.plm80_console.specs.Answer.{AnswerValue, paths_of as paths_read, writes}
+use Rattle.plm80_console.specs.Journal.{FileValue, Journal, and_read_files}
+use Rattle.plm80_console.specs.Pieces.{SpellsEither}
 use Rattle.plm80_console.specs.declared.link_feed.LinkFile.{LinkFile}
 use Rattle.plm80_console.specs.declared.link_feed.LinkFile.TheVariants.{Modules, Library}
+use Rattle.plm80_objects.specs.declared.link.LinkArguments.{LinkArguments}
 use Rattle.plm80_objects.specs.declared.link.LinkFiles.{LinkFiles}
 use Rattle.plm80_objects.specs.declared.link.RootFile.{RootFile}
 use Rattle.plm80_objects.specs.declared.helpers.link_lines.LinkLines.{LinkLines}
@@ -23,11 +27,6 @@ paths_of file = repeat file.modules (file.path.now ∷ [])
 -- the path of each module's file
 abbrev pub root_paths : List RootFile → List (List ℕ)
 root_paths files = flat_map paths_of files
-
--- each module has the path of its file, and so has each library
-pub record HavePaths (files : LinkFiles) : Type 0 where
-  pub roots : length (root_paths files.root_files.items) ≡ length files.roots.items
-  pub libraries : length files.paths.items ≡ length files.libraries.items
 
 -- the modules of an object file come behind the others, each with its path
 pub record AddsModules (modules : List ModuleValue) (path : List ℕ) (before after : LinkFiles) : Type 0 where
@@ -46,6 +45,19 @@ pub record AddsLibrary (library : List ModuleValue) (path : List ℕ) (before af
 abbrev pub AddsFile : LinkFile → (path : List ℕ) → (before after : LinkFiles) → Type 0
 AddsFile (Modules ms) path before after = AddsModules ms.items path before after
 AddsFile (Library library) path before after = AddsLibrary library path before after
+
+-- the files are these, each read as what its first byte says, in order
+pub data AreLinkFilesOf : List FileValue → LinkFiles → Type 0 where
+  none : (files : LinkFiles) → files.roots.items ≡ [] → files.root_files.items ≡ [] → files.libraries.items ≡ [] → files.paths.items ≡ []
+      → AreLinkFilesOf [] files
+  more : (read : List FileValue) (before after : LinkFiles) (file : FileValue) (is : LinkFile) → AreLinkFilesOf read before
+      → SpellsEither file.bytes is → AddsFile is file.path before after → AreLinkFilesOf (read ++ file ∷ []) after
+
+pub record AreLinkFilesRead (paths : List (List ℕ)) (old new : Journal) (files : LinkFiles) : Type 0 where
+  pub read : List FileValue
+  pub paths_are : paths_read read ≡ paths
+  pub are : AreLinkFilesOf read files
+  pub journal : new ≡ and_read_files old read
 
 -- a word, a name, and a line feed
 abbrev pub named_line : (word name : List ℕ) → List ℕ
@@ -95,3 +107,17 @@ pub record WritesLinked (path : List ℕ) (wanted : LinkLines) (roots : List Mod
   pub lines : List ℕ
   pub printed : PrintsLink wanted roots libraries paths made lines
   pub answer_is : answer ≡ writes path (file_bytes (made.module ∷ [])) lines
+
+-- the modules are linked into one of this name, which is written
+pub record LinksInto (path : List ℕ) (wanted : LinkLines) (name : List ℕ) (files : LinkFiles) (answer : AnswerValue) : Type 0 where
+  pub made : Linked
+  pub selection : IsSelection files.roots.items files.libraries.items made.taken.items
+  pub is_made : IsMade files.roots.items files.libraries.items made
+  pub name_is : made.module.name ≡ name
+  pub writes : WritesLinked path wanted files.roots.items files.libraries.items (map (λ p. p.now) files.paths.items) made answer
+
+-- the same of files that were read, by the arguments
+pub record LinksFiles (arguments : LinkArguments) (read : List FileValue) (answer : AnswerValue) : Type 0 where
+  pub files : LinkFiles
+  pub are : AreLinkFilesOf read files
+  pub links : LinksInto arguments.out.now arguments.lines arguments.name.text.now files answer

@@ -2,7 +2,8 @@
 
 ghost use Rattle.std.specs.Prelude.{◌≡◌, ◌+◌, ◌<◌, ◌≤◌, ◌↔◌, ◌++◌, ◌∷◌, [], IsTrue, IfOk, IfErr, OnOk};
 ghost use Rattle.rom80.specs.Rom.{chunks_of};
-ghost use Rattle.plm80_objects.specs.Absolute.{AreRomFiles, IsRomFile, WritesImage};
+ghost use Rattle.plm80_console.specs.Journal.{OnlyReports};
+ghost use Rattle.plm80_objects.specs.Absolute.{AreDumpsRead, AreRomFiles, GivesDumps, GivesUpDumps, IsRomFile, WritesImage};
 ghost use Rattle.plm80_objects.specs.Arguments.{AreAbsoluteArguments};
 ghost use Rattle.plm80_objects.specs.RomFaults.{IsRefusedWith};
 
@@ -108,48 +109,55 @@ struct RomFile<'a> {
 }
 
 /// Writes the image of the bytes. No file is created or changed before every other fault is excluded.
-pub fn write_absolute(
-    console: Console<'_>,
+pub fn write_absolute<C: Console>(
+    console: &mut C,
     arguments: &AbsoluteArguments<'_>,
 ) -> Result<u8, Reported>
-    ensures { IfOk result (λ status. status ≡ 0) }
+    ensures done { IfOk result (GivesDumps arguments.now (C.journal console.old) (C.journal console.new)) }
+    ensures fault { IfErr result (λ _. GivesUpDumps arguments.now (C.journal console.old) (C.journal console.new)) }
 {
-    let start = console.word(arguments.start)?;
+    let start = arguments.start.word(console)?;
     let files = files_of(console, arguments)?;
-    let name = console.name(arguments.name)?;
+    let name = arguments.name.module_name(console)?;
     let (dumps, has_start) = read_dumps(console, &files, start)?;
-    if !has_start && console.explains() {
-        let _ = eprintln!(console.runtime(); "  no byte is at the start, {start:04X}");
+    if !has_start {
+        console.explain(format_args!("no byte is at the start, {start:04X}"));
     }
-    console.give_if_made(answer(console.alloc(), arguments.image, dumps, name, start))
+    let answer = answer(console.alloc(), arguments.image, dumps, name, start);
+    console.give_if_made(answer)
 }
 
 /// The files of the arguments with their addresses, in order.
-fn files_of<'a>(
-    console: Console<'_>,
+fn files_of<'a, C: Console>(
+    console: &mut C,
     arguments: &AbsoluteArguments<'a>,
 ) -> Result<Vec<RomFile<'a>>, Reported>
-    ensures { let asked = arguments.now in
+    ensures files { let asked = arguments.now in
         IfOk result (λ files. AreRomFiles asked.bytes.now asked.first.text.now asked.further.items files.items) }
+    ensures unchanged { IfOk result (λ _. C.journal console.new ≡ C.journal console.old) }
+    ensures fault { IfErr result (λ _. OnlyReports (C.journal console.old) (C.journal console.new)) }
 {
     let mut files = Vec::new(console.alloc());
     let first = RomFile {
-        first: console.word(arguments.first)?,
+        first: arguments.first.word(console)?,
         path: arguments.bytes,
     };
     add_file(console, &mut files, first)?;
     for further in &arguments.further {
-        add_file(console, &mut files, file_of(console, further)?)?;
+        let file = file_of(console, further)?;
+        add_file(console, &mut files, file)?;
     }
     Ok(files)
 }
 
-fn add_file<'a>(
-    console: Console<'_>,
+fn add_file<'a, C: Console>(
+    console: &mut C,
     files: &mut Vec<RomFile<'a>>,
     file: RomFile<'a>,
 ) -> Result<(), Reported>
-    ensures { OnOk result (files.new.items ≡ files.old.items ++ file.entry ∷ []) }
+    ensures added { OnOk result (files.new.items ≡ files.old.items ++ file.entry ∷ []) }
+    ensures unchanged { IfOk result (λ _. C.journal console.new ≡ C.journal console.old) }
+    ensures fault { IfErr result (λ _. OnlyReports (C.journal console.old) (C.journal console.new)) }
 {
     match files.push(file) {
         Ok(()) => Ok(()),
@@ -158,25 +166,30 @@ fn add_file<'a>(
 }
 
 /// The file that an address, an equals sign and a path name.
-fn file_of<'a>(console: Console<'_>, text: &'a str) -> Result<RomFile<'a>, Reported>
-    ensures { IfOk result (IsRomFile text.now) }
+fn file_of<'a, C: Console>(console: &mut C, text: &'a str) -> Result<RomFile<'a>, Reported>
+    ensures file { IfOk result (IsRomFile text.now) }
+    ensures unchanged { IfOk result (λ _. C.journal console.new ≡ C.journal console.old) }
+    ensures fault { IfErr result (λ _. OnlyReports (C.journal console.old) (C.journal console.new)) }
 {
     let option = OptionText::new(FURTHER, text);
     let Some((first, path)) = text.split_once('=') else {
-        return Err(console.report_number(option, "an address, an equals sign and a file"));
+        return Err(option.report_number(console, "an address, an equals sign and a file"));
     };
     match word_of_digits(first) {
         Some(first) => Ok(RomFile { first, path }),
-        None => Err(console.report_number(option, "an address of one to four hexadecimal digits")),
+        None => Err(option.report_number(console, "an address of one to four hexadecimal digits")),
     }
 }
 
 /// The dumps that the files hold, and whether one of them has a byte at the start. Each file is checked before the next one is opened.
-fn read_dumps(
-    console: Console<'_>,
+fn read_dumps<C: Console>(
+    console: &mut C,
     files: &[RomFile<'_>],
     start: u16,
-) -> Result<(Dumps, bool), Reported> {
+) -> Result<(Dumps, bool), Reported>
+    ensures dumps { IfOk result (λ read. AreDumpsRead files.now (C.journal console.old) (C.journal console.new) read.0) }
+    ensures fault { IfErr result (λ _. OnlyReports (C.journal console.old) (C.journal console.new)) }
+{
     let mut dumps = Dumps::new(console.alloc());
     let mut has_start = false;
     for rom in files {

@@ -1,9 +1,11 @@
 //! `plm80 compare`: where an image and a dump differ.
 
-ghost use Rattle.std.specs.Prelude.{◌≡◌, length, IfOk, IfErr};
+ghost use Rattle.std.specs.Prelude.{◌≡◌, ◌∷◌, [], length, IfOk, IfErr};
 ghost use Rattle.rom80.specs.Rom.{bytes_over};
+ghost use Rattle.plm80_console.specs.Answer.{Gives};
+ghost use Rattle.plm80_console.specs.Journal.{OnlyReports};
 ghost use Rattle.plm80_objects.specs.Arguments.{AreCompareArguments};
-ghost use Rattle.plm80_objects.specs.Compare.{IsCompareStatus, PrintsDifferences};
+ghost use Rattle.plm80_objects.specs.Compare.{ComparesFiles, PrintsDifferences};
 ghost use Rattle.plm80_objects.specs.RomFaults.{IsRefused};
 
 use crate::extract::{FILL, fill_of};
@@ -84,14 +86,20 @@ impl<'a> CompareArguments<'a> {
 }
 
 /// Prints where the image and the dump differ; the status is 1 if they do. Both files are read before either is checked.
-pub fn compare_files(console: Console<'_>, arguments: CompareArguments<'_>) -> Result<u8, Reported>
-    ensures { IfOk result (IsCompareStatus arguments.entry) }
+pub fn compare_files<C: Console>(
+    console: &mut C,
+    arguments: CompareArguments<'_>,
+) -> Result<u8, Reported>
+    ensures done { IfOk result (Gives (ComparesFiles arguments.entry) (arguments.entry.image.now ∷ arguments.entry.dump.now ∷ [])
+        (C.journal console.old) (C.journal console.new)) }
+    ensures fault { IfErr result (λ _. OnlyReports (C.journal console.old) (C.journal console.new)) }
 {
-    let first = console.word(arguments.first)?;
-    let fill = console.byte(arguments.fill)?;
+    let first = arguments.first.word(console)?;
+    let fill = arguments.fill.byte(console)?;
     let file = console.read_file(arguments.image)?;
     let dump = console.read_file(arguments.dump)?;
-    let image = image_of(console, file.path, &file.bytes, no_regions(console.alloc()))?;
+    let none = no_regions(console.alloc());
+    let image = image_of(console, file.path, &file.bytes, none)?;
     let names = Names::of(console, arguments.names, file.path, &file.bytes)?;
     match compared(console.alloc(), &image, &names, first, &dump, fill) {
         Ok(answer) => console.give(answer),
@@ -122,6 +130,7 @@ fn compared<'a>(
 ) -> Result<Answer<'static>, FaultOf<'a, RomFault>>
     ensures answer { let bytes = dump.now.bytes.items in IfOk result
         (PrintsDifferences (bytes_over fill image.now.chunks first (length bytes)) bytes first names.now) }
+    ensures no_file { IfOk result (λ answer. answer.files ≡ []) }
     ensures fault { IfErr result (λ f. (f.path.now ≡ dump.now.path.now) × IsRefused first dump.now.bytes.items f.fault) }
 {
     let comparison = match compare(alloc, image, first, &dump.bytes, fill) {

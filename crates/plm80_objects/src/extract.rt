@@ -1,9 +1,11 @@
 //! `plm80 extract`: the bytes of an image's memory over a range, as they are.
 
-ghost use Rattle.std.specs.Prelude.{◌≡◌, ◌+◌, ◌<◌, ◌↔◌, [], if◌then◌else◌, IfOk, IsErrOf, codes};
+ghost use Rattle.std.specs.Prelude.{◌≡◌, ◌+◌, ◌<◌, ◌↔◌, ◌∷◌, [], if◌then◌else◌, IfErr, IfOk, IsErrOf, codes};
 ghost use Rattle.rom80.specs.Rom.{bytes_over, sum_line};
-ghost use Rattle.plm80_console.specs.Answer.{writes};
+ghost use Rattle.plm80_console.specs.Answer.{Gives, GivesUp, writes};
+ghost use Rattle.plm80_console.specs.Journal.{OnlyReports};
 ghost use Rattle.plm80_objects.specs.Arguments.{AreExtractArguments, IsExtentOf, fill_text};
+ghost use Rattle.plm80_objects.specs.Absolute.{ExtractsFile};
 
 use clap::ArgMatches;
 use image80::Image;
@@ -110,12 +112,19 @@ struct Extent {
 
 /// Writes the bytes of the range, and prints their sum if it is asked for. No file is created or changed before every other
 /// fault is excluded.
-pub fn extract_file(console: Console<'_>, arguments: ExtractArguments<'_>) -> Result<u8, Reported>
-    ensures { IfOk result (λ status. status ≡ 0) }
+pub fn extract_file<C: Console>(
+    console: &mut C,
+    arguments: ExtractArguments<'_>,
+) -> Result<u8, Reported>
+    ensures done { IfOk result (Gives (ExtractsFile arguments.entry) (arguments.entry.image.now ∷ [])
+        (C.journal console.old) (C.journal console.new)) }
+    ensures fault { IfErr result (λ _. GivesUp (ExtractsFile arguments.entry) (arguments.entry.image.now ∷ [])
+        (C.journal console.old) (C.journal console.new)) }
 {
     let extent = extent_of(console, arguments)?;
     let file = console.read_file(arguments.image)?;
-    let image = image_of(console, file.path, &file.bytes, no_regions(console.alloc()))?;
+    let none = no_regions(console.alloc());
+    let image = image_of(console, file.path, &file.bytes, none)?;
     match extracted(console.alloc(), arguments, extent, &image) {
         Ok(answer) => console.give(answer),
         Err(fault) => Err(console.report(fault)),
@@ -123,13 +132,21 @@ pub fn extract_file(console: Console<'_>, arguments: ExtractArguments<'_>) -> Re
 }
 
 /// The numbers of the arguments.
-fn extent_of(console: Console<'_>, arguments: ExtractArguments<'_>) -> Result<Extent, Reported>
-    ensures { IfOk result (IsExtentOf arguments.entry) }
+fn extent_of<C: Console>(
+    console: &mut C,
+    arguments: ExtractArguments<'_>,
+) -> Result<Extent, Reported>
+    ensures extent { IfOk result (IsExtentOf arguments.entry) }
+    ensures unchanged { IfOk result (λ _. C.journal console.new ≡ C.journal console.old) }
+    ensures fault { IfErr result (λ _. OnlyReports (C.journal console.old) (C.journal console.new)) }
 {
+    let first = arguments.first.word(console)?;
+    let length = arguments.length.length(console)?;
+    let fill = arguments.fill.byte(console)?;
     Ok(Extent {
-        first: console.word(arguments.first)?,
-        length: console.length(arguments.length)?,
-        fill: console.byte(arguments.fill)?,
+        first,
+        length,
+        fill,
     })
 }
 

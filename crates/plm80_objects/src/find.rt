@@ -1,17 +1,18 @@
 //! `plm80 find`: where modules of object files and libraries lie in a dump.
 
-ghost use Rattle.std.specs.Prelude.{◌≡◌, ◌+◌, ◌≤◌, length, IfOk, IfErr};
+ghost use Rattle.std.specs.Prelude.{◌≡◌, ◌+◌, ◌≤◌, ◌∷◌, [], length, map, IfOk, IfErr};
 ghost use Rattle.rom80_find.specs.Dump.{dump_of};
+ghost use Rattle.plm80_console.specs.Answer.{Gives};
+ghost use Rattle.plm80_console.specs.Journal.{OnlyReports};
 ghost use Rattle.plm80_objects.specs.Arguments.{AreFindArguments};
-ghost use Rattle.plm80_objects.specs.Find.{IsFindStatus, IsStatusIn, PrintsFile, PrintsFound};
+ghost use Rattle.plm80_objects.specs.Find.{AreFilesRead, FindsIn, FindsModules, PrintsFile, PrintsFound};
 ghost use Rattle.plm80_objects.specs.RomFaults.{IsRefused};
 
 use crate::helpers::rom_faults::report_rom_fault;
-use crate::link::read_file;
 use clap::ArgMatches;
 use plm80_console::{
     Answer, Argument, Console, FaultOf, Kind, LinkFile, OptionText, ReadFile, Reported, Syntax,
-    argument_text, argument_values,
+    argument_text, argument_values, read_link_file,
 };
 use rom80::RomFault;
 use rom80_find::{Dump, append_members, append_modules};
@@ -81,10 +82,15 @@ impl<'a> FindArguments<'a> {
 
 /// Prints where the modules of the files lie in the dump, and gives the exit status. The dump is checked before another file is
 /// opened, and each of these before the next one.
-pub fn find_modules(console: Console<'_>, arguments: &FindArguments<'_>) -> Result<u8, Reported>
-    ensures { IfOk result (IsFindStatus arguments.now) }
+pub fn find_modules<C: Console>(
+    console: &mut C,
+    arguments: &FindArguments<'_>,
+) -> Result<u8, Reported>
+    ensures done { IfOk result (Gives (FindsModules arguments.now) (arguments.now.dump.now ∷ map (λ path. path.now) arguments.now.files.items)
+        (C.journal console.old) (C.journal console.new)) }
+    ensures fault { IfErr result (λ _. OnlyReports (C.journal console.old) (C.journal console.new)) }
 {
-    let first = console.word(arguments.first)?;
+    let first = arguments.first.word(console)?;
     let file = console.read_file(arguments.dump)?;
     match dump_of(first, &file) {
         Ok(dump) => find_in(console, dump, &arguments.files),
@@ -93,17 +99,30 @@ pub fn find_modules(console: Console<'_>, arguments: &FindArguments<'_>) -> Resu
 }
 
 /// Prints where the modules of these files lie in the dump.
-fn find_in(console: Console<'_>, dump: Dump<'_>, paths: &[&str]) -> Result<u8, Reported>
-    ensures { IfOk result (IsStatusIn (dump_of dump.entry)) }
+fn find_in<C: Console>(console: &mut C, dump: Dump<'_>, paths: &[&str]) -> Result<u8, Reported>
+    ensures done { IfOk result (Gives (FindsIn (dump_of dump.entry)) (map (λ path. path.now) paths.now)
+        (C.journal console.old) (C.journal console.new)) }
+    ensures fault { IfErr result (λ _. OnlyReports (C.journal console.old) (C.journal console.new)) }
+{
+    let files = read_all(console, paths)?;
+    let answer = found(console.alloc(), dump, &files);
+    console.give_if_made(answer)
+}
+
+/// What the files of these paths are, in order. Each file is checked before the next one is opened.
+fn read_all<C: Console>(console: &mut C, paths: &[&str]) -> Result<Vec<LinkFile>, Reported>
+    ensures read { IfOk result (λ files. AreFilesRead (map (λ path. path.now) paths.now)
+        (C.journal console.old) (C.journal console.new) files.items) }
+    ensures fault { IfErr result (λ _. OnlyReports (C.journal console.old) (C.journal console.new)) }
 {
     let mut files = Vec::new(console.alloc());
     for path in paths {
-        let file = read_file(console, path)?;
+        let file = read_link_file(console, path)?;
         if files.push(file).is_err() {
             return Err(console.report_memory());
         }
     }
-    console.give_if_made(found(console.alloc(), dump, &files))
+    Ok(files)
 }
 
 /// The dump of the bytes of a file, from an address on.
@@ -126,7 +145,8 @@ fn dump_of<'a, 'b>(first: u16, file: &'b ReadFile<'a>) -> Result<Dump<'b>, Fault
 
 /// What is found of the modules of files, one after another. The status is 1 if a module of an object file is missing.
 fn found(alloc: Global, dump: Dump<'_>, files: &[LinkFile]) -> Result<Answer<'static>, AllocError>
-    ensures { IfOk result (PrintsFound (dump_of dump.entry) files.now) }
+    ensures found { IfOk result (PrintsFound (dump_of dump.entry) files.now) }
+    ensures no_file { IfOk result (λ answer. answer.files ≡ []) }
 {
     let mut text = Vec::new(alloc);
     let mut are_there = true;

@@ -1,8 +1,10 @@
 //! `plm80 lib`: a library of the modules of object files.
 
-ghost use Rattle.std.specs.Prelude.{◌≡◌, IfOk, IsErrOf, IsTrue};
+ghost use Rattle.std.specs.Prelude.{◌≡◌, map, IfErr, IfOk, IsErrOf, IsTrue};
 ghost use Rattle.omf_library.specs.Writing.{library_bytes, is_too_large};
+ghost use Rattle.plm80_console.specs.Journal.{OnlyReports};
 ghost use Rattle.plm80_objects.specs.Arguments.{AreLibraryArguments};
+ghost use Rattle.plm80_objects.specs.Modules.{AreAllRead, GivesUpLibrary, WritesLibrary};
 
 use clap::ArgMatches;
 use omf_library::{LibraryPutFault, write_library};
@@ -67,19 +69,22 @@ impl<'a> LibraryArguments<'a> {
 
 /// Writes the library of all modules of the object files. No file is created or changed before every other fault is
 /// excluded.
-pub fn write_library_file(
-    console: Console<'_>,
+pub fn write_library_file<C: Console>(
+    console: &mut C,
     arguments: &LibraryArguments<'_>,
 ) -> Result<u8, Reported>
-    ensures { IfOk result (λ status. status ≡ 0) }
+    ensures done { IfOk result (WritesLibrary arguments.now (C.journal console.old) (C.journal console.new)) }
+    ensures fault { IfErr result (λ _. GivesUpLibrary arguments.now.library.now (C.journal console.old) (C.journal console.new)) }
 {
     let modules = modules_of(console, &arguments.files)?;
     match library_of(console.alloc(), &modules) {
-        Ok(library) => console.replace_keeping_objects(arguments.library, &library)?,
-        Err(LibraryPutFault::Memory) => return Err(console.report_memory()),
-        Err(fault) => return Err(console.report(fault)),
+        Ok(library) => {
+            console.replace_keeping_objects(arguments.library, &library)?;
+            Ok(0)
+        }
+        Err(LibraryPutFault::Memory) => Err(console.report_memory()),
+        Err(fault) => Err(console.report(fault)),
     }
-    Ok(0)
 }
 
 /// The library of these modules, as a file has it.
@@ -93,10 +98,15 @@ fn library_of(alloc: Global, modules: &[Module]) -> Result<Vec<u8>, LibraryPutFa
 }
 
 /// The modules of the object files of these paths, in order. Each file is checked before the next one is opened.
-fn modules_of(console: Console<'_>, paths: &[&str]) -> Result<Vec<Module>, Reported> {
+fn modules_of<C: Console>(console: &mut C, paths: &[&str]) -> Result<Vec<Module>, Reported>
+    ensures read { IfOk result (λ modules. AreAllRead (map (λ path. path.now) paths.now)
+        (C.journal console.old) (C.journal console.new) modules.items) }
+    ensures fault { IfErr result (λ _. OnlyReports (C.journal console.old) (C.journal console.new)) }
+{
     let mut modules = Vec::new(console.alloc());
     for path in paths {
-        append_modules(console, &mut modules, &mut read_modules(console, path)?)?;
+        let mut read = read_modules(console, path)?;
+        append_modules(console, &mut modules, &mut read)?;
     }
     Ok(modules)
 }

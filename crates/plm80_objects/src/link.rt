@@ -1,10 +1,12 @@
 //! `plm80 link`: the modules of object files, and what they need of libraries, linked into one.
 
-ghost use Rattle.std.specs.Prelude.{◌≡◌, ◌++◌, map, IfOk, OnOk};
+ghost use Rattle.std.specs.Prelude.{◌≡◌, ◌++◌, map, IfErr, IfOk, OnOk};
 ghost use Rattle.link80.specs.Selection.{IsSelection};
 ghost use Rattle.link80_text.specs.Parts.{IsMade};
 ghost use Rattle.plm80_objects.specs.Arguments.{AreLinkArguments};
-ghost use Rattle.plm80_objects.specs.Link.{AddsFile, AddsLibrary, AddsModules, HavePaths, WritesLinked};
+ghost use Rattle.plm80_console.specs.Answer.{Gives, GivesUp, IsAnswered, IsGivenUp};
+ghost use Rattle.plm80_console.specs.Journal.{OnlyReports};
+ghost use Rattle.plm80_objects.specs.Link.{AddsFile, AddsLibrary, AddsModules, AreLinkFilesRead, LinksFiles, LinksInto, WritesLinked};
 
 use crate::helpers::causes::report_link_fault;
 use crate::helpers::link_lines::{LinkLines, lines_of};
@@ -14,12 +16,11 @@ use omf_core::Name;
 use omf_library::Library;
 use omf_module::{Module, write_file};
 use plm80_console::{
-    Answer, Argument, Console, Kind, LateFile, LinkFile, OptionText, Reported, Syntax,
-    argument_text, argument_values, read_link_file,
+    Answer, Argument, Console, Kind, LinkFile, OptionText, Reported, Syntax, argument_text,
+    argument_values, read_link_file,
 };
 use std::alloc::{AllocError, Global};
 use std::slice;
-use stream80::Reading;
 
 /// The arguments of `link`.
 #[derive(Drop)]
@@ -118,45 +119,42 @@ pub(crate) struct LinkFiles<'a> {
 
 /// Links the modules of the files, writes the linked one and prints which were taken and which names are unresolved. No file
 /// is created or changed before every other fault is excluded.
-pub fn link_files(console: Console<'_>, arguments: &LinkArguments<'_>) -> Result<u8, Reported>
-    ensures { IfOk result (λ status. status ≡ 0) }
+pub fn link_files<C: Console>(
+    console: &mut C,
+    arguments: &LinkArguments<'_>,
+) -> Result<u8, Reported>
+    ensures done { IfOk result (Gives (LinksFiles arguments.now) (map (λ path. path.now) arguments.now.files.items)
+        (C.journal console.old) (C.journal console.new)) }
+    ensures fault { IfErr result (λ _. GivesUp (LinksFiles arguments.now) (map (λ path. path.now) arguments.now.files.items)
+        (C.journal console.old) (C.journal console.new)) }
 {
-    let name = console.name(arguments.name)?;
+    let name = arguments.name.module_name(console)?;
     let files = read_files(console, &arguments.files)?;
     link_read(console, arguments, &name, &files)
 }
 
 /// Links what was read, and writes the linked module.
-fn link_read(
-    console: Console<'_>,
+fn link_read<C: Console>(
+    console: &mut C,
     arguments: &LinkArguments<'_>,
     name: &Name,
     files: &LinkFiles<'_>,
 ) -> Result<u8, Reported>
-    ensures { IfOk result (λ status. status ≡ 0) }
+    ensures done { IfOk result (IsAnswered (LinksInto arguments.now.out.now arguments.now.lines name.now files.now)
+        (C.journal console.old) (C.journal console.new)) }
+    ensures fault { IfErr result (λ _. IsGivenUp (LinksInto arguments.now.out.now arguments.now.lines name.now files.now)
+        (C.journal console.old) (C.journal console.new)) }
 {
     let linked = linked(console, name, files)?;
-    write_linked(console, arguments, &linked, files)
-}
-
-/// Writes the linked module, and prints what was taken and what is unresolved.
-fn write_linked(
-    console: Console<'_>,
-    arguments: &LinkArguments<'_>,
-    linked: &Linked,
-    files: &LinkFiles<'_>,
-) -> Result<u8, Reported>
-    requires selection { IsSelection files.now.roots.items files.now.libraries.items linked.now.taken.items }
-    requires made { IsMade files.now.roots.items files.now.libraries.items linked.now }
-    ensures { IfOk result (λ status. status ≡ 0) }
-{
     let (out, lines) = (arguments.out, arguments.lines);
-    console.give_if_made(answer(console.alloc(), out, lines, linked, files))
+    let answer = answer(console.alloc(), out, lines, &linked, files);
+    console.give_if_made(answer)
 }
 
 /// What the files of these paths have. Each file is checked before the next one is opened.
-fn read_files<'a>(console: Console<'_>, paths: &[&'a str]) -> Result<LinkFiles<'a>, Reported>
-    ensures { IfOk result HavePaths }
+fn read_files<'a, C: Console>(console: &mut C, paths: &[&'a str]) -> Result<LinkFiles<'a>, Reported>
+    ensures read { IfOk result (AreLinkFilesRead (map (λ path. path.now) paths.now) (C.journal console.old) (C.journal console.new)) }
+    ensures fault { IfErr result (λ _. OnlyReports (C.journal console.old) (C.journal console.new)) }
 {
     let mut files = LinkFiles {
         roots: Vec::new(console.alloc()),
@@ -165,7 +163,7 @@ fn read_files<'a>(console: Console<'_>, paths: &[&'a str]) -> Result<LinkFiles<'
         paths: Vec::new(console.alloc()),
     };
     for path in paths {
-        let file = read_file(console, path)?;
+        let file = read_link_file(console, path)?;
         match files.add(file, path) {
             Ok(()) => {}
             Err(AllocError) => return Err(console.report_memory()),
@@ -223,24 +221,17 @@ fn push_modules(roots: &mut Vec<Module>, mut modules: Vec<Module>) -> Result<(),
     }
 }
 
-/// What the file of this path has.
-pub(crate) fn read_file(console: Console<'_>, path: &str) -> Result<LinkFile, Reported> {
-    let mut late = LateFile::new(console.runtime(), path);
-    let mut source = Reading::new(&mut late);
-    match read_link_file(console.alloc(), &mut source) {
-        Ok(file) => {
-            console.explain_unread(path);
-            Ok(file)
-        }
-        Err(fault) => Err(fault.report(console, path, late.failure())),
-    }
-}
-
 /// What the files are linked into.
-fn linked(console: Console<'_>, name: &Name, files: &LinkFiles<'_>) -> Result<Linked, Reported>
+fn linked<C: Console>(
+    console: &mut C,
+    name: &Name,
+    files: &LinkFiles<'_>,
+) -> Result<Linked, Reported>
     ensures selection { IfOk result (λ made. IsSelection files.now.roots.items files.now.libraries.items made.taken.items) }
     ensures made { IfOk result (λ made. IsMade files.now.roots.items files.now.libraries.items made) }
     ensures name { IfOk result (λ made. made.module.name ≡ name.now) }
+    ensures unchanged { IfOk result (λ _. C.journal console.new ≡ C.journal console.old) }
+    ensures fault { IfErr result (λ _. OnlyReports (C.journal console.old) (C.journal console.new)) }
 {
     match link(console.alloc(), name, &files.roots, &files.libraries) {
         Ok(linked) => Ok(linked),

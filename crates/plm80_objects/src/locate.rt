@@ -1,10 +1,14 @@
 //! `plm80 locate`: an object file's one module at its places, as an image and its regions.
 
-ghost use Rattle.std.specs.Prelude.{◌≡◌, ◌⊎◌, None, Some, length, IfOk, IfErr, OnOk};
+ghost use Rattle.std.specs.Prelude.{◌≡◌, ◌⊎◌, ◌∷◌, None, Some, [], length, IfOk, IfErr, OnOk};
 ghost use Rattle.image80.specs.RegionsText.{regions_text};
 ghost use Rattle.place80.specs.declared.place_fault.PlaceFault.TheVariants.{Memory};
+ghost use Rattle.plm80_console.specs.Answer.{Gives, GivesUp};
+ghost use Rattle.plm80_console.specs.Journal.{OnlyReports};
+ghost use Rattle.plm80_console.specs.Pieces.{AreModulesRead};
 ghost use Rattle.plm80_objects.specs.Arguments.{AreLocateArguments};
 ghost use Rattle.plm80_objects.specs.Locate.{IsImageOf, WritesProgram, fault_of, image_file};
+ghost use Rattle.plm80_objects.specs.Modules.{LocatesFile};
 
 use crate::helpers::causes::report_place_fault;
 use crate::helpers::empty_segments::explain_empty_segments;
@@ -114,8 +118,14 @@ impl<'a> LocateArguments<'a> {
 
 /// Locates the module of the object file, and writes its image and regions. No file is created or changed before every
 /// other fault is excluded.
-pub fn locate_file(console: Console<'_>, arguments: LocateArguments<'_>) -> Result<u8, Reported>
-    ensures { IfOk result (λ status. status ≡ 0) }
+pub fn locate_file<C: Console>(
+    console: &mut C,
+    arguments: LocateArguments<'_>,
+) -> Result<u8, Reported>
+    ensures done { IfOk result (Gives (LocatesFile arguments.entry) (arguments.entry.object.now ∷ [])
+        (C.journal console.old) (C.journal console.new)) }
+    ensures fault { IfErr result (λ _. GivesUp (LocatesFile arguments.entry) (arguments.entry.object.now ∷ [])
+        (C.journal console.old) (C.journal console.new)) }
 {
     let options = arguments.options.numbers(console)?;
     let modules = read_program(console, arguments.object)?;
@@ -212,8 +222,10 @@ fn text_of(alloc: Global, image: &Image) -> Result<Vec<u8>, AllocError>
 }
 
 /// The object file of this path, which has one module.
-pub fn read_program(console: Console<'_>, path: &str) -> Result<Vec<Module>, Reported>
-    ensures { IfOk result (λ modules. length modules.items ≡ 1) }
+pub fn read_program<C: Console>(console: &mut C, path: &str) -> Result<Vec<Module>, Reported>
+    ensures one { IfOk result (λ modules. length modules.items ≡ 1) }
+    ensures read { IfOk result (λ modules. AreModulesRead path.now (C.journal console.old) (C.journal console.new) modules.items) }
+    ensures fault { IfErr result (λ _. OnlyReports (C.journal console.old) (C.journal console.new)) }
 {
     let modules = read_modules(console, path)?;
     if modules.len() == 1 {

@@ -1,12 +1,14 @@
 //! `plm80 map`: where LOCATE would put a module's segments and public names.
 
-ghost use Rattle.std.specs.Prelude.{◌≡◌, ◌⊎◌, None, Some, [], IfOk, IfErr, OnOk};
+ghost use Rattle.std.specs.Prelude.{◌≡◌, ◌⊎◌, ◌∷◌, None, Some, [], IfOk, IfErr, OnOk};
 ghost use Rattle.place80.specs.Layout.{layout_of};
 ghost use Rattle.place80.specs.PlaceFault.{locate_fault};
 ghost use Rattle.place80.specs.declared.place_fault.PlaceFault.TheVariants.{Memory};
 ghost use Rattle.place80_text.specs.Map.{IsMap};
-ghost use Rattle.plm80_console.specs.Answer.{prints};
+ghost use Rattle.plm80_console.specs.Answer.{Gives, prints};
+ghost use Rattle.plm80_console.specs.Journal.{OnlyReports};
 ghost use Rattle.plm80_objects.specs.Arguments.{AreMapArguments};
+ghost use Rattle.plm80_objects.specs.Modules.{MapsFile};
 
 use crate::helpers::causes::report_place_fault;
 use crate::helpers::locate_options::{
@@ -75,8 +77,10 @@ impl<'a> MapArguments<'a> {
 }
 
 /// Prints the map of the module of the object file.
-pub fn map_file(console: Console<'_>, arguments: MapArguments<'_>) -> Result<u8, Reported>
-    ensures { IfOk result (λ status. status ≡ 0) }
+pub fn map_file<C: Console>(console: &mut C, arguments: MapArguments<'_>) -> Result<u8, Reported>
+    ensures done { IfOk result (Gives (MapsFile arguments.entry) (arguments.entry.object.now ∷ [])
+        (C.journal console.old) (C.journal console.new)) }
+    ensures fault { IfErr result (λ _. OnlyReports (C.journal console.old) (C.journal console.new)) }
 {
     let options = arguments.options.numbers(console)?;
     let modules = read_program(console, arguments.object)?;

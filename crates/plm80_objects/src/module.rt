@@ -1,10 +1,10 @@
 //! `plm80 module`: what an object file holds, module by module.
 
-ghost use Rattle.std.specs.Prelude.{◌≡◌, IfOk, codes};
-ghost use Rattle.std.specs.List.{flat_map};
-ghost use Rattle.omf_text.specs.ModuleText.{module_text};
-ghost use Rattle.plm80_console.specs.Answer.{prints};
+ghost use Rattle.std.specs.Prelude.{◌≡◌, ◌∷◌, [], IfErr, IfOk, codes};
+ghost use Rattle.plm80_console.specs.Answer.{Gives};
 ghost use Rattle.plm80_console.specs.Arguments.{argument_text};
+ghost use Rattle.plm80_console.specs.Journal.{OnlyReports};
+ghost use Rattle.plm80_objects.specs.Modules.{AnswersModules, DescribesModules};
 
 use clap::ArgMatches;
 use omf_module::Module;
@@ -58,16 +58,23 @@ impl<'a> ModuleArguments<'a> {
 }
 
 /// Prints what the object file holds.
-pub fn describe_file(console: Console<'_>, arguments: ModuleArguments<'_>) -> Result<u8, Reported>
-    ensures { IfOk result (λ status. status ≡ 0) }
+pub fn describe_file<C: Console>(
+    console: &mut C,
+    arguments: ModuleArguments<'_>,
+) -> Result<u8, Reported>
+    ensures done { IfOk result (Gives (AnswersModules DescribesModules) (arguments.entry.object.now ∷ [])
+        (C.journal console.old) (C.journal console.new)) }
+    ensures fault { IfErr result (λ _. OnlyReports (C.journal console.old) (C.journal console.new)) }
 {
     let modules = read_modules(console, arguments.object)?;
-    console.give_if_made(described(console.alloc(), &modules))
+    let answer = described(console.alloc(), &modules);
+    console.give_if_made(answer)
 }
 
 /// The lines of all modules, in order.
 fn described(alloc: Global, modules: &[Module]) -> Result<Answer<'static>, AllocError>
-    ensures { IfOk result (λ answer. answer ≡ prints (flat_map module_text modules.now) 0) }
+    ensures described { IfOk result (DescribesModules modules.now) }
+    ensures no_file { IfOk result (λ answer. answer.files ≡ []) }
 {
     let mut text = Vec::new(alloc);
     for described in modules {

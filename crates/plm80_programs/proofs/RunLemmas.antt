@@ -1,11 +1,10 @@
 -- Runs that are watched, and their exit statuses.
-use Rattle.std.specs.Prelude.{◌≡◌, ℕ, ◌+◌, ◌-◌, ◌≤◌, min, false, List, [], ◌++◌, Option, None, Some, Result, IfOk, refl}
+use Rattle.std.specs.Prelude.{◌≡◌, ℕ, ◌+◌, ◌-◌, ◌≤◌, min, true, false, List, [], ◌∷◌, ◌++◌, Option, None, Some, Result, Ok, Err, IfErr, IfOk, refl}
 use Rattle.std.specs.Io.KnownBytes.{Appends}
 use Rattle.std.specs.List.{flat_map}
-use Rattle.std.proofs.Common.{◌∙◌, ap, arith, subst, sym}
+use Rattle.std.proofs.Common.{◌∙◌, ap, append-nil, append_assoc, arith, subst, sym}
 use Rattle.std.proofs.Math.Nat.{min-eq_left}
 use Rattle.std.proofs.KnownBytes.{Appends-nil, Appends-trans}
-use Rattle.std.proofs.lemmas.Result.{IfOk-weaker}
 use Rattle.omf_model.specs.declared.symbols.Public.{Public}
 use Rattle.image80.specs.Regions.{Areas}
 use Rattle.machine80.specs.declared.end.End.{End}
@@ -19,8 +18,10 @@ use Rattle.verify80.specs.Vouched.{Voucher}
 use Rattle.loader80_trace.specs.declared.limits.Limits.{Limits}
 use Rattle.loader80_trace.specs.declared.limits.Span.{Span}
 use Rattle.loader80_trace.specs.Traces.{last_number, run_lines}
-use Rattle.plm80_console.specs.Answer.{AnswerValue}
-use Rattle.plm80_programs.specs.Running.{EndsRun, EndsTrace, IsTraceOf, WatchesRun, dump_answer, ending, last_lines, start_of, trace_ending, trace_lines}
+use Rattle.plm80_console.specs.Answer.{AnswerValue, GaveUp, IsAnswered, IsGiven, IsGivenUp, and_files, and_given, prints}
+use Rattle.plm80_console.specs.Answer.IsGivenUp.{within as unfinished}
+use Rattle.plm80_console.specs.Journal.{FileValue, Journal, and_printed, and_written}
+use Rattle.plm80_programs.specs.Running.{EndsRun, TracesRun, IsTraceOf, WatchesRun, ending, last_lines, start_of, trace_ending, trace_lines, with_memory}
 
 -- a run makes no more steps than it may
 pub steps_within : (regions : Areas) (most : Option ℕ) (start : World) (limit steps : ℕ) (m : Machine) (ending : Option End)
@@ -56,6 +57,11 @@ last_span inputs limits last publics program ended span within counted reaches =
     ∙ ap (λ (n : ℕ). run_lines program.image.regions (Some limits.outputs) (start_of program inputs) publics false n (min last (number + 1)))
     (begins ∙ ap (λ (n : ℕ). number + 1 - n) counted)
 
+abbrev OneAtMost : List FileValue → Type 0
+OneAtMost [] = Unit {0}
+OneAtMost (file ∷ []) = Unit {0}
+OneAtMost (file ∷ other ∷ files) = ⊥
+
 module _ (inputs : List (ℕ × ℕ)) (limits : Limits) (last : ℕ) (publics : List Public) (program : Voucher) (ended : Ended) where
   -- no instruction is written
   pub writes_none : (old : Option (List ℕ)) → last ≡ 0 → Appends old old (last_lines inputs limits last publics program ended)
@@ -81,36 +87,95 @@ module _ (inputs : List (ℕ × ℕ)) (limits : Limits) (last : ℕ) (publics : 
 
 -- the transcript of a run that was finished is a front part and its last line
 pub watches : (inputs : List (ℕ × ℕ)) (limits : Limits) (last : ℕ) (dump : Option (List ℕ)) (publics : List Public) (program : Voucher)
-    (ended : Ended) (memory : List ℕ) (ports : PortLists) (file answer : AnswerValue)
+    (ended : Ended) (memory : List ℕ) (ports : PortLists) (line answer : AnswerValue)
     → IsRun program.image.regions (Some limits.outputs) (start_of program inputs) limits.steps ended.steps (with_ports ended.cpu memory ports) ended.end
-    → file ≡ dump_answer dump memory → answer ≡ ending program publics ended
+    → line ≡ ending program publics ended → answer ≡ with_memory dump memory line
     → WatchesRun inputs limits last dump publics program
-    ((stack_line program.stack_bytes ++ flat_map output_line ports.outputs) ++ last_lines inputs limits last publics program ended) file ended answer
-watches inputs limits last dump publics program ended memory ports file answer run file_is answer_is = record {
+    ((stack_line program.stack_bytes ++ flat_map output_line ports.outputs) ++ last_lines inputs limits last publics program ended) ended answer
+watches inputs limits last dump publics program ended memory ports line answer run line_is answer_is = record {
   front = stack_line program.stack_bytes ++ flat_map output_line ports.outputs;
   transcript = record { last = with_ports ended.cpu memory ports; run = run; at = refl; spells = refl };
   text_is = refl;
-  file_is = file_is;
-  answer_is = answer_is;
+  answer_is = answer_is ∙ ap (with_memory dump memory) line_is;
 }
 
--- the exit status of a run that was watched
-pub run_answered : {E : Type 0} (inputs : List (ℕ × ℕ)) (limits : Limits) (last : ℕ) (dump : Option (List ℕ)) (publics : List Public)
-    (program : Voucher) (text : List ℕ) (file : AnswerValue) (ended : Ended) (answer : AnswerValue) (r : Result ℕ E)
-    → WatchesRun inputs limits last dump publics program text file ended answer
-    → IfOk r (λ status. status ≡ answer.status)
-    → IfOk r (λ status. (answer : AnswerValue) × EndsRun inputs limits last dump publics program answer × (status ≡ answer.status))
-run_answered inputs limits last dump publics program text file ended answer r watched gave =
-    IfOk-weaker r (λ status. status ≡ answer.status)
-    (λ status. (answer : AnswerValue) × EndsRun inputs limits last dump publics program answer × (status ≡ answer.status))
-    (λ status is. (answer, record { text = text; file = file; ended = ended; watched = watched }, is)) gave
+-- ---- journals
 
--- the exit status of a trace
+-- lines behind lines
+behind_lines : (old : Journal) (lines more : List ℕ) → and_printed (and_printed old lines) more ≡ and_printed old (lines ++ more)
+behind_lines old lines more = ap (λ (l : List ℕ). record old { printed = l }) (append_assoc old.printed lines more)
+
+-- an answer of one file at most, behind lines
+behind : (answer : AnswerValue) (old : Journal) (lines : List ℕ) → OneAtMost answer.files
+    → and_given (and_printed old lines) answer ≡ and_given old (record answer { lines = lines ++ answer.lines })
+behind answer old lines few = go answer.files few
+  where
+    go : (files : List FileValue) → OneAtMost files → and_printed (and_files (and_printed old lines) files) answer.lines
+        ≡ and_printed (and_files old files) (lines ++ answer.lines)
+    go [] few = behind_lines old lines answer.lines
+    go (file ∷ []) few = behind_lines (and_written old file.path file.bytes) lines answer.lines
+    go (file ∷ other ∷ files) few = absurd few
+
+-- no file is written of an ending
+pub trace_files : (program : Voucher) (publics : List Public) (ended : Option Ended) → (trace_ending program publics ended).files ≡ []
+trace_files program publics None = refl
+trace_files program publics (Some ended) = refl
+
+few_of : (dump : Option (List ℕ)) (memory : List ℕ) (program : Voucher) (publics : List Public) (ended : Ended)
+    → OneAtMost (with_memory dump memory (ending program publics ended)).files
+few_of None memory program publics ended = tt
+few_of (Some path) memory program publics ended = tt
+
+given_behind : (answer : AnswerValue) (old between new : Journal) (lines : List ℕ) (status : ℕ) → OneAtMost answer.files → between ≡ and_printed old lines
+    → IsGiven answer between new status → IsGiven (record answer { lines = lines ++ answer.lines }) old new status
+given_behind answer old between new lines status few printed given = record {
+  journal = given.journal ∙ ap (λ (j : Journal). and_given j answer) printed ∙ behind answer old lines few;
+  status_is = given.status_is;
+}
+
+-- ---- answers that were given
+
+-- the lines of a run were printed, and behind them how it ended
 pub trace_answered : {E : Type 0} (inputs : List (ℕ × ℕ)) (limits : Limits) (span : Span) (publics : List Public) (program : Voucher)
-    (ended : Option Ended) (r : Result ℕ E) → IsTraceOf inputs limits span program ended
-    → IfOk r (λ status. status ≡ (trace_ending program publics ended).status)
-    → IfOk r (λ status. (answer : AnswerValue) × EndsTrace inputs limits span publics program answer × (status ≡ answer.status))
-trace_answered inputs limits span publics program ended r traced gave =
-    IfOk-weaker r (λ status. status ≡ (trace_ending program publics ended).status)
-    (λ status. (answer : AnswerValue) × EndsTrace inputs limits span publics program answer × (status ≡ answer.status))
-    (λ status is. (trace_ending program publics ended, record { ended = ended; traced = traced; answer_is = refl }, is)) gave
+    (ended : Option Ended) (old between new : Journal) (r : Result ℕ E) → IsTraceOf inputs limits span program ended
+    → between ≡ and_printed old (trace_lines inputs limits span true publics program)
+    → IfOk r (IsGiven (trace_ending program publics ended) between new)
+    → IfOk r (IsAnswered (TracesRun inputs limits span publics program) old new)
+trace_answered inputs limits span publics program ended old between new (Ok status) traced printed gave =
+    let lines = trace_lines inputs limits span true publics program in
+    record {
+      answer = prints (lines ++ (trace_ending program publics ended).lines) (trace_ending program publics ended).status;
+      answers = record { ended = ended; traced = traced; answer_is = refl };
+      given = of_ending ended lines gave printed;
+    }
+  where
+    of_ending : (e : Option Ended) (lines : List ℕ) → IsGiven (trace_ending program publics e) between new status → between ≡ and_printed old lines
+        → IsGiven (prints (lines ++ (trace_ending program publics e).lines) (trace_ending program publics e).status) old new status
+    of_ending None lines gave printed = given_behind (trace_ending program publics None) old between new lines status tt printed gave
+    of_ending (Some e) lines gave printed = given_behind (trace_ending program publics (Some e)) old between new lines status tt printed gave
+trace_answered inputs limits span publics program ended old between new (Err e) traced printed gave = tt
+
+module _ (inputs : List (ℕ × ℕ)) (limits : Limits) (last : ℕ) (dump : Option (List ℕ)) (publics : List Public) (program : Voucher)
+    (text : List ℕ) (ended : Ended) (answer : AnswerValue) (old between new : Journal)
+    (watched : WatchesRun inputs limits last dump publics program text ended answer) (printed : between ≡ and_printed old text) where
+  few : OneAtMost answer.files
+  few = subst (λ (a : AnswerValue). OneAtMost a.files) (sym watched.answer_is) (few_of dump watched.transcript.last.memory program publics ended)
+
+  -- a run that was watched: its text was printed, its memory written, and its last line printed
+  pub run_answered : {E : Type 0} (r : Result ℕ E) → IfOk r (IsGiven answer between new)
+      → IfOk r (IsAnswered (EndsRun inputs limits last dump publics program) old new)
+  run_answered (Ok status) gave = record {
+    answer = record answer { lines = text ++ answer.lines };
+    answers = record { text = text; ended = ended; behind = answer; watched = watched; answer_is = refl };
+    given = given_behind answer old between new text status few printed gave;
+  }
+  run_answered (Err e) gave = tt
+
+  pub run_given_up : {A E : Type 0} (r : Result A E) → IfErr r (λ _. GaveUp answer.files between new)
+      → IfErr r (λ _. IsGivenUp (EndsRun inputs limits last dump publics program) old new)
+  run_given_up (Ok x) gave = tt
+  run_given_up (Err e) gave =
+      let up = subst (λ (j : Journal). GaveUp answer.files j new) printed gave in
+      unfinished (record answer { lines = text ++ answer.lines })
+      (record { text = text; ended = ended; behind = answer; watched = watched; answer_is = refl })
+      (record { reported = up.reported; written = up.written; spoiled = up.spoiled; copies = up.copies })

@@ -1,5 +1,6 @@
 -- Which argument of the command line each path and each flag of a command is.
-use Rattle.std.specs.Prelude.{◌≡◌, ℕ, List, Option, codes, map, option_map}
+use Rattle.std.specs.Prelude.{◌≡◌, ℕ, List, [], ◌∷◌, Option, codes, map, option_map}
+use Rattle.std.specs.Borrow.{Bor}
 use Rattle.clap.specs.declared.parser.matches.ArgMatches.{ArgMatches}
 use Rattle.clap.specs.Matches.{first_value, found_of}
 use Rattle.plm80_console.specs.Arguments.{argument_text, argument_values}
@@ -54,9 +55,16 @@ pub record AreTraceArguments (matches : ArgMatches) (arguments : TraceArguments)
   pub count : arguments.count.text.now ≡ argument_text matches (codes "count")
   pub names : IsFlag matches (codes "names") arguments.names
 
+-- they are read in this order
+abbrev pub run_paths : RunFiles → List (List ℕ)
+run_paths files = files.image.now ∷ files.regions.now ∷ files.inputs.now ∷ []
+
 -- the path of the memory's file, if one is asked for
+abbrev pub dump_path : Option (Bor (List ℕ)) → Option (List ℕ)
+dump_path path = option_map (λ p. p.now) path
+
 abbrev pub dump_of : RunArguments → Option (List ℕ)
-dump_of arguments = option_map (λ path. path.now) arguments.dump
+dump_of arguments = dump_path arguments.dump
 
 pub record AreRunArguments (matches : ArgMatches) (arguments : RunArguments) : Type 0 where
   pub files : AreRunFiles matches arguments.files
@@ -69,3 +77,7 @@ pub record AreCasesArguments (matches : ArgMatches) (arguments : CasesArguments)
   pub image : arguments.image.now ≡ argument_text matches (codes "IMAGE")
   pub regions : arguments.regions.now ≡ argument_text matches (codes "REGIONS")
   pub out : option_map (λ path. path.now) arguments.out ≡ first_value (found_of matches) (codes "out")
+
+-- the path of the file that gets the regions with their cases, if one is given
+abbrev pub cases_path : CasesArguments → Option (List ℕ)
+cases_path arguments = option_map (λ path. path.now) arguments.out

@@ -1,18 +1,19 @@
 -- What `cases` prints, writes and reports of an image.
 -- (That each PCHL has its line, its note or both, is this project's own.)
-use Rattle.std.specs.Prelude.{◌≡◌, ◌≤◌, ℕ, Bool, true, false, List, [], All, Option, length, map, filter, filter_map}
+use Rattle.std.specs.Prelude.{◌≡◌, ◌≤◌, ℕ, Bool, true, false, List, [], ◌∷◌, All, None, Option, Some, length, map, filter, filter_map}
 use Rattle.std.specs.List.{range_with_len}
-use Rattle.omf_model.specs.declared.symbols.Public.{Public}
 use Rattle.image80.specs.Case.{DeclaredCase}
 use Rattle.image80.specs.Image.{Located}
+use Rattle.image80.specs.Regions.{Areas}
 use Rattle.image80.specs.RegionsText.{cases_text}
 use Rattle.stream80.specs.WholeText.{text_limit}
 use Rattle.verify80_cases.specs.declared.search.Note.{Note}
 use Rattle.verify80_cases.specs.declared.search.SuggestedCase.{SuggestedCase}
 use Rattle.verify80_cases.specs.Added.{AddsCases}
 use Rattle.verify80_cases.specs.Suggested.{Finding, IsFinding, IsSearched, case_of, is_open}
-use Rattle.plm80_console.specs.Answer.{AnswerValue, prints, writes}
-use Rattle.plm80_names.specs.Verdict.{AreOfFiles}
+use Rattle.plm80_console.specs.Answer.{AnswerValue}
+use Rattle.plm80_console.specs.Journal.{FileValue}
+use Rattle.plm80_names.specs.Verdict.{AnswersProgram}
 use Rattle.plm80_programs.specs.declared.cases.FoundCase.{FoundCase}
 use Rattle.plm80_programs.specs.Status.{notes_status}
 
@@ -38,22 +39,22 @@ pub record FindsCases (image : Located) (cases : List DeclaredCase) (notes : Lis
   pub searched : IsSearched image reached taken
   pub found : AreFoundBelow image reached taken 65536 cases notes
 
--- the lines of these cases are printed, and then the regions with them go to a file
-pub record WritesCases (path : List ℕ) (image : Located) (notes : List Note) (lines file : AnswerValue) : Type 0 where
-  pub cases : List DeclaredCase
-  pub found : FindsCases image cases notes
-  pub lines_are : lines ≡ prints (cases_text cases) 0
-  pub text : List ℕ
-  pub added : AddsCases image.regions cases text
-  pub within : length text ≤ text_limit
-  pub file_is : file ≡ writes path text []
+-- the regions with cases, as a file that is written; none if no path is given
+abbrev pub AreAddedTo : (out : Option (List ℕ)) → Areas → List DeclaredCase → List FileValue → Type 0
+AreAddedTo None areas cases files = files ≡ []
+AreAddedTo (Some path) areas cases files =
+    (text : List ℕ) × AddsCases areas cases text × (length text ≤ text_limit) × (files ≡ record { path = path; bytes = text } ∷ [])
 
--- the exit status for the notes of an image and its regions, as two files have them
-pub record IsCasesStatus (status : ℕ) : Type 0 where
-  pub image : Located
-  pub publics : List Public
-  pub are_read : AreOfFiles false image publics
+-- What is answered of an image: the lines of its cases are printed; with a path, its regions with them go to the file there, as a text
+-- of version 2. The status is that of the notes.
+pub record PrintsCases (out : Option (List ℕ)) (image : Located) (answer : AnswerValue) : Type 0 where
   pub cases : List DeclaredCase
   pub notes : List Note
   pub found : FindsCases image cases notes
-  pub status_is : status ≡ notes_status notes
+  pub files : List FileValue
+  pub added : AreAddedTo out image.regions cases files
+  pub answer_is : answer ≡ record { files = files; lines = cases_text cases; status = notes_status notes }
+
+-- the same of two files
+pub record AnswersCases (out : Option (List ℕ)) (files : List FileValue) (answer : AnswerValue) : Type 0 where
+  pub is : AnswersProgram (λ image publics. PrintsCases out image) false files answer

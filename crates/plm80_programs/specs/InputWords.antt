@@ -1,13 +1,15 @@
 -- What `inputs` writes: the text of the bytes that its words name.
 -- (Words and text are this project's own.)
-use Rattle.std.specs.Prelude.{◌≡◌, ◌≢◌, ◌<◌, ℕ, List, [], ◌∷◌, ◌++◌, All, None, unwrap_or, codes, length, map}
+use Rattle.std.specs.Prelude.{◌≡◌, ◌≢◌, ◌<◌, ◌≤◌, ℕ, List, [], ◌∷◌, ◌++◌, All, None, unwrap_or, codes, length, map}
 use Rattle.std.specs.List.{flat_map}
 use Rattle.clap.specs.declared.parser.matches.ArgMatches.{ArgMatches}
 use Rattle.stream80.specs.WholeText.{text_limit}
 use Rattle.loader80_text.specs.declared.inputs.repeated.Repeated.{Repeated}
 use Rattle.loader80_text.specs.Text.{text_of}
 use Rattle.loader80_text.specs.Words.{word_of}
+use Rattle.plm80_console.specs.Answer.{AnswerValue, writes}
 use Rattle.plm80_console.specs.Arguments.{argument_text, argument_values}
+use Rattle.plm80_console.specs.Journal.{FileValue}
 use Rattle.plm80_programs.specs.declared.inputs.InputsArguments.{InputsArguments}
 use Rattle.plm80_programs.specs.declared.inputs.InputsFileFault.{InputsFileFault}
 use Rattle.plm80_programs.specs.declared.inputs.InputsFileFault.TheVariants.{BadInput, TooLong, Memory}
@@ -43,3 +45,12 @@ FaultsFile words Memory = Unit {0}
 pub record AreInputsArguments (matches : ArgMatches) (arguments : InputsArguments) : Type 0 where
   pub out : arguments.out.now ≡ argument_text matches (codes "OUT")
   pub words : map (λ word. word.now) arguments.words.items ≡ argument_values matches (codes "WORD")
+
+-- every word names inputs; the text of these, which is short enough, goes to the file; no file is read
+pub record IsInputsFile (words : List (List ℕ)) (out : List ℕ) (answer : AnswerValue) : Type 0 where
+  pub good : All IsGoodWord words
+  pub within : length (text_of (inputs_named words)) ≤ text_limit
+  pub answer_is : answer ≡ writes out (text_of (inputs_named words)) []
+
+abbrev pub AnswersWords : InputsArguments → List FileValue → AnswerValue → Type 0
+AnswersWords arguments files answer = IsInputsFile (map (λ word. word.now) arguments.words.items) arguments.out.now answer

@@ -6,5 +6,4 @@ pub mod Running
 pub mod Cases
 pub mod Suggest
 pub mod InputWords
--- what the crate's own functions promise one another: no public contract cites these
 pub mod Written

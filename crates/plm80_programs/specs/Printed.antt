@@ -31,8 +31,11 @@ use Rattle.loader80_trace.specs.Counts.{CountsSteps}
 use Rattle.loader80_trace.specs.Cover.{CoversReached, ListsReached}
 use Rattle.loader80_trace.specs.Traces.{EndsSo}
 use Rattle.plm80_console.specs.Answer.{AnswerValue, prints}
+use Rattle.plm80_console.specs.Journal.{FileValue}
 use Rattle.plm80_names.specs.Printed.{named_refusal_line, named_refusal_report, named_report}
-use Rattle.plm80_names.specs.Verdict.{AnswersVerdict, IsAccepted, IsStatusFor}
+use Rattle.plm80_names.specs.Verdict.{AnswersProgram, AnswersVerdict, IsAccepted}
+use Rattle.plm80_names.specs.Arguments.{asks_names}
+use Rattle.plm80_programs.specs.declared.stores.StoresArguments.{StoresArguments}
 use Rattle.plm80_programs.specs.Ranges.{AreRangesOf}
 use Rattle.plm80_programs.specs.Status.{stores_status}
 
@@ -103,11 +106,11 @@ pub record ListsStores (quiet : List Range) (publics : List Public) (program : V
 abbrev pub PrintsStores : (quiet : List Range) → Located → List Public → AnswerValue → Type 0
 PrintsStores quiet image publics answer = AnswersVerdict (ListsStores quiet publics) image publics answer
 
--- the exit status of that answer, of the ranges that the options write
-pub record IsStoresStatus (texts : List (List ℕ)) (asked : Bool) (status : ℕ) : Type 0 where
+-- the same of two files, with the ranges that the options write
+pub record AnswersStores (arguments : StoresArguments) (files : List FileValue) (answer : AnswerValue) : Type 0 where
   pub quiet : List Range
-  pub written : AreRangesOf texts quiet
-  pub is : IsStatusFor (PrintsStores quiet) asked status
+  pub written : AreRangesOf (map (λ range. range.now) arguments.quiet.items) quiet
+  pub is : AnswersProgram (PrintsStores quiet) (asks_names arguments.files) files answer
 
 -- ---- explain
 

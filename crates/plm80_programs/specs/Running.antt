@@ -1,8 +1,7 @@
 -- What commands print of a run, and how it is left. (That a run's transcript goes on with its last instructions, and the exit statuses,
 -- are this project's own.)
-use Rattle.std.specs.Prelude.{◌≡◌, ℕ, ◌+◌, ◌-◌, ◌==◌, ◌&&◌, not, is_none, min, if◌then◌else◌, Bool, false, List, [], ◌++◌, Option, None, Some, Result, Ok, Err, codes}
+use Rattle.std.specs.Prelude.{◌≡◌, ℕ, ◌+◌, ◌-◌, ◌==◌, ◌&&◌, not, is_none, min, Bool, true, false, List, [], ◌∷◌, ◌++◌, Option, None, Some, Result, Ok, Err, codes}
 use Rattle.std.specs.Bool.{MatchBool}
-use Rattle.std.specs.declared.io.ErrorKind.{ErrorKind}
 use Rattle.omf_model.specs.declared.symbols.Public.{Public}
 use Rattle.image80.specs.declared.range.Range.{Range}
 use Rattle.image80.specs.Image.{Located}
@@ -12,15 +11,17 @@ use Rattle.machine80.specs.World.{World, world_at_start}
 use Rattle.loader80.specs.declared.replies.Outcome.{Outcome}
 use Rattle.loader80.specs.declared.running.Ended.{Ended}
 use Rattle.loader80.specs.declared.fault.SessionFault.{SessionFault}
-use Rattle.loader80.specs.declared.fault.SessionFault.TheVariants.{Read, Write, Image, Regions, Inputs, Refused, Memory, TooLong}
+use Rattle.loader80.specs.declared.fault.SessionFault.TheVariants.{Image, Regions, Inputs, Refused}
 use Rattle.loader80.specs.InputsText.{bad_line, inputs_of}
-use Rattle.loader80.specs.Session.{IsTranscript}
+use Rattle.loader80.specs.Session.{IsTranscript, Says}
+use Rattle.loader80.specs.Texts.{Texts}
 use Rattle.loader80.specs.TranscriptText.{end_line}
 use Rattle.verify80.specs.Vouched.{Voucher}
 use Rattle.loader80_trace.specs.declared.limits.Limits.{Limits}
 use Rattle.loader80_trace.specs.declared.limits.Span.{Span}
 use Rattle.loader80_trace.specs.Traces.{IsTraced, count_within, last_number, run_lines}
-use Rattle.plm80_console.specs.Answer.{AnswerValue, prints, writes}
+use Rattle.plm80_console.specs.Answer.{AnswerValue, behind_file, prints}
+use Rattle.plm80_console.specs.Journal.{FileValue, Journal, and_read}
 use Rattle.plm80_console.specs.NumberText.{count_value}
 use Rattle.plm80_names.specs.Verdict.{AnswersVerdict, AreOfFiles}
 use Rattle.plm80_programs.specs.declared.cover.CoverArguments.{CoverArguments}
@@ -28,7 +29,7 @@ use Rattle.plm80_programs.specs.declared.helpers.run_arguments.LimitTexts.{Limit
 use Rattle.plm80_programs.specs.declared.helpers.run_arguments.RunFiles.{RunFiles}
 use Rattle.plm80_programs.specs.declared.run.RunArguments.{RunArguments}
 use Rattle.plm80_programs.specs.declared.trace.TraceArguments.{TraceArguments}
-use Rattle.plm80_programs.specs.declared.helpers.session_files.Failures.{Failures}
+use Rattle.plm80_programs.specs.declared.helpers.run_arguments.RunTexts.{RunTexts}
 use Rattle.plm80_programs.specs.Arguments.{dump_of}
 use Rattle.plm80_programs.specs.Printed.{CountsRun}
 use Rattle.plm80_programs.specs.Status.{end_status}
@@ -67,11 +68,12 @@ abbrev pub IsTraceOf : List (ℕ × ℕ) → Limits → Span → Voucher → Opt
 IsTraceOf inputs limits span program ended =
     IsTraced program.image.regions (Some limits.outputs) (start_of program inputs) limits.steps span.from span.count ended
 
--- what is printed behind them
-pub record EndsTrace (inputs : List (ℕ × ℕ)) (limits : Limits) (span : Span) (publics : List Public) (program : Voucher) (answer : AnswerValue) : Type 0 where
+-- the lines are printed, and behind them how the run ended, if they reached that
+pub record TracesRun (inputs : List (ℕ × ℕ)) (limits : Limits) (span : Span) (publics : List Public) (program : Voucher) (answer : AnswerValue) : Type 0 where
   pub ended : Option Ended
   pub traced : IsTraceOf inputs limits span program ended
-  pub answer_is : answer ≡ trace_ending program publics ended
+  pub answer_is : answer ≡ prints (trace_lines inputs limits span true publics program ++ (trace_ending program publics ended).lines)
+      (trace_ending program publics ended).status
 
 -- ---- run
 
@@ -82,53 +84,87 @@ last_lines inputs limits last publics program ended =
     run_lines program.image.regions (Some limits.outputs) (start_of program inputs) publics false
     (last_number ended.end ended.steps + 1 - count) count
 
--- the file of a memory, if one is asked for
-abbrev pub dump_answer : Option (List ℕ) → (memory : List ℕ) → AnswerValue
-dump_answer None memory = prints [] 0
-dump_answer (Some path) memory = writes path memory []
+-- an answer behind the file of a memory, if one is asked for
+abbrev pub with_memory : (dump : Option (List ℕ)) → (memory : List ℕ) → AnswerValue → AnswerValue
+with_memory None memory answer = answer
+with_memory (Some path) memory answer = behind_file path memory answer
 
 -- The transcript of a program's run is a front part and its last line. The front part is written, and the last instructions behind it;
 -- then the memory that the run leaves is written to its file, and then the last line is printed, with a name.
 pub record WatchesRun (inputs : List (ℕ × ℕ)) (limits : Limits) (last : ℕ) (dump : Option (List ℕ)) (publics : List Public)
-    (program : Voucher) (text : List ℕ) (file : AnswerValue) (ended : Ended) (answer : AnswerValue) : Type 0 where
+    (program : Voucher) (text : List ℕ) (ended : Ended) (answer : AnswerValue) : Type 0 where
   pub front : List ℕ
   pub transcript : IsTranscript program.image (lists_of inputs) limits.outputs limits.steps
       (record { stack_bytes = program.stack_bytes; end = ended.end; steps = ended.steps; at = ended.cpu.pc })
       (front ++ end_line ended.end ended.cpu.pc ended.steps)
   pub text_is : text ≡ front ++ last_lines inputs limits last publics program ended
-  pub file_is : file ≡ dump_answer dump transcript.last.memory
-  pub answer_is : answer ≡ ending program publics ended
+  pub answer_is : answer ≡ with_memory dump transcript.last.memory (ending program publics ended)
 
--- ---- exit statuses
-
--- what is answered of a run that was watched
+-- all of this together
 pub record EndsRun (inputs : List (ℕ × ℕ)) (limits : Limits) (last : ℕ) (dump : Option (List ℕ)) (publics : List Public)
     (program : Voucher) (answer : AnswerValue) : Type 0 where
   pub text : List ℕ
-  pub file : AnswerValue
   pub ended : Ended
-  pub watched : WatchesRun inputs limits last dump publics program text file ended answer
+  pub behind : AnswerValue
+  pub watched : WatchesRun inputs limits last dump publics program text ended behind
+  pub answer_is : answer ≡ record behind { lines = text ++ behind.lines }
 
--- the exit status of the answer to files: an image, its regions and its names, and the inputs of its run
-pub record IsStatusOfRun (Answers : List (ℕ × ℕ) → List Public → Voucher → AnswerValue → Type 0) (asked : Bool) (status : ℕ) : Type 0 where
+-- ---- three files
+
+-- three files were read: an image, its regions and the text of its run's inputs
+pub record IsRunRead (paths : RunFiles) (asked : Bool) (old new : Journal) (image : Located) (publics : List Public) (inputs : List ℕ) : Type 0 where
+  pub file : List ℕ
+  pub text : List ℕ
+  pub are_read : AreOfFiles asked file text image publics
+  pub journal : new ≡ and_read (and_read (and_read old paths.image.now file) paths.regions.now text) paths.inputs.now inputs
+
+-- an answer to an image, its regions and its names, and the inputs of its run, as three files have them
+pub record AnswersRun (Answers : List (ℕ × ℕ) → List Public → Voucher → AnswerValue → Type 0) (asked : Bool) (files : List FileValue)
+    (answer : AnswerValue) : Type 0 where
+  pub image_file : FileValue
+  pub regions_file : FileValue
+  pub inputs_file : FileValue
+  pub files_are : files ≡ image_file ∷ regions_file ∷ inputs_file ∷ []
   pub image : Located
   pub publics : List Public
-  pub are_read : AreOfFiles asked image publics
-  pub text : List ℕ
-  pub good : bad_line text ≡ None
-  pub answer : AnswerValue
-  pub answers : AnswersVerdict (Answers (inputs_of text) publics) image publics answer
-  pub status_is : status ≡ answer.status
+  pub are_read : AreOfFiles asked image_file.bytes regions_file.bytes image publics
+  pub good : bad_line inputs_file.bytes ≡ None
+  pub answers : AnswersVerdict (Answers (inputs_of inputs_file.bytes) publics) image publics answer
 
--- of a session: that of the run's end, or 1 of a refusal; every other fault has none
+-- ---- a session
+
+-- its texts, as files that were read
+abbrev pub texts_of : RunTexts → Texts
+texts_of texts = record {
+  image = texts.program.image.bytes.items;
+  regions = texts.program.regions.bytes.items;
+  inputs = texts.inputs.bytes.items;
+}
+
+abbrev pub run_files : RunFiles → RunTexts → List FileValue
+run_files paths texts = record { path = paths.image.now; bytes = texts.program.image.bytes.items }
+    ∷ record { path = paths.regions.now; bytes = texts.program.regions.bytes.items }
+    ∷ record { path = paths.inputs.now; bytes = texts.inputs.bytes.items } ∷ []
+
+-- its exit status: that of the run's end, or 1 of a refusal; every other fault has none
 abbrev pub session_status : Result Outcome SessionFault → Result ℕ SessionFault
 session_status (Ok outcome) = Ok (end_status outcome.end)
 session_status (Err (Refused refusal)) = Ok 1
 session_status (Err fault) = Err fault
 
-pub record IsSessionStatus (status : ℕ) : Type 0 where
-  pub answer : Result Outcome SessionFault
-  pub status_is : session_status answer ≡ Ok status
+-- what it says of the texts is printed
+pub record AnswersTexts (limits : Limits) (texts : Texts) (answer : AnswerValue) : Type 0 where
+  pub said : Result Outcome SessionFault
+  pub says : Says limits.outputs limits.steps texts said answer.lines
+  pub status_is : session_status said ≡ Ok answer.status
+  pub no_file : answer.files ≡ []
+
+pub record AnswersSession (limits : Limits) (files : List FileValue) (answer : AnswerValue) : Type 0 where
+  pub image : FileValue
+  pub regions : FileValue
+  pub inputs : FileValue
+  pub files_are : files ≡ image ∷ regions ∷ inputs ∷ []
+  pub answers : AnswersTexts limits (record { image = image.bytes; regions = regions.bytes; inputs = inputs.bytes }) answer
 
 -- ---- limits
 
@@ -142,50 +178,36 @@ pub record IsSpanOf (arguments : TraceArguments) (span : Span) : Type 0 where
   pub from : span.from ≡ count_value arguments.from.text.now
   pub count : span.count ≡ count_value arguments.count.text.now
 
--- ---- the exit statuses of commands, by their arguments
+-- ---- commands, by their arguments
 
-pub record IsCoverStatus (arguments : CoverArguments) (status : ℕ) : Type 0 where
+pub record CoversFiles (arguments : CoverArguments) (files : List FileValue) (answer : AnswerValue) : Type 0 where
   pub limits : Limits
   pub are_limits : AreLimitsOf arguments.limits limits
-  pub is_status : IsStatusOfRun (λ inputs. CountsRun inputs limits) arguments.names status
+  pub answers : AnswersRun (λ inputs. CountsRun inputs limits) arguments.names files answer
 
-pub record IsTraceStatus (arguments : TraceArguments) (status : ℕ) : Type 0 where
+pub record TracesFiles (arguments : TraceArguments) (files : List FileValue) (answer : AnswerValue) : Type 0 where
   pub limits : Limits
   pub are_limits : AreLimitsOf arguments.limits limits
   pub span : Span
   pub is_span : IsSpanOf arguments span
-  pub is_status : IsStatusOfRun (λ inputs. EndsTrace inputs limits span) arguments.names status
-
--- a run is watched if its last instructions, its memory or names are asked for
-pub record IsWatchStatus (arguments : RunArguments) (status : ℕ) : Type 0 where
-  pub limits : Limits
-  pub are_limits : AreLimitsOf arguments.limits limits
-  pub is_status : IsStatusOfRun (λ inputs. EndsRun inputs limits (count_value arguments.last.text.now) (dump_of arguments)) arguments.names status
+  pub answers : AnswersRun (λ inputs. TracesRun inputs limits span) arguments.names files answer
 
 -- nothing but the transcript is asked for
 abbrev pub is_session : RunArguments → Bool
 is_session arguments = (count_value arguments.last.text.now == 0 && is_none (dump_of arguments)) && not arguments.names
 
-abbrev pub IsRunStatus : RunArguments → (status : ℕ) → Type 0
-IsRunStatus arguments status = MatchBool (is_session arguments) (IsSessionStatus status) (IsWatchStatus arguments status)
+-- a run is watched if its last instructions, its memory or names are asked for
+pub record RunsFiles (arguments : RunArguments) (files : List FileValue) (answer : AnswerValue) : Type 0 where
+  pub limits : Limits
+  pub are_limits : AreLimitsOf arguments.limits limits
+  pub answers : MatchBool (is_session arguments) (AnswersSession limits files answer)
+      (AnswersRun (λ inputs. EndsRun inputs limits (count_value arguments.last.text.now) (dump_of arguments)) arguments.names files answer)
 
--- ---- paths of faults
+-- ---- faults
 
--- the path of the text that a session knows by its number
-abbrev pub path_of_text : RunFiles → ℕ → List ℕ
-path_of_text files number = if number == 1 then files.image.now else (if number == 2 then files.regions.now else files.inputs.now)
-
--- the path of the file that a fault of a session is of; none if it is of no file
-abbrev pub fault_path : RunFiles → SessionFault → Option (List ℕ)
-fault_path files (Read number) = Some (path_of_text files number)
-fault_path files Write = None
-fault_path files (Image f) = Some files.image.now
-fault_path files (Regions f) = Some files.regions.now
-fault_path files (Inputs n) = Some files.inputs.now
-fault_path files (Refused r) = None
-fault_path files Memory = None
-fault_path files (TooLong number) = Some (path_of_text files number)
-
--- why reading a text failed, by its number
-abbrev pub failure_of_text : Failures → ℕ → Option ErrorKind
-failure_of_text failures number = if number == 1 then failures.image else (if number == 2 then failures.regions else failures.inputs)
+-- the path of the file that a fault of a session is of; none if it is of no file's bytes
+abbrev pub fault_path : RunTexts → SessionFault → Option (List ℕ)
+fault_path texts (Image f) = Some texts.program.image.path.now
+fault_path texts (Regions f) = Some texts.program.regions.path.now
+fault_path texts (Inputs n) = Some texts.inputs.path.now
+fault_path texts _ = None

@@ -1,6 +1,6 @@
 -- What `suggest` prints of an image, and reports.
 -- (The status is this project's own.)
-use Rattle.std.specs.Prelude.{◌≡◌, ◌≤◌, ℕ, List, codes, length, map}
+use Rattle.std.specs.Prelude.{◌≡◌, ◌≤◌, ℕ, List, [], ◌∷◌, codes, length, map}
 use Rattle.clap.specs.declared.parser.matches.ArgMatches.{ArgMatches}
 use Rattle.image80.specs.declared.range.Range.{Range}
 use Rattle.image80.specs.Image.{Located}
@@ -10,6 +10,7 @@ use Rattle.stream80.specs.WholeText.{text_limit}
 use Rattle.verify80_suggest.specs.declared.suggesting.Advice.{Advice}
 use Rattle.verify80_suggest.specs.Suggestion.{IsSuggestion}
 use Rattle.plm80_console.specs.Answer.{AnswerValue, prints}
+use Rattle.plm80_console.specs.Journal.{FileValue}
 use Rattle.plm80_console.specs.Arguments.{argument_text, argument_values}
 use Rattle.plm80_programs.specs.declared.suggest.SuggestArguments.{SuggestArguments}
 use Rattle.plm80_programs.specs.Ranges.{AreRangesOf}
@@ -22,19 +23,18 @@ pub record AdvisesRegions (image : Located) (rom ram : List Range) (advice : Adv
   pub within : length (regions_text new.regions) ≤ text_limit
   pub answer_is : answer ≡ prints (regions_text new.regions) (notes_status advice.notes.items)
 
--- the exit status of the advice on the image of a file, with the ranges that the options write
-pub record IsAdviceStatus (rom_texts ram_texts : List (List ℕ)) (status : ℕ) : Type 0 where
-  pub file : List ℕ
+-- the advice on the image of a file, with the ranges that the options write
+pub record AnswersAdvice (arguments : SuggestArguments) (files : List FileValue) (answer : AnswerValue) : Type 0 where
+  pub file : FileValue
+  pub files_are : files ≡ file ∷ []
   pub image : Located
-  pub contents : SpellsImage file (without_regions image)
+  pub contents : SpellsImage file.bytes (without_regions image)
   pub rom : List Range
-  pub is_rom : AreRangesOf rom_texts rom
+  pub is_rom : AreRangesOf (map (λ range. range.now) arguments.rom.items) rom
   pub ram : List Range
-  pub is_ram : AreRangesOf ram_texts ram
+  pub is_ram : AreRangesOf (map (λ range. range.now) arguments.ram.items) ram
   pub advice : Advice
-  pub answer : AnswerValue
   pub advises : AdvisesRegions image rom ram advice answer
-  pub status_is : status ≡ answer.status
 
 pub record AreSuggestArguments (matches : ArgMatches) (arguments : SuggestArguments) : Type 0 where
   pub image : arguments.image.now ≡ argument_text matches (codes "IMAGE")

@@ -1,8 +1,10 @@
 //! `plm80 calls`: the calls of a located program, or its refusal.
 
-ghost use Rattle.std.specs.Prelude.{IfOk};
-ghost use Rattle.plm80_names.specs.Arguments.{asks_names};
-ghost use Rattle.plm80_names.specs.Verdict.{IsStatusFor};
+ghost use Rattle.std.specs.Prelude.{◌≡◌, [], IfErr, IfOk};
+ghost use Rattle.plm80_console.specs.Answer.{Gives};
+ghost use Rattle.plm80_console.specs.Journal.{OnlyReports};
+ghost use Rattle.plm80_names.specs.Arguments.{asks_names, program_paths};
+ghost use Rattle.plm80_names.specs.Verdict.{AnswersProgram};
 ghost use Rattle.plm80_programs.specs.Arguments.{AreCallsArguments};
 ghost use Rattle.plm80_programs.specs.Printed.{IsCallsText, PrintsCalls};
 
@@ -67,14 +69,17 @@ impl<'a> CallsArguments<'a> {
 }
 
 /// Prints the calls of the image, or its refusal, and gives the exit status.
-pub fn show_calls(console: Console<'_>, arguments: CallsArguments<'_>) -> Result<u8, Reported>
-    ensures { let asked = arguments.entry in IfOk result (IsStatusFor (PrintsCalls asked.dot) (asks_names asked.files)) }
+pub fn show_calls<C: Console>(
+    console: &mut C,
+    arguments: CallsArguments<'_>,
+) -> Result<u8, Reported>
+    ensures done { let asked = arguments.entry in IfOk result (Gives (AnswersProgram (PrintsCalls asked.dot) (asks_names asked.files))
+        (program_paths asked.files) (C.journal console.old) (C.journal console.new)) }
+    ensures fault { IfErr result (λ _. OnlyReports (C.journal console.old) (C.journal console.new)) }
 {
     let (image, names) = arguments.files.read(console)?;
-    match shown(console.alloc(), image, arguments.dot, &names) {
-        Ok(answer) => console.give(answer),
-        Err(_) => Err(console.report_memory()),
-    }
+    let answer = shown(console.alloc(), image, arguments.dot, &names);
+    console.give_if_made(answer)
 }
 
 /// The calls of an image, or its refusal.
@@ -84,7 +89,8 @@ fn shown(
     dot: bool,
     names: &Names,
 ) -> Result<Answer<'static>, AllocError>
-    ensures { IfOk result (PrintsCalls dot image names.now) }
+    ensures calls { IfOk result (PrintsCalls dot image names.now) }
+    ensures no_file { IfOk result (λ answer. answer.files ≡ []) }
 {
     match judge(alloc, image, names)? {
         Verdict::Accepted(vouched) => {

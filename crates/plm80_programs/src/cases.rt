@@ -1,13 +1,15 @@
 //! `plm80 cases`: the CASE lines that the tables of an image suggest.
 
-ghost use Rattle.std.specs.Prelude.{◌≡◌, ◌<◌, ◌++◌, [], List, false, IfNone, IfOk, IfSome, OnOk};
+ghost use Rattle.std.specs.Prelude.{◌≡◌, ◌<◌, ◌++◌, ◌∷◌, [], List, false, None, Some, option_map, IfErr, IfNone, IfOk, IfSome, OnOk};
 ghost use Rattle.std.specs.Io.KnownBytes.{Appends};
 ghost use Rattle.std.specs.List.{cons_option, list_any};
 ghost use Rattle.image80.specs.Case.{DeclaredCase};
 ghost use Rattle.image80.specs.RegionsText.{cases_text};
 ghost use Rattle.verify80_cases.specs.Suggested.{case_of, is_open};
-ghost use Rattle.plm80_programs.specs.Arguments.{AreCasesArguments};
-ghost use Rattle.plm80_programs.specs.Cases.{FindsCases, IsCasesStatus, IsFoundAt, WritesCases};
+ghost use Rattle.plm80_console.specs.Answer.{Gives, GivesUp, IsAnswered, IsGivenUp};
+ghost use Rattle.plm80_console.specs.Journal.{OnlyReports, and_reported};
+ghost use Rattle.plm80_programs.specs.Arguments.{AreCasesArguments, cases_path};
+ghost use Rattle.plm80_programs.specs.Cases.{AnswersCases, FindsCases, IsFoundAt, PrintsCases};
 ghost use Rattle.plm80_programs.specs.Status.{lacks_table, notes_status};
 
 use crate::helpers::endings::report_lines;
@@ -16,11 +18,11 @@ use image80::{Case, Image, RegionsFault, case_lines};
 use loader80::TEXT_LIMIT;
 use loader80_trace::TraceFault;
 use plm80_console::{
-    Answer, Argument, Console, IMAGE, Kind, NotedWriter, REGIONS, Reported, Syntax, argument_text,
+    Answer, Argument, Console, IMAGE, Kind, REGIONS, Reported, Syntax, argument_text,
 };
 use plm80_names::ProgramTexts;
 use std::alloc::{AllocError, Global};
-use stream80::{Sink, Writing, write_all};
+use stream80::{Sink, write_all};
 use verify80::ImageCode;
 use verify80_cases::{Note, Search, SuggestedCase, regions_with_cases};
 
@@ -78,38 +80,30 @@ impl<'a> CasesArguments<'a> {
             out: matches.get_str("out"),
         }
     }
-
-    /// Both files.
-    fn texts(self, console: Console<'_>) -> Result<ProgramTexts<'a>, Reported>
-        ensures image { IfOk result (λ texts. texts.image.path.now ≡ self.entry.image.now) }
-        ensures regions { IfOk result (λ texts. texts.regions.path.now ≡ self.entry.regions.now) }
-    {
-        ProgramTexts::read(console, self.image, self.regions)
-    }
 }
 
 /// Prints the CASE lines, writes the regions with them if a file is named, and reports what there is to say of the PCHLs; gives status 1
 /// if no table is seen for one of them.
-pub fn suggest_for_files(
-    console: Console<'_>,
+pub fn suggest_for_files<C: Console>(
+    console: &mut C,
     arguments: CasesArguments<'_>,
 ) -> Result<u8, Reported>
-    ensures { IfOk result IsCasesStatus }
+    ensures done { let asked = arguments.entry in IfOk result (Gives (AnswersCases (cases_path asked)) (asked.image.now ∷ asked.regions.now ∷ [])
+        (C.journal console.old) (C.journal console.new)) }
+    ensures fault { let asked = arguments.entry in IfErr result (λ _. GivesUp (AnswersCases (cases_path asked))
+        (asked.image.now ∷ asked.regions.now ∷ []) (C.journal console.old) (C.journal console.new)) }
 {
-    let texts = arguments.texts(console)?;
+    let texts = ProgramTexts::read(console, arguments.image, arguments.regions)?;
     let (image, _) = texts.program(console, false)?;
-    let notes = found_cases(console, arguments.out, &image)?;
-    report_notes(console, &notes);
-    Ok(notes_status(&notes))
+    suggest(console, arguments.out, &image)
 }
 
-/// Prints the CASE lines, and writes the regions with them if a file is named; gives what there is to say of the PCHLs.
-fn found_cases(
-    console: Console<'_>,
-    out: Option<&str>,
-    image: &Image,
-) -> Result<Vec<Note>, Reported>
-    ensures { IfOk result (λ notes. (cases : List DeclaredCase) × FindsCases image.now cases notes.items) }
+/// Prints the CASE lines, and writes the regions with them if a file is named; gives the exit status.
+fn suggest<C: Console>(console: &mut C, out: Option<&str>, image: &Image) -> Result<u8, Reported>
+    ensures done { IfOk result (IsAnswered (PrintsCases (option_map (λ path. path.now) out.entry) image.now)
+        (C.journal console.old) (C.journal console.new)) }
+    ensures fault { IfErr result (λ _. IsGivenUp (PrintsCases (option_map (λ path. path.now) out.entry) image.now)
+        (C.journal console.old) (C.journal console.new)) }
 {
     match out {
         Some(path) => add_cases(console, path, image),
@@ -117,15 +111,20 @@ fn found_cases(
     }
 }
 
-/// Prints the line of each case as it is found, and gives what there is to say of the PCHLs.
-fn print_cases(console: Console<'_>, image: &Image) -> Result<Vec<Note>, Reported>
-    ensures { IfOk result (λ notes. (cases : List DeclaredCase) × FindsCases image.now cases notes.items) }
+/// Prints the line of each case as it is found, and gives the exit status.
+fn print_cases<C: Console>(console: &mut C, image: &Image) -> Result<u8, Reported>
+    ensures done { IfOk result (IsAnswered (PrintsCases None image.now) (C.journal console.old) (C.journal console.new)) }
+    ensures fault { IfErr result (λ _. OnlyReports (C.journal console.old) (C.journal console.new)) }
 {
-    let mut output = NotedWriter::new(console.runtime().stdout());
-    let mut out = Writing::new(&mut output);
-    match write_cases(console.alloc(), image, &mut out) {
-        Ok(notes) => Ok(notes),
-        Err(fault) => Err(report_lines(console, fault, output.failure())),
+    let mut output = console.output();
+    let written = write_cases(console.alloc(), image, &mut output);
+    let failure = console.take_back(output);
+    match written {
+        Ok(notes) => {
+            remark_notes(console, &notes);
+            Ok(notes_status(&notes))
+        }
+        Err(fault) => Err(report_lines(console, fault, failure)),
     }
 }
 
@@ -167,25 +166,25 @@ fn write_found<K: Sink>(
     Ok(())
 }
 
-/// Prints the line of each case, and writes the regions with them to the file of this path; gives what there is to say of the PCHLs.
-fn add_cases(console: Console<'_>, path: &str, image: &Image) -> Result<Vec<Note>, Reported>
-    ensures { IfOk result (λ notes. (cases : List DeclaredCase) × FindsCases image.now cases notes.items) }
+/// Writes the regions with the cases to the file of this path, prints the line of each case, and gives the exit status.
+fn add_cases<C: Console>(console: &mut C, path: &str, image: &Image) -> Result<u8, Reported>
+    ensures done { IfOk result (IsAnswered (PrintsCases (Some path.now) image.now) (C.journal console.old) (C.journal console.new)) }
+    ensures fault { IfErr result (λ _. IsGivenUp (PrintsCases (Some path.now) image.now) (C.journal console.old) (C.journal console.new)) }
 {
     match added_cases(console.alloc(), path, image) {
-        Ok(AddedCases { lines, file, notes }) => {
-            console.give(lines)?;
-            console.give(file)?;
-            Ok(notes)
+        Ok(AddedCases { answer, notes }) => {
+            let status = console.give(answer)?;
+            remark_notes(console, &notes);
+            Ok(status)
         }
         Err(fault) => Err(report_regions_fault(console, path, fault)),
     }
 }
 
-/// Cases that are added to regions: their lines, the file of the regions with them, and what there is to say of the PCHLs.
+/// Cases that are added to regions: the file of these, the lines of the cases, and what there is to say of the PCHLs.
 #[derive(Drop)]
 struct AddedCases<'a> {
-    lines: Answer<'static>,
-    file: Answer<'a>,
+    answer: Answer<'a>,
     notes: Vec<Note>,
 }
 
@@ -195,16 +194,16 @@ fn added_cases<'a>(
     path: &'a str,
     image: &Image,
 ) -> Result<AddedCases<'a>, AddingFault>
-    ensures { IfOk result (λ added. WritesCases path.now image.now added.notes.items added.lines added.file) }
+    ensures { IfOk result (λ added. PrintsCases (Some path.now) image.now added.answer) }
 {
     let kept = kept_cases(alloc, image)?;
     let text = regions_with_cases(alloc, &image.regions, &kept.cases)?;
     if text.len() > TEXT_LIMIT {
         return Err(AddingFault::TooLong);
     }
+    let status = notes_status(&kept.notes);
     Ok(AddedCases {
-        lines: Answer::prints(kept.lines, 0),
-        file: Answer::writes(path, text, Vec::new(alloc)),
+        answer: Answer::prints(kept.lines, status).behind_file(path, text),
         notes: kept.notes,
     })
 }
@@ -244,7 +243,9 @@ impl From<AllocError> for AddingFault {
 }
 
 /// Reports why cases aren't added to the regions that are to be written to the file of this path.
-fn report_regions_fault(console: Console<'_>, path: &str, fault: AddingFault) -> Reported {
+fn report_regions_fault<C: Console>(console: &mut C, path: &str, fault: AddingFault) -> Reported
+    ensures { C.journal console.new ≡ and_reported (C.journal console.old) }
+{
     match fault {
         AddingFault::TooLong => console.report_file(path, "TooLong"),
         AddingFault::Regions(RegionsFault::Memory) => console.report_memory(),
@@ -376,28 +377,22 @@ fn lacks_table(note: &Note) -> bool
     }
 }
 
-/// Reports what there is to say of PCHLs.
-pub(crate) fn report_notes(console: Console<'_>, notes: &[Note]) {
+/// Says what there is to say of PCHLs.
+pub(crate) fn remark_notes<C: Console>(console: &C, notes: &[Note]) {
     for note in notes {
-        report_note(console, *note);
+        remark_note(console, *note);
     }
 }
 
-/// Reports a note.
-fn report_note(console: Console<'_>, note: Note) {
+/// Says what a note says.
+fn remark_note<C: Console>(console: &C, note: Note) {
     match note {
         Note::MayEnd { table, end } => {
-            let _ = eprintln!(console.runtime();
-                "plm80: the table at {table:04X} may end at {end:04X}"
-            );
+            console.remark(format_args!("the table at {table:04X} may end at {end:04X}"))
         }
         Note::Tableless(at) => {
-            let _ = eprintln!(console.runtime();
-                "plm80: no table is seen for the PCHL at {at:04X}"
-            );
+            console.remark(format_args!("no table is seen for the PCHL at {at:04X}"))
         }
-        Note::Returns(at) => {
-            let _ = eprintln!(console.runtime(); "plm80: the PCHL at {at:04X} returns");
-        }
+        Note::Returns(at) => console.remark(format_args!("the PCHL at {at:04X} returns")),
     }
 }

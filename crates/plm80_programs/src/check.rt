@@ -1,8 +1,10 @@
 //! `plm80 check`: the verifier's report on a located program, or its refusal.
 
-ghost use Rattle.std.specs.Prelude.{IfOk};
-ghost use Rattle.plm80_names.specs.Arguments.{asks_names};
-ghost use Rattle.plm80_names.specs.Verdict.{IsStatusFor};
+ghost use Rattle.std.specs.Prelude.{◌≡◌, [], IfErr, IfOk};
+ghost use Rattle.plm80_console.specs.Answer.{Gives};
+ghost use Rattle.plm80_console.specs.Journal.{OnlyReports};
+ghost use Rattle.plm80_names.specs.Arguments.{asks_names, program_paths};
+ghost use Rattle.plm80_names.specs.Verdict.{AnswersProgram};
 ghost use Rattle.plm80_programs.specs.Printed.{PrintsReport};
 
 use image80::Image;
@@ -36,19 +38,20 @@ pub const CHECK: Syntax<'static> = Syntax {
 };
 
 /// Prints the report on the image, or its refusal, and gives the exit status.
-pub fn check_files(console: Console<'_>, files: NamedFiles<'_>) -> Result<u8, Reported>
-    ensures { IfOk result (IsStatusFor PrintsReport (asks_names files.entry)) }
+pub fn check_files<C: Console>(console: &mut C, files: NamedFiles<'_>) -> Result<u8, Reported>
+    ensures done { IfOk result (Gives (AnswersProgram PrintsReport (asks_names files.entry)) (program_paths files.entry)
+        (C.journal console.old) (C.journal console.new)) }
+    ensures fault { IfErr result (λ _. OnlyReports (C.journal console.old) (C.journal console.new)) }
 {
     let (image, names) = files.read(console)?;
-    match checked(console.alloc(), image, &names) {
-        Ok(answer) => console.give(answer),
-        Err(_) => Err(console.report_memory()),
-    }
+    let answer = checked(console.alloc(), image, &names);
+    console.give_if_made(answer)
 }
 
 /// The report on an image, or its refusal.
 fn checked(alloc: Global, image: Image, names: &Names) -> Result<Answer<'static>, AllocError>
-    ensures { IfOk result (PrintsReport image names.now) }
+    ensures report { IfOk result (PrintsReport image names.now) }
+    ensures no_file { IfOk result (λ answer. answer.files ≡ []) }
 {
     match judge(alloc, image, names)? {
         Verdict::Accepted(vouched) => {

@@ -1,9 +1,11 @@
 //! `plm80 cover`: the code of a located program, with how often a run began each instruction.
 
-ghost use Rattle.std.specs.Prelude.{IfOk};
-ghost use Rattle.plm80_programs.specs.Arguments.{AreCoverArguments};
+ghost use Rattle.std.specs.Prelude.{◌≡◌, [], IfErr, IfOk};
+ghost use Rattle.plm80_console.specs.Answer.{Gives};
+ghost use Rattle.plm80_console.specs.Journal.{OnlyReports};
+ghost use Rattle.plm80_programs.specs.Arguments.{AreCoverArguments, run_paths};
 ghost use Rattle.plm80_programs.specs.Printed.{CountsRun, PrintsCover};
-ghost use Rattle.plm80_programs.specs.Running.{IsCoverStatus, IsStatusOfRun};
+ghost use Rattle.plm80_programs.specs.Running.{AnswersRun, CoversFiles};
 
 use crate::helpers::run_arguments::{INPUTS, LimitTexts, OUTPUTS, RunFiles, STEPS};
 use clap::ArgMatches;
@@ -58,34 +60,39 @@ impl<'a> CoverArguments<'a> {
 }
 
 /// Prints the code with the counts of the run, and gives the exit status.
-pub fn cover_files(console: Console<'_>, arguments: CoverArguments<'_>) -> Result<u8, Reported>
-    ensures { IfOk result (IsCoverStatus arguments.entry) }
+pub fn cover_files<C: Console>(
+    console: &mut C,
+    arguments: CoverArguments<'_>,
+) -> Result<u8, Reported>
+    ensures done { let asked = arguments.entry in IfOk result (Gives (CoversFiles asked) (run_paths asked.files)
+        (C.journal console.old) (C.journal console.new)) }
+    ensures fault { IfErr result (λ _. OnlyReports (C.journal console.old) (C.journal console.new)) }
 {
     let limits = arguments.limits.numbers(console)?;
     cover_within(console, arguments.files, limits, arguments.names)
 }
 
 /// Prints the code with the counts of the run within these limits, and gives the exit status.
-fn cover_within(
-    console: Console<'_>,
+fn cover_within<C: Console>(
+    console: &mut C,
     files: RunFiles<'_>,
     limits: Limits,
     names: bool,
 ) -> Result<u8, Reported>
-    ensures { IfOk result (IsStatusOfRun (λ inputs. CountsRun inputs limits) names) }
+    ensures done { IfOk result (Gives (AnswersRun (λ inputs. CountsRun inputs limits) names) (run_paths files.entry)
+        (C.journal console.old) (C.journal console.new)) }
+    ensures fault { IfErr result (λ _. OnlyReports (C.journal console.old) (C.journal console.new)) }
 {
     let program = files.read(console, names)?;
     let inputs = files.inputs_of(console, &program.inputs)?;
-    match covered(
+    let answer = covered(
         console.alloc(),
         program.image,
         &program.names,
         inputs,
         limits,
-    ) {
-        Ok(answer) => console.give(answer),
-        Err(_) => Err(console.report_memory()),
-    }
+    );
+    console.give_if_made(answer)
 }
 
 /// The code of an image with the counts of its run, or its refusal.
@@ -96,7 +103,8 @@ fn covered(
     inputs: Inputs,
     limits: Limits,
 ) -> Result<Answer<'static>, AllocError>
-    ensures { IfOk result (PrintsCover inputs.pairs.items limits image names.now) }
+    ensures cover { IfOk result (PrintsCover inputs.pairs.items limits image names.now) }
+    ensures no_file { IfOk result (λ answer. answer.files ≡ []) }
 {
     match judge(alloc, image, names)? {
         Verdict::Accepted(vouched) => counted(alloc, &vouched, names, inputs, limits),
@@ -112,7 +120,8 @@ fn counted(
     inputs: Inputs,
     limits: Limits,
 ) -> Result<Answer<'static>, AllocError>
-    ensures { IfOk result (CountsRun inputs.pairs.items limits names.now vouched.now) }
+    ensures counts { IfOk result (CountsRun inputs.pairs.items limits names.now vouched.now) }
+    ensures no_file { IfOk result (λ answer. answer.files ≡ []) }
 {
     let counts = count_steps(alloc, vouched, inputs, limits)?;
     let text = cover(alloc, vouched, &counts.steps)?;

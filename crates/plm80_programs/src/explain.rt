@@ -1,11 +1,13 @@
 //! `plm80 explain`: why the verifier refuses a located program, shown by ways through its procedures.
 
-ghost use Rattle.std.specs.Prelude.{◌≡◌, ◌≢◌, IfOk, OnOk};
+ghost use Rattle.std.specs.Prelude.{◌≡◌, ◌≢◌, [], IfErr, IfOk, OnOk};
 ghost use Rattle.verify80_flow.specs.declared.refusal.Refusal.TheVariants.{Memory};
 ghost use Rattle.verify80_explain.specs.Printed.{GoesOnWithChain, GoesOnWithWays};
-ghost use Rattle.plm80_names.specs.Arguments.{asks_names};
+ghost use Rattle.plm80_console.specs.Answer.{Gives};
+ghost use Rattle.plm80_console.specs.Journal.{OnlyReports};
+ghost use Rattle.plm80_names.specs.Arguments.{asks_names, program_paths};
 ghost use Rattle.plm80_names.specs.Printed.{named_refusal_line, named_report};
-ghost use Rattle.plm80_names.specs.Verdict.{IsStatusFor};
+ghost use Rattle.plm80_names.specs.Verdict.{AnswersProgram};
 ghost use Rattle.plm80_programs.specs.Printed.{PrintsExplanation, ShowsOverrun, ShowsRefusal, needed_stack};
 
 use image80::Image;
@@ -52,19 +54,20 @@ pub const EXPLAIN: Syntax<'static> = Syntax {
 };
 
 /// Prints the report on the image, or its refusal and what shows it, and gives the exit status.
-pub fn explain_files(console: Console<'_>, files: NamedFiles<'_>) -> Result<u8, Reported>
-    ensures { IfOk result (IsStatusFor PrintsExplanation (asks_names files.entry)) }
+pub fn explain_files<C: Console>(console: &mut C, files: NamedFiles<'_>) -> Result<u8, Reported>
+    ensures done { IfOk result (Gives (AnswersProgram PrintsExplanation (asks_names files.entry)) (program_paths files.entry)
+        (C.journal console.old) (C.journal console.new)) }
+    ensures fault { IfErr result (λ _. OnlyReports (C.journal console.old) (C.journal console.new)) }
 {
     let (image, names) = files.read(console)?;
-    match explained(console.alloc(), image, &names) {
-        Ok(answer) => console.give(answer),
-        Err(_) => Err(console.report_memory()),
-    }
+    let answer = explained(console.alloc(), image, &names);
+    console.give_if_made(answer)
 }
 
 /// The report on an image and its chain of calls, or its refusal and what shows it.
 fn explained(alloc: Global, image: Image, names: &Names) -> Result<Answer<'static>, AllocError>
-    ensures { IfOk result (PrintsExplanation image names.now) }
+    ensures explanation { IfOk result (PrintsExplanation image names.now) }
+    ensures no_file { IfOk result (λ answer. answer.files ≡ []) }
 {
     match vouch(alloc, image) {
         Ok(vouched) => {

@@ -3,8 +3,9 @@
 ghost use Rattle.std.specs.Prelude.{◌≡◌, ◌≤◌, [], All, length, map, IfOk, IfErr, OnOk};
 ghost use Rattle.stream80.specs.WholeText.{text_limit};
 ghost use Rattle.loader80_text.specs.Text.{text_of};
-ghost use Rattle.plm80_console.specs.Answer.{writes};
-ghost use Rattle.plm80_programs.specs.InputWords.{AreInputsArguments, FaultsFile, FaultsWords, IsGoodWord, inputs_named};
+ghost use Rattle.plm80_console.specs.Answer.{Gives, GivesUp, writes};
+ghost use Rattle.plm80_console.specs.Journal.{and_reported};
+ghost use Rattle.plm80_programs.specs.InputWords.{AnswersWords, AreInputsArguments, FaultsFile, FaultsWords, IsGoodWord, inputs_named};
 
 use clap::ArgMatches;
 use loader80_text::{LengthFault, WordFault, WordInputs};
@@ -64,11 +65,12 @@ impl<'a> InputsArguments<'a> {
 }
 
 /// Writes the text of the inputs. No file is created or changed before every other fault is excluded.
-pub fn write_inputs_file(
-    console: Console<'_>,
+pub fn write_inputs_file<C: Console>(
+    console: &mut C,
     arguments: &InputsArguments<'_>,
 ) -> Result<u8, Reported>
-    ensures { IfOk result (λ status. status ≡ 0) }
+    ensures done { IfOk result (Gives (AnswersWords arguments.now) [] (C.journal console.old) (C.journal console.new)) }
+    ensures fault { IfErr result (λ _. GivesUp (AnswersWords arguments.now) [] (C.journal console.old) (C.journal console.new)) }
 {
     match inputs_file(console.alloc(), arguments.out, &arguments.words) {
         Ok(answer) => console.give(answer),
@@ -126,7 +128,9 @@ fn inputs_of<'a>(alloc: Global, words: &[&'a str]) -> Result<WordInputs, InputsF
 }
 
 /// Reports why words give no file of this path.
-fn report_inputs(console: Console<'_>, path: &str, fault: InputsFileFault<'_>) -> Reported {
+fn report_inputs<C: Console>(console: &mut C, path: &str, fault: InputsFileFault<'_>) -> Reported
+    ensures { C.journal console.new ≡ and_reported (C.journal console.old) }
+{
     match fault {
         InputsFileFault::BadInput(word) => report_bad_input(console, word),
         InputsFileFault::TooLong => console.report_file(path, LengthFault::TooLong),
@@ -135,12 +139,15 @@ fn report_inputs(console: Console<'_>, path: &str, fault: InputsFileFault<'_>) -
 }
 
 /// Reports the word that names no inputs.
-fn report_bad_input(console: Console<'_>, word: &str) -> Reported {
-    let _ = eprintln!(console.runtime(); "plm80: {} {word}", WordFault::BadInput);
+fn report_bad_input<C: Console>(console: &mut C, word: &str) -> Reported
+    ensures { C.journal console.new ≡ and_reported (C.journal console.old) }
+{
+    let fault = WordFault::BadInput;
+    let reported = console.report(format_args!("{fault} {word}"));
     if is_cut(word) {
         console.explain("a word has no blanks, as in 02=3*2A,00");
     }
-    Reported
+    reported
 }
 
 /// Whether a word has a blank, or seems to be a part of one that had.

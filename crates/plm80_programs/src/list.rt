@@ -1,8 +1,10 @@
 //! `plm80 list`: the instructions of a located program.
 
-ghost use Rattle.std.specs.Prelude.{IfOk, true};
-ghost use Rattle.plm80_names.specs.Arguments.{asks_names};
-ghost use Rattle.plm80_names.specs.Verdict.{IsStatusFor};
+ghost use Rattle.std.specs.Prelude.{◌≡◌, [], IfErr, IfOk, true};
+ghost use Rattle.plm80_console.specs.Answer.{Gives};
+ghost use Rattle.plm80_console.specs.Journal.{OnlyReports};
+ghost use Rattle.plm80_names.specs.Arguments.{asks_names, program_paths};
+ghost use Rattle.plm80_names.specs.Verdict.{AnswersProgram};
 ghost use Rattle.plm80_programs.specs.Arguments.{AreListArguments};
 ghost use Rattle.plm80_programs.specs.Printed.{ListsCode, PrintsListing};
 
@@ -71,14 +73,14 @@ impl<'a> ListArguments<'a> {
 }
 
 /// Prints the listing of the image, and gives the exit status.
-pub fn list_files(console: Console<'_>, arguments: ListArguments<'_>) -> Result<u8, Reported>
-    ensures { let asked = arguments.entry in IfOk result (IsStatusFor (PrintsListing asked.reached) (asks_names asked.files)) }
+pub fn list_files<C: Console>(console: &mut C, arguments: ListArguments<'_>) -> Result<u8, Reported>
+    ensures done { let asked = arguments.entry in IfOk result (Gives (AnswersProgram (PrintsListing asked.reached) (asks_names asked.files))
+        (program_paths asked.files) (C.journal console.old) (C.journal console.new)) }
+    ensures fault { IfErr result (λ _. OnlyReports (C.journal console.old) (C.journal console.new)) }
 {
     let (image, names) = arguments.files.read(console)?;
-    match listed(console.alloc(), image, arguments.reached, &names) {
-        Ok(answer) => console.give(answer),
-        Err(_) => Err(console.report_memory()),
-    }
+    let answer = listed(console.alloc(), image, arguments.reached, &names);
+    console.give_if_made(answer)
 }
 
 /// The listing of an image: of all its code, or of that to which the program may come if the verifier accepts it.
@@ -88,7 +90,8 @@ fn listed(
     reached: bool,
     names: &Names,
 ) -> Result<Answer<'static>, AllocError>
-    ensures { IfOk result (PrintsListing reached image names.now) }
+    ensures listing { IfOk result (PrintsListing reached image names.now) }
+    ensures no_file { IfOk result (λ answer. answer.files ≡ []) }
 {
     if reached {
         return listed_as_reached(alloc, image, names);
@@ -104,7 +107,8 @@ fn listed_as_reached(
     image: Image,
     names: &Names,
 ) -> Result<Answer<'static>, AllocError>
-    ensures { IfOk result (PrintsListing true image names.now) }
+    ensures listing { IfOk result (PrintsListing true image names.now) }
+    ensures no_file { IfOk result (λ answer. answer.files ≡ []) }
 {
     match judge(alloc, image, names)? {
         Verdict::Accepted(vouched) => named_reached(alloc, &vouched, names),
@@ -118,7 +122,8 @@ fn named_reached(
     vouched: &Vouched,
     names: &Names,
 ) -> Result<Answer<'static>, AllocError>
-    ensures { IfOk result (ListsCode names.now vouched.now) }
+    ensures listing { IfOk result (ListsCode names.now vouched.now) }
+    ensures no_file { IfOk result (λ answer. answer.files ≡ []) }
 {
     let text = list_reached(alloc, vouched)?;
     let text = names.label(alloc, false, text)?;

@@ -1,9 +1,10 @@
 //! `plm80 regions`: a regions text as one of version 2.
 
-ghost use Rattle.std.specs.Prelude.{◌≡◌, IfOk, IfErr};
+ghost use Rattle.std.specs.Prelude.{◌≡◌, ◌∷◌, [], IfOk, IfErr};
 ghost use Rattle.image80.specs.RegionsText.{Refuses};
+ghost use Rattle.plm80_console.specs.Answer.{Gives, GivesUp};
 ghost use Rattle.plm80_programs.specs.Arguments.{AreRegionsArguments};
-ghost use Rattle.plm80_programs.specs.Written.{WritesMigrated};
+ghost use Rattle.plm80_programs.specs.Written.{AnswersRegions, WritesMigrated};
 
 use clap::ArgMatches;
 use image80::{RegionsFault, migrate_regions};
@@ -64,8 +65,14 @@ impl<'a> RegionsArguments<'a> {
 }
 
 /// Writes the text of version 2. No file is created or changed before every other fault is excluded.
-pub fn migrate_file(console: Console<'_>, arguments: RegionsArguments<'_>) -> Result<u8, Reported>
-    ensures { IfOk result (λ status. status ≡ 0) }
+pub fn migrate_file<C: Console>(
+    console: &mut C,
+    arguments: RegionsArguments<'_>,
+) -> Result<u8, Reported>
+    ensures done { let asked = arguments.entry in IfOk result (Gives (AnswersRegions asked.new.now) (asked.old.now ∷ [])
+        (C.journal console.old) (C.journal console.new)) }
+    ensures fault { let asked = arguments.entry in IfErr result (λ _. GivesUp (AnswersRegions asked.new.now) (asked.old.now ∷ [])
+        (C.journal console.old) (C.journal console.new)) }
 {
     let old = console.read_file(arguments.old)?;
     match migrated(console.alloc(), &old, arguments.new) {

@@ -1,8 +1,9 @@
 //! `plm80 run`: the transcript of a located program's run.
 
-ghost use Rattle.std.specs.Prelude.{◌≡◌, ◌==◌, ◌&&◌, not, is_none, IfOk};
-ghost use Rattle.plm80_programs.specs.Arguments.{AreRunArguments};
-ghost use Rattle.plm80_programs.specs.Running.{IsRunStatus};
+ghost use Rattle.std.specs.Prelude.{◌≡◌, ◌==◌, ◌&&◌, not, is_none, IfErr, IfOk};
+ghost use Rattle.plm80_console.specs.Answer.{Gives, GivesUp};
+ghost use Rattle.plm80_programs.specs.Arguments.{AreRunArguments, run_paths};
+ghost use Rattle.plm80_programs.specs.Running.{RunsFiles};
 
 use crate::helpers::run_arguments::{INPUTS, LimitTexts, OUTPUTS, RunFiles, STEPS};
 use crate::helpers::session_files::run_session;
@@ -88,11 +89,14 @@ impl<'a> RunArguments<'a> {
 }
 
 /// Runs the image of the files, and gives the exit status: a session, if nothing but its transcript is asked for.
-pub fn run_files(console: Console<'_>, arguments: RunArguments<'_>) -> Result<u8, Reported>
-    ensures { IfOk result (IsRunStatus arguments.entry) }
+pub fn run_files<C: Console>(console: &mut C, arguments: RunArguments<'_>) -> Result<u8, Reported>
+    ensures done { let asked = arguments.entry in IfOk result (Gives (RunsFiles asked) (run_paths asked.files)
+        (C.journal console.old) (C.journal console.new)) }
+    ensures fault { let asked = arguments.entry in IfErr result (λ _. GivesUp (RunsFiles asked) (run_paths asked.files)
+        (C.journal console.old) (C.journal console.new)) }
 {
     let limits = arguments.limits.numbers(console)?;
-    let last = console.count(arguments.last)?;
+    let last = arguments.last.count(console)?;
     if arguments.is_session(last) {
         return run_session(console, arguments.files, limits);
     }

@@ -19,21 +19,14 @@ pub fn status_of(end: Option<End>) -> u8
 
 /// Says where the instruction stands at whose port a run ended, which its last line doesn't say. The program counter is that before
 /// the step that ended it.
-pub fn explain_end(console: Console<'_>, end: Option<End>, at: u16) {
-    if !console.explains() {
-        return;
-    }
+pub fn explain_end<C: Console>(console: &C, end: Option<End>, at: u16) {
     match end {
-        Some(End::InputEnd(port)) => {
-            let _ = eprintln!(console.runtime();
-                "  the IN at {at:04X} finds no byte at port {port:02X}: INPUTS has none left for it"
-            );
-        }
-        Some(End::OutputRefused(port)) => {
-            let _ = eprintln!(console.runtime();
-                "  the OUT at {at:04X} to port {port:02X} is one more than --outputs allows"
-            );
-        }
+        Some(End::InputEnd(port)) => console.explain(format_args!(
+            "the IN at {at:04X} finds no byte at port {port:02X}: INPUTS has none left for it"
+        )),
+        Some(End::OutputRefused(port)) => console.explain(format_args!(
+            "the OUT at {at:04X} to port {port:02X} is one more than --outputs allows"
+        )),
         _ => {}
     }
 }

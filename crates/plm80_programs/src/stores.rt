@@ -1,9 +1,11 @@
 //! `plm80 stores`: the stores of a program that may leave its data, and its jumps by PCHL.
 
-ghost use Rattle.std.specs.Prelude.{◌≡◌, map, IfOk};
-ghost use Rattle.plm80_names.specs.Arguments.{asks_names};
+ghost use Rattle.std.specs.Prelude.{◌≡◌, [], IfErr, IfOk};
+ghost use Rattle.plm80_console.specs.Answer.{Gives};
+ghost use Rattle.plm80_console.specs.Journal.{OnlyReports};
+ghost use Rattle.plm80_names.specs.Arguments.{program_paths};
 ghost use Rattle.plm80_programs.specs.Arguments.{AreStoresArguments};
-ghost use Rattle.plm80_programs.specs.Printed.{IsStoresStatus, ListsStores, PrintsStores};
+ghost use Rattle.plm80_programs.specs.Printed.{AnswersStores, ListsStores, PrintsStores};
 ghost use Rattle.plm80_programs.specs.Status.{stores_status};
 
 use crate::helpers::ranges::ranges_of;
@@ -89,8 +91,13 @@ impl<'a> StoresArguments<'a> {
 }
 
 /// Prints what is known of the image's stores, or its refusal, and gives the exit status.
-pub fn list_stores(console: Console<'_>, arguments: &StoresArguments<'_>) -> Result<u8, Reported>
-    ensures { IfOk result (IsStoresStatus (map (λ range. range.now) arguments.now.quiet.items) (asks_names arguments.now.files)) }
+pub fn list_stores<C: Console>(
+    console: &mut C,
+    arguments: &StoresArguments<'_>,
+) -> Result<u8, Reported>
+    ensures done { let asked = arguments.now in IfOk result (Gives (AnswersStores asked) (program_paths asked.files)
+        (C.journal console.old) (C.journal console.new)) }
+    ensures fault { IfErr result (λ _. OnlyReports (C.journal console.old) (C.journal console.new)) }
 {
     let quiet = ranges_of(console, QUIET, &arguments.quiet)?;
     let (image, names) = arguments.files.read(console)?;
@@ -106,22 +113,37 @@ pub fn list_stores(console: Console<'_>, arguments: &StoresArguments<'_>) -> Res
 }
 
 /// Reports the first of the quiet ranges that isn't all data.
-fn require_data(
-    console: Console<'_>,
+fn require_data<C: Console>(
+    console: &mut C,
     regions: &Regions,
     texts: &[&str],
     quiet: &[Range],
-) -> Result<(), Reported> {
+) -> Result<(), Reported>
+    ensures unchanged { IfOk result (λ _. C.journal console.new ≡ C.journal console.old) }
+    ensures fault { IfErr result (λ _. OnlyReports (C.journal console.old) (C.journal console.new)) }
+{
+    match first_no_data(regions, texts, quiet) {
+        Some((text, at)) => {
+            let reported = console.report("NotData");
+            console.explain(format_args!("--{QUIET} {text}: {at:04X} is no address of DATA"));
+            Err(reported)
+        }
+        None => Ok(()),
+    }
+}
+
+/// The text of the first of the quiet ranges that isn't all data, and the first address there that isn't.
+fn first_no_data<'a>(
+    regions: &Regions,
+    texts: &[&'a str],
+    quiet: &[Range],
+) -> Option<(&'a str, u16)> {
     for (text, range) in texts.iter().zip(quiet) {
         if let Some(at) = first_outside_data(regions, *range) {
-            let reported = console.report("NotData");
-            if console.explains() {
-                let _ = eprintln!(console.runtime(); "  --{QUIET} {text}: {at:04X} is no address of DATA");
-            }
-            return Err(reported);
+            return Some((*text, at));
         }
     }
-    Ok(())
+    None
 }
 
 /// The lines of a program's stores, and what leaves them open.
@@ -140,7 +162,8 @@ fn judged(
     quiet: &[Range],
     explains: bool,
 ) -> Result<ListedStores, AllocError>
-    ensures { IfOk result (λ listed. PrintsStores quiet.now image names.now listed.answer) }
+    ensures stores { IfOk result (λ listed. PrintsStores quiet.now image names.now listed.answer) }
+    ensures no_file { IfOk result (λ listed. listed.answer.files ≡ []) }
 {
     match judge(alloc, image, names)? {
         Verdict::Accepted(vouched) => stores_of(alloc, &vouched, names, quiet, explains),
@@ -151,6 +174,13 @@ fn judged(
     }
 }
 
+/// Where a program starts.
+fn start_of(vouched: &Vouched) -> u16
+    ensures { result ≡ vouched.now.image.start }
+{
+    vouched.image().start
+}
+
 /// The lines of a program's stores, with their names.
 fn stores_of(
     alloc: Global,
@@ -159,11 +189,12 @@ fn stores_of(
     quiet: &[Range],
     explains: bool,
 ) -> Result<ListedStores, AllocError>
-    ensures { IfOk result (λ listed. ListsStores quiet.now names.now vouched.now listed.answer) }
+    ensures stores { IfOk result (λ listed. ListsStores quiet.now names.now vouched.now listed.answer) }
+    ensures no_file { IfOk result (λ listed. listed.answer.files ≡ []) }
 {
     let code = vouched.image().regions.code();
     let stores = find_stores(alloc, vouched, quiet)?;
-    let text = stores_text(alloc, &stores, quiet, vouched.image().start)?;
+    let text = stores_text(alloc, &stores, quiet, start_of(vouched))?;
     let text = names.name(alloc, code, b"STORE ", text)?;
     let text = names.name(alloc, code, b"JUMP ", text)?;
     let causes = if explains {
@@ -178,19 +209,19 @@ fn stores_of(
 }
 
 /// Says what sets the pair of each store and jump that is listed.
-fn explain_causes(console: Console<'_>, causes: &[Cause]) {
+fn explain_causes<C: Console>(console: &C, causes: &[Cause]) {
     for cause in causes {
         let at = cause.at;
         let pair = cause.pair_name();
-        let _ = match cause.setter {
+        match cause.setter {
             Setter::Instruction(by) => {
-                eprintln!(console.runtime(); "  {at:04X}: {pair} is set at {by:04X}")
+                console.explain(format_args!("{at:04X}: {pair} is set at {by:04X}"))
             }
             Setter::Count(by) => {
-                eprintln!(console.runtime(); "  {at:04X}: {pair} is counted at {by:04X}")
+                console.explain(format_args!("{at:04X}: {pair} is counted at {by:04X}"))
             }
-            Setter::Nothing => { eprintln!(console.runtime(); "  {at:04X}: nothing sets {pair}") }
-        };
+            Setter::Nothing => console.explain(format_args!("{at:04X}: nothing sets {pair}")),
+        }
     }
 }
 

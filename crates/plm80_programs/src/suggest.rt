@@ -1,10 +1,12 @@
 //! `plm80 suggest`: the regions that an image's bytes suggest.
 
-ghost use Rattle.std.specs.Prelude.{◌≡◌, map, IfOk};
+ghost use Rattle.std.specs.Prelude.{◌≡◌, ◌∷◌, [], IfErr, IfOk};
 ghost use Rattle.image80_file.specs.ImageFile.{SpellsImage, without_regions};
-ghost use Rattle.plm80_programs.specs.Suggest.{AdvisesRegions, AreSuggestArguments, IsAdviceStatus};
+ghost use Rattle.plm80_console.specs.Answer.{Gives};
+ghost use Rattle.plm80_console.specs.Journal.{OnlyReports};
+ghost use Rattle.plm80_programs.specs.Suggest.{AdvisesRegions, AnswersAdvice, AreSuggestArguments};
 
-use crate::cases::{notes_status, report_notes};
+use crate::cases::{notes_status, remark_notes};
 use crate::helpers::ranges::ranges_of;
 use clap::ArgMatches;
 use image80::{Image, Range, write_regions};
@@ -88,8 +90,13 @@ impl<'a> SuggestArguments<'a> {
 }
 
 /// Prints the regions that the image suggests, and reports what is uncertain of them; gives status 1 if a PCHL has no table.
-pub fn advise_file(console: Console<'_>, arguments: &SuggestArguments<'_>) -> Result<u8, Reported>
-    ensures { IfOk result (IsAdviceStatus (map (λ range. range.now) arguments.now.rom.items) (map (λ range. range.now) arguments.now.ram.items)) }
+pub fn advise_file<C: Console>(
+    console: &mut C,
+    arguments: &SuggestArguments<'_>,
+) -> Result<u8, Reported>
+    ensures done { let asked = arguments.now in IfOk result (Gives (AnswersAdvice asked) (asked.image.now ∷ [])
+        (C.journal console.old) (C.journal console.new)) }
+    ensures fault { IfErr result (λ _. OnlyReports (C.journal console.old) (C.journal console.new)) }
 {
     let rom = ranges_of(console, ROM, &arguments.rom)?;
     let ram = ranges_of(console, RAM, &arguments.ram)?;
@@ -98,8 +105,8 @@ pub fn advise_file(console: Console<'_>, arguments: &SuggestArguments<'_>) -> Re
     match advised(console.alloc(), image, &rom, &ram) {
         Ok(printed) => {
             let status = console.give(printed.answer)?;
-            report_stack(console, &printed.advice);
-            report_notes(console, &printed.advice.notes);
+            remark_on_stack(console, &printed.advice);
+            remark_notes(console, &printed.advice.notes);
             Ok(status)
         }
         Err(LengthFault::TooLong) => Err(console.report(LengthFault::TooLong)),
@@ -115,8 +122,10 @@ struct PrintedAdvice {
 }
 
 /// The image of a file, without regions.
-fn bare_image(console: Console<'_>, file: &ReadFile<'_>) -> Result<Image, Reported>
-    ensures { IfOk result (λ image. SpellsImage file.now.bytes.items (without_regions image)) }
+fn bare_image<C: Console>(console: &mut C, file: &ReadFile<'_>) -> Result<Image, Reported>
+    ensures image { IfOk result (λ image. SpellsImage file.now.bytes.items (without_regions image)) }
+    ensures unchanged { IfOk result (λ _. C.journal console.new ≡ C.journal console.old) }
+    ensures fault { IfErr result (λ _. OnlyReports (C.journal console.old) (C.journal console.new)) }
 {
     let none = regions_of(console, file.path, b"REGIONS 1\nSTACK 0000 0000\n")?;
     image_of(console, file.path, &file.bytes, none)
@@ -129,7 +138,8 @@ fn advised(
     rom: &[Range],
     ram: &[Range],
 ) -> Result<PrintedAdvice, LengthFault>
-    ensures { IfOk result (λ advised. AdvisesRegions image rom.now ram.now advised.advice advised.answer) }
+    ensures advice { IfOk result (λ advised. AdvisesRegions image rom.now ram.now advised.advice advised.answer) }
+    ensures no_file { IfOk result (λ advised. advised.answer.files ≡ []) }
 {
     let mut image = image;
     image.regions = base_regions(alloc, &image, rom)?;
@@ -190,17 +200,15 @@ fn line_length(
     }
 }
 
-/// Reports that there is no LXI SP, or several.
-fn report_stack(console: Console<'_>, advice: &Advice) {
+/// Says that there is no LXI SP, or several.
+fn remark_on_stack<C: Console>(console: &C, advice: &Advice) {
     match (advice.first, advice.second) {
-        (None, _) => {
-            let _ = eprintln!(console.runtime(); "plm80: there is no LXI SP: the stack is empty");
-        }
+        (None, _) => console.remark("there is no LXI SP: the stack is empty"),
         (Some(first), Some(second)) => {
             let (first, second) = (first.at, second.at);
-            let _ = eprintln!(console.runtime();
-                "plm80: the stack is that of the LXI SP at {first:04X}, there is another one at {second:04X}"
-            );
+            console.remark(format_args!(
+                "the stack is that of the LXI SP at {first:04X}, there is another one at {second:04X}"
+            ));
         }
         (Some(_), None) => {}
     }

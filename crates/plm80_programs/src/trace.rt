@@ -1,10 +1,11 @@
 //! `plm80 trace`: the instructions of a located program's run, a line each.
 
-ghost use Rattle.std.specs.Prelude.{◌≡◌, ◌<◌, true, IfOk, OnOk};
+ghost use Rattle.std.specs.Prelude.{◌≡◌, ◌<◌, true, IfErr, IfOk, OnOk};
 ghost use Rattle.std.specs.Io.KnownBytes.{Appends};
-ghost use Rattle.plm80_console.specs.Answer.{AnswerValue};
-ghost use Rattle.plm80_programs.specs.Arguments.{AreTraceArguments};
-ghost use Rattle.plm80_programs.specs.Running.{EndsTrace, IsSpanOf, IsStatusOfRun, IsTraceOf, IsTraceStatus, trace_ending, trace_lines};
+ghost use Rattle.plm80_console.specs.Answer.{Gives, IsAnswered, IsGiven};
+ghost use Rattle.plm80_console.specs.Journal.{OnlyReports};
+ghost use Rattle.plm80_programs.specs.Arguments.{AreTraceArguments, run_paths};
+ghost use Rattle.plm80_programs.specs.Running.{AnswersRun, IsSpanOf, IsTraceOf, TracesFiles, TracesRun, trace_ending, trace_lines};
 
 use crate::explain_end;
 use crate::helpers::endings::{Traced, report_lines, trace_ending_of, write_traced};
@@ -14,11 +15,11 @@ use loader80::{Ended, Vouched};
 use loader80_trace::{Limits, Span, TraceFault};
 use machine80::Inputs;
 use plm80_console::{
-    Answer, Argument, Console, IMAGE, Kind, NotedWriter, OptionText, REGIONS, Reported, Syntax,
+    Answer, Argument, Console, IMAGE, Kind, OptionText, REGIONS, Reported, Syntax,
 };
 use plm80_names::{NAMES, Names, Verdict, judge};
 use std::alloc::{AllocError, Global};
-use stream80::{Sink, Writing};
+use stream80::Sink;
 
 /// The arguments of `trace`.
 #[derive(Clone, Copy)]
@@ -86,19 +87,25 @@ impl<'a> TraceArguments<'a> {
     }
 
     /// The instructions that are asked for.
-    fn span(self, console: Console<'_>) -> Result<Span, Reported>
-        ensures { IfOk result (IsSpanOf self.entry) }
+    fn span<C: Console>(self, console: &mut C) -> Result<Span, Reported>
+        ensures span { IfOk result (IsSpanOf self.entry) }
+        ensures unchanged { IfOk result (λ _. C.journal console.new ≡ C.journal console.old) }
+        ensures fault { IfErr result (λ _. OnlyReports (C.journal console.old) (C.journal console.new)) }
     {
-        Ok(Span {
-            from: console.count(self.from)?,
-            count: console.count(self.count)?,
-        })
+        let from = self.from.count(console)?;
+        let count = self.count.count(console)?;
+        Ok(Span { from, count })
     }
 }
 
 /// Prints the instructions of the run, and gives the exit status.
-pub fn trace_files(console: Console<'_>, arguments: TraceArguments<'_>) -> Result<u8, Reported>
-    ensures { IfOk result (IsTraceStatus arguments.entry) }
+pub fn trace_files<C: Console>(
+    console: &mut C,
+    arguments: TraceArguments<'_>,
+) -> Result<u8, Reported>
+    ensures done { let asked = arguments.entry in IfOk result (Gives (TracesFiles asked) (run_paths asked.files)
+        (C.journal console.old) (C.journal console.new)) }
+    ensures fault { IfErr result (λ _. OnlyReports (C.journal console.old) (C.journal console.new)) }
 {
     let limits = arguments.limits.numbers(console)?;
     let span = arguments.span(console)?;
@@ -106,14 +113,16 @@ pub fn trace_files(console: Console<'_>, arguments: TraceArguments<'_>) -> Resul
 }
 
 /// Prints some instructions of the run within these limits, and gives the exit status.
-fn trace_within(
-    console: Console<'_>,
+fn trace_within<C: Console>(
+    console: &mut C,
     files: RunFiles<'_>,
     limits: Limits,
     span: Span,
     names: bool,
 ) -> Result<u8, Reported>
-    ensures { IfOk result (IsStatusOfRun (λ inputs. EndsTrace inputs limits span) names) }
+    ensures done { IfOk result (Gives (AnswersRun (λ inputs. TracesRun inputs limits span) names) (run_paths files.entry)
+        (C.journal console.old) (C.journal console.new)) }
+    ensures fault { IfErr result (λ _. OnlyReports (C.journal console.old) (C.journal console.new)) }
 {
     let program = files.read(console, names)?;
     let inputs = files.inputs_of(console, &program.inputs)?;
@@ -127,30 +136,32 @@ fn trace_within(
 }
 
 /// Prints the lines of the run, and how it ended if they come so far.
-fn print_trace(
-    console: Console<'_>,
+fn print_trace<C: Console>(
+    console: &mut C,
     vouched: &Vouched,
     inputs: Inputs,
     limits: Limits,
     span: Span,
     names: &Names,
 ) -> Result<u8, Reported>
-    ensures { IfOk result (λ status. (answer : AnswerValue)
-        × EndsTrace inputs.pairs.items limits span names.now vouched.now answer × (status ≡ answer.status)) }
+    ensures done { IfOk result (IsAnswered (TracesRun inputs.pairs.items limits span names.now vouched.now)
+        (C.journal console.old) (C.journal console.new)) }
+    ensures fault { IfErr result (λ _. OnlyReports (C.journal console.old) (C.journal console.new)) }
 {
-    let mut output = NotedWriter::new(console.runtime().stdout());
-    let mut out = Writing::new(&mut output);
-    match write_trace(
+    let mut output = console.output();
+    let traced = write_trace(
         console.alloc(),
         vouched,
         inputs,
         limits,
         span,
         names,
-        &mut out,
-    ) {
+        &mut output,
+    );
+    let failure = console.take_back(output);
+    match traced {
         Ok(ended) => end_trace(console, vouched, &ended, names),
-        Err(fault) => Err(report_lines(console, fault, output.failure())),
+        Err(fault) => Err(report_lines(console, fault, failure)),
     }
 }
 
@@ -180,13 +191,14 @@ fn write_trace<K: Sink>(
 }
 
 /// Prints how a run ended, if it is known, and gives the exit status.
-fn end_trace(
-    console: Console<'_>,
+fn end_trace<C: Console>(
+    console: &mut C,
     vouched: &Vouched,
     ended: &Option<Ended>,
     names: &Names,
 ) -> Result<u8, Reported>
-    ensures { IfOk result (λ status. status ≡ (trace_ending vouched.now names.now ended.now).status) }
+    ensures given { IfOk result (IsGiven (trace_ending vouched.now names.now ended.now) (C.journal console.old) (C.journal console.new)) }
+    ensures fault { IfErr result (λ _. OnlyReports (C.journal console.old) (C.journal console.new)) }
 {
     let Ok(ending) = trace_ending_of(console.alloc(), vouched, ended, names) else {
         return Err(console.report_memory());

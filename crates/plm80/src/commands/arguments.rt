@@ -2,14 +2,15 @@
 
 ghost use Rattle.std.specs.Prelude.{◌≡◌, ◌⊎◌, ◌∷◌, [], true, false, None, Some, IfOk, IfErr, IfSome, codes, map};
 ghost use Rattle.std.specs.Str.{bytes_eq};
-ghost use Rattle.clap.specs.Matches.{has_subcommand, subcommand_name_of};
+ghost use Rattle.clap.specs.Matches.{has_subcommand};
 ghost use Rattle.clap.specs.Values.{kind_of};
 ghost use Rattle.plm80_console.specs.Refusals.{IsConflict};
-ghost use Rattle.plm80.specs.Requests.{command_name};
+ghost use Rattle.clap.specs.declared.parser.matches.ArgMatches.{ArgMatches};
+ghost use Rattle.plm80.specs.Requests.{AreArgumentsOf, IsRequestOf, command_name};
 
 use clap::error::ErrorKind;
 use clap::{ArgMatches, Command, Error};
-use plm80_console::{Syntax, WHY};
+use plm80_console::{Console, Syntax, WHY};
 use plm80_names::NamedFiles;
 use plm80_objects::{
     ABSOLUTE, AbsoluteArguments, COMPARE, CompareArguments, EXTRACT, ExtractArguments, FIND,
@@ -132,13 +133,15 @@ fn command_of(name: &str) -> Option<Syntax<'static>>
 const VERSION: &str = "1.2";
 
 /// The command of a command line, whose first argument is the program's own name, and whether its faults are explained.
-pub fn read_arguments<'a>(
-    rt: &HostRuntime,
+pub fn read_arguments<'a, C: Console>(
+    console: &C,
     arguments: &'a [String],
-) -> Result<(Request<'a>, bool), Error> {
-    let alloc = rt.alloc();
+) -> Result<(Request<'a>, bool), Error>
+    ensures { IfOk result (λ asked. (matches : ArgMatches) × IsRequestOf matches asked.0) }
+{
+    let alloc = console.alloc();
     let matches = program(alloc)?.try_get_matches_from(arguments)?;
-    refuse_shared_paths(rt, &matches)?;
+    refuse_shared_paths(console, &matches)?;
     match asked_for(alloc, &matches)? {
         Some(request) => Ok((request, is_explained(&matches))),
         None => Err(refusal(alloc, ErrorKind::MissingSubcommand, "no command")),
@@ -156,14 +159,14 @@ fn is_explained(matches: &ArgMatches<'_>) -> bool
 }
 
 /// Refuses the arguments of a command by which it would write over a file that it reads, or write a file twice.
-fn refuse_shared_paths(rt: &HostRuntime, matches: &ArgMatches<'_>) -> Result<(), Error>
+fn refuse_shared_paths<C: Console>(console: &C, matches: &ArgMatches<'_>) -> Result<(), Error>
     ensures { IfErr result IsConflict }
 {
     let Some((name, arguments)) = matches.subcommand() else {
         return Ok(());
     };
     match command_of(name) {
-        Some(command) => command.refuse_shared_paths(rt, arguments),
+        Some(command) => command.refuse_shared_paths(console, arguments),
         None => Ok(()),
     }
 }
@@ -222,11 +225,23 @@ fn program<'a>(alloc: Global) -> Result<Command<'a>, AllocError> {
 /// The command that clap has read.
 fn asked_for<'a>(alloc: Global, matches: &ArgMatches<'a>) -> Result<Option<Request<'a>>, AllocError>
     ensures none { IfOk result (λ asked. has_subcommand matches.now ≡ false → asked ≡ None) }
-    ensures name { IfOk result (λ asked. IfSome asked (λ request. subcommand_name_of matches.now ≡ Some (command_name request))) }
+    ensures request { IfOk result (λ asked. IfSome asked (IsRequestOf matches.now)) }
 {
-    let Some((name, arguments)) = matches.subcommand() else {
-        return Ok(None);
-    };
+    match matches.subcommand() {
+        Some((name, arguments)) => request_of(alloc, name, arguments),
+        None => Ok(None),
+    }
+}
+
+/// The request of the command with this name and these arguments.
+fn request_of<'a>(
+    alloc: Global,
+    name: &str,
+    arguments: &ArgMatches<'a>,
+) -> Result<Option<Request<'a>>, AllocError>
+    ensures name { IfOk result (λ asked. IfSome asked (λ request. name.now ≡ command_name request)) }
+    ensures arguments { IfOk result (λ asked. IfSome asked (AreArgumentsOf arguments.now)) }
+{
     match name {
         "link" => Ok(Some(Request::Link(LinkArguments::of(alloc, arguments)?))),
         "locate" => Ok(Some(Request::Locate(LocateArguments::of(arguments)))),

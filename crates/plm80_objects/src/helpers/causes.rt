@@ -3,6 +3,7 @@
 ghost use Rattle.std.specs.Prelude.{◌≡◌, ◌++◌, ◌∷◌, [], map, IfOk, OnOk};
 ghost use Rattle.std.specs.List.{repeat};
 ghost use Rattle.link80_text.specs.Causes.{PrintsCause};
+ghost use Rattle.plm80_console.specs.Journal.{and_reported};
 ghost use Rattle.place80.specs.Causes.{cause_text};
 ghost use Rattle.plm80_objects.specs.Link.{root_paths};
 
@@ -16,18 +17,20 @@ use std::alloc::{AllocError, Global};
 use std::str;
 
 /// Reports why the modules of these files can't be linked, and says where the cause is if that is asked for.
-pub(crate) fn report_link_fault(
-    console: Console<'_>,
+pub(crate) fn report_link_fault<C: Console>(
+    console: &mut C,
     files: &LinkFiles<'_>,
     fault: LinkFault,
-) -> Reported {
+) -> Reported
+    ensures { C.journal console.new ≡ and_reported (C.journal console.old) }
+{
     let lines = if console.explains() {
         link_lines(console.alloc(), files, &fault).ok()
     } else {
         None
     };
     let reported = console.report(fault);
-    print_lines(console, lines);
+    explain_lines(console, lines);
     reported
 }
 
@@ -74,19 +77,21 @@ fn push_paths<'a>(paths: &mut Vec<&'a [u8]>, count: usize, path: &'a [u8]) -> Re
 }
 
 /// Reports why a module can't be placed by these options, and says where the cause is if that is asked for.
-pub(crate) fn report_place_fault(
-    console: Console<'_>,
+pub(crate) fn report_place_fault<C: Console>(
+    console: &mut C,
     program: &Module,
     options: &Options,
     fault: PlaceFault,
-) -> Reported {
+) -> Reported
+    ensures { C.journal console.new ≡ and_reported (C.journal console.old) }
+{
     let lines = if console.explains() {
         place_lines(console.alloc(), program, options, &fault).ok()
     } else {
         None
     };
     let reported = console.report(fault);
-    print_lines(console, lines);
+    explain_lines(console, lines);
     reported
 }
 
@@ -104,10 +109,12 @@ fn place_lines(
     Ok(lines)
 }
 
-/// Prints lines on standard error, if there are any.
-fn print_lines(console: Console<'_>, lines: Option<Vec<u8>>) {
+/// Shows lines, each of which begins as words about a fault do, if there are any.
+fn explain_lines<C: Console>(console: &C, lines: Option<Vec<u8>>) {
     let Some(lines) = lines else { return };
-    if let Ok(lines) = str::from_utf8(&lines) {
-        let _ = eprint!(console.runtime(); "{lines}");
+    if let Ok(text) = str::from_utf8(&lines) {
+        for line in text.lines() {
+            console.explain(line.strip_prefix("  ").unwrap_or(line));
+        }
     }
 }

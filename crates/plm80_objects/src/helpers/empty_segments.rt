@@ -13,8 +13,8 @@ use std::str;
 
 /// Says which bases are those of empty segments, and where the segments are that aren't empty: there is what was to be at these bases. If
 /// memory runs out for it, it says nothing.
-pub(crate) fn explain_empty_segments(
-    console: Console<'_>,
+pub(crate) fn explain_empty_segments<C: Console>(
+    console: &C,
     program: &Module,
     options: &Options,
     texts: LocateTexts<'_>,
@@ -29,12 +29,8 @@ pub(crate) fn explain_empty_segments(
     for (id, option) in texts.bases() {
         if let Some(option) = option {
             if is_empty(&layout.segments, id) {
-                let _ = eprintln!(console.runtime();
-                    "  --{} {}: {} is empty",
-                    option.name(),
-                    option.text(),
-                    shown(id)
-                );
+                let (name, text, word) = (option.name(), option.text(), shown(id));
+                console.explain(format_args!("--{name} {text}: {word} is empty"));
                 has_empty = true;
             }
         }
@@ -54,15 +50,11 @@ fn is_empty(segments: &[Placed], id: u8) -> bool
 }
 
 /// Says where the segments are that have bytes.
-fn explain_segments(console: Console<'_>, segments: &[Placed]) {
+fn explain_segments<C: Console>(console: &C, segments: &[Placed]) {
     for placed in segments {
         if placed.length > 0 {
-            let _ = eprintln!(console.runtime();
-                "  {} {:04X} {:04X}",
-                shown(placed.id),
-                placed.base,
-                placed.length
-            );
+            let (word, base, length) = (shown(placed.id), placed.base, placed.length);
+            console.explain(format_args!("{word} {base:04X} {length:04X}"));
         }
     }
 }

@@ -1,6 +1,7 @@
 //! The options of LOCATE, which `locate` and `map` take.
 
-ghost use Rattle.std.specs.Prelude.{◌≡◌, ◌∷◌, [], IfOk};
+ghost use Rattle.std.specs.Prelude.{◌≡◌, ◌∷◌, [], IfErr, IfOk};
+ghost use Rattle.plm80_console.specs.Journal.{OnlyReports};
 ghost use Rattle.plm80_objects.specs.Arguments.{AreLocateTexts, AreNumbersOf};
 
 use clap::ArgMatches;
@@ -100,17 +101,26 @@ impl<'a> LocateTexts<'a> {
     }
 
     /// The numbers of the options.
-    pub fn numbers(self, console: Console<'_>) -> Result<Options, Reported>
-        ensures { IfOk result (AreNumbersOf self.entry) }
+    pub fn numbers<C: Console>(self, console: &mut C) -> Result<Options, Reported>
+        ensures numbers { IfOk result (AreNumbersOf self.entry) }
+        ensures unchanged { IfOk result (λ _. C.journal console.new ≡ C.journal console.old) }
+        ensures fault { IfErr result (λ _. OnlyReports (C.journal console.old) (C.journal console.new)) }
     {
+        let code = OptionText::word_if_given(self.code, console)?;
+        let stack = OptionText::word_if_given(self.stack, console)?;
+        let common = OptionText::word_if_given(self.common, console)?;
+        let data_base = OptionText::word_if_given(self.data_base, console)?;
+        let memory = OptionText::word_if_given(self.memory, console)?;
+        let stack_size = OptionText::word_if_given(self.stack_size, console)?;
+        let memory_size = OptionText::word_if_given(self.memory_size, console)?;
         Ok(Options {
-            code: console.word_if_given(self.code)?,
-            stack: console.word_if_given(self.stack)?,
-            common: console.word_if_given(self.common)?,
-            data_base: console.word_if_given(self.data_base)?,
-            memory: console.word_if_given(self.memory)?,
-            stack_size: console.word_if_given(self.stack_size)?,
-            memory_size: console.word_if_given(self.memory_size)?,
+            code,
+            stack,
+            common,
+            data_base,
+            memory,
+            stack_size,
+            memory_size,
         })
     }
 }

@@ -3,6 +3,7 @@
 ghost use Rattle.std.specs.Prelude.{◌≡◌, ◌+◌, ◌<◌, IfOk, OnOk};
 ghost use Rattle.std.specs.Io.KnownBytes.{Appends};
 ghost use Rattle.loader80_trace.specs.Traces.{trace_failures};
+ghost use Rattle.plm80_console.specs.Journal.{and_reported};
 ghost use Rattle.plm80_programs.specs.Running.{IsTraceOf, ending, trace_ending, trace_lines};
 
 use crate::status_of;
@@ -90,11 +91,13 @@ pub fn trace_ending_of(
 }
 
 /// Reports why not all lines of a run were printed.
-pub fn report_lines(
-    console: Console<'_>,
+pub fn report_lines<C: Console>(
+    console: &mut C,
     fault: TraceFault,
     failure: Option<ErrorKind>,
-) -> Reported {
+) -> Reported
+    ensures { C.journal console.new ≡ and_reported (C.journal console.old) }
+{
     match fault {
         TraceFault::Write => console.report_output(failure),
         TraceFault::Memory => console.report_memory(),

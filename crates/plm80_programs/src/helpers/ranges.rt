@@ -1,25 +1,28 @@
 //! Ranges of addresses that options name.
 
-ghost use Rattle.std.specs.Prelude.{map, IfOk, IfSome};
+ghost use Rattle.std.specs.Prelude.{◌≡◌, map, IfErr, IfOk, IfSome};
+ghost use Rattle.plm80_console.specs.Journal.{OnlyReports};
 ghost use Rattle.plm80_programs.specs.Ranges.{AreRangesOf, IsRangeText};
 
 use image80::Range;
 use plm80_console::{Console, OptionText, Reported, word_of_digits};
 
 /// The ranges that the values of an option write.
-pub(crate) fn ranges_of(
-    console: Console<'_>,
+pub(crate) fn ranges_of<C: Console>(
+    console: &mut C,
     name: &str,
     values: &[&str],
 ) -> Result<Vec<Range>, Reported>
-    ensures { IfOk result (λ ranges. AreRangesOf (map (λ value. value.now) values.now) ranges.items) }
+    ensures ranges { IfOk result (λ ranges. AreRangesOf (map (λ value. value.now) values.now) ranges.items) }
+    ensures unchanged { IfOk result (λ _. C.journal console.new ≡ C.journal console.old) }
+    ensures fault { IfErr result (λ _. OnlyReports (C.journal console.old) (C.journal console.new)) }
 {
     let mut ranges = Vec::new(console.alloc());
     for value in values {
         let Some(range) = range_of(value) else {
             let wanted =
                 "a first address, a colon and a length, of one to four hexadecimal digits each, up to FFFF";
-            return Err(console.report_number(OptionText::new(name, value), wanted));
+            return Err(OptionText::new(name, value).report_number(console, wanted));
         };
         if ranges.push(range).is_err() {
             return Err(console.report_memory());

@@ -1,20 +1,22 @@
 //! The image, its regions and the inputs of its run, and how far it runs: what several commands that run it take.
 
-ghost use Rattle.std.specs.Prelude.{◌≡◌, None, IfOk, OnOk};
+ghost use Rattle.std.specs.Prelude.{◌≡◌, None, IfErr, IfOk, OnOk};
 ghost use Rattle.image80.specs.RegionsText.{Spells};
 ghost use Rattle.image80_file.specs.ImageFile.{SpellsImage, without_regions};
 ghost use Rattle.loader80.specs.InputsText.{bad_line, inputs_of};
+ghost use Rattle.plm80_console.specs.Journal.{OnlyReports, and_read_files};
 ghost use Rattle.plm80_names.specs.Printed.{AreNamesOf};
-ghost use Rattle.plm80_names.specs.Verdict.{AreOfFiles};
 ghost use Rattle.plm80_programs.specs.Arguments.{AreLimitTexts, AreRunFiles};
-ghost use Rattle.plm80_programs.specs.Running.{AreLimitsOf};
+ghost use Rattle.plm80_programs.specs.Running.{AreLimitsOf, IsRunRead, run_files};
 
 use clap::ArgMatches;
 use image80::Image;
 use loader80::{InputsFault, SessionFault, read_inputs};
 use loader80_trace::Limits;
 use machine80::Inputs;
-use plm80_console::{Argument, Console, Kind, OptionText, ReadFile, Reported, argument_text};
+use plm80_console::{
+    Argument, Console, Kind, OptionText, ReadFile, Reported, argument_text, explain_inputs,
+};
 use plm80_names::{Names, ProgramTexts};
 
 /// The paths of an image, of its regions and of the inputs of its run.
@@ -73,41 +75,24 @@ impl<'a> RunFiles<'a> {
         }
     }
 
-    /// The path of the image.
-    pub fn image_path(self) -> &'a str
-        ensures { result.now ≡ self.entry.image.now }
-    {
-        self.image
-    }
-
-    /// The path of the regions.
-    pub fn regions_path(self) -> &'a str
-        ensures { result.now ≡ self.entry.regions.now }
-    {
-        self.regions
-    }
-
-    /// The path of the inputs.
-    pub fn inputs_path(self) -> &'a str
-        ensures { result.now ≡ self.entry.inputs.now }
-    {
-        self.inputs
-    }
-
     /// The image with its regions, as the files have them, its names if they are asked for, and the text of its inputs. All three
     /// files are read before one is checked, and they are checked in the order of `run`.
-    pub fn read(self, console: Console<'_>, names: bool) -> Result<RunProgram, Reported>
-        ensures { IfOk result (λ read. AreOfFiles names read.image read.names) }
+    pub fn read<C: Console>(self, console: &mut C, names: bool) -> Result<RunProgram, Reported>
+        ensures read { IfOk result (λ read. IsRunRead self.entry names (C.journal console.old) (C.journal console.new)
+            read.image read.names read.inputs.items) }
+        ensures fault { IfErr result (λ _. OnlyReports (C.journal console.old) (C.journal console.new)) }
     {
         let texts = self.texts(console)?;
         texts.program(console, names)
     }
 
     /// All three files, in this order.
-    fn texts(self, console: Console<'_>) -> Result<RunTexts<'a>, Reported>
+    pub fn texts<C: Console>(self, console: &mut C) -> Result<RunTexts<'a>, Reported>
         ensures image { IfOk result (λ texts. texts.program.image.path.now ≡ self.entry.image.now) }
         ensures regions { IfOk result (λ texts. texts.program.regions.path.now ≡ self.entry.regions.now) }
         ensures inputs { IfOk result (λ texts. texts.inputs.path.now ≡ self.entry.inputs.now) }
+        ensures read { IfOk result (λ texts. C.journal console.new ≡ and_read_files (C.journal console.old) (run_files self.entry texts)) }
+        ensures fault { IfErr result (λ _. OnlyReports (C.journal console.old) (C.journal console.new)) }
     {
         let program = ProgramTexts::read(console, self.image, self.regions)?;
         let inputs = console.read_file(self.inputs)?;
@@ -115,15 +100,17 @@ impl<'a> RunFiles<'a> {
     }
 
     /// The inputs that the text of their file spells.
-    pub fn inputs_of(self, console: Console<'_>, text: &[u8]) -> Result<Inputs, Reported>
+    pub fn inputs_of<C: Console>(self, console: &mut C, text: &[u8]) -> Result<Inputs, Reported>
         ensures good { OnOk result (bad_line text.now ≡ None) }
         ensures inputs { IfOk result (λ inputs. inputs.pairs.items ≡ inputs_of text.now) }
+        ensures unchanged { IfOk result (λ _. C.journal console.new ≡ C.journal console.old) }
+        ensures fault { IfErr result (λ _. OnlyReports (C.journal console.old) (C.journal console.new)) }
     {
         match read_inputs(console.alloc(), text) {
             Ok(inputs) => Ok(inputs),
             Err(InputsFault::BadLine(number)) => {
                 let reported = console.report_file(self.inputs, SessionFault::Inputs(number));
-                console.explain_inputs(text, number);
+                explain_inputs(console, text, number);
                 Err(reported)
             }
             Err(InputsFault::Memory) => Err(console.report_memory()),
@@ -133,11 +120,13 @@ impl<'a> RunFiles<'a> {
 
 impl<'a> RunTexts<'a> {
     /// The image with its regions, its names if they are asked for, and the text of its inputs.
-    fn program(self, console: Console<'_>, asked: bool) -> Result<RunProgram, Reported>
+    fn program<C: Console>(self, console: &mut C, asked: bool) -> Result<RunProgram, Reported>
         ensures contents { IfOk result (λ read. SpellsImage self.entry.program.image.bytes.items (without_regions read.image)) }
         ensures regions { IfOk result (λ read. Spells self.entry.program.regions.bytes.items read.image.regions) }
         ensures names { IfOk result (λ read. AreNamesOf asked self.entry.program.image.bytes.items read.names) }
         ensures inputs { IfOk result (λ read. read.inputs.items ≡ self.entry.inputs.bytes.items) }
+        ensures unchanged { IfOk result (λ _. C.journal console.new ≡ C.journal console.old) }
+        ensures fault { IfErr result (λ _. OnlyReports (C.journal console.old) (C.journal console.new)) }
     {
         let (image, names) = self.program.program(console, asked)?;
         Ok(RunProgram {
@@ -167,12 +156,13 @@ impl<'a> LimitTexts<'a> {
     }
 
     /// The numbers of the options.
-    pub fn numbers(self, console: Console<'_>) -> Result<Limits, Reported>
-        ensures { IfOk result (AreLimitsOf self.entry) }
+    pub fn numbers<C: Console>(self, console: &mut C) -> Result<Limits, Reported>
+        ensures limits { IfOk result (AreLimitsOf self.entry) }
+        ensures unchanged { IfOk result (λ _. C.journal console.new ≡ C.journal console.old) }
+        ensures fault { IfErr result (λ _. OnlyReports (C.journal console.old) (C.journal console.new)) }
     {
-        Ok(Limits {
-            steps: console.count(self.steps)?,
-            outputs: console.count(self.outputs)? as usize,
-        })
+        let steps = self.steps.count(console)?;
+        let outputs = self.outputs.count(console)? as usize;
+        Ok(Limits { steps, outputs })
     }
 }

@@ -1,54 +1,57 @@
 //! A session on files, with its transcript on standard output.
 
-ghost use Rattle.std.specs.Prelude.{◌≡◌, IfOk, option_map};
-ghost use Rattle.plm80_programs.specs.Running.{IsSessionStatus, failure_of_text, fault_path, path_of_text, session_status};
+ghost use Rattle.std.specs.Prelude.{◌≡◌, ◌<◌, IfErr, IfOk, option_map};
+ghost use Rattle.loader80.specs.Sends.{Sends};
+ghost use Rattle.plm80_console.specs.Answer.{Gives, IsAnswered};
+ghost use Rattle.plm80_console.specs.Journal.{OnlyReports, and_reported};
+ghost use Rattle.plm80_programs.specs.Arguments.{run_paths};
+ghost use Rattle.plm80_programs.specs.Running.{AnswersSession, AnswersTexts, fault_path, session_status, texts_of};
 
-use crate::helpers::run_arguments::RunFiles;
+use crate::helpers::run_arguments::{RunFiles, RunTexts};
 use crate::{explain_end, status_of};
 use loader80::{Outcome, SessionFault, session};
 use loader80_trace::Limits;
-use plm80_console::{Console, LateFile, NotedWriter, Reported, explain_regions};
+use plm80_console::{
+    Console, ReadFile, Reported, explain_image, explain_inputs, explain_regions,
+    explain_regions_place, explain_unread_bytes,
+};
+use std::alloc::Global;
 use std::io::ErrorKind;
-use stream80::{Reading, Writing};
-
-/// Why reading a session's files or writing its transcript failed, if it did.
-#[derive(Clone, Copy)]
-struct Failures {
-    image: Option<ErrorKind>,
-    regions: Option<ErrorKind>,
-    inputs: Option<ErrorKind>,
-    output: Option<ErrorKind>,
-}
-
-impl Failures {
-    /// That of the text that a session knows by its number.
-    fn of_text(self, number: u8) -> Option<ErrorKind>
-        ensures { result ≡ failure_of_text self number }
-    {
-        match number {
-            1 => self.image,
-            2 => self.regions,
-            _ => self.inputs,
-        }
-    }
-}
+use stream80::{Reading, Sink};
 
 /// Does a session on the files, and gives the exit status.
-pub fn run_session(
-    console: Console<'_>,
+pub fn run_session<C: Console>(
+    console: &mut C,
     files: RunFiles<'_>,
     limits: Limits,
 ) -> Result<u8, Reported>
-    ensures { IfOk result IsSessionStatus }
+    ensures done { IfOk result (Gives (AnswersSession limits) (run_paths files.entry) (C.journal console.old) (C.journal console.new)) }
+    ensures fault { IfErr result (λ _. OnlyReports (C.journal console.old) (C.journal console.new)) }
 {
-    let (answer, failures) = session_of(console, files, limits);
+    let texts = files.texts(console)?;
+    print_session(console, &texts, limits)
+}
+
+/// Does a session on the texts, prints its transcript, and gives the exit status.
+fn print_session<C: Console>(
+    console: &mut C,
+    texts: &RunTexts<'_>,
+    limits: Limits,
+) -> Result<u8, Reported>
+    ensures done { IfOk result (IsAnswered (AnswersTexts limits (texts_of texts.now)) (C.journal console.old) (C.journal console.new)) }
+    ensures fault { IfErr result (λ _. OnlyReports (C.journal console.old) (C.journal console.new)) }
+{
+    let mut output = console.output();
+    let answer = session_of(console.alloc(), texts, limits, &mut output);
+    let failure = console.take_back(output);
     if let Ok(outcome) = &answer {
-        console.explain_unread(files.image_path());
+        let image = &texts.program.image;
+        explain_unread_bytes(console, image.path, &image.bytes);
         explain_end(console, outcome.end, outcome.at);
     }
     match session_status(answer) {
         Ok(status) => Ok(status),
-        Err(fault) => Err(report_session(console, files, fault, failures)),
+        Err(fault) => Err(report_session(console, texts, fault, failure)),
     }
 }
 
@@ -63,99 +66,75 @@ fn session_status(answer: Result<Outcome, SessionFault>) -> Result<u8, SessionFa
     }
 }
 
-/// The answer of a session on the files, and what failed.
-fn session_of(
-    console: Console<'_>,
-    files: RunFiles<'_>,
+/// The answer of a session on the texts, whose transcript is written.
+fn session_of<K: Sink>(
+    alloc: Global,
+    texts: &RunTexts<'_>,
     limits: Limits,
-) -> (Result<Outcome, SessionFault>, Failures) {
-    let mut image_file = LateFile::new(console.runtime(), files.image_path());
-    let mut regions_file = LateFile::new(console.runtime(), files.regions_path());
-    let mut inputs_file = LateFile::new(console.runtime(), files.inputs_path());
-    let mut output = NotedWriter::new(console.runtime().stdout());
-    let mut image = Reading::new(&mut image_file);
-    let mut regions = Reading::new(&mut regions_file);
-    let mut inputs = Reading::new(&mut inputs_file);
-    let mut out = Writing::new(&mut output);
-    let answer = session(
-        console.alloc(),
+    out: &mut K,
+) -> Result<Outcome, SessionFault>
+    requires { K.failed out.old < u64.MAX }
+    ensures { Sends limits.outputs limits.steps (texts_of texts.now) result (K.written out.old) (K.written out.new) }
+{
+    let mut image = Reading::new(texts.program.image.bytes.as_slice());
+    let mut regions = Reading::new(texts.program.regions.bytes.as_slice());
+    let mut inputs = Reading::new(texts.inputs.bytes.as_slice());
+    session(
+        alloc,
         &mut image,
         &mut regions,
         &mut inputs,
-        &mut out,
+        out,
         limits.steps,
         limits.outputs,
-    );
-    let failures = Failures {
-        image: image_file.failure(),
-        regions: regions_file.failure(),
-        inputs: inputs_file.failure(),
-        output: output.failure(),
-    };
-    (answer, failures)
+    )
 }
 
 /// Reports the fault of a session, with the path of its file.
-fn report_session(
-    console: Console<'_>,
-    files: RunFiles<'_>,
+fn report_session<C: Console>(
+    console: &mut C,
+    texts: &RunTexts<'_>,
     fault: SessionFault,
-    failures: Failures,
-) -> Reported {
-    match (path_of_fault(files, fault), fault) {
-        (Some(path), SessionFault::Read(number)) => {
-            console.report_system(path, "Read", failures.of_text(number))
-        }
-        (Some(path), SessionFault::TooLong(_)) => console.report_file(path, "TooLong"),
-        (Some(path), _) => report_text(console, path, fault),
-        (None, SessionFault::Write) => console.report_output(failures.output),
+    failure: Option<ErrorKind>,
+) -> Reported
+    ensures { C.journal console.new ≡ and_reported (C.journal console.old) }
+{
+    match (file_of_fault(texts, fault), fault) {
+        (Some(file), _) => report_text(console, file, fault),
+        (None, SessionFault::Write) => console.report_output(failure),
         (None, _) => console.report(fault),
     }
 }
 
-/// The path of the file that a fault of a session is of; `None` if it is of no file.
-fn path_of_fault<'a>(files: RunFiles<'a>, fault: SessionFault) -> Option<&'a str>
-    ensures { option_map (λ path. path.now) result ≡ fault_path files.entry fault }
+/// The file that a fault of a session is of; `None` if it is of none.
+fn file_of_fault<'t, 'a>(texts: &'t RunTexts<'a>, fault: SessionFault) -> Option<&'t ReadFile<'a>>
+    ensures { option_map (λ file. file.now.path.now) result ≡ fault_path texts.now fault }
 {
     match fault {
-        SessionFault::Read(number) | SessionFault::TooLong(number) => {
-            Some(path_of_text(files, number))
-        }
-        SessionFault::Image(_) => Some(files.image_path()),
-        SessionFault::Regions(_) => Some(files.regions_path()),
-        SessionFault::Inputs(_) => Some(files.inputs_path()),
-        SessionFault::Write | SessionFault::Refused(_) | SessionFault::Memory => None,
+        SessionFault::Image(_) => Some(&texts.program.image),
+        SessionFault::Regions(_) => Some(&texts.program.regions),
+        SessionFault::Inputs(_) => Some(&texts.inputs),
+        SessionFault::Read(_)
+        | SessionFault::TooLong(_)
+        | SessionFault::Write
+        | SessionFault::Refused(_)
+        | SessionFault::Memory => None,
     }
 }
 
-/// The path of the file that a session knows by its number.
-fn path_of_text<'a>(files: RunFiles<'a>, number: u8) -> &'a str
-    ensures { result.now ≡ path_of_text files.entry number }
+/// Reports the fault of the bytes of this file, and says what is wrong with them.
+fn report_text<C: Console>(console: &mut C, file: &ReadFile<'_>, fault: SessionFault) -> Reported
+    ensures { C.journal console.new ≡ and_reported (C.journal console.old) }
 {
-    match number {
-        1 => files.image_path(),
-        2 => files.regions_path(),
-        _ => files.inputs_path(),
-    }
-}
-
-/// Reports the fault of the bytes of the file of this path, and says what is wrong with them.
-fn report_text(console: Console<'_>, path: &str, fault: SessionFault) -> Reported {
-    let reported = console.report_file(path, fault);
-    if let SessionFault::Image(_) = fault {
-        console.explain_image_file(path);
-        return reported;
-    }
-    // The session has read the text and keeps none of it.
-    if let Some(text) = console.text_to_explain(path) {
-        match fault {
-            SessionFault::Regions(fault) => {
-                explain_regions(console, &text, fault);
-                console.explain_regions_place(&text);
-            }
-            SessionFault::Inputs(number) => console.explain_inputs(&text, number),
-            _ => {}
+    let reported = console.report_file(file.path, fault);
+    match fault {
+        SessionFault::Image(_) => explain_image(console, &file.bytes),
+        SessionFault::Regions(fault) => {
+            explain_regions(console, &file.bytes, fault);
+            explain_regions_place(console, &file.bytes);
         }
+        SessionFault::Inputs(number) => explain_inputs(console, &file.bytes, number),
+        _ => {}
     }
     reported
 }

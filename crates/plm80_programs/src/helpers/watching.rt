@@ -1,11 +1,12 @@
 //! `plm80 run` with `--last` or `--dump`: a run, its last instructions, and the memory that it leaves.
 
-ghost use Rattle.std.specs.Prelude.{◌≡◌, ◌<◌, ◌≤◌, ◌++◌, ℕ, List, IfOk, OnOk, option_map};
+ghost use Rattle.std.specs.Prelude.{◌≡◌, ◌<◌, ◌≤◌, ◌++◌, ℕ, List, [], IfErr, IfOk, OnOk};
 ghost use Rattle.std.specs.Io.KnownBytes.{Appends};
 ghost use Rattle.std.specs.List.{flat_map};
 ghost use Rattle.loader80.specs.TranscriptText.{output_line, stack_line};
-ghost use Rattle.plm80_console.specs.Answer.{AnswerValue};
-ghost use Rattle.plm80_programs.specs.Running.{EndsRun, IsStatusOfRun, WatchesRun, dump_answer, last_lines};
+ghost use Rattle.plm80_console.specs.Answer.{GaveUp, Gives, GivesUp, IsAnswered, IsGiven, IsGivenUp};
+ghost use Rattle.plm80_programs.specs.Arguments.{dump_path, run_paths};
+ghost use Rattle.plm80_programs.specs.Running.{AnswersRun, EndsRun, WatchesRun, last_lines, with_memory};
 
 use crate::explain_end;
 use crate::helpers::endings::{Traced, ending_of, report_lines, write_traced};
@@ -13,10 +14,10 @@ use crate::helpers::run_arguments::RunFiles;
 use loader80::{Ended, Vouched, front_text};
 use loader80_trace::{Finished, Limits, Span, TraceFault, finish, memory_bytes};
 use machine80::{Inputs, PagedBus};
-use plm80_console::{Answer, Console, NotedWriter, Reported};
+use plm80_console::{Answer, Console, Reported};
 use plm80_names::{Names, Verdict, judge};
 use std::alloc::{AllocError, Global};
-use stream80::{Sink, Writing, write_all};
+use stream80::{Sink, write_all};
 
 /// What is seen of a run beside its transcript.
 #[derive(Clone, Copy)]
@@ -38,22 +39,22 @@ struct InputsTwice {
 /// What is left to do of a run whose transcript was written but for its last line.
 #[derive(Drop)]
 struct Watched<'a> {
-    /// Its memory is written, if a file is given.
-    dump: Answer<'a>,
     ended: Ended,
-    /// The last line, and the exit status.
-    ending: Answer<'static>,
+    /// The file of its memory, if one is given, the last line, and the exit status.
+    answer: Answer<'a>,
 }
 
 /// Runs the image of the files, prints its transcript with its last instructions, writes its memory, and gives the exit status.
-pub fn watch_run(
-    console: Console<'_>,
+pub fn watch_run<C: Console>(
+    console: &mut C,
     files: RunFiles<'_>,
     names: bool,
     watch: Watch<'_>,
 ) -> Result<u8, Reported>
-    ensures { let w = watch.entry in
-        IfOk result (IsStatusOfRun (λ inputs. EndsRun inputs w.limits w.last (option_map (λ path. path.now) w.dump)) names) }
+    ensures done { let w = watch.entry in IfOk result (Gives (AnswersRun (λ inputs. EndsRun inputs w.limits w.last (dump_path w.dump)) names)
+        (run_paths files.entry) (C.journal console.old) (C.journal console.new)) }
+    ensures fault { let w = watch.entry in IfErr result (λ _. GivesUp (AnswersRun (λ inputs. EndsRun inputs w.limits w.last (dump_path w.dump)) names)
+        (run_paths files.entry) (C.journal console.old) (C.journal console.new)) }
 {
     let program = files.read(console, names)?;
     let first = files.inputs_of(console, &program.inputs)?;
@@ -69,37 +70,35 @@ pub fn watch_run(
 }
 
 /// Runs the image, and prints its transcript; its memory is written before the last line.
-fn print_run(
-    console: Console<'_>,
+fn print_run<C: Console>(
+    console: &mut C,
     vouched: &Vouched,
     inputs: InputsTwice,
     watch: Watch<'_>,
     names: &Names,
 ) -> Result<u8, Reported>
     requires { inputs.second.pairs.items ≡ inputs.first.pairs.items }
-    ensures { let w = watch.entry in IfOk result (λ status. (answer : AnswerValue)
-        × EndsRun inputs.first.pairs.items w.limits w.last (option_map (λ path. path.now) w.dump) names.now vouched.now answer
-        × (status ≡ answer.status)) }
+    ensures done { let w = watch.entry in IfOk result (IsAnswered (EndsRun inputs.first.pairs.items w.limits w.last (dump_path w.dump)
+        names.now vouched.now) (C.journal console.old) (C.journal console.new)) }
+    ensures fault { let w = watch.entry in IfErr result (λ _. IsGivenUp (EndsRun inputs.first.pairs.items w.limits w.last (dump_path w.dump)
+        names.now vouched.now) (C.journal console.old) (C.journal console.new)) }
 {
-    let mut output = NotedWriter::new(console.runtime().stdout());
-    let mut out = Writing::new(&mut output);
-    match write_run(console.alloc(), vouched, inputs, watch, names, &mut out) {
+    let mut output = console.output();
+    let made = write_run(console.alloc(), vouched, inputs, watch, names, &mut output);
+    let failure = console.take_back(output);
+    match made {
         Ok(watched) => end_run(console, watched),
-        Err(fault) => Err(report_lines(console, fault, output.failure())),
+        Err(fault) => Err(report_lines(console, fault, failure)),
     }
 }
 
 /// Writes the memory, and then prints the last line, and gives the exit status.
-fn end_run(console: Console<'_>, watched: Watched<'_>) -> Result<u8, Reported>
-    ensures { IfOk result (λ status. status ≡ watched.entry.ending.status) }
+fn end_run<C: Console>(console: &mut C, watched: Watched<'_>) -> Result<u8, Reported>
+    ensures given { IfOk result (IsGiven watched.entry.answer (C.journal console.old) (C.journal console.new)) }
+    ensures fault { IfErr result (λ _. GaveUp watched.entry.answer.files (C.journal console.old) (C.journal console.new)) }
 {
-    let Watched {
-        dump,
-        ended,
-        ending,
-    } = watched;
-    console.give(dump)?;
-    let status = console.give(ending)?;
+    let Watched { ended, answer } = watched;
+    let status = console.give(answer)?;
     explain_end(console, ended.end, ended.cpu.pc());
     Ok(status)
 }
@@ -116,8 +115,8 @@ fn write_run<'a, K: Sink>(
     requires countable { K.failed out.old < u64.MAX }
     requires twice { inputs.second.pairs.items ≡ inputs.first.pairs.items }
     ensures { let w = watch.entry in IfOk result (λ watched. (text : List ℕ) × Appends (K.written out.old) (K.written out.new) text
-        × WatchesRun inputs.first.pairs.items w.limits w.last (option_map (λ path. path.now) w.dump) names.now vouched.now text
-        watched.dump watched.ended watched.ending) }
+        × WatchesRun inputs.first.pairs.items w.limits w.last (dump_path w.dump) names.now vouched.now text
+        watched.ended watched.answer) }
 {
     let finished = finish(alloc, vouched, inputs.first, watch.limits)?;
     write_front(alloc, vouched, &finished, out)?;
@@ -130,12 +129,11 @@ fn write_run<'a, K: Sink>(
         names,
         out,
     )?;
-    let dump = dump_of(alloc, &finished.bus, watch.dump)?;
     let ending = ending_of(alloc, vouched, &finished.ended, names)?;
+    let answer = with_memory(alloc, &finished.bus, watch.dump, ending)?;
     Ok(Watched {
-        dump,
         ended: finished.ended,
-        ending,
+        answer,
     })
 }
 
@@ -185,19 +183,20 @@ fn write_last<K: Sink>(
     Ok(())
 }
 
-/// The file of the memory that a run leaves, if one is given.
-fn dump_of<'a>(
+/// The answer behind the file of the memory that a run leaves, if one is given.
+fn with_memory<'a>(
     alloc: Global,
     bus: &PagedBus,
     path: Option<&'a str>,
+    answer: Answer<'a>,
 ) -> Result<Answer<'a>, AllocError>
-    ensures { IfOk result (λ answer. answer ≡ dump_answer (option_map (λ path. path.now) path.entry) bus.now) }
+    ensures { IfOk result (λ made. made ≡ with_memory (dump_path path.entry) bus.now answer.entry) }
 {
     match path {
         Some(path) => {
             let bytes = memory_bytes(alloc, bus)?;
-            Ok(Answer::writes(path, bytes, Vec::new(alloc)))
+            Ok(answer.behind_file(path, bytes))
         }
-        None => Ok(Answer::prints(Vec::new(alloc), 0)),
+        None => Ok(answer),
     }
 }

@@ -6,5 +6,5 @@ use Rattle.plm80_console.proofs.shared_paths.is_behind.Given as goal
 
 -- the path is that of none of those so far
 abbrev pub invariant-loop-value : goal.invariant-loop-value
-invariant-loop-value l =
+invariant-loop-value g l =
     l.comparison ≡ Letters → list_any (λ value. stands_behind value.now l.path) (take l.value-index l.values) ≡ false

@@ -1,5 +1,8 @@
-use Rattle.plm80_objects.specs.Link.{HavePaths}
+-- the files that were read so far
+use Rattle.std.specs.Prelude.{map, take}
+use Rattle.plm80_objects.specs.Link.{AreLinkFilesRead}
 use Rattle.plm80_objects.proofs.link.read_files.Given as goal
 
 abbrev pub invariant-loop-path : goal.invariant-loop-path
-invariant-loop-path l = HavePaths l.files
+invariant-loop-path g l =
+    AreLinkFilesRead (map (λ path. path.now) (take l.path-index l.paths)) (g.C.Console.journal l.fn.console) (g.C.Console.journal l.console) l.files

@@ -1,10 +1,13 @@
-use Rattle.std.specs.Prelude.{ℕ, List}
-use Rattle.std.proofs.Common.{◌∙◌, ap, arith, subst}
+use Rattle.std.specs.Prelude.{ℕ, List, [], ◌∷◌}
+use Rattle.std.proofs.Common.{◌∙◌, ap, arith, refl, subst}
 use Rattle.image80.specs.Case.{DeclaredCase}
 use Rattle.image80.specs.Image.{Located}
 use Rattle.image80.specs.Regions.{Areas}
+use Rattle.image80.specs.RegionsText.{cases_text}
+use Rattle.verify80_cases.specs.declared.search.Note.{Note}
 use Rattle.verify80_cases.specs.Added.{AddsCases}
-use Rattle.plm80_console.specs.Answer.{prints, writes}
+use Rattle.plm80_console.specs.Answer.{AnswerValue, behind_file, prints}
+use Rattle.plm80_programs.specs.Status.{notes_status}
 use Rattle.plm80_programs.proofs.cases.added_cases.Goals as goal
 
 pub returns : goal.returns
@@ -13,11 +16,17 @@ returns c =
     let text = c.in_ok-text.text.items in
     record {
       cases = cases;
+      notes = c.in_ok-kept.kept.notes.items;
       found = c.in_ok-kept.ensures.found;
-      lines_are = c.prints.ensures ∙ ap (λ (l : List ℕ). prints l 0) c.in_ok-kept.ensures.lines;
-      text = text;
-      added = subst (λ (areas : Areas). AddsCases areas cases text) (ap (λ (i : Located). i.regions) c.image.view_is)
-          (subst (λ (ks : List DeclaredCase). AddsCases c.image.inside.regions ks text) c.deref.ensures.value c.in_ok-text.ensures.added);
-      within = omega (arith, c.if-len-gt-TEXT_LIMIT.false, c.len.ensures, c.in_ok-text.text.ok.0);
-      file_is = c.writes.ensures ∙ ap (λ (l : List ℕ). writes c.args.path.now text l) c.new.ensures.items;
+      files = record { path = c.args.path.now; bytes = text } ∷ [];
+      added = (
+        text,
+        subst (λ (areas : Areas). AddsCases areas cases text) (ap (λ (i : Located). i.regions) c.image.view_is)
+            (subst (λ (ks : List DeclaredCase). AddsCases c.image.inside.regions ks text) c.deref.ensures.value c.in_ok-text.ensures.added),
+        omega (arith, c.if-len-gt-TEXT_LIMIT.false, c.len.ensures, c.in_ok-text.text.ok.0),
+        refl,
+      );
+      answer_is = c.behind_file.ensures ∙ ap (behind_file c.args.path.now text)
+          (c.prints.ensures ∙ ap (λ (l : List ℕ). prints l c.notes_status-status.result) c.in_ok-kept.ensures.lines
+          ∙ ap (λ (n : ℕ). prints (cases_text cases) n) (c.notes_status-status.ensures ∙ ap notes_status c.deref-2.ensures.value));
     }

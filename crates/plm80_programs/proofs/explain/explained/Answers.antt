@@ -6,8 +6,8 @@ use Rattle.plm80_programs.specs.Printed.{ShowsRefusal}
 use Rattle.plm80_programs.specs.Printed.PrintsExplanation.{accepted, refused}
 use Rattle.plm80_programs.proofs.explain.explained.Goals as goal
 
-pub returns-in_ok-text-in-Ok : goal.returns-in_ok-text-in-Ok
-returns-in_ok-text-in-Ok c =
+pub returns-in_ok-text-in-Ok-clause-explanation : goal.returns-in_ok-text-in-Ok-clause-explanation
+returns-in_ok-text-in-Ok-clause-explanation c =
     let program = c.in-Ok.vouched in
     let text = c.in_ok-text-in-Ok.text.items in
     accepted program text (record { image_is = c.in-Ok.ensures.image; vouched = c.in-Ok.ensures.vouched })
@@ -15,8 +15,8 @@ returns-in_ok-text-in-Ok c =
     c.in-Ok.ensures.image c.in_ok-text-in-Ok.ensures)
     c.prints.ensures
 
-pub returns-in_ok-text-in-Err : goal.returns-in_ok-text-in-Err
-returns-in_ok-text-in-Err c =
+pub returns-in_ok-text-in-Err-clause-explanation : goal.returns-in_ok-text-in-Err-clause-explanation
+returns-in_ok-text-in-Err-clause-explanation c =
     let text = c.in_ok-text-in-Err.text.items in
     refused c.in-Err.refusal text c.in-Err.ensures.refused c.in_ok-text-in-Err.ensures.no_memory
     (subst (λ (i : Located). ShowsRefusal i c.args.names.now c.in-Err.refusal text) c.in-Err.ensures.handed_back c.in_ok-text-in-Err.ensures.shows)

@@ -1,16 +1,25 @@
-use Rattle.std.specs.Prelude.{true, false}
-use Rattle.plm80_programs.proofs.StatusLemmas.{as_session, as_watched, is_session_by, watch_limited}
+use Rattle.std.proofs.Common.{◌∙◌}
+use Rattle.plm80_programs.specs.Arguments.{dump_path, run_paths}
+use Rattle.plm80_programs.specs.Running.{AnswersRun, EndsRun, RunsFiles}
+use Rattle.plm80_programs.proofs.GivenLemmas.{gives_more, gives_up_more, watched_runs}
 use Rattle.plm80_programs.proofs.run.run_files.Goals as goal
 
-pub returns-then-is_session : goal.returns-then-is_session
-returns-then-is_session c =
-    as_session c.args.arguments c.run_session.result
-    (is_session_by c.args.arguments c.in_ok-last.last c.is_session.result true c.in_ok-last.ensures.count.1 c.is_session.ensures c.if-is_session.true)
-    c.run_session.ensures
+pub returns-clause-done : goal.returns-clause-done
+returns-clause-done g c =
+    let asked = c.args.arguments in
+    let limits = c.in_ok-limits.limits in
+    let last = c.in_ok-last.last in
+    gives_more (AnswersRun (λ inputs. EndsRun inputs limits last (dump_path asked.dump)) asked.names) (RunsFiles asked) (run_paths asked.files)
+    (g.C.Console.journal c.args.console.now) (g.C.Console.journal c.count.new.console) (g.C.Console.journal c.watch_run.new.console) c.watch_run.result
+    (watched_runs asked limits last c.is_session.result c.in_ok-limits.ensures.limits c.in_ok-last.ensures.count.1 c.is_session.ensures c.if-is_session.false)
+    (c.in_ok-last.ensures.unchanged ∙ c.in_ok-limits.ensures.unchanged) c.watch_run.ensures.done
 
-pub returns : goal.returns
-returns c =
-    as_watched c.args.arguments c.watch_run.result
-    (is_session_by c.args.arguments c.in_ok-last.last c.is_session.result false c.in_ok-last.ensures.count.1 c.is_session.ensures c.if-is_session.false)
-    (watch_limited c.args.arguments c.in_ok-limits.limits c.in_ok-last.last c.watch_run.result c.in_ok-limits.ensures
-    c.in_ok-last.ensures.count.1 c.watch_run.ensures)
+pub returns-clause-fault : goal.returns-clause-fault
+returns-clause-fault g c =
+    let asked = c.args.arguments in
+    let limits = c.in_ok-limits.limits in
+    let last = c.in_ok-last.last in
+    gives_up_more (AnswersRun (λ inputs. EndsRun inputs limits last (dump_path asked.dump)) asked.names) (RunsFiles asked) (run_paths asked.files)
+    (g.C.Console.journal c.args.console.now) (g.C.Console.journal c.count.new.console) (g.C.Console.journal c.watch_run.new.console) c.watch_run.result
+    (watched_runs asked limits last c.is_session.result c.in_ok-limits.ensures.limits c.in_ok-last.ensures.count.1 c.is_session.ensures c.if-is_session.false)
+    (c.in_ok-last.ensures.unchanged ∙ c.in_ok-limits.ensures.unchanged) c.watch_run.ensures.fault

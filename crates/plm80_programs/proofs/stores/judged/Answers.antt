@@ -6,12 +6,12 @@ use Rattle.plm80_programs.specs.declared.stores.ListedStores.{ListedStores}
 use Rattle.plm80_programs.specs.Printed.{ListsStores}
 use Rattle.plm80_programs.proofs.stores.judged.Goals as goal
 
-pub returns-in-Accepted : goal.returns-in-Accepted
-returns-in-Accepted c =
+pub returns-in-Accepted-clause-stores : goal.returns-in-Accepted-clause-stores
+returns-in-Accepted-clause-stores c =
     of_accepted_in (λ (listed : ListedStores). listed.answer) (ListsStores c.args.quiet.now c.args.names.now) c.args.image c.args.names.now c.in-Accepted.vouched c.stores_of.result
-    (subst (IsVerdict c.args.image c.args.names.now) c.in-Accepted.is c.in_ok-vouched.ensures) c.stores_of.ensures
+    (subst (IsVerdict c.args.image c.args.names.now) c.in-Accepted.is c.in_ok-vouched.ensures) c.stores_of.ensures.stores
 
-pub returns-in-Refused : goal.returns-in-Refused
-returns-in-Refused c =
+pub returns-in-Refused-clause-stores : goal.returns-in-Refused-clause-stores
+returns-in-Refused-clause-stores c =
     refused c.in-Refused.line.items (subst (IsVerdict c.args.image c.args.names.now) c.in-Refused.is c.in_ok-vouched.ensures)
     c.prints.ensures

@@ -1,28 +1,36 @@
 use Rattle.std.specs.Borrow.{Bor}
-use Rattle.std.specs.Prelude.{ℕ, List, map}
-use Rattle.std.proofs.Common.{subst}
+use Rattle.std.specs.Prelude.{ℕ, List, [], ◌∷◌, map, refl}
+use Rattle.std.proofs.Common.{◌∙◌, ap, subst}
 use Rattle.image80.specs.declared.range.Range.{Range}
+use Rattle.plm80_console.specs.Journal.{Journal, and_read}
 use Rattle.plm80_programs.specs.Ranges.{AreRangesOf}
-use Rattle.plm80_programs.specs.Suggest.{AdvisesRegions}
+use Rattle.plm80_programs.specs.Suggest.{AdvisesRegions, AnswersAdvice}
+use Rattle.plm80_programs.proofs.GivenLemmas.{file_value, gives_status}
 use Rattle.plm80_programs.proofs.suggest.advise_file.Goals as goal
 
-pub returns-in-Ok : goal.returns-in-Ok
-returns-in-Ok c =
+pub returns-in-Ok-clause-done : goal.returns-in-Ok-clause-done
+returns-in-Ok-clause-done g c =
+    let asked = c.args.arguments.now in
+    let bytes = c.in_ok-file.file.bytes.items in
+    let file = file_value asked.image.now bytes in
     let image = c.in_ok-image.image in
     let rom = c.in_ok-rom.rom.items in
     let ram = c.in_ok-ram.ram.items in
     let printed = c.in-Ok.printed in
-    record {
-      file = c.in_ok-file.file.bytes.items;
+    let answers : AnswersAdvice asked (file ∷ []) printed.answer = record {
+      file = file;
+      files_are = refl;
       image = image;
-      contents = c.in_ok-image.ensures;
+      contents = c.in_ok-image.ensures.image;
       rom = rom;
-      is_rom = subst (λ (texts : List (Bor (List ℕ))). AreRangesOf (map (λ text. text.now) texts) rom) c.deref.ensures.value c.in_ok-rom.ensures;
+      is_rom = subst (λ (texts : List (Bor (List ℕ))). AreRangesOf (map (λ text. text.now) texts) rom) c.deref.ensures.value c.in_ok-rom.ensures.ranges;
       ram = ram;
-      is_ram = subst (λ (texts : List (Bor (List ℕ))). AreRangesOf (map (λ text. text.now) texts) ram) c.deref-2.ensures.value c.in_ok-ram.ensures;
+      is_ram = subst (λ (texts : List (Bor (List ℕ))). AreRangesOf (map (λ text. text.now) texts) ram) c.deref-2.ensures.value c.in_ok-ram.ensures.ranges;
       advice = printed.advice;
-      answer = printed.answer;
       advises = subst (λ (l : List Range). AdvisesRegions image l ram printed.advice printed.answer) c.deref-3.ensures.value
-          (subst (λ (l : List Range). AdvisesRegions image c.deref-3.result.now l printed.advice printed.answer) c.deref-4.ensures.value c.in-Ok.ensures);
-      status_is = c.in_ok-status-in-Ok.ensures;
-    }
+          (subst (λ (l : List Range). AdvisesRegions image c.deref-3.result.now l printed.advice printed.answer) c.deref-4.ensures.value c.in-Ok.ensures.advice);
+    } in
+    gives_status (AnswersAdvice asked) (asked.image.now ∷ []) (g.C.Console.journal c.args.console.now) (g.C.Console.journal c.bare_image.new.console) (g.C.Console.journal c.give.new.self) (file ∷ []) refl
+    (c.in_ok-image.ensures.unchanged ∙ c.in_ok-file.ensures.read
+    ∙ ap (λ (j : Journal). and_read j asked.image.now bytes) (c.in_ok-ram.ensures.unchanged ∙ c.in_ok-rom.ensures.unchanged))
+    printed.answer c.in_ok-status-in-Ok.status answers c.in_ok-status-in-Ok.ensures.given

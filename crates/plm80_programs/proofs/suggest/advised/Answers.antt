@@ -9,8 +9,8 @@ use Rattle.plm80_programs.specs.Status.{notes_status}
 use Rattle.plm80_programs.proofs.SuggestLemmas.{of_any_regions}
 use Rattle.plm80_programs.proofs.suggest.advised.Goals as goal
 
-pub returns : goal.returns
-returns c =
+pub returns-clause-advice : goal.returns-clause-advice
+returns-clause-advice c =
     let rom = c.args.rom.now in
     let ram = c.args.ram.now in
     let areas = c.in_ok-image-inside.field-0 in

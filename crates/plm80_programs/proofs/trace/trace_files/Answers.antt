@@ -1,7 +1,25 @@
-use Rattle.plm80_programs.proofs.StatusLemmas.{trace_limited}
+use Rattle.std.proofs.Common.{◌∙◌}
+use Rattle.plm80_programs.proofs.GivenLemmas.{gives_more, reports_same}
+use Rattle.plm80_programs.specs.Arguments.{run_paths}
+use Rattle.plm80_programs.specs.Running.{AnswersRun, TracesFiles, TracesRun}
 use Rattle.plm80_programs.proofs.trace.trace_files.Goals as goal
 
-pub returns : goal.returns
-returns c =
-    trace_limited c.args.arguments c.in_ok-limits.limits c.in_ok-span.span c.trace_within.result
-    c.in_ok-limits.ensures c.in_ok-span.ensures c.trace_within.ensures
+pub returns-clause-done : goal.returns-clause-done
+returns-clause-done g c =
+    let limits = c.in_ok-limits.limits in
+    let span = c.in_ok-span.span in
+    gives_more (AnswersRun (λ inputs. TracesRun inputs limits span) c.args.arguments.names) (TracesFiles c.args.arguments)
+    (run_paths c.args.arguments.files) (g.C.Console.journal c.args.console.now) (g.C.Console.journal c.span.new.console) (g.C.Console.journal c.trace_within.new.console) c.trace_within.result
+    (λ files answer answers. record {
+      limits = limits;
+      are_limits = c.in_ok-limits.ensures.limits;
+      span = span;
+      is_span = c.in_ok-span.ensures.span;
+      answers = answers;
+    })
+    (c.in_ok-span.ensures.unchanged ∙ c.in_ok-limits.ensures.unchanged) c.trace_within.ensures.done
+
+pub returns-clause-fault : goal.returns-clause-fault
+returns-clause-fault g c =
+    reports_same (g.C.Console.journal c.args.console.now) (g.C.Console.journal c.span.new.console) (g.C.Console.journal c.trace_within.new.console) c.trace_within.result
+    (c.in_ok-span.ensures.unchanged ∙ c.in_ok-limits.ensures.unchanged) c.trace_within.ensures.fault

@@ -4,7 +4,7 @@ use Rattle.plm80_console.proofs.syntax.Syntax.shared_by.Goals as goal
 use Rattle.plm80_console.proofs.syntax.Syntax.shared_by.Goals.{else-other-index-via-then-other-index+else-shares, else-other-index-via-else-other-index}
 
 pub loop-other-preserved : goal.loop-other-preserved
-loop-other-preserved c = λ letters.
+loop-other-preserved g c = λ letters.
     below_more _ c.loop-other.other (c.loop-other.invariant letters)
     (elim c.else-other-index.branch [
       | else-other-index-via-then-other-index+else-shares w ↦ λ other stands differs.
@@ -14,7 +14,7 @@ loop-other-preserved c = λ letters.
     ])
 
 pub returns-clause-apart : goal.returns-clause-apart
-returns-clause-apart c = λ letters.
+returns-clause-apart g c = λ letters.
     all_apart c.args.matches.now c.args.self.now.arguments.now c.args.index c.in_ok-written.field-0.now c.in_ok-path.path.now
     c.loop-other.other
     (get_there c.args.self.now.arguments.now c.args.index c.in_ok-written.field-0.now c.in_ok-written.ensures.lookup.3.0

@@ -6,6 +6,6 @@ use Rattle.plm80_console.proofs.syntax.Syntax.shared_by.Given as goal
 
 -- the arguments so far are apart from the one that writes the file
 abbrev pub invariant-loop-other : goal.invariant-loop-other
-invariant-loop-other l =
+invariant-loop-other g l =
     l.comparison ≡ Letters → (place : ℕ) → place < l.other → (other : Argument) → slice_get l.self.arguments.now place ≡ Some other
     → place ≢ l.index → IsApartFrom l.matches l.written l.path other

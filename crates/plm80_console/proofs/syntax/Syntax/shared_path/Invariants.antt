@@ -5,5 +5,5 @@ use Rattle.plm80_console.proofs.syntax.Syntax.shared_path.Given as goal
 
 -- the arguments so far are apart from all others
 abbrev pub invariant-loop-index : goal.invariant-loop-index
-invariant-loop-index l =
+invariant-loop-index g l =
     l.comparison ≡ Letters → (index : ℕ) → index < l.index → IsApart l.matches l.self.arguments.now index

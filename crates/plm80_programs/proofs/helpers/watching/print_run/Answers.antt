@@ -1,10 +1,22 @@
-use Rattle.std.specs.Prelude.{option_map}
-use Rattle.plm80_programs.proofs.RunLemmas.{run_answered}
+use Rattle.plm80_programs.specs.Arguments.{dump_path}
+use Rattle.plm80_programs.proofs.PrintLemmas.{printed}
+use Rattle.plm80_programs.proofs.RunLemmas.{run_answered, run_given_up}
 use Rattle.plm80_programs.proofs.helpers.watching.print_run.Goals as goal
 
-pub returns-in-Ok : goal.returns-in-Ok
-returns-in-Ok c =
-    let watch = c.args.watch in
-    let watched = c.in-Ok.watched in
-    run_answered c.args.inputs.first.pairs.items watch.limits watch.last (option_map (λ path. path.now) watch.dump) c.args.names.now
-    c.args.vouched.now c.in-Ok.ensures.0 watched.dump watched.ended watched.ending c.end_run.result c.in-Ok.ensures.2 c.end_run.ensures
+pub returns-in-Ok-clause-done : goal.returns-in-Ok-clause-done
+returns-in-Ok-clause-done g c =
+    run_answered c.args.inputs.first.pairs.items c.args.watch.limits c.args.watch.last (dump_path c.args.watch.dump) c.args.names.now c.args.vouched.now
+    c.in-Ok.ensures.0 c.in-Ok.watched.ended c.in-Ok.watched.answer (g.C.Console.journal c.args.console.now) (g.C.Console.journal c.take_back-failure.new.self)
+    (g.C.Console.journal c.end_run.new.console) c.in-Ok.ensures.2
+    (printed _ _ c.in-Ok.ensures.0 (g.C.Console.journal c.args.console.now) (g.C.Console.journal c.output-output.new.self) (g.C.Console.journal c.take_back-failure.new.self)
+    c.output-output.ensures.written c.output-output.ensures.unchanged c.in-Ok.ensures.1 c.take_back-failure.ensures)
+    c.end_run.result c.end_run.ensures.given
+
+pub returns-in-Ok-clause-fault : goal.returns-in-Ok-clause-fault
+returns-in-Ok-clause-fault g c =
+    run_given_up c.args.inputs.first.pairs.items c.args.watch.limits c.args.watch.last (dump_path c.args.watch.dump) c.args.names.now c.args.vouched.now
+    c.in-Ok.ensures.0 c.in-Ok.watched.ended c.in-Ok.watched.answer (g.C.Console.journal c.args.console.now) (g.C.Console.journal c.take_back-failure.new.self)
+    (g.C.Console.journal c.end_run.new.console) c.in-Ok.ensures.2
+    (printed _ _ c.in-Ok.ensures.0 (g.C.Console.journal c.args.console.now) (g.C.Console.journal c.output-output.new.self) (g.C.Console.journal c.take_back-failure.new.self)
+    c.output-output.ensures.written c.output-output.ensures.unchanged c.in-Ok.ensures.1 c.take_back-failure.ensures)
+    c.end_run.result c.end_run.ensures.fault

@@ -26,5 +26,5 @@ returns g c =
           (g.K.Sink.written c.args.out.now) (g.K.Sink.written c.write_front.new.out) (g.K.Sink.written c.write_last.new.out)
           c.requires.twice c.in_ok-write_front.ensures.written c.in_ok-write_last.ensures,
       watches inputs watch.limits watch.last (option_map (λ path. path.now) watch.dump) c.args.names.now program finished.ended finished.bus
-          finished.ports c.in_ok-dump.dump c.in_ok-ending.ending c.in_ok-finished.ensures.run c.in_ok-dump.ensures c.in_ok-ending.ensures,
+          finished.ports c.in_ok-ending.ending c.in_ok-answer.answer c.in_ok-finished.ensures.run c.in_ok-ending.ensures c.in_ok-answer.ensures,
     )

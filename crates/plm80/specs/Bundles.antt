@@ -1,0 +1,31 @@
+-- What is done with a bundle. (Its exit statuses are this project's own.)
+use Rattle.std.specs.Prelude.{◌≡◌, ◌⊎◌, ◌≤◌, ℕ, List, [], Some, Result, Ok, Err, length}
+use Rattle.loader80.specs.declared.replies.Outcome.{Outcome}
+use Rattle.loader80.specs.declared.fault.SessionFault.TheVariants.{Refused}
+use Rattle.loader80_text.specs.declared.bundles.fault.BundleFault.{BundleFault}
+use Rattle.loader80_text.specs.declared.bundles.fault.BundleFault.TheVariants.{Session}
+use Rattle.loader80_text.specs.Bundle.{BundleSends, bundle_limit}
+use Rattle.loader80_text.specs.BundleText.{bundle_texts}
+use Rattle.plm80_console.specs.Journal.{Journal, OnlyReports, and_input, and_printed}
+use Rattle.plm80_programs.specs.Status.{end_status}
+
+-- its exit status: that of the run's end, or 1 of a refusal; every other fault has none
+abbrev pub bundle_status : Result Outcome BundleFault → Result ℕ BundleFault
+bundle_status (Ok outcome) = Ok (end_status outcome.end)
+bundle_status (Err (Session (Refused refusal))) = Ok 1
+bundle_status (Err fault) = Err fault
+
+-- standard input was read, and what is said of its bundle, with 65536 outputs and 1000000 steps at most, was printed; nothing else was
+-- done
+pub record GivesBundle (old new : Journal) (status : ℕ) : Type 0 where
+  pub bytes : List ℕ
+  pub within : length bytes ≤ bundle_limit
+  pub said : Result Outcome BundleFault
+  pub printed : List ℕ
+  pub sends : BundleSends 65536 1000000 (bundle_texts bytes) said (Some []) (Some printed)
+  pub journal : new ≡ and_printed (and_input old bytes) printed
+  pub status_is : bundle_status said ≡ Ok status
+
+-- or a fault was reported, and no file was written
+abbrev pub IsBundleDone : (old new : Journal) → (status : ℕ) → Type 0
+IsBundleDone old new status = GivesBundle old new status ⊎ ((status ≡ 2) × OnlyReports old new)

@@ -1,0 +1,8 @@
+-- the files that were read so far
+use Rattle.std.specs.Prelude.{map, take}
+use Rattle.plm80_objects.specs.Modules.{AreAllRead}
+use Rattle.plm80_objects.proofs.library.modules_of.Given as goal
+
+abbrev pub invariant-loop-path : goal.invariant-loop-path
+invariant-loop-path g l =
+    AreAllRead (map (λ path. path.now) (take l.path-index l.paths)) (g.C.Console.journal l.fn.console) (g.C.Console.journal l.console) l.modules.items

@@ -1,0 +1,90 @@
+-- What `module`, `map`, `locate` and `lib` answer to object files.
+-- (ISIS-II User's Guide, LOCATE and LIB. The form of the lines is this project's own.)
+use Rattle.std.specs.Prelude.{◌≡◌, ℕ, List, [], ◌∷◌, ◌++◌, None, map}
+use Rattle.std.specs.List.{flat_map}
+use Rattle.omf_model.specs.Modules.{ModuleValue}
+use Rattle.omf_module.specs.Spelled.{SpellsFile}
+use Rattle.omf_library.specs.Writing.{library_bytes}
+use Rattle.omf_text.specs.ModuleText.{module_text}
+use Rattle.place80.specs.declared.options.Options.{Options}
+use Rattle.place80.specs.Layout.{layout_of}
+use Rattle.place80.specs.PlaceFault.{locate_fault}
+use Rattle.place80_text.specs.Map.{IsMap}
+use Rattle.plm80_console.specs.Answer.{AnswerValue, paths_of, prints}
+use Rattle.plm80_console.specs.Drafts.{GaveUpKeeping, IsReplacedKeeping}
+use Rattle.plm80_console.specs.Journal.{FileValue, Journal, OnlyReports, and_read_files}
+use Rattle.plm80_objects.specs.declared.library.LibraryArguments.{LibraryArguments}
+use Rattle.plm80_objects.specs.declared.locate.LocateArguments.{LocateArguments}
+use Rattle.plm80_objects.specs.declared.map.MapArguments.{MapArguments}
+use Rattle.plm80_objects.specs.Arguments.{AreNumbersOf}
+use Rattle.plm80_objects.specs.Locate.{WritesProgram}
+
+-- an answer to the modules of one object file
+pub record AnswersModules (Answers : List ModuleValue → AnswerValue → Type 0) (files : List FileValue) (answer : AnswerValue) : Type 0 where
+  pub file : FileValue
+  pub files_are : files ≡ file ∷ []
+  pub modules : List ModuleValue
+  pub spelled : SpellsFile file.bytes modules
+  pub answers : Answers modules answer
+
+-- the lines of all modules are printed, in order
+abbrev pub DescribesModules : List ModuleValue → AnswerValue → Type 0
+DescribesModules modules answer = answer ≡ prints (flat_map module_text modules) 0
+
+-- an answer to the one module of an object file
+pub record OfProgram (Answers : ModuleValue → AnswerValue → Type 0) (modules : List ModuleValue) (answer : AnswerValue) : Type 0 where
+  pub program : ModuleValue
+  pub alone : modules ≡ program ∷ []
+  pub answers : Answers program answer
+
+-- the map of a program that can be located is printed
+pub record PrintsMap (options : Options) (program : ModuleValue) (answer : AnswerValue) : Type 0 where
+  pub none : locate_fault options program ≡ None
+  pub is_map : IsMap (layout_of options program) program answer.lines
+  pub answer_is : answer ≡ prints answer.lines 0
+
+pub record MapsFile (arguments : MapArguments) (files : List FileValue) (answer : AnswerValue) : Type 0 where
+  pub options : Options
+  pub are_options : AreNumbersOf arguments.options options
+  pub answers : AnswersModules (OfProgram (PrintsMap options)) files answer
+
+-- the image of a program and its regions are written
+abbrev pub WritesLocated : LocateArguments → Options → ModuleValue → AnswerValue → Type 0
+WritesLocated arguments options program answer =
+    WritesProgram arguments.image.now arguments.regions.now arguments.restart arguments.publics options program answer
+
+pub record LocatesFile (arguments : LocateArguments) (files : List FileValue) (answer : AnswerValue) : Type 0 where
+  pub options : Options
+  pub are_options : AreNumbersOf arguments.options options
+  pub answers : AnswersModules (OfProgram (WritesLocated arguments options)) files answer
+
+-- ---- lib
+
+-- the modules of object files, one after another
+pub data AreModulesOf : List FileValue → List ModuleValue → Type 0 where
+  none : AreModulesOf [] []
+  more : (files : List FileValue) (modules : List ModuleValue) (file : FileValue) (own : List ModuleValue)
+      → AreModulesOf files modules → SpellsFile file.bytes own → AreModulesOf (files ++ file ∷ []) (modules ++ own)
+
+-- all of these files were read, and these are their modules
+pub record AreAllRead (paths : List (List ℕ)) (old new : Journal) (modules : List ModuleValue) : Type 0 where
+  pub files : List FileValue
+  pub paths_are : paths_of files ≡ paths
+  pub are : AreModulesOf files modules
+  pub journal : new ≡ and_read_files old files
+
+abbrev pub library_paths : LibraryArguments → List (List ℕ)
+library_paths arguments = map (λ path. path.now) arguments.files.items
+
+-- they were read, and the library of their modules was written; a copy of an object file in its place was kept before
+pub record WritesLibrary (arguments : LibraryArguments) (old new : Journal) (status : ℕ) : Type 0 where
+  pub between : Journal
+  pub modules : List ModuleValue
+  pub read : AreAllRead (library_paths arguments) old between modules
+  pub replaced : IsReplacedKeeping arguments.library.now (library_bytes modules) between new
+  pub status_is : status ≡ 0
+
+-- it wasn't, which was reported, and nothing was written
+pub data GivesUpLibrary (path : List ℕ) (old new : Journal) : Type 0 where
+  before : OnlyReports old new → GivesUpLibrary path old new
+  within : (files : List FileValue) → GaveUpKeeping path (and_read_files old files) new → GivesUpLibrary path old new

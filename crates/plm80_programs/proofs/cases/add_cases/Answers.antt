@@ -1,0 +1,9 @@
+use Rattle.std.specs.Prelude.{Some}
+use Rattle.plm80_programs.specs.Cases.{PrintsCases}
+use Rattle.plm80_programs.proofs.PrintLemmas.{unfinished}
+use Rattle.plm80_programs.proofs.cases.add_cases.Goals as goal
+
+pub returns-in_err-status-in-Ok-clause-fault : goal.returns-in_err-status-in-Ok-clause-fault
+returns-in_err-status-in-Ok-clause-fault g c =
+    unfinished (PrintsCases (Some c.args.path.now) c.args.image.now) c.in-Ok.field-0.answer (g.C.Console.journal c.args.console.now) (g.C.Console.journal c.give.new.self)
+    c.from_residual.result c.in-Ok.ensures c.in_err-status-in-Ok.ensures.fault

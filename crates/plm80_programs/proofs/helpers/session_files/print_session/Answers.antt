@@ -1,0 +1,10 @@
+use Rattle.std.proofs.Common.{◌∙◌, sym}
+use Rattle.plm80_programs.specs.Running.{texts_of}
+use Rattle.plm80_programs.proofs.PrintLemmas.{session_given}
+use Rattle.plm80_programs.proofs.helpers.session_files.print_session.Goals as goal
+
+pub returns-in-Ok-session_status-clause-done : goal.returns-in-Ok-session_status-clause-done
+returns-in-Ok-session_status-clause-done g c =
+    session_given c.args.limits (texts_of c.args.texts.now) c.session_of-answer.result _ _ (g.C.Console.journal c.args.console.now) (g.C.Console.journal c.output-output.new.self)
+    (g.C.Console.journal c.take_back-failure.new.self) c.in-Ok-session_status.status c.output-output.ensures.written c.output-output.ensures.unchanged
+    c.session_of-answer.ensures (sym c.session_status.ensures ∙ c.in-Ok-session_status.is) c.take_back-failure.ensures
