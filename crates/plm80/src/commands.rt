@@ -28,10 +28,17 @@ pub fn run_command<C: Console>(console: &mut C, arguments: &[String]) -> ExitCod
         Ok(asked) => asked,
         Err(error) => return console.report_usage(&error).status(),
     };
-    if why {
+    explain_if(console, why);
+    do_request(console, request)
+}
+
+/// Explains faults from now on, if that is asked for.
+pub fn explain_if<C: Console>(console: &mut C, asked: bool)
+    ensures { C.journal console.new ≡ C.journal console.old }
+{
+    if asked {
         console.explain_faults();
     }
-    do_request(console, request)
 }
 
 /// Does what is asked for, and gives the exit status: that of its answer, or 2 at a fault.

@@ -20,7 +20,7 @@ mod bundle_words;
 mod commands;
 
 use bundle_words::explain_bundle;
-use commands::{refuse_arguments, run_command};
+use commands::{explain_if, refuse_arguments, run_command};
 use loader80::{Outcome, SessionFault};
 pub use loader80_text::{BUNDLE_LIMIT, BundleFault, bundle};
 use plm80_console::{Console, HostConsole, Reported};
@@ -90,9 +90,7 @@ fn asks_bundle(arguments: &[String]) -> bool
 fn run_bundle<C: Console>(console: &mut C, why: bool) -> ExitCode
     ensures { IsBundleDone (C.journal console.old) (C.journal console.new) (exit_status result) }
 {
-    if why {
-        console.explain_faults();
-    }
+    explain_if(console, why);
     match transcribe(console) {
         Ok(status) => ExitCode::from(status),
         Err(reported) => reported.status(),
