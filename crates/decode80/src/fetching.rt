@@ -26,7 +26,7 @@ pub trait Program {
 
     /// Whether `count` bytes from an address on, one to three, are code, and none of them is past FFFF.
     ///
-    /// It asks for each of them; an implementation that knows its ranges can answer at once.
+    /// Asks for each of the addresses; an implementation that knows its ranges can answer at once.
     #[inline]
     #[tactic(auto, unfolding(crate::specs::Fetch::all_code))]
     fn all_code(&self, address: u16, count: usize) -> bool

@@ -13,11 +13,11 @@ pub enum LookFault {
     Outside,
     /// The byte is one of the twelve unused ones.
     Unused,
-    /// It is an EI whose next byte isn't a HLT in CODE.
+    /// An EI whose next byte isn't a HLT in CODE.
     EnablesInterrupts,
-    /// It is a PCHL for which no targets are declared.
+    /// A PCHL for which no targets are declared.
     Pchl,
-    /// It is a STA or SHLD with a byte outside data.
+    /// A STA or SHLD with a byte outside data.
     DirectStore,
 }
 

@@ -32,9 +32,9 @@ pub enum Change {
 /// What an instruction does: how it changes a frame, and where it goes on.
 #[derive(Clone, Copy, Debug, PartialEq, Eq)]
 pub enum Effect {
-    /// It goes on to the next instruction with a changed frame.
+    /// Goes on to the next instruction with a changed frame.
     Change(Change),
-    /// HLT: it goes nowhere.
+    /// Goes nowhere: HLT.
     Halt,
     /// JMP to an address.
     Jump(u16),
@@ -50,7 +50,7 @@ pub enum Effect {
     Return,
     /// A conditional return.
     ReturnIf,
-    /// It is refused in every frame.
+    /// Is refused in every frame.
     Refuse(FrameFault),
 }
 

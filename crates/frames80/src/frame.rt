@@ -19,7 +19,7 @@ use std::marker::Model;
 pub struct Frame {
     /// How many words beneath the procedure's own it has popped.
     pub taken: u32,
-    /// Its own words, from bottom to top.
+    /// The words that the procedure has pushed, from bottom to top.
     pub words: Vec<Word>,
     /// What B and C hold.
     pub bc: Word,

@@ -14,9 +14,9 @@ use crate::role::Role;
 pub enum Holding {
     /// There are none.
     Nothing,
-    /// They are the return address alone.
+    /// The words are the return address alone.
     ReturnAddress,
-    /// They are any others.
+    /// The words are any others.
     Others,
 }
 

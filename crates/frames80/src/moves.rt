@@ -28,13 +28,13 @@ pub enum Moves {
     Either(Frame, u16),
     /// To each target that is declared for the instruction's address: PCHL.
     Case(Frame),
-    /// It calls an address.
+    /// Calls an address.
     Call(Frame, u16),
-    /// It calls an address or goes on to the next instruction.
+    /// Calls an address or goes on to the next instruction.
     MaybeCall(Frame, u16),
-    /// It returns, with this many words taken from beneath its own.
+    /// Returns, with this many words taken from beneath its own.
     Return(u32),
-    /// It returns, with this many words taken, or goes on to the next instruction.
+    /// Returns, with this many words taken, or goes on to the next instruction.
     MaybeReturn(Frame, u32),
 }
 

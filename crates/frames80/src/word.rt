@@ -9,9 +9,9 @@ use std::hash::{Hash, Hasher};
 /// What is known of a word on a procedure's stack, or in one of its register pairs.
 #[derive(Clone, Copy, Debug)]
 pub enum Word {
-    /// It is the procedure's own return address, both bytes of it.
+    /// The procedure's own return address, both bytes of it.
     Own = 1,
-    /// It may be any word.
+    /// Any word.
     Any = 0,
 }
 

@@ -8,7 +8,7 @@ use thiserror::Error;
 /// Why two frames have none in common.
 #[derive(Clone, Copy, PartialEq, Eq, Debug, Error)]
 pub enum MeetFault {
-    /// They differ in the words taken or in the number of words.
+    /// The frames differ in the words taken or in the number of words.
     #[error("HeightsDiffer")]
     HeightsDiffer,
     /// Out of memory.

@@ -35,7 +35,7 @@ pub(crate) fn in_ranges(ranges: &[Range], address: u16) -> bool
     }
 }
 
-/// The same for any number of ranges. The time grows with the logarithm of their number.
+/// Whether one of any number of ranges contains the address. The time grows with the logarithm of their number.
 #[inline(never)]
 fn in_many_ranges(ranges: &[Range], address: u16) -> bool
     requires { AreApart ranges.now }

@@ -96,7 +96,7 @@ impl Regions {
         }
     }
 
-    /// The same ranges with these cases, which stand by address, one for an address at most.
+    /// Returns regions of the same ranges with these cases, which stand by address, one for an address at most.
     pub(crate) fn with_cases(self, cases: Vec<Case>) -> Self
         requires by_address { AreByAddress cases.items }
         requires each { All IsCase cases.items }

@@ -55,7 +55,7 @@ impl PublicTable {
         }
     }
 
-    /// These publics.
+    /// Makes a table of these publics.
     ///
     /// # Errors
     /// `AllocError` if memory runs out.
@@ -88,7 +88,7 @@ impl PublicTable {
     /// The public that names an address of code: of those in the same range of code, the greatest at or below the address, and of
     /// several there the first; and how many bytes the address is above it, 0 to 65535. It takes no memory.
     ///
-    /// It is `None` if no range of code contains the address, or if no public is in that range at or below the address.
+    /// Returns `None` if no range of code contains the address, or if no public is in that range at or below the address.
     pub fn nearest(&self, code: &[Range], address: u16) -> Option<(&Public, u16)>
         ensures which { option_map (λ near. near.0.now) result ≡ nearest_of code.now self.now address }
         ensures distance { IfSome result (λ near. near.1 ≡ address - near.0.now.offset) }

@@ -7,7 +7,7 @@ use thiserror::Error;
 /// Why modules make no image. A fault of LINK or LOCATE prints as itself, and is never its `Memory`.
 #[derive(Debug, PartialEq, Eq, Drop, Error)]
 pub enum BuildFault {
-    /// They can't be linked.
+    /// The modules can't be linked.
     #[error("{0}")]
     Link(LinkFault),
     /// The linked module can't be located.

@@ -25,7 +25,7 @@ pub struct Ended {
 
 /// Runs a vouched image from its start, for at most `steps` steps.
 ///
-/// It makes [quick steps](machine80_quick::quick_step), which leave out the checks that the verifier has made needless.
+/// Each step is a [quick step](machine80_quick::quick_step), which leaves out the checks that the verifier has made needless.
 ///
 /// The bus holds the image's content, and the count of refused outputs is below the greatest `u64`. It is one higher
 /// after [`End::OutputRefused`], and stays otherwise.

@@ -84,7 +84,7 @@ pub fn fetch<B: Bus>(address: u16, bus: &B, regions: &Regions) -> Option<Fetched
     }
 }
 
-/// The same for any number of ranges, which few programs have: it stands apart, so that [`fetch`] stays short enough to become
+/// Fetches for any number of ranges, which few programs have: it stands apart, so that [`fetch`] stays short enough to become
 /// a part of each step.
 #[inline(never)]
 #[tactic(auto, unfolding(crate::specs::Step::fetch))]

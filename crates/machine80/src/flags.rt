@@ -65,7 +65,7 @@ impl Flags {
         }
     }
 
-    /// The same flags with another CY.
+    /// Returns these flags with another CY.
     #[inline]
     pub fn with_carry(self, carry: bool) -> Flags
         ensures { result ≡ record self { carry = carry } }

@@ -9,7 +9,7 @@ pub struct PortRefused;
 
 /// The 256 input and output ports.
 ///
-/// They are seen as a list of input bytes for each port, one list of all outputs in order, each with its port, a count of the
+/// Ports are seen as a list of input bytes for each port, one list of all outputs in order, each with its port, a count of the
 /// outputs that were refused, the greatest number of outputs that is ever kept, if there is one, and the number that there is
 /// room for at least: while there are fewer, none is refused.
 pub trait Ports {

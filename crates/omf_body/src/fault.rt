@@ -33,7 +33,7 @@ impl FieldFault {
     ghost use Rattle.std.specs.Prelude.{◌≡◌};
     ghost use Rattle.omf_body.specs.Faults.{fault_of};
 
-    /// The same fault, of a record of this kind.
+    /// Returns this fault as that of a record of the kind `kind`.
     pub(crate) fn of(self, kind: RecordKind) -> BodyFault
         ensures { result ≡ fault_of kind self }
     {

@@ -46,7 +46,7 @@ impl<'a, E: ReadEntry<'a>> Row<'a, E> {
         })
     }
 
-    /// The same entries, from the first one.
+    /// Returns a row of the same entries that begins again at the first one.
     pub fn again(&self) -> Row<'a, E>
         ensures { result ≡ self.now }
     {

@@ -78,7 +78,7 @@ impl From<AllocError> for PutFault {
 /// Why bytes aren't taken as a name.
 #[derive(Clone, Copy, PartialEq, Eq, Debug, Error)]
 pub enum NameFault {
-    /// They are none or more than 255, or one of them is outside 21h to 7Eh.
+    /// A name has no character or more than 255, or one that is outside 21h to 7Eh.
     #[error("BadName")]
     BadName,
     /// There is no memory for the name.

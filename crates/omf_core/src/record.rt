@@ -24,7 +24,7 @@ pub struct Record<'a> {
 /// `ZeroLength` if the length word is 0; `Truncated` if fewer bytes follow than the length word counts;
 /// `BadSum` if the record's bytes don't sum to 0 modulo 256.
 ///
-/// It takes no memory: the body borrows from `bytes`.
+/// Takes no memory: the body borrows from `bytes`.
 pub fn next_record<'a>(bytes: &'a [u8], at: usize) -> Result<(Record<'a>, usize), RecordFault>
     // What is read is what the bytes from `at` on spell, and nothing that they spell is refused.
     ensures read { IfOk result (λ r. SpellsRecord bytes.now at r.1 r.0.kind r.0.body.now) }

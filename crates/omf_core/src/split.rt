@@ -9,7 +9,7 @@ use crate::name::is_name;
 /// `None` if no name stands there: `at` is past the end, the body ends before the name does,
 /// the length byte is 0, or one of the bytes is outside 21h to 7Eh.
 ///
-/// It takes no memory: the name borrows from `body`.
+/// Takes no memory: the name borrows from `body`.
 pub fn split_name(body: &[u8], at: usize) -> Option<(&[u8], usize)>
     // What is split off is what the bytes from `at` on spell, and no name that they spell is refused.
     ensures split { IfSome result (λ r. SpellsName body.now at r.1 r.0.now) }

@@ -26,7 +26,7 @@ ghost use Rattle.omf_library.specs.Providers.{declares, first_provider};
 
 impl Library {
     /// The place in `modules` of the first module that declares the name public, or `None` if none does.
-    /// It takes no memory, and looks through the modules.
+    /// Takes no memory, and looks through the modules.
     pub fn provider(&self, name: &Name) -> Option<usize>
         ensures first { result ≡ first_provider self.now name.now }
         ensures none { result ≡ None ↔ (list_any (declares name.now) self.now ≡ false) }

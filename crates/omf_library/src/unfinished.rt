@@ -18,13 +18,13 @@ use std::alloc::Global;
 /// How far a library is read.
 #[derive(Clone, Copy, Debug)]
 pub enum Progress {
-    /// Its header is still to come.
+    /// The header is still to come.
     Header,
-    /// Its header has said how many modules there are. No index record has come.
+    /// The header has said how many modules there are. No index record has come.
     Modules(u16),
-    /// Its header has said how many modules there are. Index records are read up to this place.
+    /// The header has said how many modules there are. Index records are read up to this place.
     Index(u16, usize),
-    /// Its end-of-file record has come.
+    /// The end-of-file record has come.
     Ended,
 }
 

@@ -26,7 +26,7 @@ use std::alloc::{AllocError, Global};
 
 /// The program's image at its places.
 ///
-/// Its memory is at each address the byte that the module defines under those places: that of the last content over it,
+/// The image's memory is at each address the byte that the module defines under those places: that of the last content over it,
 /// with its fixups applied, and 0 if none covers it. There is one chunk for each content, in order. Code is CODE,
 /// data are DATA, MEMORY and all commons, and the stack is STACK. No fixup lost the low byte of its word.
 ///

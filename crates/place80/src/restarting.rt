@@ -25,7 +25,7 @@ use std::alloc::{AllocError, Global};
 /// as the board does.
 ///
 /// # Errors
-/// Those of `locate`; and then `Overlap` of 0 and the first segment that has one of the addresses 0 to 2, or of 0 and 0 if an
+/// The faults of `locate`; and then `Overlap` of 0 and the first segment that has one of the addresses 0 to 2, or of 0 and 0 if an
 /// absolute content has one. `Memory` only if memory ran out.
 pub fn locate_with_restart(
     alloc: Global,

@@ -18,7 +18,7 @@ use std::alloc::{AllocError, Global};
 /// `3040 LIMIT`, by address, those of one address in the order of their records.
 ///
 /// # Errors
-/// Those of `locate`.
+/// The faults of `locate`.
 pub fn map_text(alloc: Global, program: &Module, options: &Options) -> Result<Vec<u8>, PlaceFault>
     ensures text { IfOk result (λ text. IsMap (layout_of options.now program.now) program.now text.items) }
     ensures none { OnOk result (locate_fault options.now program.now ≡ None) }

@@ -18,7 +18,7 @@ use std::alloc::{AllocError, Global};
 /// of its module, in order: the same name, at the address that it has if the module's segments are placed as these are. So Intel's
 /// LOCATE keeps them without PURGE. (ISIS-II User's Guide, LOCATE; 8080 Object Module Formats, public declarations record.)
 ///
-/// It is read as the same image as without them.
+/// The file is read as the same image as without them.
 ///
 /// # Errors
 /// `AllocError` only if memory runs out; `out` is then unchanged.

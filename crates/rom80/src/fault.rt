@@ -6,7 +6,7 @@ use thiserror::Error;
 /// Why bytes aren't taken out of an image, or put into one.
 #[derive(Clone, Copy, Debug, PartialEq, Eq, Error)]
 pub enum RomFault {
-    /// They go past FFFF, the last address.
+    /// The bytes go past FFFF, the last address.
     #[error("PastMemory")]
     PastMemory,
     /// Out of memory.

@@ -17,7 +17,7 @@ pub(crate) enum Candidates {
 }
 
 impl Candidates {
-    /// Those of them with which the half of their sum with the addend is this byte, if there are any.
+    /// Returns the candidates with which the half of their sum with the addend is this byte, if there are any.
     pub(crate) fn narrowed(self, half: Half, addend: u16, byte: u8) -> Option<Candidates>
         ensures some { IfSome result (λ narrowed. (word : ℕ) → word < 65536 →
             is_candidate narrowed word ≡ (is_candidate self word && is_half half addend byte word)) }
@@ -30,7 +30,7 @@ impl Candidates {
         }
     }
 
-    /// Those with this low byte.
+    /// Returns the candidates with this low byte.
     fn with_low(self, low: u8) -> Option<Candidates>
         ensures some { IfSome result (λ narrowed. (word : ℕ) → word < 65536 →
             is_candidate narrowed word ≡ (is_candidate self word && (word % 256 == low))) }
@@ -44,7 +44,7 @@ impl Candidates {
         }
     }
 
-    /// Those of the 256 words from this one on.
+    /// Returns the candidates among the 256 words from this one on.
     fn within(self, start: u16) -> Option<Candidates>
         ensures some { IfSome result (λ narrowed. (word : ℕ) → word < 65536 →
             is_candidate narrowed word ≡ (is_candidate self word && is_in_window start 255 word)) }

@@ -43,7 +43,7 @@ impl FixupBytes {
     }
 }
 
-/// Those of absolute values and of CODE.
+/// Returns the bytes of absolute values and of CODE.
 fn known_bytes(alloc: Global, code: &[CodeByte]) -> Result<Vec<CodeByte>, AllocError>
     ensures { IfOk result (λ bytes. bytes.items ≡ filter is_known_fixup code.now) }
 {
@@ -56,7 +56,7 @@ fn known_bytes(alloc: Global, code: &[CodeByte]) -> Result<Vec<CodeByte>, AllocE
     Ok(bytes)
 }
 
-/// Those of other values that aren't lone.
+/// Returns the bytes of other values that aren't lone.
 fn crowded_bytes(
     alloc: Global,
     code: &[CodeByte],

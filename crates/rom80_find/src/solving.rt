@@ -119,7 +119,7 @@ fn narrow(dump: Dump<'_>, address: u16, byte: CodeByte, table: &mut [Candidates]
     }
 }
 
-/// Those of the candidates with which the dump has this byte, if there are any.
+/// Returns the candidates with which the dump has this byte, if there are any.
 fn narrowed_by(
     dump: Dump<'_>,
     address: u16,

@@ -44,7 +44,7 @@ static IMAGE: [u8; 28] = [
     0x0E, 0x01, 0x00, 0xF1, // end of file
 ];
 
-/// Its regions, and the text of version 2.
+/// The image's regions, and the text of version 2.
 const REGIONS: &[u8] = b"REGIONS 1\nCODE 3000 0001\nSTACK 3001 0000\n";
 
 const REGIONS2: &[u8] = b"REGIONS 2\nCODE 3000 0001\nSTACK 3001 0000\n";

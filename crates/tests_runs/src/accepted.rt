@@ -9,7 +9,7 @@ use std::test::Fail;
 
 /// A program at 3000, and how its run goes.
 struct Accepted {
-    /// Its bytes; if there are fewer, 00 follows.
+    /// The program's bytes; if there are fewer, 00 follows.
     code: [u8; 10],
     /// How many of them are code.
     length: &'static [u8],

@@ -11,7 +11,7 @@ pub static IMAGE: [u8; 45] = [
     0x0E, 0x01, 0x00, 0xF1, // end of file
 ];
 
-/// Its regions.
+/// The program's regions.
 pub const REGIONS: &[u8] = b"REGIONS 1\nCODE 3000 0012\nSTACK 3100 0100\n";
 
 /// Two bytes at a port that it doesn't read.

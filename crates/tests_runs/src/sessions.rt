@@ -17,7 +17,7 @@ static IMAGE: [u8; 32] = [
 /// The regions of that program.
 const REGIONS: &[u8] = b"REGIONS 1\nCODE 3000 0005\nSTACK 3005 0000\n";
 
-/// Its input.
+/// The session's input.
 const INPUTS: &[u8] = b"02 41\n";
 
 /// A reader that gives one byte at a time. Once it has given a number of them, a read is interrupted, that one alone: who tried again would

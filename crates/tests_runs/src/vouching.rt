@@ -13,7 +13,7 @@ use verify80::{find_reached, verify};
 use verify80_calls::{Procedure, find_calls};
 use verify80_stores::find_stores;
 
-/// Its procedure.
+/// The program's one procedure.
 #[rattlefmt::skip]
 static ROWS: [ProcRow; 1] = [
     ProcRow { entry: 0x300B, takes: 1, wants: 1, bound: 0, returns: true },
@@ -83,7 +83,7 @@ fn runs(rt: &(impl Abort + AllocGlobal), vouched: &Vouched) -> Result<(), Fail> 
     Ok(())
 }
 
-/// The same over a memory in pages.
+/// Runs the vouched program over a memory in pages.
 fn runs_in_pages(rt: &(impl Abort + AllocGlobal), vouched: &Vouched) -> Result<(), Fail> {
     let inputs = read_inputs(rt.alloc(), INPUTS)?;
     let mut bus = PagedBus::new(rt.alloc(), vouched.image())?;

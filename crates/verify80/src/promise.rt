@@ -21,8 +21,8 @@ pub fn fitted_images_never_go_wrong()
     runs_begin_from_power_on();
 }
 
-/// The same from power-on: whatever the registers, the flags and the memory outside code hold before the first step, if only SP
-/// is at the stack's top and each address of code has the image's byte.
+/// The promise from power-on: whatever the registers, the flags and the memory outside code hold before the first step, if only
+/// SP is at the stack's top and each address of code has the image's byte.
 pub fn images_never_go_wrong_from_power_on()
     ensures { FittedImagesNeverGoWrongFromPowerOn }
 {

@@ -49,7 +49,7 @@ pub fn verify(alloc: Global, image: &Image) -> Result<Report, Refusal>
 /// but that.
 ///
 /// # Errors
-/// Those of [`verify`], but never `StackTooSmall`.
+/// The refusals of [`verify`], but never `StackTooSmall`.
 pub fn measure(alloc: Global, image: &Image) -> Result<Report, Refusal>
     ensures measured { IfOk result (λ report. IsMeasured (code_of image.now) report.procedures.items report.stack_bytes) }
     ensures refused { IfErr result (HoldsAnyway (code_of image.now)) }
@@ -62,7 +62,7 @@ pub fn measure(alloc: Global, image: &Image) -> Result<Report, Refusal>
 /// Verifies an image, as [`verify`] does, and keeps what was made of it, so that a run needn't make it once more.
 ///
 /// # Errors
-/// Those of [`verify`].
+/// The refusals of [`verify`].
 pub fn verify_and_keep(alloc: Global, image: &Image) -> Result<Verified, Refusal>
     ensures accepted { IfOk result (λ verified.
         IsAccepted (code_of image.now) verified.report.procedures.items verified.report.stack_bytes) }

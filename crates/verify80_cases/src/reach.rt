@@ -32,7 +32,7 @@ pub fn find_reachable(alloc: Global, code: &ImageCode<'_>) -> Result<Vec<bool>, 
 pub(crate) struct Visited {
     /// For each address whether it was entered.
     pub(crate) marks: Vec<bool>,
-    /// These addresses as they were entered, each once.
+    /// The addresses that are reached, as they were entered, each once.
     pub(crate) order: Vec<u16>,
 }
 

@@ -31,7 +31,7 @@ pub struct SuggestedCase {
 /// What there is to say of a PCHL that is reached and has no declared targets.
 #[derive(Clone, Copy, Debug, PartialEq, Eq)]
 pub enum Note {
-    /// Its table, at an address, is taken to end at another one, but nothing that is reached shows it.
+    /// The table at an address is taken to end at another one, but nothing that is reached shows it.
     MayEnd { table: u16, end: u32 },
     /// No table is seen for the one at this address.
     Tableless(u16),

@@ -21,8 +21,8 @@ pub struct Suggestions {
 /// For each PCHL that no case names and that the program may reach, the case that its table suggests. The table's address is that of an
 /// LXI. It is a table of words if a word is loaded through HL to which the pair was added, and exchanged: its words are those from there
 /// on, as long as both bytes are code and belong to no instruction that is reached, and an instruction in the code begins at the word.
-/// It is a table of JMPs if the PCHL goes to the address to which the pair was added, and these are its targets. A comparison with a
-/// number of entries ends it too.
+/// A table is one of JMPs if the PCHL goes to the address to which the pair was added, and these are its targets. A comparison
+/// with a number of entries ends it too.
 ///
 /// What is reached follows each branch, goes on behind each CALL whether it returns or not, and goes to the suggested targets: more than
 /// the verifier's walks do. Nothing rests on it, for a run that jumps elsewhere ends there.

@@ -23,9 +23,9 @@ pub(crate) enum Fault {
 /// How two points clash.
 #[derive(Clone, Copy)]
 pub(crate) enum Clash {
-    /// They are at one address of one procedure, and their counts differ.
+    /// Two walks are at one address of one procedure, and their counts differ.
     Heights,
-    /// They are returns of one procedure, with other numbers of words taken.
+    /// Two walks end at returns of one procedure, with other numbers of words taken.
     Returns,
     /// One is a call, and the other, of its callee, has taken more words than the caller has.
     Shortage,

@@ -25,7 +25,7 @@ impl Move {
 }
 
 impl Moves {
-    /// Those of a change, with a given number of words before it.
+    /// Returns the moves of a change, with a given number of words before it.
     pub(crate) fn of_change(change: Change, height: u32) -> Moves {
         let top = height.checked_sub(1).map(Place::of_word);
         let above = Place::of_word(height);
@@ -42,7 +42,7 @@ impl Moves {
         }
     }
 
-    /// Those of a call that comes back.
+    /// Returns the moves of a call that comes back.
     pub(crate) fn of_call() -> Moves {
         Moves([
             Some(Move::lost(FramePair::Bc)),
@@ -69,7 +69,7 @@ impl Moves {
         self.0
     }
 
-    /// Those of places that keep their words.
+    /// Returns the bits of those places that keep their words.
     pub(crate) fn kept_of(self, places: Places) -> u64 {
         let mut kept = places.bits;
         for found in self.0 {

@@ -40,7 +40,7 @@ impl Place {
         self.0 / PLACES
     }
 
-    /// Its bit in its block.
+    /// Returns the place's bit in its block.
     pub(crate) fn bit(self) -> u64 {
         1u64.wrapping_shl(self.0 % PLACES)
     }

@@ -1,10 +1,10 @@
 //! The search for what returns ask for, and for a walk to a return whose word isn't the return address.
 //!
-//! It goes forth over the points that walks reach, with the counts that they have there, and back from the returns: a return asks
-//! for its word, and what is asked for at a point is asked for where it comes from, at each point that leads there. That is done
-//! for 64 places of a frame at once. If the bottom word is asked for at the start of a procedure, the procedure returns with its
-//! return address, and walks go on behind its calls. If another word reaches a place that is asked for, a walk leads from there to
-//! a return with that word, and the search ends.
+//! The search goes forth over the points that walks reach, with the counts that they have there, and back from the returns: a
+//! return asks for its word, and what is asked for at a point is asked for where it comes from, at each point that leads there.
+//! That is done for 64 places of a frame at once. If the bottom word is asked for at the start of a procedure, the procedure
+//! returns with its return address, and walks go on behind its calls. If another word reaches a place that is asked for, a walk
+//! leads from there to a return with that word, and the search ends.
 
 mod back;
 mod follow;

@@ -41,7 +41,7 @@ pub(crate) fn arrange(
     with_cases(alloc, &regions, cases)
 }
 
-/// These regions without cases.
+/// Makes regions without cases.
 fn without_cases(
     alloc: Global,
     survey: &Survey,

@@ -34,7 +34,7 @@ pub struct Advice {
 
 /// Gives an image the regions that its bytes suggest, whatever regions it has.
 ///
-/// It is gone through from its start, as [`verify80_cases::find_reachable`] does, with all its bytes as code that lie in the ranges of
+/// The image is gone through from its start, as [`verify80_cases::find_reachable`] does, with all its bytes as code that lie in the ranges of
 /// `rom`, or with all its bytes if there are no such ranges, and with the cases that its tables suggest. CODE is exactly the bytes
 /// of the instructions that are reached. STACK ends at the word of the first LXI SP, 0000 for the end of memory: it is sixteen
 /// bytes, or more if the image is refused for nothing but that, but only such as are free below that address, neither the image's

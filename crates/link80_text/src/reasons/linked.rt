@@ -30,7 +30,7 @@ impl<'a> Model for LinkedModules<'a> {
 }
 
 impl<'a> LinkedModules<'a> {
-    /// These modules, of which the first `roots` are roots.
+    /// Makes the table of these modules, of which the first `roots` are roots.
     pub(crate) fn of(
         alloc: Global,
         roots: usize,

@@ -6,7 +6,7 @@ use thiserror::Error;
 /// Why a word names no inputs.
 #[derive(Clone, Copy, Debug, PartialEq, Eq, Error)]
 pub enum WordFault {
-    /// It isn't `pp=item,item..`, or an item isn't `hh` or `n*hh`.
+    /// A word isn't `pp=item,item..`, or an item isn't `hh` or `n*hh`.
     #[error("BadInput")]
     BadInput,
     /// Out of memory for the inputs.
@@ -28,7 +28,7 @@ impl From<AllocError> for WordFault {
 /// Why inputs have no text.
 #[derive(Clone, Copy, Debug, PartialEq, Eq, Error)]
 pub enum LengthFault {
-    /// It would have more bytes than a loader reads.
+    /// The text would have more bytes than a loader reads.
     #[error("TooLong")]
     TooLong,
     /// Out of memory for the text.

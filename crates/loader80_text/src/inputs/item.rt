@@ -58,7 +58,7 @@ fn count_of_digits(digits: &[u8]) -> Option<u64>
     }
 }
 
-/// The same of a text.
+/// Reads the count that a text spells.
 fn count_of_text(text: &str) -> Option<u64>
     ensures count { result ≡ count_spelled text.now }
     ensures some { IfSome result (λ count. 0 < count) }

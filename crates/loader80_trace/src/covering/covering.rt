@@ -27,8 +27,8 @@ pub fn list_reached(alloc: Global, vouched: &Vouched) -> Result<Vec<u8>, AllocEr
     lines_of(alloc, vouched.image(), &reached, false, &[])
 }
 
-/// The same lines, each instruction with how often it was begun by the counts of a run, or `-` if it wasn't; and a last line with
-/// the number of instructions that were begun, and that of all.
+/// Makes the lines of a listing, each instruction with how often it was begun by the counts of a run, or `-` if it wasn't; and a
+/// last line with the number of instructions that were begun, and that of all.
 ///
 /// # Errors
 /// `AllocError` only if memory runs out.

@@ -35,7 +35,8 @@ pub(crate) fn pattern_words_are_module_words()
     parts_of_one_start_at_zero();
 }
 
-/// They are words of targets that the module has, but for absolute bytes and CODE, and of externals of one name of the first.
+/// Words of a pattern are those of targets that the module has, but for absolute bytes and CODE, and of externals of one name
+/// of the first.
 pub(crate) fn pattern_words_may_be_listed()
     ensures { PatternWordsMayBeListed }
 {

@@ -15,7 +15,7 @@ use std::alloc::{AllocError, Global};
 /// What is found of a module.
 #[derive(Clone, Copy)]
 pub(crate) enum Finding {
-    /// It has too few bytes to be looked for.
+    /// The module has too few bytes to be looked for.
     Short,
     Missing,
     There,

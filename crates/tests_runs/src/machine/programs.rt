@@ -36,9 +36,9 @@ pub struct Program {
     pub title: &'static str,
     pub regions: &'static [u8],
     pub start: u16,
-    /// Its bytes, from the start on.
+    /// The program's bytes, from the start on.
     pub bytes: &'static [u8],
-    /// Its end, its steps, and the program counter and the stack pointer then.
+    /// How the run ends, its steps, and the program counter and the stack pointer then.
     pub ends: (Option<End>, u64, u16, u16),
 }
 

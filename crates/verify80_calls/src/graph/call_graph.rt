@@ -19,7 +19,7 @@ pub struct Node {
     pub address: u16,
     /// The most bytes of stack that it needs below its return address, its callees' included.
     pub bound: u64,
-    /// Its calls, by address.
+    /// The procedure's calls, by address.
     pub calls: Vec<Call>,
 }
 

@@ -44,7 +44,7 @@ impl<'a, C: Code> Search<'a, C> {
         Ok(places)
     }
 
-    /// The same places of the only point that leads to a point, if it leads nowhere else and keeps them.
+    /// Returns these places of the only point that leads to their point, if it leads nowhere else and keeps them.
     fn straight_before(&self, places: Places) -> Option<Places> {
         let way = self.leading.only(places.point as usize)?;
         let from = self.point(way.from)?;
