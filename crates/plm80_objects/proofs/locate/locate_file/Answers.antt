@@ -1,39 +1,9 @@
-use Rattle.std.specs.Prelude.{[], ◌∷◌, refl}
-use Rattle.std.proofs.Common.{◌∙◌, ap}
+use Rattle.std.specs.Borrow.{Bor}
+use Rattle.std.specs.Prelude.{ℕ, List, [], ◌∷◌, map, refl}
+use Rattle.std.proofs.Common.{◌∙◌, ap, subst}
 use Rattle.plm80_console.specs.Journal.{Journal, and_read}
+use Rattle.plm80_console.specs.Ranges.{AreRangesOf}
 use Rattle.plm80_objects.specs.Modules.{LocatesFile, WritesLocated}
-use Rattle.plm80_objects.proofs.GivenLemmas.{file_value, gives, gives_up}
+use Rattle.plm80_objects.proofs.GivenLemmas.{file_value, gives_status, gives_up}
 use Rattle.plm80_objects.proofs.ReadLemmas.{of_program}
 use Rattle.plm80_objects.proofs.locate.locate_file.Goals as goal
-
-pub returns-in-Ok-clause-done : goal.returns-in-Ok-clause-done
-returns-in-Ok-clause-done g c =
-    let asked = c.args.arguments in
-    let read = c.in_ok-modules.ensures.read in
-    let file = file_value asked.object.now read.0 in
-    let options = c.in_ok-options.options in
-    let answers : LocatesFile asked (file ∷ []) c.in-Ok.answer = record {
-      options = options;
-      are_options = c.in_ok-options.ensures.numbers;
-      answers = of_program (WritesLocated asked options) file c.in_ok-modules.modules.items c.index-program.result.now c.in-Ok.answer read.2 c.in_ok-modules.ensures.one
-          c.index-program.ensures c.in-Ok.ensures.files;
-    } in
-    let journal = read.1 ∙ ap (λ (j : Journal). and_read j asked.object.now read.0) c.in_ok-options.ensures.unchanged in
-    gives (LocatesFile asked) (asked.object.now ∷ []) (g.C.Console.journal c.args.console.now) (g.C.Console.journal c.read_program.new.console) (g.C.Console.journal c.give.new.self) (file ∷ []) refl
-    journal c.in-Ok.answer c.give.result answers c.give.ensures.given
-
-pub returns-in-Ok-clause-fault : goal.returns-in-Ok-clause-fault
-returns-in-Ok-clause-fault g c =
-    let asked = c.args.arguments in
-    let read = c.in_ok-modules.ensures.read in
-    let file = file_value asked.object.now read.0 in
-    let options = c.in_ok-options.options in
-    let answers : LocatesFile asked (file ∷ []) c.in-Ok.answer = record {
-      options = options;
-      are_options = c.in_ok-options.ensures.numbers;
-      answers = of_program (WritesLocated asked options) file c.in_ok-modules.modules.items c.index-program.result.now c.in-Ok.answer read.2 c.in_ok-modules.ensures.one
-          c.index-program.ensures c.in-Ok.ensures.files;
-    } in
-    let journal = read.1 ∙ ap (λ (j : Journal). and_read j asked.object.now read.0) c.in_ok-options.ensures.unchanged in
-    gives_up (LocatesFile asked) (asked.object.now ∷ []) (g.C.Console.journal c.args.console.now) (g.C.Console.journal c.read_program.new.console) (g.C.Console.journal c.give.new.self) (file ∷ []) refl
-    journal c.in-Ok.answer c.give.result answers c.give.ensures.fault
