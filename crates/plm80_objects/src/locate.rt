@@ -5,7 +5,7 @@ ghost use Rattle.image80.specs.RegionsText.{regions_text};
 ghost use Rattle.place80.specs.declared.place_fault.PlaceFault.TheVariants.{Memory};
 ghost use Rattle.plm80_console.specs.Answer.{Gives, GivesUp};
 ghost use Rattle.plm80_console.specs.Journal.{OnlyReports};
-ghost use Rattle.plm80_console.specs.Pieces.{AreModulesRead};
+ghost use Rattle.plm80_files.specs.LinkFiles.{AreModulesRead};
 ghost use Rattle.plm80_objects.specs.Arguments.{AreLocateArguments};
 ghost use Rattle.plm80_objects.specs.Locate.{IsImageOf, IsLocateFault, WritesProgram, fault_of, image_file, unmapped_of};
 ghost use Rattle.plm80_objects.specs.Modules.{LocatesFile};
@@ -25,8 +25,9 @@ use place80::{Options, PlaceFault, layout, locate, locate_with_restart};
 use place80_text::{Board, Unmapped, write_image_with_publics};
 use plm80_console::{
     Answer, Argument, Console, Kind, Reported, Syntax, WrittenFile, argument_text, argument_values,
-    ranges_of, read_modules,
+    ranges_of,
 };
+use plm80_files::read_modules;
 use std::alloc::{AllocError, Global};
 
 /// The arguments of `locate`.
