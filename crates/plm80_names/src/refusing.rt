@@ -40,6 +40,15 @@ impl Model for Refused {
     ghost view = { λ r. r.line.items };
 }
 
+impl Refused {
+    /// The line, and nothing else of it.
+    pub fn line(self) -> Vec<u8>
+        ensures { result.items ≡ self }
+    {
+        self.line
+    }
+}
+
 /// Prints the line of a refusal and gives the exit status 1; then says what is at its address, if that is asked for.
 pub fn give_refusal<C: Console>(console: &mut C, refused: Refused) -> Result<u8, Reported>
     ensures given { IfOk result (IsGiven (prints refused 1) (C.journal console.old) (C.journal console.new)) }

@@ -4,7 +4,7 @@ ghost use Rattle.std.specs.Prelude.{◌≡◌, ◌⊎◌, ◌∷◌, None, Some,
 ghost use Rattle.image80.specs.RegionsText.{regions_text};
 ghost use Rattle.place80.specs.declared.place_fault.PlaceFault.TheVariants.{Memory};
 ghost use Rattle.plm80_console.specs.Answer.{Gives, GivesUp};
-ghost use Rattle.plm80_console.specs.Journal.{OnlyReports};
+ghost use Rattle.plm80_console.specs.Journal.{OnlyReports, and_reported};
 ghost use Rattle.plm80_files.specs.LinkFiles.{AreModulesRead};
 ghost use Rattle.plm80_objects.specs.Arguments.{AreLocateArguments};
 ghost use Rattle.plm80_objects.specs.Locate.{IsImageOf, IsLocateFault, WritesProgram, fault_of, image_file, unmapped_of};
@@ -55,6 +55,9 @@ Segments are placed in the order CODE, STACK, named commons, unnamed common,
 DATA, MEMORY. One with a base is placed there; any other begins where the one
 before it ends, rounded up to a multiple of 100h if it is paged. Relocations add
 the base of their segment; those to STACK add the address after its last byte.
+
+--rom-range and --ram-range name the board's memory, as suggest takes them: CODE
+must then lie in ROM or RAM, and every other segment in RAM.
 
 --restart puts a JMP to the program's start at address 0, where the processor
 begins; nothing else may occupy 0000 to 0002.
@@ -149,11 +152,24 @@ pub fn locate_file<C: Console>(
     let program = &modules[0];
     match located(console.alloc(), arguments, program, &options, board) {
         Ok(answer) => {
-            let status = console.give(answer)?;
-            explain_empty_segments(console, program, &options, arguments.options);
-            Ok(status)
+            let given = console.give(answer);
+            explain_located(console, &given, program, &options, arguments.options);
+            given
         }
         Err(fault) => Err(report_fault(console, program, &options, fault)),
+    }
+}
+
+/// Says which bases are those of empty segments, if the image was written.
+fn explain_located<C: Console>(
+    console: &C,
+    given: &Result<u8, Reported>,
+    program: &Module,
+    options: &Options,
+    texts: LocateTexts<'_>,
+) {
+    if given.is_ok() {
+        explain_empty_segments(console, program, options, texts);
     }
 }
 
