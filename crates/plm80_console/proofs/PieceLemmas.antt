@@ -20,7 +20,7 @@ use Rattle.omf_library.specs.Fault.{OrNoMemory as OrNoLibraryMemory}
 use Rattle.omf_library.specs.FeedLaws.{LastingFaultsLast}
 use Rattle.omf_library.specs.Spelled.{FaultsLibrary}
 use Rattle.omf_library.specs.LibraryFeed.{LibraryFeedValue, LastingLibraryFault}
-use Rattle.plm80_console.specs.Pieces.{begins_library, HasBegun, HasTaken, HasTakenFile, HasTakenLibrary}
+use Rattle.plm80_console.specs.Pieces.{HasTaken, HasTakenFile, HasTakenLibrary}
 
 pub implied : {A E P Q : Type 0} (r : Result A E) → OnOk r P → (P → Q) → OnOk r Q
 implied (Ok x) p f = f p

@@ -9,8 +9,8 @@ use Rattle.plm80_console.specs.Ranges.{AreRangesOf, IsRangeText}
 use Rattle.plm80_console.specs.Ranges.AreRangesOf.{more}
 
 -- a push that went well
-pub pushed : {X : Type 0} (ok : Bool) (old more new : List X) → new ≡ (if ok then more else old) → ok ≡ true → new ≡ more
-pushed ok old more new is well = is ∙ cond-true ok more old well
+pub pushed : {X : Type 0} (ok : Bool) (old longer new : List X) → new ≡ (if ok then longer else old) → ok ≡ true → new ≡ longer
+pushed ok old longer new is well = is ∙ cond-true ok longer old well
 
 abbrev text_of : Bor (List ℕ) → List ℕ
 text_of text = text.now

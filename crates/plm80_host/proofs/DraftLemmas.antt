@@ -1,27 +1,25 @@
 -- The names of drafts.
-use Rattle.std.specs.Prelude.{◌≡◌, ℕ, ◌+◌, List, ◌++◌, codes, Result, Ok, Err, IfErr, IfOk, refl}
+use Rattle.std.specs.Prelude.{◌≡◌, ℕ, ◌+◌, List, ◌++◌, codes, Option, None, Some, Result, Ok, Err, IfErr, IfOk, IfSome, String, string_bytes, refl}
 use Rattle.std.proofs.Common.{◌∙◌, ap, arith, inl}
 use Rattle.std.specs.Fmt.{decimal}
-use Rattle.plm80_host.specs.Drafts.{IsBeginning, IsDraft, IsDraftOf}
+use Rattle.plm80_console.specs.declared.new_file.NewFile.{NewFile}
+use Rattle.plm80_host.specs.Drafts.{IsBeginning, IsDraftIn, IsDraftOf, IsNamed}
 use Rattle.plm80_console.specs.Journal.{Journal, and_reported}
 use Rattle.plm80_console.specs.Replaced.{GaveUpKeeping}
 use Rattle.plm80_host.specs.declared.replacing.Draft.{Draft}
-use Rattle.plm80_host.specs.declared.replacing.Draft.TheVariants.{Beside, InPlace}
 use Rattle.plm80_host.specs.declared.replacing.DraftFault.{DraftFault}
 
 -- a draft in the file of a name that begins as the path does is one of the path's file
-pub draft_of : (path beginning : List ℕ) (number : ℕ) (name : List ℕ) (draft : Draft) → IsBeginning path beginning
-    → name ≡ beginning ++ (codes ".new" ++ decimal number) → IsDraft name draft → IsDraftOf path draft
-draft_of path beginning number name (Beside beside) begins is named =
-    record { beginning = beginning; number = number; begins = begins; is = named ∙ is }
-draft_of path beginning number name InPlace begins is named = tt
-
--- the same of an answer with a draft
-pub drafts_of : (path beginning : List ℕ) (number : ℕ) (name : List ℕ) (answer : Result Draft DraftFault)
-    → IsBeginning path beginning → name ≡ beginning ++ (codes ".new" ++ decimal number) → IfOk answer (IsDraft name)
-    → IfOk answer (IsDraftOf path)
-drafts_of path beginning number name (Ok draft) begins named is = draft_of path beginning number name draft begins named is
-drafts_of path beginning number name (Err fault) begins named is = tt
+pub drafts_of : (file : NewFile) (beginning : List ℕ) (number : ℕ) (name : List ℕ) (answer : Result Draft DraftFault)
+    → IsBeginning file.path.now beginning → name ≡ beginning ++ (codes ".new" ++ decimal number) → IfOk answer (IsDraftIn file name)
+    → IfOk answer (IsDraftOf file)
+drafts_of file beginning number name (Ok draft) begins named is = record { file_is = is.file_is; named = go draft.beside is.named }
+  where
+    go : {Z : Type 0} (beside : Option (String Z)) → IfSome beside (λ b. string_bytes b ≡ name)
+        → IfSome beside (λ b. IsNamed file.path.now (string_bytes b))
+    go (Some b) at = record { beginning = beginning; number = number; begins = begins; is = at ∙ named }
+    go None at = tt
+drafts_of file beginning number name (Err fault) begins named is = tt
 
 -- a fault before a copy is kept
 pub unkept : (path : List ℕ) (old between new : Journal) → between ≡ old → new ≡ and_reported between → GaveUpKeeping path old new

@@ -29,7 +29,7 @@ impl<'a> HostConsole<'a> {
         let draft = self.draft(file)?;
         match self.keep_object(file.path) {
             Ok(()) => {
-                self.settle(file, draft)?;
+                self.settle(draft)?;
                 self.note(&Note::Written(file.path, file.bytes));
                 Ok(())
             }

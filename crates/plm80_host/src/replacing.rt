@@ -7,7 +7,7 @@ ghost use Rattle.std.specs.Prelude.{◌≡◌, ◌∷◌, [], IfErr, IfOk, strin
 ghost use Rattle.std.specs.IoError.{error_kind};
 ghost use Rattle.plm80_console.specs.Answer.{GaveUp};
 ghost use Rattle.plm80_console.specs.Replaced.{NotSettled, new_file_value};
-ghost use Rattle.plm80_host.specs.Drafts.{IsBeginning, IsDraft, IsDraftOf, NotBothSettled, in_order, is_in_place};
+ghost use Rattle.plm80_host.specs.Drafts.{IsBeginning, IsDraftIn, IsDraftOf, NotBothSettled, in_order, is_in_place};
 ghost use Rattle.plm80_console.specs.Journal.{and_reported, and_written};
 
 use crate::host::HostConsole;
@@ -25,52 +25,28 @@ use std::{fs, io};
 const NAME_LENGTH: usize = 240;
 
 /// A new file before it is in its place. It is settled or dropped, by name.
-pub(crate) enum Draft {
-    /// It is whole and synced, in the file of this path.
-    Beside(String),
-    /// Nothing of it is written: it is written in place.
-    InPlace,
+pub(crate) struct Draft<'a> {
+    file: NewFile<'a>,
+    /// The file in which it is whole and synced; `None` if nothing of it is written, since it is written in place.
+    beside: Option<String>,
 }
 
-impl Draft {
+impl<'a> Draft<'a> {
     fn is_in_place(&self) -> bool
         ensures { result ≡ is_in_place self.now }
     {
-        matches!(self, Draft::InPlace)
+        self.beside.is_none()
     }
 }
 
-/// Two new files with their drafts.
-struct BothDrafts<'a> {
-    first: NewFile<'a>,
-    first_draft: Draft,
-    second: NewFile<'a>,
-    second_draft: Draft,
-}
-
-/// Both with the one first that is written in place, if only one is, since that may fail as it is written.
-fn in_order<'a>(
-    first: NewFile<'a>,
-    first_draft: Draft,
-    second: NewFile<'a>,
-    second_draft: Draft,
-) -> BothDrafts<'a>
-    ensures { result ≡ in_order first.entry first_draft second.entry second_draft }
+/// Both drafts, with the one first that is written in place, if only one is, since that may fail as it is written.
+fn in_order<'a>(first: Draft<'a>, second: Draft<'a>) -> (Draft<'a>, Draft<'a>)
+    ensures { result ≡ in_order first.entry second.entry }
 {
-    if second_draft.is_in_place() && !first_draft.is_in_place() {
-        BothDrafts {
-            first: second,
-            first_draft: second_draft,
-            second: first,
-            second_draft: first_draft,
-        }
+    if second.is_in_place() && !first.is_in_place() {
+        (second, first)
     } else {
-        BothDrafts {
-            first,
-            first_draft,
-            second,
-            second_draft,
-        }
+        (first, second)
     }
 }
 
@@ -105,7 +81,7 @@ impl<'a> HostConsole<'a> {
         ensures fault { IfErr result (λ _. GaveUp (new_file_value file.entry ∷ []) self.old.notes.journal self.new.notes.journal) }
     {
         let draft = self.draft(file)?;
-        self.settle(file, draft)?;
+        self.settle(draft)?;
         self.note(&Note::Written(file.path, file.bytes));
         Ok(())
     }
@@ -124,8 +100,8 @@ impl<'a> HostConsole<'a> {
         let first_draft = self.draft(first)?;
         match self.draft(second) {
             Ok(second_draft) => {
-                let both = in_order(first, first_draft, second, second_draft);
-                self.settle_both(both)?;
+                let (earlier, later) = in_order(first_draft, second_draft);
+                self.settle_both(earlier, later)?;
                 self.note(&Note::Written(first.path, first.bytes));
                 self.note(&Note::Written(second.path, second.bytes));
                 Ok(())
@@ -137,37 +113,27 @@ impl<'a> HostConsole<'a> {
         }
     }
 
-    /// Moves both drafts to their places, in their order.
-    fn settle_both(&mut self, both: BothDrafts<'_>) -> Result<(), Reported>
+    /// Moves both drafts to their places, in this order.
+    fn settle_both(&mut self, first: Draft<'_>, second: Draft<'_>) -> Result<(), Reported>
         ensures unchanged { IfOk result (λ _. self.new.notes.journal ≡ self.old.notes.journal) }
-        ensures fault { IfErr result (λ _. NotBothSettled both.entry.first both.entry.second self.old.notes.journal self.new.notes.journal) }
+        ensures fault { IfErr result (λ _. NotBothSettled first.entry.file second.entry.file self.old.notes.journal self.new.notes.journal) }
     {
-        let BothDrafts {
-            first,
-            first_draft,
-            second,
-            second_draft,
-        } = both;
-        match self.settle(first, first_draft) {
-            Ok(()) => self.settle_second(first, second, second_draft),
+        let settled = first.file;
+        match self.settle(first) {
+            Ok(()) => self.settle_second(settled, second),
             Err(reported) => {
-                self.drop_draft(second_draft);
+                self.drop_draft(second);
                 Err(reported)
             }
         }
     }
 
-    /// Moves the draft of the second file to its place, when that of the first one is in its own.
-    fn settle_second(
-        &mut self,
-        first: NewFile<'_>,
-        second: NewFile<'_>,
-        draft: Draft,
-    ) -> Result<(), Reported>
+    /// Moves the draft of a second file to its place, when the first file is in its own.
+    fn settle_second(&mut self, first: NewFile<'_>, second: Draft<'_>) -> Result<(), Reported>
         ensures unchanged { IfOk result (λ _. self.new.notes.journal ≡ self.old.notes.journal) }
-        ensures fault { IfErr result (λ _. NotBothSettled first.entry second.entry self.old.notes.journal self.new.notes.journal) }
+        ensures fault { IfErr result (λ _. NotBothSettled first.entry second.entry.file self.old.notes.journal self.new.notes.journal) }
     {
-        match self.settle(second, draft) {
+        match self.settle(second) {
             Ok(()) => Ok(()),
             Err(reported) => {
                 self.note(&Note::Written(first.path, first.bytes));
@@ -177,8 +143,8 @@ impl<'a> HostConsole<'a> {
     }
 
     /// Writes the file beside its place, if it can be renamed from there.
-    pub(crate) fn draft(&mut self, file: NewFile<'_>) -> Result<Draft, Reported>
-        ensures draft { IfOk result (IsDraftOf file.entry.path.now) }
+    pub(crate) fn draft<'f>(&mut self, file: NewFile<'f>) -> Result<Draft<'f>, Reported>
+        ensures draft { IfOk result (IsDraftOf file.entry) }
         ensures unchanged { IfOk result (λ _. self.new.notes.journal ≡ self.old.notes.journal) }
         ensures fault { IfErr result (λ _. self.new.notes.journal ≡ and_reported self.old.notes.journal) }
     {
@@ -193,14 +159,15 @@ impl<'a> HostConsole<'a> {
         }
     }
 
-    /// Moves the draft to the file's place. If that fails in place, the file may have lost its bytes.
-    pub(crate) fn settle(&mut self, file: NewFile<'_>, draft: Draft) -> Result<(), Reported>
+    /// Moves the draft to its file's place. If that fails in place, the file may have lost its bytes.
+    pub(crate) fn settle(&mut self, draft: Draft<'_>) -> Result<(), Reported>
         ensures unchanged { IfOk result (λ _. self.new.notes.journal ≡ self.old.notes.journal) }
-        ensures fault { IfErr result (λ _. NotSettled file.entry.path.now self.old.notes.journal self.new.notes.journal) }
+        ensures fault { IfErr result (λ _. NotSettled draft.entry.file.path.now self.old.notes.journal self.new.notes.journal) }
     {
-        match draft {
-            Draft::Beside(beside) => self.move_draft(&beside, file.path),
-            Draft::InPlace => match fs::write(self.rt, file.path, file.bytes) {
+        let Draft { file, beside } = draft;
+        match beside {
+            Some(beside) => self.move_draft(&beside, file.path),
+            None => match fs::write(self.rt, file.path, file.bytes) {
                 Ok(()) => Ok(()),
                 Err(error) => {
                     self.note(&Note::Spoiled(file.path));
@@ -225,59 +192,59 @@ impl<'a> HostConsole<'a> {
     }
 
     /// Removes what was written of a draft.
-    pub(crate) fn drop_draft(&self, draft: Draft) {
-        match draft {
-            Draft::Beside(beside) => {
-                let _ = fs::remove_file(self.rt, &beside);
-            }
-            Draft::InPlace => {}
+    pub(crate) fn drop_draft(&self, draft: Draft<'_>) {
+        let Draft { file: _, beside } = draft;
+        if let Some(beside) = beside {
+            let _ = fs::remove_file(self.rt, &beside);
         }
     }
 
     /// The draft of a file, or why there is none.
-    fn try_draft(&self, file: NewFile<'_>) -> Result<Draft, DraftFault>
-        ensures { IfOk result (IsDraftOf file.entry.path.now) }
+    fn try_draft<'f>(&self, file: NewFile<'f>) -> Result<Draft<'f>, DraftFault>
+        ensures { IfOk result (IsDraftOf file.entry) }
     {
         let old = match self.replaced(file.path)? {
             Replaced::Nothing => None,
             Replaced::File(metadata) => Some(metadata),
-            Replaced::Other => return Ok(Draft::InPlace),
+            Replaced::Other => return Ok(Draft { file, beside: None }),
         };
         let beginning = with_short_name(file.path);
         for number in 0..u32::MAX {
             let beside = format!(in self.rt.alloc(); "{beginning}.new{number}")?;
             match File::create_new(self.rt, &beside) {
-                Ok(target) => return self.fill(target, beside, file.bytes, old),
+                Ok(target) => return self.fill(target, beside, file, old),
                 Err(error) if error.kind() == ErrorKind::AlreadyExists => self.explain(format_args!(
                     "{beside} is there: if a run that was killed left it, remove it"
                 )),
-                Err(_) => return Ok(Draft::InPlace),
+                Err(_) => return Ok(Draft { file, beside: None }),
             }
         }
         Err(DraftFault::System(ErrorKind::AlreadyExists))
     }
 
     /// Writes the bytes to the file beside the place, which gets the old file's permissions.
-    fn fill(
+    fn fill<'f>(
         &self,
         target: File,
         beside: String,
-        bytes: &[u8],
+        file: NewFile<'f>,
         old: Option<Metadata>,
-    ) -> Result<Draft, DraftFault>
-        ensures { IfOk result (IsDraft (string_bytes beside)) }
+    ) -> Result<Draft<'f>, DraftFault>
+        ensures { IfOk result (IsDraftIn file.entry (string_bytes beside)) }
     {
-        let draft = Draft::Beside(beside);
         if let Some(old) = old
             && !has_place_of(&target, &old)
         {
-            self.drop_draft(draft);
-            return Ok(Draft::InPlace);
+            let _ = fs::remove_file(self.rt, &beside);
+            return Ok(Draft { file, beside: None });
         }
-        match write_and_sync(target, bytes) {
-            Ok(()) => Ok(draft),
+        match write_and_sync(target, file.bytes) {
+            Ok(()) => Ok(Draft {
+                file,
+                beside: Some(beside),
+            }),
             Err(error) => {
-                self.drop_draft(draft);
+                let _ = fs::remove_file(self.rt, &beside);
                 Err(DraftFault::from(error))
             }
         }
