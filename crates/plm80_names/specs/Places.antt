@@ -17,9 +17,13 @@ instr_at image at = option_map (λ found. found.0)
 abbrev has : (address : ℕ) → List Range → Range → Type 0
 has address ranges range = find (λ r. in_range r address) ranges ≡ Some range
 
--- a range that has the address, with the word that begins its line
+-- the range of the stack, of data, or of code that has the address, with the word that begins its line
+abbrev pub IsPlaceInStack : Areas → (address : ℕ) → Place → Type 0
+IsPlaceInStack areas address place = (place.word.now ≡ codes "STACK") × (place.range ≡ areas.stack) × (in_range areas.stack address ≡ true)
+
+abbrev pub IsPlaceInRam : Areas → (address : ℕ) → Place → Type 0
+IsPlaceInRam areas address place =
+    ((place.word.now ≡ codes "DATA") × has address areas.data_ranges place.range) ⊎ IsPlaceInStack areas address place
+
 abbrev pub IsPlaceOf : Areas → (address : ℕ) → Place → Type 0
-IsPlaceOf areas address place =
-    ((place.word.now ≡ codes "CODE") × has address areas.code place.range)
-    ⊎ (((place.word.now ≡ codes "DATA") × has address areas.data_ranges place.range)
-    ⊎ ((place.word.now ≡ codes "STACK") × (areas.stack ≡ place.range) × (in_range areas.stack address ≡ true)))
+IsPlaceOf areas address place = ((place.word.now ≡ codes "CODE") × has address areas.code place.range) ⊎ IsPlaceInRam areas address place

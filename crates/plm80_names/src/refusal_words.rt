@@ -1,10 +1,10 @@
 //! What is at the address of a refusal, in words.
 
-ghost use Rattle.std.specs.Prelude.{◌≡◌, false, find, IfOk, IfSome};
+ghost use Rattle.std.specs.Prelude.{◌≡◌, false, find, option_copied, IfOk, IfSome};
 ghost use Rattle.decode80.specs.Text.{text as text_of};
 ghost use Rattle.image80.specs.Range.{in_range};
 ghost use Rattle.image80.specs.Regions.{in_data};
-ghost use Rattle.plm80_names.specs.Places.{IsPlaceOf, instr_at};
+ghost use Rattle.plm80_names.specs.Places.{IsPlaceInRam, IsPlaceInStack, IsPlaceOf, instr_at};
 
 use decode80::{Instr, Pair, decode, direct_bytes, write_text};
 use image80::{Image, Range};
@@ -145,34 +145,46 @@ fn stored_outside(image: &Image, instr: Instr) -> Option<u16>
 fn place_of(image: &Image, address: u16) -> Option<Place>
     ensures { IfSome result (IsPlaceOf image.now.regions address) }
 {
-    if let Some(range) = range_of(image.regions.code(), address) {
-        return Some(Place {
+    match range_of(image.regions.code(), address) {
+        Some(range) => Some(Place {
             word: "CODE",
-            range,
-        });
+            range: *range,
+        }),
+        None => place_in_ram(image, address),
     }
-    if let Some(range) = range_of(image.regions.data_ranges(), address) {
-        return Some(Place {
+}
+
+/// The range of data that has an address, or the stack.
+fn place_in_ram(image: &Image, address: u16) -> Option<Place>
+    ensures { IfSome result (IsPlaceInRam image.now.regions address) }
+{
+    match range_of(image.regions.data_ranges(), address) {
+        Some(range) => Some(Place {
             word: "DATA",
-            range,
-        });
+            range: *range,
+        }),
+        None => place_in_stack(image, address),
     }
+}
+
+/// The stack, if it has an address.
+fn place_in_stack(image: &Image, address: u16) -> Option<Place>
+    ensures { IfSome result (IsPlaceInStack image.now.regions address) }
+{
     let range = image.regions.stack();
     if range.contains(address) {
-        return Some(Place {
+        Some(Place {
             word: "STACK",
             range,
-        });
+        })
+    } else {
+        None
     }
-    None
 }
 
 /// The first of the ranges that has an address.
-fn range_of(ranges: &[Range], address: u16) -> Option<Range>
-    ensures { result ≡ find (λ range. in_range range address) ranges.now }
+fn range_of(ranges: &[Range], address: u16) -> Option<&Range>
+    ensures { option_copied result ≡ find (λ range. in_range range address) ranges.now }
 {
-    ranges
-        .iter()
-        .find(|range| range.contains(address))
-        .copied()
+    ranges.iter().find(|range| range.contains(address))
 }
