@@ -41,7 +41,9 @@ pub fn explain_refusal<C: Console>(console: &C, image: &Image, refusal: Refusal)
 
 /// Says where the way to a refusal is shown, and where it says what to change.
 pub fn explain_way<C: Console>(console: &C) {
-    console.explain("plm80 explain shows the way; docs/FAULTS.md says what to change ('Refusals of the verifier')");
+    console.explain(
+        "plm80 explain shows the way; docs/FAULTS.md says what to change ('Refusals of the verifier')",
+    );
 }
 
 /// Says where an address is whose instruction isn't all in CODE.
@@ -78,7 +80,9 @@ fn explain_instruction<C: Console>(console: &C, image: &Image, refusal: Refusal)
             console.explain(format_args!("{text}: no HLT in CODE follows it"));
         }
         Refusal::Pchl(_) => {
-            console.explain(format_args!("{text}: no CASE line has its targets; plm80 cases may see them"));
+            console.explain(format_args!(
+                "{text}: no CASE line has its targets; plm80 cases may see them"
+            ));
         }
         _ => console.explain(format_args!("{text} is at {at:04X}")),
     }
@@ -92,7 +96,9 @@ fn explain_store<C: Console>(console: &C, image: &Image, instr: Instr, text: &st
     match place_of(image, address) {
         Some(place) => {
             let (word, first, length) = (place.word, place.range.first, place.range.length);
-            console.explain(format_args!("{text}: {address:04X} is in {word} {first:04X} {length:04X}"));
+            console.explain(format_args!(
+                "{text}: {address:04X} is in {word} {first:04X} {length:04X}"
+            ));
         }
         None => console.explain(format_args!("{text}: {address:04X} is in no range")),
     }
