@@ -43,7 +43,7 @@ pub record IsRefusal (image : Located) (publics : List Public) (line : List ℕ)
 
 abbrev pub IsVerdict : Located → List Public → Verdict → Type 0
 IsVerdict image publics (Accepted program) = IsAccepted image program
-IsVerdict image publics (Refused line) = IsRefusal image publics line
+IsVerdict image publics (Refused line) = IsRefusal image publics line.items
 
 -- A program that is accepted has such an answer; of another one the line of its refusal is printed alone, and the status is 1.
 pub data AnswersVerdict (Answers : Voucher → AnswerValue → Type 0) (image : Located) (publics : List Public) (answer : AnswerValue) : Type 0 where

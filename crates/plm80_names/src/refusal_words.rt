@@ -4,12 +4,15 @@ ghost use Rattle.std.specs.Prelude.{◌≡◌, false, find, option_copied, IfOk,
 ghost use Rattle.decode80.specs.Text.{text as text_of};
 ghost use Rattle.image80.specs.Range.{in_range};
 ghost use Rattle.image80.specs.Regions.{in_data};
+ghost use Rattle.verify80.specs.Looking.{code_of};
+ghost use Rattle.verify80_flow.specs.Faults.{Holds};
 ghost use Rattle.plm80_names.specs.Places.{IsPlaceInRam, IsPlaceInStack, IsPlaceOf, instr_at};
 
 use decode80::{Instr, Pair, decode, direct_bytes, write_text};
-use image80::{Image, Range};
-use loader80::Refusal;
-use plm80_console::Console;
+use image80::{Image, Range, read_regions};
+use image80_file::read_image;
+use loader80::{Refusal, vouch};
+use plm80_console::{Console, Reported};
 use std::alloc::{AllocError, Global};
 use std::str;
 
@@ -20,11 +23,39 @@ struct Place {
     range: Range,
 }
 
-/// Says what is at the address of a refusal, and how to go on, if that is asked for. If memory runs out for it, it says less.
-pub fn explain_refusal<C: Console>(console: &C, image: &Image, refusal: Refusal) {
-    if !console.explains() {
+/// Says what is at the address of the refusal of the program in the files of these paths, and how to go on, if a command has given the
+/// status of a refusal and words are asked for. The files are read again; if they can't be, or memory runs out, it says less.
+pub fn explain_refusal<C: Console>(
+    console: &C,
+    given: &Result<u8, Reported>,
+    image: &str,
+    regions: &str,
+) {
+    if !matches!(given, Ok(1)) {
         return;
     }
+    if let Some((image, refusal)) = refused_again(console, image, regions) {
+        explain_place(console, &image, refusal);
+        explain_way(console);
+    }
+}
+
+/// The program in the files of these paths with its refusal, if it is refused.
+fn refused_again<C: Console>(console: &C, image: &str, regions: &str) -> Option<(Image, Refusal)>
+    ensures { IfSome result (λ refused. Holds (code_of refused.0) refused.1) }
+{
+    let bytes = console.text_to_explain(image)?;
+    let text = console.text_to_explain(regions)?;
+    let regions = read_regions(console.alloc(), &text).ok()?;
+    let image = read_image(console.alloc(), &bytes, regions).ok()?;
+    match vouch(console.alloc(), image) {
+        Ok(_) => None,
+        Err(refused) => Some(refused),
+    }
+}
+
+/// Says what is at the address of a refusal.
+fn explain_place<C: Console>(console: &C, image: &Image, refusal: Refusal) {
     match refusal {
         Refusal::FetchOutside(at) => explain_outside(console, image, at),
         Refusal::UnusedOpcode(at) => {
@@ -36,7 +67,6 @@ pub fn explain_refusal<C: Console>(console: &C, image: &Image, refusal: Refusal)
         }
         _ => explain_instruction(console, image, refusal),
     }
-    explain_way(console);
 }
 
 /// Says where the way to a refusal is shown, and where it says what to change.
