@@ -55,8 +55,9 @@ const ABOUT: &str = "Links, locates, verifies and runs 8080 programs from OMF-80
 const AFTER_HELP: &str = "\
 Without arguments it reads a bundle from standard input (an image in
 hexadecimal, its regions, a line INPUTS, its inputs) and prints the transcript
-of its run. --why, alone or after a command, explains a fault below its line;
-PLM80_WHY=1 in the environment does the same. Files have at most 1048576 bytes,
+of its run. Words below the line of a fault or a refusal explain it if standard
+error is a terminal, or by --why, alone or after a command, or PLM80_WHY=1 in
+the environment; PLM80_WHY=0 leaves them out. Files have at most 1048576 bytes,
 a bundle 4194312.
 
 The exit status is 0 if the command succeeded or the program halted; 1 if the
@@ -238,7 +239,7 @@ fn request_of<'a>(
 {
     match name {
         "link" => Ok(Some(Request::Link(LinkArguments::of(alloc, arguments)?))),
-        "locate" => Ok(Some(Request::Locate(LocateArguments::of(arguments)))),
+        "locate" => Ok(Some(Request::Locate(LocateArguments::of(alloc, arguments)?))),
         "run" => Ok(Some(Request::Run(RunArguments::of(arguments)))),
         "list" => Ok(Some(Request::List(ListArguments::of(arguments)))),
         "check" => Ok(Some(Request::Check(NamedFiles::of(arguments)))),
