@@ -146,6 +146,8 @@ fn report_bad_input<C: Console>(console: &mut C, word: &str) -> Reported
     let reported = console.report(format_args!("{fault} {word}"));
     if is_cut(word) {
         console.explain("a word has no blanks, as in 02=3*2A,00");
+    } else {
+        console.explain("a word is a port, an equals sign and bytes, as in 02=3*2A,00");
     }
     reported
 }
