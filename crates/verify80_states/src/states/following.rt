@@ -1,9 +1,8 @@
 //! What becomes of a state at an instruction.
 
 ghost use Rattle.std.specs.Prelude.{◌≡◌};
-ghost use Rattle.verify80_states.specs.Following.{byte_at, known_word, loaded_at, loaded, loaded_word, moved, counted, resulted, tested, operand_bytes, after_operation, added_carry, turned, exchanged_pairs, index_words, popped_to, registers_after, pushed_words, called, returned, words_after, cells_after, state_after};
-ghost use Rattle.verify80_states.specs.Span.{uncarried};
-ghost use Rattle.verify80_states.specs.State.{compared_with, with_outcome};
+ghost use Rattle.verify80_states.specs.Following.{byte_at, known_word, loaded_at, loaded, moved, counted, resulted, tested, operand_bytes, after_operation, added_carry, turned, exchanged_pairs, index_words, popped_to, registers_after, pushed_words, called, returned, words_after, cells_after, state_after};
+ghost use Rattle.verify80_states.specs.State.{compared_with};
 
 use crate::spans::{ByteSpan, Outcome, Span, operated, rotated};
 use crate::states::cells::Cells;
@@ -51,16 +50,6 @@ fn loaded(code: &[Option<u8>], cells: Cells, at: Span) -> ByteSpan
     }
 }
 
-/// The word that is read at an address.
-fn loaded_word(code: &[Option<u8>], cells: Cells, address: u16) -> Span
-    ensures { result ≡ loaded_word code.now cells address }
-{
-    Span::of_halves(
-        loaded_at(code, cells, ahead(address, 1)),
-        loaded_at(code, cells, address),
-    )
-}
-
 /// A register is copied.
 fn moved(to: Register, from: Register, state: State) -> State
     ensures { result ≡ moved to from state }
@@ -106,13 +95,6 @@ fn tested(state: State) -> State
     }
 }
 
-/// A stays as it is, and Z, S and CY are those of its byte.
-fn unchanged(state: State) -> State
-    ensures { result ≡ tested (with_outcome state (uncarried state.a)) }
-{
-    tested(state.with_outcome(Outcome::uncarried(state.a)))
-}
-
 /// What an operand may be.
 fn operand_bytes(code: &[Option<u8>], operand: Operand, state: State) -> ByteSpan
     ensures { result ≡ operand_bytes code.now operand state }
@@ -145,7 +127,9 @@ fn after_operation(operation: Operation, itself: bool, byte: ByteSpan, state: St
             compared: compared_with(byte),
             ..state.with_outcome(outcome)
         },
-        (Operation::And | Operation::Or, true) => unchanged(state),
+        (Operation::And | Operation::Or, true) => {
+            tested(state.with_outcome(Outcome::uncarried(state.a)))
+        }
         (Operation::ExclusiveOr | Operation::Subtract, true) => {
             tested(resulted(Outcome::uncarried(ByteSpan::alone(0)), state))
         }
@@ -284,7 +268,12 @@ fn registers_after(code: &[Option<u8>], instr: Instr, state: State) -> State
             state.with_byte(Register::A, loaded_at(code, state.cells, address))
         }
         Instr::In(_) => state.with_byte(Register::A, ByteSpan::ANY),
-        Instr::Lhld(address) => state.with_words(Pair::Hl, loaded_word(code, state.cells, address)),
+        Instr::Lhld(address) => state
+            .with_byte(
+                Register::H,
+                loaded_at(code, state.cells, ahead(address, 1)),
+            )
+            .with_byte(Register::L, loaded_at(code, state.cells, address)),
         Instr::Xchg => exchanged_pairs(state),
         Instr::Pop(pair) => popped_to(pair, known_word(state.words.first), state),
         Instr::Xthl => state.with_words(Pair::Hl, known_word(state.words.first)),
