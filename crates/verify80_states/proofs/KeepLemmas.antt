@@ -26,7 +26,7 @@ use Rattle.verify80_states.specs.declared.spans.span.Span.{Span}
 use Rattle.verify80_states.specs.declared.states.state.State.{State}
 use Rattle.verify80_states.specs.declared.fitting.fitting.Placed.{Placed}
 use Rattle.verify80_states.specs.Bytes.{AreBytes, HoldsBytes, BytesStayBytes, FetchedOperandsAreBounded, MemoryKeepsItsLength}
-use Rattle.verify80_states.specs.Span.{Within, byte_alone}
+use Rattle.verify80_states.specs.Span.{Within, ByteWithin, byte_alone}
 use Rattle.verify80_states.specs.Cells.{AreQuietCells}
 use Rattle.verify80_states.specs.State.{Holds, HoldsWord, anything, cut}
 use Rattle.verify80_states.specs.Following.{state_after}
@@ -85,10 +85,12 @@ module _ (regions : Areas) (targets : List ℕ) (table : List Placed) (after : B
   Follows w = (t : State) → Holds regions t m → AreQuietCells (in_data regions) t.cells → Holds regions (after (is_taken w m.cpu.registers.flags) t) there
 
   at_once : (next to : ℕ) (s : State) → to ≡ next → Covers table next s → Holds regions s there → Meets regions table to there
-  at_once next to s same (inl has) holds = record { state = s; has = subst (λ n. Has table n s) (sym same) has; holds = holds }
-  at_once next to s same (inr each) holds =
-      let byte = there.cpu.registers.a in
-      record { state = cut s (byte_alone byte); has = subst (λ n. Has table n (cut s (byte_alone byte))) (sym same) (each byte holds.registers.a); holds = cut_state regions s there now holds }
+  at_once next to s same covers holds = by covers.either where
+    by : Has table next s ⊎ ((byte : ℕ) → ByteWithin s.a byte → Has table next (cut s (byte_alone byte))) → Meets regions table to there
+    by (inl has) = record { state = s; has = subst (λ n. Has table n s) (sym same) has; holds = holds }
+    by (inr each) =
+        let byte = there.cpu.registers.a in
+        record { state = cut s (byte_alone byte); has = subst (λ n. Has table n (cut s (byte_alone byte))) (sym same) (each byte holds.registers.a); holds = cut_state regions s there now holds }
 
   by_condition : (taken : Bool) (left : Option State) (t : State) (to address : ℕ) → left ≡ Some t → CoversAfter table address (after taken) left → to ≡ address → Holds regions (after taken t) there → Meets regions table to there
   by_condition taken left t to address is has same holds =

@@ -22,8 +22,8 @@ pub record Has (table : List Placed) (to : ℕ) (s : State) : Type 0 where
   pub inside : IsStateInside s placed.state
 
 -- the table has states at an address that together say no more than this one: one of them, or one for each byte that A may be
-abbrev pub Covers : List Placed → (to : ℕ) → State → Type 0
-Covers table to s = Has table to s ⊎ ((byte : ℕ) → ByteWithin s.a byte → Has table to (cut s (byte_alone byte)))
+pub record Covers (table : List Placed) (to : ℕ) (s : State) : Type 0 where
+  pub either : Has table to s ⊎ ((byte : ℕ) → ByteWithin s.a byte → Has table to (cut s (byte_alone byte)))
 
 -- the same of what an instruction makes of a state, if there is one
 abbrev pub CoversAfter : List Placed → (to : ℕ) → (State → State) → Option State → Type 0

@@ -2,7 +2,8 @@
 
 ghost use Rattle.std.specs.Prelude.{◌≡◌};
 ghost use Rattle.verify80_states.specs.Following.{byte_at, known_word, loaded_at, loaded, moved, counted, resulted, tested, operand_bytes, after_operation, added_carry, turned, exchanged_pairs, index_words, popped_to, registers_after, pushed_words, called, returned, words_after, cells_after, state_after};
-ghost use Rattle.verify80_states.specs.State.{compared_with};
+ghost use Rattle.verify80_states.specs.Span.{uncarried};
+ghost use Rattle.verify80_states.specs.State.{compared_with, with_outcome};
 
 use crate::spans::{ByteSpan, Outcome, Span, operated, rotated};
 use crate::states::cells::Cells;
@@ -95,6 +96,13 @@ fn tested(state: State) -> State
     }
 }
 
+/// A stays as it is, and Z, S and CY are those of its byte.
+fn unchanged(state: State) -> State
+    ensures { result ≡ tested (with_outcome state (uncarried state.a)) }
+{
+    tested(state.with_outcome(Outcome::uncarried(state.a)))
+}
+
 /// What an operand may be.
 fn operand_bytes(code: &[Option<u8>], operand: Operand, state: State) -> ByteSpan
     ensures { result ≡ operand_bytes code.now operand state }
@@ -127,9 +135,7 @@ fn after_operation(operation: Operation, itself: bool, byte: ByteSpan, state: St
             compared: compared_with(byte),
             ..state.with_outcome(outcome)
         },
-        (Operation::And | Operation::Or, true) => {
-            tested(state.with_outcome(Outcome::uncarried(state.a)))
-        }
+        (Operation::And | Operation::Or, true) => unchanged(state),
         (Operation::ExclusiveOr | Operation::Subtract, true) => {
             tested(resulted(Outcome::uncarried(ByteSpan::alone(0)), state))
         }
