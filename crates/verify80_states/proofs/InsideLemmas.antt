@@ -8,13 +8,13 @@ use Rattle.image80.specs.Regions.{Areas}
 use Rattle.machine80.specs.declared.registers.Registers.{Registers}
 use Rattle.machine80.specs.Cpu.{word, register_of}
 use Rattle.machine80.specs.Step.{Machine}
-use Rattle.verify80_states.specs.declared.spans.span.Span.{Span}
+use Rattle.verify80_spans.specs.declared.span.Span.{Span}
 use Rattle.verify80_states.specs.declared.states.state.PairSpan.{PairSpan}
 use Rattle.verify80_states.specs.declared.states.state.Words.{Words}
 use Rattle.verify80_states.specs.declared.states.state.State.{State}
 use Rattle.verify80_states.specs.Bytes.{HasBytes}
-use Rattle.verify80_states.specs.Span.{IsKnown}
-use Rattle.verify80_states.specs.State.{Holds, HoldsPair, HoldsWord, HoldsWords, Compares, IsPairInside, IsFlagInside, IsComparisonInside, IsCopyInside, IsWordInside, AreWordsInside, IsStateInside}
+use Rattle.verify80_spans.specs.Span.{IsKnown}
+use Rattle.verify80_states.specs.State.{Holds, HoldsPair, HoldsWord, HoldsWords, HoldsSource, Compares, IsPairInside, IsFlagInside, IsComparisonInside, IsCopyInside, IsWordInside, AreWordsInside, IsStateInside}
 use Rattle.verify80_states.proofs.SpanLemmas.{inside_within, byte_inside_within}
 use Rattle.verify80_states.proofs.CellLemmas.{cells_around}
 
@@ -47,6 +47,10 @@ words_around regions w v memory sp inside holds = record {
   fourth = word_around regions w.fourth v.fourth memory sp (ahead sp 6) inside.fourth holds.fourth;
 }
 
+source_around : (o u : Option ℕ) (memory : List ℕ) (a : ℕ) → IsComparisonInside o u → HoldsSource o memory a → HoldsSource u memory a
+source_around o None memory a inside holds = tt
+source_around o (Some at) memory a inside holds = subst (λ (x : Option ℕ). HoldsSource x memory a) inside holds
+
 pub state_around : (regions : Areas) (s t : State) (m : Machine) → HasBytes m.memory → IsStateInside s t → Holds regions s m → Holds regions t m
 state_around regions s t m bytes inside holds =
     let r = m.cpu.registers in
@@ -67,4 +71,5 @@ state_around regions s t m bytes inside holds =
       };
       words = words_around regions s.words t.words m.memory m.cpu.sp inside.words holds.words;
       cells = cells_around s.cells t.cells m.memory bytes inside.cells holds.cells;
+      source = source_around s.source t.source m.memory r.a inside.source holds.source;
     }

@@ -14,8 +14,7 @@ use Rattle.verify80.specs.Reached.{AreReached, IsReached, StandsOnWalk, found_at
 use Rattle.verify80_states.specs.declared.fitting.fitting.Placed.{Placed}
 use Rattle.verify80_states.specs.Bytes.{HoldsBytes, MemoryKeepsItsLength}
 use Rattle.verify80_states.specs.declared.states.state.State.{State}
-use Rattle.verify80_states.specs.Cells.{AreQuietCells}
-use Rattle.verify80_states.specs.State.{anything}
+use Rattle.verify80_states.specs.State.{IsQuietState, anything}
 use Rattle.verify80_states.specs.Steps.{HasCode}
 use Rattle.verify80_states.specs.Fitting.{Has, Covers, FitsBy, KnowsQuiet}
 use Rattle.verify80_states.specs.Calls.{ReturnFacts, never, no_returns}
@@ -74,7 +73,7 @@ nothing_is_kept image quiet reached table are whole ground length_stays everywhe
   disturbed = λ w memory leaves stays keeps. record { keeps = still_keeps image ground quiet table w memory knows leaves stays keeps.keeps; owes = keeps.owes };
 } where
   knows : KnowsQuiet quiet table
-  knows = λ k d inside. subst (λ (s : State). AreQuietCells quiet s.cells) (sym (nothing k d inside)) (none_quiet quiet)
+  knows = λ k d inside. subst (IsQuietState quiet) (sym (nothing k d inside)) (none_quiet quiet)
 
   here : (w : World) → StandsOnWalk image w → HoldsBytes w.machine → HasCode image w.machine.memory → length w.machine.memory ≡ 65536 → KeepsToCalls image no_returns table w
   here w stands held code size =

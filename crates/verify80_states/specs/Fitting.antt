@@ -7,9 +7,8 @@ use Rattle.decode80.specs.declared.flow.Flow.TheVariants.{Jumps, JumpsIf, JumpsT
 use Rattle.decode80.specs.Facts.{flow}
 use Rattle.verify80_states.specs.declared.states.state.State.{State}
 use Rattle.verify80_states.specs.declared.fitting.fitting.Placed.{Placed}
-use Rattle.verify80_states.specs.Span.{Within, ByteWithin, byte_alone}
-use Rattle.verify80_states.specs.Cells.{AreQuietCells}
-use Rattle.verify80_states.specs.State.{IsStateInside, cut}
+use Rattle.verify80_spans.specs.Span.{Within, ByteWithin, byte_alone}
+use Rattle.verify80_states.specs.State.{IsStateInside, IsQuietState, cut}
 use Rattle.verify80_states.specs.Following.{state_after}
 use Rattle.verify80_states.specs.Given.{given}
 
@@ -56,4 +55,4 @@ CallsEntry w entry = ⊥
 
 -- a table knows bytes of quiet addresses alone
 abbrev pub KnowsQuiet : (quiet : ℕ → Bool) → List Placed → Type 0
-KnowsQuiet quiet table = All (λ placed. AreQuietCells quiet placed.state.cells) table
+KnowsQuiet quiet table = All (λ placed. IsQuietState quiet placed.state) table

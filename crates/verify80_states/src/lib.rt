@@ -17,13 +17,14 @@
 //! | [`bytes_stay_bytes`] | a machine's registers and memory hold bytes, as a contract |
 #![tactic(auto)]
 
+mod bytes;
 mod fitting;
-mod spans;
 mod states;
 
+pub use bytes::bytes_stay_bytes;
 pub use fitting::{
     APART, CallReturns, Placed, anything, fits, fitting_states_hold, is_marked, reached_at,
     targets_at,
 };
-pub use spans::{ByteSpan, Span, bytes_stay_bytes};
 pub use states::{Cell, Cells, PairSpan, State, Words, given, index_words, state_after};
+pub use verify80_spans::{ByteSpan, Span};

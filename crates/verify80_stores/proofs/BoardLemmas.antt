@@ -19,7 +19,7 @@ use Rattle.verify80.specs.Starts.{IsStart, NeverGoesWrongFromPowerOn}
 use Rattle.verify80.specs.Reached.{StandsOnWalk, StaysOnWalks}
 use Rattle.verify80.specs.Boards.{Disturbs, fetched_anywhere, StaysInside, Executes, OnBoard, with_respected_pointer, respected_pointer, begins, disturbed, executed, Anywhere, KeepsPromise, MayStart}
 use Rattle.verify80.specs.Reached.{AreReached}
-use Rattle.verify80_states.specs.declared.spans.span.Span.{Span}
+use Rattle.verify80_spans.specs.declared.span.Span.{Span}
 use Rattle.verify80_states.specs.declared.fitting.fitting.Placed.{Placed}
 use Rattle.verify80_states.specs.Bytes.{HoldsBytes, BytesStayBytes}
 use Rattle.verify80_states.specs.Runs.{KeepsTo, KeepsToCalls, RunsKeepTo, IsKnown}
@@ -44,7 +44,7 @@ keeps_so image table m places inputs outputs k = record {
   placed = k.placed;
   there = k.there;
   at = k.at;
-  holds = record { registers = k.holds.registers; words = k.holds.words; cells = k.holds.cells };
+  holds = record { registers = k.holds.registers; words = k.holds.words; cells = k.holds.cells; source = k.holds.source };
   code = k.code;
   whole = k.whole;
 }

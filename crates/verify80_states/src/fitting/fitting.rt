@@ -7,7 +7,7 @@ ghost use Rattle.image80.specs.Regions.{AreRegions, in_data};
 ghost use Rattle.verify80.specs.Looking.{code_of, declared_targets};
 ghost use Rattle.verify80.specs.Reached.{AreReached, found_at};
 ghost use Rattle.verify80_states.specs.declared.fitting.fitting.Placed.{Placed};
-ghost use Rattle.verify80_states.specs.Span.{Within, ByteWithin, byte_alone};
+ghost use Rattle.verify80_spans.specs.Span.{Within, ByteWithin, byte_alone};
 ghost use Rattle.verify80_states.specs.State.{anything, cut};
 ghost use Rattle.verify80_states.specs.Following.{state_after};
 ghost use Rattle.verify80_states.specs.Marks.{is_marked};
@@ -17,14 +17,15 @@ ghost use Rattle.verify80_states.specs.Calls.{AccountsFor, KeepsCalls, KnowsRetu
 ghost use Rattle.verify80_states.specs.FittingTable.{AllFit};
 ghost use Rattle.verify80_states.specs.Runs.{IsKept};
 
+use crate::bytes::bytes_stay_bytes;
 use crate::fitting::calls::CallReturns;
 use crate::fitting::laws::fitting_states_hold;
-use crate::spans::{ByteSpan, Span, bytes_stay_bytes};
 use crate::states::{State, given, state_after};
 use decode80::{Fetched, Flow};
 use image80::laws::code_data_and_stack_are_apart;
 use image80::{Image, Regions};
 use std::alloc::{AllocError, Global};
+use verify80_spans::{ByteSpan, Span};
 
 /// The hints from here on name no place: less this, each says where those of A's bytes begin, one for each that A may be.
 pub const APART: u32 = 0x8000_0000;
@@ -348,12 +349,12 @@ pub fn anything(
     Ok(table)
 }
 
-/// Whether a table knows bytes of quiet addresses alone.
+/// Whether a table says something of quiet addresses alone.
 fn all_know_quiet(table: &[Placed], quiet: &[bool]) -> bool
     ensures { result ≡ true → KnowsQuiet (is_marked quiet.now) table.now }
 {
     for placed in table {
-        if !placed.state.cells.are_quiet(quiet) {
+        if !placed.state.is_quiet(quiet) {
             return false;
         }
     }

@@ -1,5 +1,5 @@
 use Rattle.std.proofs.Common.{ℕ, ◌<◌, get_or}
-use Rattle.verify80_states.specs.Span.{Within}
+use Rattle.verify80_spans.specs.Span.{Within}
 use Rattle.verify80_states.specs.Fitting.{Covers}
 use Rattle.verify80_states.proofs.fitting.fitting.Fit.has_at_each.Given as goal
 
