@@ -1,6 +1,6 @@
 -- What commands print of an image, and their exit statuses. (The texts are those of the crates below; that a refusal is printed alone,
 -- with status 1, is this project's own.)
-use Rattle.std.specs.Prelude.{◌≡◌, ◌≢◌, ℕ, Bool, true, false, List, [], Option, None, Some, All, codes, map}
+use Rattle.std.specs.Prelude.{◌≡◌, ℕ, Bool, true, false, List, [], Some, All, codes, map}
 use Rattle.omf_model.specs.declared.symbols.Public.{Public}
 use Rattle.image80.specs.declared.range.Range.{Range}
 use Rattle.image80.specs.Image.{Located}
@@ -8,7 +8,6 @@ use Rattle.image80_text.specs.Listing.{listing_of}
 use Rattle.image80_text.specs.NameText.{labelled_text, named_text}
 use Rattle.machine80.specs.Ports.{lists_of}
 use Rattle.machine80.specs.World.{world_at_start}
-use Rattle.verify80_flow.specs.declared.refusal.Refusal.{Refusal}
 use Rattle.verify80.specs.Looking.{code_of}
 use Rattle.verify80.specs.Boards.{SetsStack}
 use Rattle.verify80_calls.specs.declared.graph.call_graph.Node.{Node}
