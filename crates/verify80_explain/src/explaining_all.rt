@@ -67,8 +67,8 @@ pub fn explain_all(alloc: Global, image: &Image, limit: usize) -> Result<ShownRe
 }
 
 /// Whether an end was reached; `false` if a limit was.
-fn is_reached_within(result: Result<bool, Unexplained>) -> Result<bool, AllocError> {
-    match result {
+fn is_reached_within(reached: Result<bool, Unexplained>) -> Result<bool, AllocError> {
+    match reached {
         Ok(is_whole) => Ok(is_whole),
         Err(Unexplained::Memory) => Err(AllocError),
         Err(Unexplained::Limit | Unexplained::NotShown) => Ok(false),
