@@ -23,7 +23,7 @@ _plm80() {
     fi
     case ${COMP_WORDS[1]} in
         link) options='--name --out --map --reasons --why -h --help' ;;
-        locate) options='--code --stack --common --data --memory --stack-size --memory-size --restart --publics --why -h --help' ;;
+        locate) options='--code --stack --common --data --memory --stack-size --memory-size --rom-range --ram-range --restart --publics --why -h --help' ;;
         map) options='--code --stack --common --data --memory --stack-size --memory-size --why -h --help' ;;
         run) options='--steps --outputs --last --dump --names --why -h --help' ;;
         trace) options='--from --count --steps --outputs --names --why -h --help' ;;

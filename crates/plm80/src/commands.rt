@@ -67,7 +67,7 @@ fn perform<C: Console>(console: &mut C, request: Request<'_>) -> Result<u8, Repo
 {
     match request {
         Request::Link(arguments) => link_files(console, &arguments),
-        Request::Locate(arguments) => locate_file(console, arguments),
+        Request::Locate(arguments) => locate_file(console, &arguments),
         Request::Run(arguments) => run_files(console, arguments),
         Request::List(arguments) => list_files(console, arguments),
         Request::Check(files) => check_files(console, files),

@@ -93,7 +93,9 @@ fn cover_within<C: Console>(
         inputs,
         limits,
     );
-    console.give_if_made(answer)
+    let given = console.give_if_made(answer);
+    files.explain_refusal(console, &given);
+    given
 }
 
 /// The code of an image with the counts of its run, or its refusal.

@@ -106,7 +106,9 @@ pub fn list_stores<C: Console>(
         Ok(ListedStores { answer, causes }) => {
             let status = console.give(answer)?;
             explain_causes(console, &causes);
-            Ok(status)
+            let given = Ok(status);
+            arguments.files.explain_refusal(console, &given);
+            given
         }
         Err(_) => Err(console.report_memory()),
     }

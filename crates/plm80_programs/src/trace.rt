@@ -129,7 +129,11 @@ fn trace_within<C: Console>(
         Ok(Verdict::Accepted(vouched)) => {
             print_trace(console, &vouched, inputs, limits, span, &program.names)
         }
-        Ok(Verdict::Refused(line)) => console.give(Answer::prints(line, 1)),
+        Ok(Verdict::Refused(line)) => {
+            let given = console.give(Answer::prints(line, 1));
+            files.explain_refusal(console, &given);
+            given
+        }
         Err(AllocError) => Err(console.report_memory()),
     }
 }
@@ -203,8 +207,9 @@ fn end_trace<C: Console>(
         return Err(console.report_memory());
     };
     let status = console.give(ending)?;
-    if let Some(ended) = ended {
-        explain_end(console, ended.end, ended.cpu.pc());
+    match ended {
+        Some(ended) => explain_end(console, ended.end, ended.cpu.pc()),
+        None => console.explain("more instructions follow: --from and --count choose others"),
     }
     Ok(status)
 }

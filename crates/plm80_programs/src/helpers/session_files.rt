@@ -29,7 +29,9 @@ pub fn run_session<C: Console>(
     ensures fault { IfErr result (λ _. OnlyReports (C.journal console.old) (C.journal console.new)) }
 {
     let texts = files.texts(console)?;
-    print_session(console, &texts, limits)
+    let given = print_session(console, &texts, limits);
+    files.explain_refusal(console, &given);
+    given
 }
 
 /// Does a session on the texts, prints its transcript, and gives the exit status.

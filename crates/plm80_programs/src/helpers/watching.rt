@@ -64,7 +64,11 @@ pub fn watch_run<C: Console>(
         Ok(Verdict::Accepted(vouched)) => {
             print_run(console, &vouched, inputs, watch, &program.names)
         }
-        Ok(Verdict::Refused(line)) => console.give(Answer::prints(line, 1)),
+        Ok(Verdict::Refused(line)) => {
+            let given = console.give(Answer::prints(line, 1));
+            files.explain_refusal(console, &given);
+            given
+        }
         Err(AllocError) => Err(console.report_memory()),
     }
 }

@@ -3,7 +3,7 @@ use Rattle.std.specs.Prelude.{List}
 use Rattle.plm80_objects.specs.declared.absolute.RomFile.{RomFile}
 use Rattle.plm80_objects.specs.Absolute.{AreDumpsRead}
 use Rattle.plm80_objects.proofs.ReadLemmas.{dumps_given_up}
-use Rattle.plm80_objects.proofs.absolute.write_absolute.Goals as goal
+use Rattle.plm80_objects.proofs.absolute.write_dumps.Goals as goal
 
 pub returns-clause-fault : goal.returns-clause-fault
 returns-clause-fault g c =

@@ -8,7 +8,7 @@ use Rattle.plm80_console.specs.NumberText.{word_value}
 use Rattle.plm80_objects.specs.Find.{FindsIn}
 use Rattle.plm80_objects.proofs.GivenLemmas.{texts}
 use Rattle.plm80_objects.proofs.ReadLemmas.{dump_is, finds}
-use Rattle.plm80_objects.proofs.find.find_modules.Goals as goal
+use Rattle.plm80_objects.proofs.find.find_in_dump.Goals as goal
 
 pub returns-in-Ok-clause-done : goal.returns-in-Ok-clause-done
 returns-in-Ok-clause-done g c =

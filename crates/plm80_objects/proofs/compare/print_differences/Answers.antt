@@ -5,7 +5,7 @@ use Rattle.plm80_console.specs.Journal.{Journal, and_read}
 use Rattle.plm80_names.specs.Printed.{AreNamesOf}
 use Rattle.plm80_objects.specs.Compare.{ComparesFiles}
 use Rattle.plm80_objects.proofs.GivenLemmas.{file_value, gives}
-use Rattle.plm80_objects.proofs.compare.compare_files.Goals as goal
+use Rattle.plm80_objects.proofs.compare.print_differences.Goals as goal
 
 pub returns-in-Ok-clause-done : goal.returns-in-Ok-clause-done
 returns-in-Ok-clause-done g c =
