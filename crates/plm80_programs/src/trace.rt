@@ -16,7 +16,7 @@ use loader80_trace::{Limits, Span, TraceFault};
 use machine80::Inputs;
 use plm80_console::{Answer, Argument, Console, Kind, OptionText, Reported, Syntax};
 use plm80_files::{IMAGE, REGIONS};
-use plm80_names::{NAMES, Names, Verdict, judge};
+use plm80_names::{NAMES, Names, Verdict, explain_refusal, judge};
 use std::alloc::{AllocError, Global};
 use stream80::Sink;
 
@@ -131,7 +131,7 @@ fn trace_within<C: Console>(
         }
         Ok(Verdict::Refused(line)) => {
             let given = console.give(Answer::prints(line, 1));
-            files.explain_refusal(console, &given);
+            explain_refusal(console, &given, files.image, files.regions);
             given
         }
         Err(AllocError) => Err(console.report_memory()),

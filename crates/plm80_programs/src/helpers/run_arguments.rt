@@ -16,13 +16,13 @@ use loader80_trace::Limits;
 use machine80::Inputs;
 use plm80_console::{Argument, Console, Kind, OptionText, ReadFile, Reported, argument_text};
 use plm80_files::explain_inputs;
-use plm80_names::{Names, ProgramTexts, explain_refusal};
+use plm80_names::{Names, ProgramTexts};
 
 /// The paths of an image, of its regions and of the inputs of its run.
 #[derive(Clone, Copy)]
 pub struct RunFiles<'a> {
-    image: &'a str,
-    regions: &'a str,
+    pub image: &'a str,
+    pub regions: &'a str,
     inputs: &'a str,
 }
 
@@ -114,13 +114,6 @@ impl<'a> RunFiles<'a> {
             }
             Err(InputsFault::Memory) => Err(console.report_memory()),
         }
-    }
-}
-
-impl<'a> RunFiles<'a> {
-    /// Says what is at the address of the program's refusal, if a command has given the status of one and words are asked for.
-    pub fn explain_refusal<C: Console>(self, console: &C, given: &Result<u8, Reported>) {
-        explain_refusal(console, given, self.image, self.regions);
     }
 }
 
