@@ -1,6 +1,9 @@
 -- What is printed of a refusal.
-use Rattle.std.specs.Prelude.{◌≡◌, ◌≢◌, ℕ, List, Some}
-use Rattle.std.proofs.Common.{subst}
+use Rattle.std.specs.Prelude.{◌≡◌, ◌≢◌, ℕ, ◌+◌, ◌<◌, List, [], ◌∷◌, ◌++◌, Some, get_or, length, take}
+use Rattle.std.specs.List.{flat_map}
+use Rattle.std.proofs.Common.{◌∙◌, ap, append-nil, subst, sym}
+use Rattle.std.proofs.lemmas.Grind.{flat_map-append}
+use Rattle.std.proofs.lemmas.List.{take_more}
 use Rattle.verify80_flow.specs.declared.refusal.Refusal.{Refusal}
 use Rattle.verify80_flow.specs.declared.refusal.Refusal.TheVariants.{Memory}
 use Rattle.omf_model.specs.declared.symbols.Public.{Public}
@@ -27,3 +30,13 @@ pub same_ways : (image : Located) (publics p : List Public) (refusal : Refusal) 
 same_ways image publics p refusal before t text is_p is_t on =
     subst (λ (v : List Public). GoesOnWithWays image v refusal before text) is_p
     (subst (λ (v : List ℕ). GoesOnWithWays image p refusal v text) is_t on)
+
+-- one item's lines more
+pub lines_more : {A : Type 0} (f : A → List ℕ) (xs : List A) (i : ℕ) (x : A) (before after : List ℕ) → i < length xs → x ≡ get_or xs i x
+    → before ≡ flat_map f (take i xs) → after ≡ before ++ f x → after ≡ flat_map f (take (i + 1) xs)
+lines_more f xs i x before after lt is so_far one =
+    one ∙ ap (λ (l : List ℕ). l ++ f x) so_far
+    ∙ ap (λ (l : List ℕ). flat_map f (take i xs) ++ l) (sym (append-nil (f x)))
+    ∙ sym (flat_map-append f (take i xs) (x ∷ []))
+    ∙ ap (λ (y : A). flat_map f (take i xs ++ y ∷ [])) is
+    ∙ ap (flat_map f) (sym (take_more xs i x lt))

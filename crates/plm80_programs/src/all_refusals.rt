@@ -1,6 +1,6 @@
 //! All refusals of an image, for `explain --all`.
 
-ghost use Rattle.std.specs.Prelude.{◌≡◌, ◌≢◌, ◌↔◌, ◌++◌, true, IfOk, OnOk};
+ghost use Rattle.std.specs.Prelude.{◌≡◌, ◌≢◌, ◌↔◌, ◌+◌, ◌++◌, true, IfOk, OnOk};
 ghost use Rattle.std.specs.List.{flat_map, list_any};
 ghost use Rattle.verify80_flow.specs.declared.refusal.Refusal.TheVariants.{Memory};
 ghost use Rattle.plm80_programs.specs.Explanations.{ShowsAll, ShowsRest, count_line, is_of, limit_line, shown_lines};
