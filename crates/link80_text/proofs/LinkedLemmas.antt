@@ -1,6 +1,6 @@
 -- The modules that are linked: the roots, and those at the places that were taken.
 use Rattle.std.specs.Prelude.{◌≡◌, ℕ, zero, suc, ◌+◌, ◌-◌, ◌<◌, ◌≤◌, ◌⊎◌, Option, Some, List, [], ◌∷◌, ◌++◌, filter_map, length, slice_get, Contains, refl}
-use Rattle.std.specs.List.{cons_option}
+use Rattle.std.specs.List.{AllByRecursion, cons_option}
 use Rattle.std.proofs.Common.{◌∙◌, ap, sym, subst, arith, inl, inr}
 use Rattle.std.proofs.lemmas.Bool.{cases_lt, cases_order}
 use Rattle.std.proofs.lemmas.List.{length-append}
@@ -10,9 +10,18 @@ use Rattle.link80_select.specs.declared.chosen.Chosen.{Chosen}
 use Rattle.link80_select.specs.Selected.{module_at, IsBefore, Needs, IsChosen, by_root, by_member, AreAscending}
 use Rattle.link80.specs.Selection.{IsSelection, modules_with}
 use Rattle.link80_text.specs.Reasons.{IsSoughtAt}
-use Rattle.link80_text.proofs.EdgeLemmas.{all_at, at_right}
 
 -- ---- lists
+
+at_right : {A : Type 0} (xs ys : List A) (k : ℕ) → slice_get (xs ++ ys) (length xs + k) ≡ slice_get ys k
+at_right [] ys k = ap (slice_get ys) (omega arith)
+at_right (x ∷ xs) ys k = let e : length (x ∷ xs) + k ≡ suc (length xs + k) = omega arith in ap (slice_get (x ∷ (xs ++ ys))) e
+    ∙ at_right xs ys k
+
+all_at : {A : Type 0} (P : A → Type 0) (xs : List A) (k : ℕ) (x : A) → AllByRecursion P xs → slice_get xs k ≡ Some x → P x
+all_at P [] k x all at = absurd (none-some x at)
+all_at P (y ∷ xs) zero x all at = subst P (same_Some y x at) all.0
+all_at P (y ∷ xs) (suc k) x all at = all_at P xs k x all.1 at
 
 pub has_at : {A : Type 0} (xs : List A) (i : ℕ) (x : A) → slice_get xs i ≡ Some x → Contains xs x
 has_at xs i x at = (i, slice_get_within xs i x at, get_or_from_slice_get xs i x x at)
