@@ -26,14 +26,6 @@ zip_more R (u ∷ xs) (v ∷ ys) x y zip one = (zip.0, zip_more R xs ys x y zip.
 one_more : {A : Type 0} (xs : List A) (n : ℕ) (x : A) → slice_get xs n ≡ Some x → take (n + 1) xs ≡ take n xs ++ x ∷ []
 one_more xs n x at = take_more xs n x (slice_get_within xs n x at) ∙ ap (λ q. take n xs ++ q ∷ []) (get_or_from_slice_get xs n x x at)
 
-pub prints_none : (s : ReasonsValue) (paths : List (List ℕ)) (text : List ℕ) → PrintsLines s paths 0 text text
-prints_none s paths text = record {
-  lines = [];
-  each = tt;
-  named = refl;
-  after_is = sym (append-nil text);
-}
-
 pub prints_more : (s : ReasonsValue) (paths : List (List ℕ)) (n : ℕ) (p : Chosen) (before text after : List ℕ)
     → PrintsLines s paths n before text → slice_get s.taken n ≡ Some p
     → PrintsLine s paths n p text after → PrintsLines s paths (n + 1) before after

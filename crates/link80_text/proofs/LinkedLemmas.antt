@@ -88,15 +88,6 @@ not_before_itself : (p : Chosen) → IsBefore p p → ⊥
 not_before_itself p (inl less) = omega (arith, less)
 not_before_itself p (inr same) = let less = same.1 in omega (arith, less)
 
-pub one_number : (ps : List Chosen) (j k : ℕ) (p : Chosen) → AreAscending ps → slice_get ps j ≡ Some p → slice_get ps k ≡ Some p → j ≡ k
-one_number ps j k p up at_j at_k = elim (cases_order j k) [
-  | inl same ↦ same
-  | inr differ ↦ elim differ [
-    | inl less ↦ absurd (not_before_itself p (ascending_order ps j k p p up less at_j at_k))
-    | inr more ↦ absurd (not_before_itself p (ascending_order ps k j p p up more at_k at_j))
-  ]
-]
-
 -- ---- the modules that are linked
 
 module _ (roots : List ModuleValue) (libraries : List (List ModuleValue)) (taken : List Chosen)
@@ -146,8 +137,3 @@ module _ (roots : List ModuleValue) (libraries : List (List ModuleValue)) (taken
     in_no_root = sought.in_no_root;
     first = sought.first;
   }
-
-  -- as many as the roots and the places
-  pub linked_length : length (modules_with roots libraries taken) ≡ length roots + length taken
-  linked_length = length-append roots (filter_map (module_at libraries) taken)
-      ∙ ap (λ n. length roots + n) (gives_length (module_at libraries) taken each_module)

@@ -177,14 +177,6 @@ some_provider libraries name q m there declares_it = by (first_place_from 0 libr
 
 -- ---- roots
 
-none_passes : {A : Type 0} (test : A → Bool) (xs : List A) → list_any test xs ≡ false → (i : ℕ) (x : A) → slice_get xs i ≡ Some x
-    → test x ≡ false
-none_passes test xs none = no_first test 0 xs (nothing (position_from test 0 xs) (passes_first test 0 xs ∙ none))
-  where
-    nothing : (o : Option ℕ) → is_some o ≡ false → o ≡ None
-    nothing None is = refl
-    nothing (Some x) is = absurd (false≢true (sym is))
-
 none_any : {A : Type 0} (test : A → Bool) (xs : List A) → ((i : ℕ) (x : A) → slice_get xs i ≡ Some x → test x ≡ false)
     → list_any test xs ≡ false
 none_any test [] each = refl
