@@ -84,10 +84,6 @@ ascending_order (x ∷ ps) zero (suc k) p q up less at_j at_k =
 ascending_order (x ∷ ps) (suc j) zero p q up less at_j at_k = absurd (omega (arith, less))
 ascending_order (x ∷ ps) (suc j) (suc k) p q up less at_j at_k = ascending_order ps j k p q up.1 (omega arith) at_j at_k
 
-not_before_itself : (p : Chosen) → IsBefore p p → ⊥
-not_before_itself p (inl less) = omega (arith, less)
-not_before_itself p (inr same) = let less = same.1 in omega (arith, less)
-
 -- ---- the modules that are linked
 
 module _ (roots : List ModuleValue) (libraries : List (List ModuleValue)) (taken : List Chosen)
