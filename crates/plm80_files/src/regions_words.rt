@@ -5,7 +5,7 @@ ghost use Rattle.plm80_files.specs.Lines.{needs_version_2};
 ghost use Rattle.plm80_files.specs.RangeWords.{IsBehindKeyword, IsInWords};
 
 use crate::file_kinds::{FileRole, explain_file};
-use crate::line_words::{UPPER_FLAWS, VERSION_FLAWS, explain_flaws, line_of};
+use crate::line_words::{UPPER_FLAWS, VERSION_FLAWS, explain_line_of, line_of};
 use image80::{Range, RegionsFault};
 use plm80_console::{Console, word_of_digits};
 use std::alloc::{AllocError, Global};
@@ -13,6 +13,9 @@ use std::str;
 
 /// How many addresses there are.
 const ADDRESSES: usize = 65_536;
+
+/// The form of a line of regions, in words.
+const RANGE_LINE: &str = "a line is CODE, DATA or (once) STACK, a first address and a length up to FFFF, as CODE 3000 009B; or CASE and addresses";
 
 /// No line has this number.
 const NO_LINE: usize = 0;
@@ -22,17 +25,22 @@ pub fn explain_regions<C: Console>(console: &C, text: &[u8], fault: RegionsFault
     match fault {
         RegionsFault::BadVersion => {
             if !explain_file(console, text, FileRole::Regions) {
-                explain_flaws(console, text, 1, VERSION_FLAWS);
+                let wanted = "the first line is REGIONS 1 or REGIONS 2, in upper case";
+                explain_line_of(console, text, 1, VERSION_FLAWS, wanted);
             }
         }
         RegionsFault::BadLine(number) => {
             if needs_version_2(text, number) {
                 console.explain("a CASE line needs REGIONS 2 as the first line");
+            } else {
+                explain_line_of(console, text, number, UPPER_FLAWS, RANGE_LINE);
             }
-            explain_flaws(console, text, number, UPPER_FLAWS);
         }
         RegionsFault::RegionsOverlap => explain_overlap(console, text),
-        RegionsFault::NoStack | RegionsFault::Memory => {}
+        RegionsFault::NoStack => {
+            console.explain("a line such as STACK 3100 0010 is missing; an empty stack is STACK 0000 0000");
+        }
+        RegionsFault::Memory => {}
     }
 }
 

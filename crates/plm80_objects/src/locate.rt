@@ -314,6 +314,8 @@ pub fn read_program<C: Console>(console: &mut C, path: &str) -> Result<Vec<Modul
     if modules.len() == 1 {
         Ok(modules)
     } else {
-        Err(console.report_file(path, "NotOneModule"))
+        let reported = console.report_file(path, "NotOneModule");
+        console.explain("plm80 link makes one module of its modules");
+        Err(reported)
     }
 }

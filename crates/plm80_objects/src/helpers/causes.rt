@@ -32,8 +32,15 @@ pub(crate) fn report_link_fault<C: Console>(
     } else {
         None
     };
+    let has_too_many = matches!(
+        &fault,
+        LinkFault::TooManyCommons | LinkFault::TooManyExternals
+    );
     let reported = console.report(fault);
     explain_lines(console, lines);
+    if has_too_many {
+        console.explain("link fewer modules, or name the libraries that are missing (docs/FAULTS.md, 'link')");
+    }
     reported
 }
 
@@ -93,8 +100,12 @@ pub(crate) fn report_place_fault<C: Console>(
     } else {
         None
     };
+    let has_no_start = matches!(&fault, PlaceFault::NoStart);
     let reported = console.report(fault);
     explain_lines(console, lines);
+    if has_no_start {
+        console.explain("it isn't the main program, which ends with END and a label: link it with that one");
+    }
     reported
 }
 

@@ -15,6 +15,20 @@ pub(crate) fn report_rom_fault<C: Console>(
 {
     match fault.fault {
         RomFault::Memory => console.report_memory(),
-        _ => console.report_file(fault.path, fault.fault),
+        _ => {
+            let reported = console.report_file(fault.path, fault.fault);
+            explain_rom_fault(console, fault.fault);
+            reported
+        }
+    }
+}
+
+/// Says what to do about a fault of a dump.
+fn explain_rom_fault<C: Console>(console: &C, fault: RomFault) {
+    match fault {
+        RomFault::PastMemory => console.explain("its bytes go past FFFF: give a lower address, or fewer bytes"),
+        RomFault::EmptyFile => console.explain("it has no bytes: read the PROM again"),
+        RomFault::DumpsOverlap => console.explain("an earlier dump has one of its addresses: give another --rom, or cut one, as by head -c 2048"),
+        RomFault::Memory => {}
     }
 }
