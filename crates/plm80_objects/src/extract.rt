@@ -35,7 +35,8 @@ that 10000 is all of memory, and FILL two, in either case, without h or 0x. The
 range ends at FFFF at the latest. --sum prints SUM and the sum of the bytes
 modulo 65536, as SUM 1A2B.
 
-Example: plm80 extract readings.img readings.bin --first 3000 --length 0800
+Example: plm80 extract readings.img readings.bin --first 3000 --length 0800 \\
+             --fill FF
 
 Faults and what to do: docs/FAULTS.md (installed: share/doc/plm80), man plm80.";
 
