@@ -8,6 +8,9 @@ use omf_library::LibraryFault;
 use omf_module::{Cause, ModuleFault};
 use plm80_console::{Console, Reported};
 
+/// Where the faults of a file that begins as an object file are explained, in words.
+pub(crate) const OBJECT_WORDS: &str = "docs/FAULTS.md says what to look for there ('Object files')";
+
 /// Why an object file or a library isn't read.
 #[derive(Clone, Copy, Debug)]
 pub enum FileFault {
@@ -73,13 +76,8 @@ fn report_module<C: Console>(console: &mut C, path: &str, fault: ModuleFault) ->
     let reported = console.report_file(path, fault);
     if let Some(bytes) = console.text_to_explain(path) {
         if !explain_file(console, &bytes, FileRole::ObjectFile) {
-            explain_object(console);
+            console.explain(OBJECT_WORDS);
         }
     }
     reported
-}
-
-/// Says where the faults of a file that begins as an object file are explained.
-pub(crate) fn explain_object<C: Console>(console: &C) {
-    console.explain("docs/FAULTS.md says what to look for there ('Object files')");
 }

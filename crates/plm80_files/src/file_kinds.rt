@@ -11,7 +11,7 @@ ghost use Rattle.plm80_files.specs.FileKinds.{
   kind_of_text,
 };
 
-use crate::line_words::{FLAWS, explain_line_of};
+use crate::line_words::{FLAWS, explain_flaws};
 use plm80_console::{Console, are_digits};
 
 /// The first byte of an object file, the type of a module header.
@@ -238,7 +238,9 @@ pub fn explain_image<C: Console>(console: &C, bytes: &[u8]) {
 
 /// Says what is wrong with the line of this number of a text that was to be that of inputs.
 pub fn explain_inputs<C: Console>(console: &C, text: &[u8], number: usize) {
-    if !explain_file(console, text, FileRole::Inputs) {
-        explain_line_of(console, text, number, FLAWS, INPUTS_LINE);
+    if !explain_file(console, text, FileRole::Inputs)
+        && !explain_flaws(console, text, number, FLAWS)
+    {
+        console.explain(INPUTS_LINE);
     }
 }

@@ -76,21 +76,8 @@ pub fn explain_line<C: Console>(console: &C, text: &[u8], number: usize) {
     explain_flaws(console, text, number, FLAWS);
 }
 
-/// The same; else it says which form is wanted.
-pub(crate) fn explain_line_of<C: Console>(
-    console: &C,
-    text: &[u8],
-    number: usize,
-    flaws: &[LineFlaw],
-    wanted: &str,
-) {
-    if !explain_flaws(console, text, number, flaws) {
-        console.explain(wanted);
-    }
-}
-
 /// Says which of these flaws the line of this number has, each in a line of its own; whether it has one.
-fn explain_flaws<C: Console>(console: &C, text: &[u8], number: usize, flaws: &[LineFlaw]) -> bool {
+pub(crate) fn explain_flaws<C: Console>(console: &C, text: &[u8], number: usize, flaws: &[LineFlaw]) -> bool {
     let mut is_explained = false;
     if let Some(line) = line_of(text, number) {
         for flaw in flaws {

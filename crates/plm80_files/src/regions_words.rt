@@ -5,7 +5,7 @@ ghost use Rattle.plm80_files.specs.Lines.{needs_version_2};
 ghost use Rattle.plm80_files.specs.RangeWords.{IsBehindKeyword, IsInWords};
 
 use crate::file_kinds::{FileRole, explain_file};
-use crate::line_words::{UPPER_FLAWS, VERSION_FLAWS, explain_line_of, line_of};
+use crate::line_words::{UPPER_FLAWS, VERSION_FLAWS, explain_flaws, line_of};
 use image80::{Range, RegionsFault};
 use plm80_console::{Console, word_of_digits};
 use std::alloc::{AllocError, Global};
@@ -26,14 +26,16 @@ pub fn explain_regions<C: Console>(console: &C, text: &[u8], fault: RegionsFault
         RegionsFault::BadVersion => {
             if !explain_file(console, text, FileRole::Regions) {
                 let wanted = "the first line is REGIONS 1 or REGIONS 2, in upper case";
-                explain_line_of(console, text, 1, VERSION_FLAWS, wanted);
+                if !explain_flaws(console, text, 1, VERSION_FLAWS) {
+                    console.explain(wanted);
+                }
             }
         }
         RegionsFault::BadLine(number) => {
             if needs_version_2(text, number) {
                 console.explain("a CASE line needs REGIONS 2 as the first line");
-            } else {
-                explain_line_of(console, text, number, UPPER_FLAWS, RANGE_LINE);
+            } else if !explain_flaws(console, text, number, UPPER_FLAWS) {
+                console.explain(RANGE_LINE);
             }
         }
         RegionsFault::RegionsOverlap => explain_overlap(console, text),

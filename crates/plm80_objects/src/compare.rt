@@ -97,16 +97,11 @@ pub fn compare_files<C: Console>(
     ensures fault { IfErr result (λ _. OnlyReports (C.journal console.old) (C.journal console.new)) }
 {
     let done = print_differences(console, arguments);
-    explain_fill(console, &done, arguments.fill);
-    explain_dump(console, arguments.dump);
-    done
-}
-
-/// Says that another byte can be compared where the image has none, if bytes differ and 00 was.
-fn explain_fill<C: Console>(console: &C, done: &Result<u8, Reported>, fill: OptionText<'_>) {
-    if matches!(done, Ok(1)) && fill.text() == "00" {
+    if matches!(done, Ok(1)) && arguments.fill.text() == "00" {
         console.explain("where the image has no byte, 00 was compared; --fill FF compares what an erased PROM has");
     }
+    explain_dump(console, arguments.dump);
+    done
 }
 
 /// The same, without words on the dump.

@@ -1,6 +1,6 @@
 //! Faults of dumps, each with the path of its file.
 
-ghost use Rattle.std.specs.Prelude.{◌≡◌};
+ghost use Rattle.std.specs.Prelude.{◌≡◌, ◌↔◌, None};
 ghost use Rattle.plm80_console.specs.Journal.{and_reported};
 
 use plm80_console::{Console, FaultOf, Reported};
@@ -17,18 +17,22 @@ pub(crate) fn report_rom_fault<C: Console>(
         RomFault::Memory => console.report_memory(),
         _ => {
             let reported = console.report_file(fault.path, fault.fault);
-            explain_rom_fault(console, fault.fault);
+            if let Some(words) = words_for(fault.fault) {
+                console.explain(words);
+            }
             reported
         }
     }
 }
 
-/// Says what to do about a fault of a dump.
-fn explain_rom_fault<C: Console>(console: &C, fault: RomFault) {
+/// Words for a fault of a dump; none if memory ran out.
+fn words_for(fault: RomFault) -> Option<&'static str>
+    ensures { (result ≡ None) ↔ (fault ≡ RomFault.Memory) }
+{
     match fault {
-        RomFault::PastMemory => console.explain("its bytes go past FFFF: give a lower address, or fewer bytes"),
-        RomFault::EmptyFile => console.explain("it has no bytes: read the PROM again"),
-        RomFault::DumpsOverlap => console.explain("an earlier dump has one of its addresses: give another --rom, or cut one, as by head -c 2048"),
-        RomFault::Memory => {}
+        RomFault::PastMemory => Some("its bytes go past FFFF: give a lower address, or fewer bytes"),
+        RomFault::EmptyFile => Some("it has no bytes: read the PROM again"),
+        RomFault::DumpsOverlap => Some("an earlier dump has one of its addresses: give another --rom, or cut one, as by head -c 2048"),
+        RomFault::Memory => None,
     }
 }
