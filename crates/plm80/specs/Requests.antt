@@ -6,8 +6,10 @@ use Rattle.clap.specs.Matches.{found_of, subcommand_name_of}
 use Rattle.clap.specs.Simple.{subcommand_rows_of}
 use Rattle.clap.specs.Walk.{rows_of}
 use Rattle.plm80_console.specs.Answer.{Gives, GivesUp}
+use Rattle.plm80_console.specs.ApartPaths.{AreApart}
 use Rattle.plm80_console.specs.Arguments.{argument_text}
 use Rattle.plm80_console.specs.Journal.{Journal, OnlyReports, and_reported}
+use Rattle.plm80_console.specs.declared.syntax.Syntax.{Syntax}
 use Rattle.plm80_names.specs.Arguments.{AreNamedFiles, asks_names, program_paths}
 use Rattle.plm80_names.specs.Verdict.{AnswersProgram}
 use Rattle.plm80_objects.specs.Absolute.{ExtractsFile, GivesDumps, GivesUpDumps}
@@ -74,12 +76,15 @@ AreArgumentsOf matches (request.Module arguments) = arguments.object.now ≡ arg
 AreArgumentsOf matches (request.Find arguments) = AreFindArguments matches arguments
 AreArgumentsOf matches (request.Suggest arguments) = AreSuggestArguments matches arguments
 
--- it is the one that clap has read
+-- it is the one that clap has read, by a table of its command; no argument has the path of one that is written
 pub record IsRequestOf (matches : ArgMatches) (request : Request) : Type 0 where
   pub arguments : ArgMatches
   pub name : subcommand_name_of matches ≡ Some (command_name request)
   pub rows : Some (rows_of (found_of arguments)) ≡ option_map (λ p. p.1) (subcommand_rows_of matches)
   pub are : AreArgumentsOf arguments request
+  pub table : Syntax
+  pub named : bytes_eq table.name.now (command_name request) ≡ true
+  pub apart : AreApart arguments table.arguments.now
 
 -- it is done: its files were read, its answer was given, and the status is the answer's
 abbrev pub IsPerformed : Request → (old new : Journal) → (status : ℕ) → Type 0

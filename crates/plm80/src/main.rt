@@ -109,7 +109,9 @@ fn transcribe<C: Console>(console: &mut C) -> Result<u8, Reported>
     let failure = console.take_back(output);
     match bundle_status(answer) {
         Ok(status) => {
-            explain_outcome(console, answer);
+            if let Ok(outcome) = answer {
+                explain_end(console, outcome.end, outcome.at);
+            }
             Ok(status)
         }
         Err(fault) => {
@@ -138,12 +140,5 @@ fn bundle_status(answer: Result<Outcome, BundleFault>) -> Result<u8, BundleFault
         Ok(outcome) => Ok(status_of(outcome.end)),
         Err(BundleFault::Session(SessionFault::Refused(_))) => Ok(1),
         Err(fault) => Err(fault),
-    }
-}
-
-/// Says how a run ended, if it ran.
-fn explain_outcome<C: Console>(console: &C, answer: Result<Outcome, BundleFault>) {
-    if let Ok(outcome) = answer {
-        explain_end(console, outcome.end, outcome.at);
     }
 }

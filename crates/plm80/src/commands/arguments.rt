@@ -142,8 +142,7 @@ pub fn read_arguments<'a, C: Console>(
 {
     let alloc = console.alloc();
     let matches = program(alloc)?.try_get_matches_from(arguments)?;
-    refuse_shared_paths(console, &matches)?;
-    match asked_for(alloc, &matches)? {
+    match asked_for(console, &matches)? {
         Some(request) => Ok((request, is_explained(&matches))),
         None => Err(refusal(alloc, ErrorKind::MissingSubcommand, "no command")),
     }
@@ -156,19 +155,6 @@ fn is_explained(matches: &ArgMatches<'_>) -> bool
     match matches.subcommand() {
         Some((_, arguments)) => arguments.get_flag(WHY.name),
         None => false,
-    }
-}
-
-/// Refuses the arguments of a command by which it would write over a file that it reads, or write a file twice.
-fn refuse_shared_paths<C: Console>(console: &C, matches: &ArgMatches<'_>) -> Result<(), Error>
-    ensures { IfErr result IsConflict }
-{
-    let Some((name, arguments)) = matches.subcommand() else {
-        return Ok(());
-    };
-    match command_of(name) {
-        Some(command) => command.refuse_shared_paths(console, arguments),
-        None => Ok(()),
     }
 }
 
@@ -223,15 +209,23 @@ fn program<'a>(alloc: Global) -> Result<Command<'a>, AllocError> {
     Ok(program)
 }
 
-/// The command that clap has read.
-fn asked_for<'a>(alloc: Global, matches: &ArgMatches<'a>) -> Result<Option<Request<'a>>, AllocError>
+/// The command that clap has read. Arguments are refused by which it would write over a file that it reads, or write a file twice.
+fn asked_for<'a, C: Console>(
+    console: &C,
+    matches: &ArgMatches<'a>,
+) -> Result<Option<Request<'a>>, Error>
     ensures none { IfOk result (λ asked. has_subcommand matches.now ≡ false → asked ≡ None) }
     ensures request { IfOk result (λ asked. IfSome asked (IsRequestOf matches.now)) }
+    ensures conflict { IfErr result IsConflict }
 {
-    match matches.subcommand() {
-        Some((name, arguments)) => request_of(alloc, name, arguments),
-        None => Ok(None),
-    }
+    let Some((name, arguments)) = matches.subcommand() else {
+        return Ok(None);
+    };
+    let Some(command) = command_of(name) else {
+        return Ok(None);
+    };
+    command.refuse_shared_paths(console, arguments)?;
+    Ok(request_of(console.alloc(), name, arguments)?)
 }
 
 /// The request of the command with this name and these arguments.
