@@ -51,7 +51,7 @@ returns-in-Ok-clause-done g c =
     let journal = read.1 ∙ ap (λ (j : Journal). and_read j asked.object.now read.0)
         (c.in_ok-ram.ensures.unchanged ∙ c.in_ok-rom.ensures.unchanged ∙ c.in_ok-options.ensures.unchanged) in
     gives (LocatesFile asked) (asked.object.now ∷ []) (g.C.Console.journal c.args.console.now) (g.C.Console.journal c.read_program.new.console)
-    (g.C.Console.journal c.give.new.self) (file_value asked.object.now read.0 ∷ []) refl journal c.in-Ok.answer c.give.result answers c.give.ensures.given
+    (g.C.Console.journal c.give-given.new.self) (file_value asked.object.now read.0 ∷ []) refl journal c.in-Ok.answer c.give-given.result answers c.give-given.ensures.given
 
 pub returns-in-Ok-clause-fault : goal.returns-in-Ok-clause-fault
 returns-in-Ok-clause-fault g c =
@@ -65,4 +65,4 @@ returns-in-Ok-clause-fault g c =
     let journal = read.1 ∙ ap (λ (j : Journal). and_read j asked.object.now read.0)
         (c.in_ok-ram.ensures.unchanged ∙ c.in_ok-rom.ensures.unchanged ∙ c.in_ok-options.ensures.unchanged) in
     gives_up (LocatesFile asked) (asked.object.now ∷ []) (g.C.Console.journal c.args.console.now) (g.C.Console.journal c.read_program.new.console)
-    (g.C.Console.journal c.give.new.self) (file_value asked.object.now read.0 ∷ []) refl journal c.in-Ok.answer c.give.result answers c.give.ensures.fault
+    (g.C.Console.journal c.give-given.new.self) (file_value asked.object.now read.0 ∷ []) refl journal c.in-Ok.answer c.give-given.result answers c.give-given.ensures.fault
