@@ -21,7 +21,8 @@ const MODULE_HEADER: u8 = 0x02;
 const LIBRARY_HEADER: u8 = 0x2C;
 
 /// The form of a line of inputs, in words.
-const INPUTS_LINE: &str = "a line is a port, a blank and bytes without blanks between them, as 02 41FF";
+const INPUTS_LINE: &str =
+    "a line is a port, a blank and bytes without blanks between them, as 02 41FF";
 
 /// What a file seems to be, by how it begins.
 #[derive(Clone, Copy, Debug, PartialEq, Eq)]

@@ -77,7 +77,12 @@ pub fn explain_line<C: Console>(console: &C, text: &[u8], number: usize) {
 }
 
 /// Says which of these flaws the line of this number has, each in a line of its own; whether it has one.
-pub(crate) fn explain_flaws<C: Console>(console: &C, text: &[u8], number: usize, flaws: &[LineFlaw]) -> bool {
+pub(crate) fn explain_flaws<C: Console>(
+    console: &C,
+    text: &[u8],
+    number: usize,
+    flaws: &[LineFlaw],
+) -> bool {
     let mut is_explained = false;
     if let Some(line) = line_of(text, number) {
         for flaw in flaws {

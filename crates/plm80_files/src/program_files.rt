@@ -95,9 +95,13 @@ fn words_for(fault: ImageFault) -> Option<&'static str>
     ensures { (result ≡ None) ↔ (fault ≡ ImageFault.Memory) }
 {
     match fault {
-        ImageFault::NotOneModule => Some("it has several modules: plm80 link makes one of them, and locate an image"),
+        ImageFault::NotOneModule => Some(
+            "it has several modules: plm80 link makes one of them, and locate an image",
+        ),
         ImageFault::NotAbsolute => Some("it isn't located: plm80 locate makes an image of it"),
-        ImageFault::NoStart => Some("it has no start: link the main program, which ends with END and a label"),
+        ImageFault::NoStart => Some(
+            "it has no start: link the main program, which ends with END and a label",
+        ),
         ImageFault::Module(_) => Some(OBJECT_WORDS),
         ImageFault::Memory => None,
     }

@@ -15,7 +15,8 @@ use std::str;
 const ADDRESSES: usize = 65_536;
 
 /// The form of a line of regions, in words.
-const RANGE_LINE: &str = "a line is CODE, DATA or (once) STACK, a first address and a length up to FFFF, as CODE 3000 009B; or CASE and addresses";
+const RANGE_LINE: &str =
+    "a line is CODE, DATA or (once) STACK, a first address and a length up to FFFF, as CODE 3000 009B; or CASE and addresses";
 
 /// No line has this number.
 const NO_LINE: usize = 0;
@@ -40,7 +41,9 @@ pub fn explain_regions<C: Console>(console: &C, text: &[u8], fault: RegionsFault
         }
         RegionsFault::RegionsOverlap => explain_overlap(console, text),
         RegionsFault::NoStack => {
-            console.explain("a line such as STACK 3100 0010 is missing; an empty stack is STACK 0000 0000");
+            console.explain(
+                "a line such as STACK 3100 0010 is missing; an empty stack is STACK 0000 0000",
+            );
         }
         RegionsFault::Memory => {}
     }

@@ -36,7 +36,9 @@ pub fn explain_refusal<C: Console>(
     }
     if let Some((image, refusal)) = refused_again(console, image, regions) {
         explain_place(console, &image, refusal);
-        console.explain("plm80 explain shows the way; docs/FAULTS.md says what to change ('Refusals of the verifier')");
+        console.explain(
+            "plm80 explain shows the way; docs/FAULTS.md says what to change ('Refusals of the verifier')",
+        );
     }
 }
 

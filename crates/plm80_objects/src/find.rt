@@ -13,8 +13,8 @@ use crate::helpers::rom_faults::report_rom_fault;
 use clap::ArgMatches;
 use omf_core::RecordKind;
 use plm80_console::{
-    Answer, Argument, Console, FaultOf, Kind, OptionText, ReadFile, Reported, Syntax, argument_text,
-    argument_values,
+    Answer, Argument, Console, FaultOf, Kind, OptionText, ReadFile, Reported, Syntax,
+    argument_text, argument_values,
 };
 use plm80_files::{LinkFile, read_link_file};
 use rom80::RomFault;
@@ -107,17 +107,16 @@ fn explain_libraries<C: Console>(console: &C, paths: &[&str]) {
     for path in paths {
         if let Some(bytes) = console.text_to_explain(path) {
             if bytes.first() == Some(&LIBRARY_HEADER) {
-                console.explain(format_args!("MISSING of {path} counts modules with fewer than four bytes outside fixups, too"));
+                console.explain(format_args!(
+                    "MISSING of {path} counts modules with fewer than four bytes outside fixups, too"
+                ));
             }
         }
     }
 }
 
 /// The same, without words on the dump.
-fn find_in_dump<C: Console>(
-    console: &mut C,
-    arguments: &FindArguments<'_>,
-) -> Result<u8, Reported>
+fn find_in_dump<C: Console>(console: &mut C, arguments: &FindArguments<'_>) -> Result<u8, Reported>
     ensures done { IfOk result (Gives (FindsModules arguments.now) (arguments.now.dump.now ∷ map (λ path. path.now) arguments.now.files.items)
         (C.journal console.old) (C.journal console.new)) }
     ensures fault { IfErr result (λ _. OnlyReports (C.journal console.old) (C.journal console.new)) }

@@ -39,7 +39,9 @@ pub(crate) fn report_link_fault<C: Console>(
     let reported = console.report(fault);
     explain_lines(console, lines);
     if has_too_many {
-        console.explain("link fewer modules, or name the libraries that are missing (docs/FAULTS.md, 'link')");
+        console.explain(
+            "link fewer modules, or name the libraries that are missing (docs/FAULTS.md, 'link')",
+        );
     }
     reported
 }
@@ -104,7 +106,9 @@ pub(crate) fn report_place_fault<C: Console>(
     let reported = console.report(fault);
     explain_lines(console, lines);
     if has_no_start {
-        console.explain("it isn't the main program, which ends with END and a label: link it with that one");
+        console.explain(
+            "it isn't the main program, which ends with END and a label: link it with that one",
+        );
     }
     reported
 }
@@ -134,7 +138,10 @@ pub(crate) fn report_unmapped<C: Console>(
 {
     let reported = console.report(found);
     if console.explains() {
-        explain_lines(console, unmapped_lines(console.alloc(), program, options, found).ok());
+        explain_lines(
+            console,
+            unmapped_lines(console.alloc(), program, options, found).ok(),
+        );
     }
     reported
 }

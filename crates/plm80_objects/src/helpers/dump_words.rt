@@ -31,5 +31,7 @@ pub(crate) fn explain_dump<C: Console>(console: &C, path: &str) {
             " --first FIRST --length LENGTH",
         ),
     };
-    console.explain(format_args!("{path} seems to be {seems}: {command} {path} {path}.rom{options}"));
+    console.explain(format_args!(
+        "{path} seems to be {seems}: {command} {path} {path}.rom{options}"
+    ));
 }

@@ -30,9 +30,13 @@ fn words_for(fault: RomFault) -> Option<&'static str>
     ensures { (result ≡ None) ↔ (fault ≡ RomFault.Memory) }
 {
     match fault {
-        RomFault::PastMemory => Some("its bytes go past FFFF: give a lower address, or fewer bytes"),
+        RomFault::PastMemory => Some(
+            "its bytes go past FFFF: give a lower address, or fewer bytes",
+        ),
         RomFault::EmptyFile => Some("it has no bytes: read the PROM again"),
-        RomFault::DumpsOverlap => Some("an earlier dump has one of its addresses: give another --rom, or cut one, as by head -c 2048"),
+        RomFault::DumpsOverlap => Some(
+            "an earlier dump has one of its addresses: give another --rom, or cut one, as by head -c 2048",
+        ),
         RomFault::Memory => None,
     }
 }
