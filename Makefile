@@ -82,6 +82,7 @@ test: need-rt need-python3
 	@tests/examples/run
 	@tools/crates --check
 	@tools/clauses --check
+	@tools/statements --check
 	@tools/gate
 	@tests/commands/run $(PROGRAM)
 	@tests/commands/migrated $(PROGRAM)

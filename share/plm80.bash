@@ -34,7 +34,8 @@ _plm80() {
         suggest) options='--rom-range --ram-range --why -h --help' ;;
         find) options='--first --why -h --help' ;;
         lib | regions | inputs | module) options='--why -h --help' ;;
-        check | explain) options='--names --why -h --help' ;;
+        check) options='--names --why -h --help' ;;
+        explain) options='--all --names --why -h --help' ;;
         stores) options='--names --quiet-ram --why -h --help' ;;
         list) options='--reached --names --why -h --help' ;;
         cases) options='--out --why -h --help' ;;

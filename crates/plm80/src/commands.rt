@@ -71,7 +71,7 @@ fn perform<C: Console>(console: &mut C, request: Request<'_>) -> Result<u8, Repo
         Request::Run(arguments) => run_files(console, arguments),
         Request::List(arguments) => list_files(console, arguments),
         Request::Check(files) => check_files(console, files),
-        Request::Explain(files) => explain_files(console, files),
+        Request::Explain(arguments) => explain_files(console, arguments),
         Request::Library(arguments) => write_library_file(console, &arguments),
         Request::Regions(arguments) => migrate_file(console, arguments),
         Request::Cases(arguments) => suggest_for_files(console, arguments),

@@ -6,7 +6,7 @@ use Rattle.verify80_flow.specs.declared.refusal.Refusal.TheVariants.{Memory}
 use Rattle.omf_model.specs.declared.symbols.Public.{Public}
 use Rattle.image80.specs.Image.{Located}
 use Rattle.verify80_explain.specs.Printed.{GoesOnWithChain, GoesOnWithWays}
-use Rattle.plm80_programs.specs.Printed.{needed_stack}
+use Rattle.plm80_programs.specs.Explanations.{needed_stack}
 
 -- a refusal that compares bytes of stack isn't out of memory
 pub no_memory : (refusal : Refusal) (need : ℕ) → Some need ≡ needed_stack refusal → refusal ≢ Memory

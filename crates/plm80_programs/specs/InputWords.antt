@@ -1,7 +1,7 @@
 -- What `inputs` writes: the text of the bytes that its words name.
 -- (Words and text are this project's own.)
-use Rattle.std.specs.Prelude.{◌≡◌, ◌≢◌, ◌<◌, ◌≤◌, ◌==◌, ◌-◌, ◌||◌, not, ℕ, Bool, false, List, [], ◌∷◌, ◌++◌, All, Option, None, Some, unwrap_or, codes, length, map, slice_get}
-use Rattle.std.specs.List.{flat_map, list_any}
+use Rattle.std.specs.Prelude.{◌≡◌, ◌≢◌, ◌<◌, ◌≤◌, ℕ, List, [], ◌∷◌, ◌++◌, All, None, unwrap_or, codes, length, map}
+use Rattle.std.specs.List.{flat_map}
 use Rattle.clap.specs.declared.parser.matches.ArgMatches.{ArgMatches}
 use Rattle.stream80.specs.WholeText.{text_limit}
 use Rattle.loader80_text.specs.declared.inputs.repeated.Repeated.{Repeated}
@@ -17,16 +17,6 @@ use Rattle.plm80_programs.specs.declared.inputs.InputsFileFault.TheVariants.{Bad
 -- a word names inputs
 abbrev pub IsGoodWord : List ℕ → Type 0
 IsGoodWord word = word_of word ≢ None
-
--- a byte between the parts of a word
-abbrev pub is_mark : Option ℕ → Bool
-is_mark None = false
-is_mark (Some byte) = byte == 42 || (byte == 61 || byte == 44)
-
--- a word that has a blank, or seems to be a part of one that had
-abbrev pub is_cut : List ℕ → Bool
-is_cut word = list_any (λ byte. byte == 32) word || (not (list_any (λ byte. byte == 61) word)
-    || (is_mark (slice_get word 0) || is_mark (slice_get word (length word - 1))))
 
 -- the inputs that words name, one after another
 abbrev pub inputs_named : (words : List (List ℕ)) → List Repeated

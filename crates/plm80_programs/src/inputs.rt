@@ -1,11 +1,11 @@
 //! `plm80 inputs`: the text of a run's inputs, from words.
 
-ghost use Rattle.std.specs.Prelude.{◌≡◌, ◌≤◌, [], All, length, map, option_copied, IfOk, IfErr, OnOk};
+ghost use Rattle.std.specs.Prelude.{◌≡◌, ◌≤◌, [], All, length, map, IfOk, IfErr, OnOk};
 ghost use Rattle.stream80.specs.WholeText.{text_limit};
 ghost use Rattle.loader80_text.specs.Text.{text_of};
 ghost use Rattle.plm80_console.specs.Answer.{Gives, GivesUp, writes};
 ghost use Rattle.plm80_console.specs.Journal.{and_reported};
-ghost use Rattle.plm80_programs.specs.InputWords.{AnswersWords, AreInputsArguments, FaultsFile, FaultsWords, IsGoodWord, inputs_named, is_cut, is_mark};
+ghost use Rattle.plm80_programs.specs.InputWords.{AnswersWords, AreInputsArguments, FaultsFile, FaultsWords, IsGoodWord, inputs_named};
 
 use clap::ArgMatches;
 use loader80_text::{LengthFault, WordFault, WordInputs};
@@ -144,31 +144,6 @@ fn report_bad_input<C: Console>(console: &mut C, word: &str) -> Reported
 {
     let fault = WordFault::BadInput;
     let reported = console.report(format_args!("{fault} {word}"));
-    if is_cut(word) {
-        console.explain("a word has no blanks, as in 02=3*2A,00");
-    } else {
-        console.explain("a word is a port, an equals sign and bytes, as in 02=3*2A,00");
-    }
+    console.explain("a word is a port, an equals sign and bytes, without blanks, as in 02=3*2A,00");
     reported
-}
-
-/// Whether a word has a blank, or seems to be a part of one that had.
-fn is_cut(word: &str) -> bool
-    ensures { result ≡ is_cut word.now }
-{
-    let bytes = word.as_bytes();
-    bytes.contains(&b' ')
-        || !bytes.contains(&b'=')
-        || is_mark(bytes.first())
-        || is_mark(bytes.last())
-}
-
-/// Whether a byte stands between parts of a word.
-fn is_mark(byte: Option<&u8>) -> bool
-    ensures { result ≡ is_mark (option_copied byte.entry) }
-{
-    match byte {
-        Some(byte) => *byte == b'*' || *byte == b'=' || *byte == b',',
-        None => false,
-    }
 }

@@ -18,9 +18,9 @@ use plm80_objects::{
     MODULE, MapArguments, ModuleArguments,
 };
 use plm80_programs::{
-    CALLS, CASES, CHECK, COVER, CallsArguments, CasesArguments, CoverArguments, EXPLAIN, INPUTS,
-    InputsArguments, LIST, ListArguments, REGIONS, RUN, RegionsArguments, RunArguments, STORES,
-    SUGGEST, StoresArguments, SuggestArguments, TRACE, TraceArguments,
+    CALLS, CASES, CHECK, COVER, CallsArguments, CasesArguments, CoverArguments, EXPLAIN,
+    ExplainArguments, INPUTS, InputsArguments, LIST, ListArguments, REGIONS, RUN, RegionsArguments,
+    RunArguments, STORES, SUGGEST, StoresArguments, SuggestArguments, TRACE, TraceArguments,
 };
 use std::alloc::{AllocError, Global};
 
@@ -32,7 +32,7 @@ pub enum Request<'a> {
     Run(RunArguments<'a>),
     List(ListArguments<'a>),
     Check(NamedFiles<'a>),
-    Explain(NamedFiles<'a>),
+    Explain(ExplainArguments<'a>),
     Library(LibraryArguments<'a>),
     Regions(RegionsArguments<'a>),
     Cases(CasesArguments<'a>),
@@ -243,7 +243,7 @@ fn request_of<'a>(
         "run" => Ok(Some(Request::Run(RunArguments::of(arguments)))),
         "list" => Ok(Some(Request::List(ListArguments::of(arguments)))),
         "check" => Ok(Some(Request::Check(NamedFiles::of(arguments)))),
-        "explain" => Ok(Some(Request::Explain(NamedFiles::of(arguments)))),
+        "explain" => Ok(Some(Request::Explain(ExplainArguments::of(arguments)))),
         "lib" => Ok(Some(Request::Library(LibraryArguments::of(alloc, arguments)?))),
         "regions" => Ok(Some(Request::Regions(RegionsArguments::of(arguments)))),
         "cases" => Ok(Some(Request::Cases(CasesArguments::of(arguments)))),
