@@ -14,6 +14,10 @@ use std::str;
 /// How many addresses there are.
 const ADDRESSES: usize = 65_536;
 
+/// The form of a line of regions, in words.
+const RANGE_LINE: &str =
+    "a line is CODE, DATA or (once) STACK, a first address and a length up to FFFF, as CODE 3000 009B; or CASE and addresses";
+
 /// No line has this number.
 const NO_LINE: usize = 0;
 
@@ -22,17 +26,26 @@ pub fn explain_regions<C: Console>(console: &C, text: &[u8], fault: RegionsFault
     match fault {
         RegionsFault::BadVersion => {
             if !explain_file(console, text, FileRole::Regions) {
-                explain_flaws(console, text, 1, VERSION_FLAWS);
+                let wanted = "the first line is REGIONS 1 or REGIONS 2, in upper case";
+                if !explain_flaws(console, text, 1, VERSION_FLAWS) {
+                    console.explain(wanted);
+                }
             }
         }
         RegionsFault::BadLine(number) => {
             if needs_version_2(text, number) {
                 console.explain("a CASE line needs REGIONS 2 as the first line");
+            } else if !explain_flaws(console, text, number, UPPER_FLAWS) {
+                console.explain(RANGE_LINE);
             }
-            explain_flaws(console, text, number, UPPER_FLAWS);
         }
         RegionsFault::RegionsOverlap => explain_overlap(console, text),
-        RegionsFault::NoStack | RegionsFault::Memory => {}
+        RegionsFault::NoStack => {
+            console.explain(
+                "a line such as STACK 3100 0010 is missing; an empty stack is STACK 0000 0000",
+            );
+        }
+        RegionsFault::Memory => {}
     }
 }
 

@@ -194,7 +194,9 @@ impl<'a> HostConsole<'a> {
         ensures { self.new.notes.journal ≡ and_reported self.old.notes.journal }
     {
         let reported = self.report_file(DASH, fault);
-        self.explain("standard input is /dev/stdin, standard output /dev/stdout, and a file of this name ./-");
+        self.explain(
+            "standard input is /dev/stdin, standard output /dev/stdout, and a file of this name ./-",
+        );
         reported
     }
 

@@ -36,7 +36,9 @@ pub fn explain_refusal<C: Console>(
     }
     if let Some((image, refusal)) = refused_again(console, image, regions) {
         explain_place(console, &image, refusal);
-        explain_way(console);
+        console.explain(
+            "plm80 explain shows the way; docs/FAULTS.md says what to change ('Refusals of the verifier')",
+        );
     }
 }
 
@@ -67,13 +69,6 @@ fn explain_place<C: Console>(console: &C, image: &Image, refusal: Refusal) {
         }
         _ => explain_instruction(console, image, refusal),
     }
-}
-
-/// Says where the way to a refusal is shown, and where it says what to change.
-pub fn explain_way<C: Console>(console: &C) {
-    console.explain(
-        "plm80 explain shows the way; docs/FAULTS.md says what to change ('Refusals of the verifier')",
-    );
 }
 
 /// Says where an address is whose instruction isn't all in CODE.

@@ -13,8 +13,8 @@ use clap::ArgMatches;
 use image80_file::write_image;
 use omf_core::Name;
 use plm80_console::{
-    Answer, Argument, Console, FaultOf, Kind, OptionText, ReadFile, Reported, Syntax, argument_text,
-    argument_values, word_of_digits,
+    Answer, Argument, Console, FaultOf, Kind, OptionText, ReadFile, Reported, Syntax,
+    argument_text, argument_values, word_of_digits,
 };
 use rom80::{Dumps, RomFault};
 use std::alloc::{AllocError, Global};
@@ -119,21 +119,13 @@ pub fn write_absolute<C: Console>(
     ensures fault { IfErr result (λ _. GivesUpDumps arguments.now (C.journal console.old) (C.journal console.new)) }
 {
     let done = write_dumps(console, arguments);
-    explain_dumps(console, arguments);
-    done
-}
-
-/// Says what the dumps of the arguments seem to be.
-fn explain_dumps<C: Console>(console: &C, arguments: &AbsoluteArguments<'_>) {
-    if !console.explains() {
-        return;
-    }
     explain_dump(console, arguments.bytes);
     for further in &arguments.further {
         if let Some((_, path)) = further.split_once('=') {
             explain_dump(console, path);
         }
     }
+    done
 }
 
 /// Writes the image, without words on the dumps.
@@ -150,20 +142,10 @@ fn write_dumps<C: Console>(
     let (dumps, has_start) = read_dumps(console, &files, start)?;
     let answer = answer(console.alloc(), arguments.image, dumps, name, start);
     let given = console.give_if_made(answer);
-    explain_start(console, &given, has_start, start);
-    given
-}
-
-/// Says that no byte is at the start of an image that was written, if that is so.
-fn explain_start<C: Console>(
-    console: &C,
-    given: &Result<u8, Reported>,
-    has_start: bool,
-    start: u16,
-) {
     if given.is_ok() && !has_start {
         console.explain(format_args!("no byte is at the start, {start:04X}"));
     }
+    given
 }
 
 /// The files of the arguments with their addresses, in order.

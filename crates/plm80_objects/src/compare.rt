@@ -97,6 +97,11 @@ pub fn compare_files<C: Console>(
     ensures fault { IfErr result (λ _. OnlyReports (C.journal console.old) (C.journal console.new)) }
 {
     let done = print_differences(console, arguments);
+    if matches!(done, Ok(1)) && arguments.fill.text() == "00" {
+        console.explain(
+            "where the image has no byte, 00 was compared; --fill FF compares what an erased PROM has",
+        );
+    }
     explain_dump(console, arguments.dump);
     done
 }

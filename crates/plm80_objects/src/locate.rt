@@ -153,23 +153,12 @@ pub fn locate_file<C: Console>(
     match located(console.alloc(), arguments, program, &options, board) {
         Ok(answer) => {
             let given = console.give(answer);
-            explain_located(console, &given, program, &options, arguments.options);
+            if given.is_ok() {
+                explain_empty_segments(console, program, &options, arguments.options);
+            }
             given
         }
         Err(fault) => Err(report_fault(console, program, &options, fault)),
-    }
-}
-
-/// Says which bases are those of empty segments, if the image was written.
-fn explain_located<C: Console>(
-    console: &C,
-    given: &Result<u8, Reported>,
-    program: &Module,
-    options: &Options,
-    texts: LocateTexts<'_>,
-) {
-    if given.is_ok() {
-        explain_empty_segments(console, program, options, texts);
     }
 }
 
@@ -314,6 +303,8 @@ pub fn read_program<C: Console>(console: &mut C, path: &str) -> Result<Vec<Modul
     if modules.len() == 1 {
         Ok(modules)
     } else {
-        Err(console.report_file(path, "NotOneModule"))
+        let reported = console.report_file(path, "NotOneModule");
+        console.explain("plm80 link makes one module of its modules");
+        Err(reported)
     }
 }

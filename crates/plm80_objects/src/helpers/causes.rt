@@ -32,8 +32,17 @@ pub(crate) fn report_link_fault<C: Console>(
     } else {
         None
     };
+    let has_too_many = matches!(
+        &fault,
+        LinkFault::TooManyCommons | LinkFault::TooManyExternals
+    );
     let reported = console.report(fault);
     explain_lines(console, lines);
+    if has_too_many {
+        console.explain(
+            "link fewer modules, or name the libraries that are missing (docs/FAULTS.md, 'link')",
+        );
+    }
     reported
 }
 
@@ -93,8 +102,14 @@ pub(crate) fn report_place_fault<C: Console>(
     } else {
         None
     };
+    let has_no_start = matches!(&fault, PlaceFault::NoStart);
     let reported = console.report(fault);
     explain_lines(console, lines);
+    if has_no_start {
+        console.explain(
+            "it isn't the main program, which ends with END and a label: link it with that one",
+        );
+    }
     reported
 }
 
@@ -123,7 +138,10 @@ pub(crate) fn report_unmapped<C: Console>(
 {
     let reported = console.report(found);
     if console.explains() {
-        explain_lines(console, unmapped_lines(console.alloc(), program, options, found).ok());
+        explain_lines(
+            console,
+            unmapped_lines(console.alloc(), program, options, found).ok(),
+        );
     }
     reported
 }

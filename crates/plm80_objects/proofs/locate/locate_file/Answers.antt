@@ -44,25 +44,25 @@ returns-in-Ok-clause-done g c =
     let asked = c.args.arguments.now in
     let read = c.in_ok-modules.ensures.read in
     let answers = locates asked c.in_ok-options.options c.in_ok-rom.rom.items c.in_ok-ram.ram.items c.deref-3.result.now c.deref-4.result.now
-        c.deref.result.now c.deref-2.result.now read.0 c.in_ok-modules.modules.items c.index-program.result.now c.in-Ok.answer
-        c.in_ok-options.ensures.numbers c.deref.ensures.value c.in_ok-rom.ensures.ranges c.deref-2.ensures.value c.in_ok-ram.ensures.ranges
-        c.deref-3.ensures.value c.deref-4.ensures.value read.2 c.in_ok-modules.ensures.one c.index-program.ensures c.in-Ok.ensures.on_board
-        c.in-Ok.ensures.files in
+    c.deref.result.now c.deref-2.result.now read.0 c.in_ok-modules.modules.items c.index-program.result.now c.in-Ok.answer
+    c.in_ok-options.ensures.numbers c.deref.ensures.value c.in_ok-rom.ensures.ranges c.deref-2.ensures.value c.in_ok-ram.ensures.ranges
+    c.deref-3.ensures.value c.deref-4.ensures.value read.2 c.in_ok-modules.ensures.one c.index-program.ensures c.in-Ok.ensures.on_board
+    c.in-Ok.ensures.files in
     let journal = read.1 ∙ ap (λ (j : Journal). and_read j asked.object.now read.0)
-        (c.in_ok-ram.ensures.unchanged ∙ c.in_ok-rom.ensures.unchanged ∙ c.in_ok-options.ensures.unchanged) in
+    (c.in_ok-ram.ensures.unchanged ∙ c.in_ok-rom.ensures.unchanged ∙ c.in_ok-options.ensures.unchanged) in
     gives (LocatesFile asked) (asked.object.now ∷ []) (g.C.Console.journal c.args.console.now) (g.C.Console.journal c.read_program.new.console)
-    (g.C.Console.journal c.give.new.self) (file_value asked.object.now read.0 ∷ []) refl journal c.in-Ok.answer c.give.result answers c.give.ensures.given
+    (g.C.Console.journal c.give-given.new.self) (file_value asked.object.now read.0 ∷ []) refl journal c.in-Ok.answer c.give-given.result answers c.give-given.ensures.given
 
 pub returns-in-Ok-clause-fault : goal.returns-in-Ok-clause-fault
 returns-in-Ok-clause-fault g c =
     let asked = c.args.arguments.now in
     let read = c.in_ok-modules.ensures.read in
     let answers = locates asked c.in_ok-options.options c.in_ok-rom.rom.items c.in_ok-ram.ram.items c.deref-3.result.now c.deref-4.result.now
-        c.deref.result.now c.deref-2.result.now read.0 c.in_ok-modules.modules.items c.index-program.result.now c.in-Ok.answer
-        c.in_ok-options.ensures.numbers c.deref.ensures.value c.in_ok-rom.ensures.ranges c.deref-2.ensures.value c.in_ok-ram.ensures.ranges
-        c.deref-3.ensures.value c.deref-4.ensures.value read.2 c.in_ok-modules.ensures.one c.index-program.ensures c.in-Ok.ensures.on_board
-        c.in-Ok.ensures.files in
+    c.deref.result.now c.deref-2.result.now read.0 c.in_ok-modules.modules.items c.index-program.result.now c.in-Ok.answer
+    c.in_ok-options.ensures.numbers c.deref.ensures.value c.in_ok-rom.ensures.ranges c.deref-2.ensures.value c.in_ok-ram.ensures.ranges
+    c.deref-3.ensures.value c.deref-4.ensures.value read.2 c.in_ok-modules.ensures.one c.index-program.ensures c.in-Ok.ensures.on_board
+    c.in-Ok.ensures.files in
     let journal = read.1 ∙ ap (λ (j : Journal). and_read j asked.object.now read.0)
-        (c.in_ok-ram.ensures.unchanged ∙ c.in_ok-rom.ensures.unchanged ∙ c.in_ok-options.ensures.unchanged) in
+    (c.in_ok-ram.ensures.unchanged ∙ c.in_ok-rom.ensures.unchanged ∙ c.in_ok-options.ensures.unchanged) in
     gives_up (LocatesFile asked) (asked.object.now ∷ []) (g.C.Console.journal c.args.console.now) (g.C.Console.journal c.read_program.new.console)
-    (g.C.Console.journal c.give.new.self) (file_value asked.object.now read.0 ∷ []) refl journal c.in-Ok.answer c.give.result answers c.give.ensures.fault
+    (g.C.Console.journal c.give-given.new.self) (file_value asked.object.now read.0 ∷ []) refl journal c.in-Ok.answer c.give-given.result answers c.give-given.ensures.fault
