@@ -54,17 +54,14 @@ fn explain_overlap<C: Console>(console: &C, text: &[u8]) {
     if !console.explains() {
         return;
     }
-    if let Ok(Some((first, second))) = overlapping_lines(console.alloc(), text) {
-        explain_range_line(console, text, first);
-        explain_range_line(console, text, second);
-    }
-}
-
-/// Shows the line of this number.
-fn explain_range_line<C: Console>(console: &C, text: &[u8], number: usize) {
-    if let Some(line) = line_of(text, number) {
-        if let Ok(words) = str::from_utf8(line.bytes) {
-            console.explain(format_args!("line {number}: {words}"));
+    let Ok(Some((first, second))) = overlapping_lines(console.alloc(), text) else {
+        return;
+    };
+    for number in [first, second] {
+        if let Some(line) = line_of(text, number) {
+            if let Ok(words) = str::from_utf8(line.bytes) {
+                console.explain(format_args!("line {number}: {words}"));
+            }
         }
     }
 }

@@ -14,6 +14,7 @@ use image80_file::read_image;
 use loader80::{Refusal, vouch};
 use plm80_console::{Console, Reported};
 use std::alloc::{AllocError, Global};
+use std::fmt::Display;
 use std::str;
 
 /// A range of an image's regions, and the word that begins its line.
@@ -59,7 +60,12 @@ fn refused_again<C: Console>(console: &C, image: &str, regions: &str) -> Option<
 /// Says what is at the address of a refusal.
 fn explain_place<C: Console>(console: &C, image: &Image, refusal: Refusal) {
     match refusal {
-        Refusal::FetchOutside(at) => explain_outside(console, image, at),
+        Refusal::FetchOutside(at) if image.regions.in_code(at) => {
+            console.explain(format_args!(
+                "not all bytes of the instruction at {at:04X} are in CODE"
+            ));
+        }
+        Refusal::FetchOutside(at) => explain_range(console, image, "", at),
         Refusal::UnusedOpcode(at) => {
             let byte = image.byte(at);
             console.explain(format_args!("{at:04X} has {byte:02X}, no instruction of the 8080"));
@@ -71,18 +77,21 @@ fn explain_place<C: Console>(console: &C, image: &Image, refusal: Refusal) {
     }
 }
 
-/// Says where an address is whose instruction isn't all in CODE.
-fn explain_outside<C: Console>(console: &C, image: &Image, at: u16) {
-    if image.regions.in_code(at) {
-        console.explain(format_args!("not all bytes of the instruction at {at:04X} are in CODE"));
-    } else {
-        match place_of(image, at) {
-            Some(place) => {
-                let (word, first, length) = (place.word, place.range.first, place.range.length);
-                console.explain(format_args!("{at:04X} is in {word} {first:04X} {length:04X}"));
-            }
-            None => console.explain(format_args!("{at:04X} is in no range")),
+/// Says in which range an address is, behind other words.
+fn explain_range<C: Console, W: Display + Drop>(
+    console: &C,
+    image: &Image,
+    before: W,
+    address: u16,
+) {
+    match place_of(image, address) {
+        Some(place) => {
+            let (word, first, length) = (place.word, place.range.first, place.range.length);
+            console.explain(format_args!(
+                "{before}{address:04X} is in {word} {first:04X} {length:04X}"
+            ));
         }
+        None => console.explain(format_args!("{before}{address:04X} is in no range")),
     }
 }
 
@@ -98,9 +107,19 @@ fn explain_instruction<C: Console>(console: &C, image: &Image, refusal: Refusal)
     let Ok(text) = str::from_utf8(&text) else {
         return;
     };
+    let top = image.regions.top();
     match refusal {
-        Refusal::DirectStore(_) => explain_store(console, image, instr, text),
-        Refusal::SetsStack(_) => explain_top(console, image, instr, text),
+        Refusal::DirectStore(_) => {
+            if let Some(address) = stored_outside(image, instr) {
+                explain_range(console, image, format_args!("{text}: "), address);
+            }
+        }
+        Refusal::SetsStack(_) if instr == Instr::Lxi(Pair::Sp, top) => {
+            console.explain(format_args!("{text} isn't in the main program"));
+        }
+        Refusal::SetsStack(_) => {
+            console.explain(format_args!("{text}: STACK ends before {top:04X}"));
+        }
         Refusal::EnablesInterrupts(_) => {
             console.explain(format_args!("{text}: no HLT in CODE follows it"));
         }
@@ -110,32 +129,6 @@ fn explain_instruction<C: Console>(console: &C, image: &Image, refusal: Refusal)
             ));
         }
         _ => console.explain(format_args!("{text} is at {at:04X}")),
-    }
-}
-
-/// Says which range has the first byte that isn't data of those to which an instruction stores.
-fn explain_store<C: Console>(console: &C, image: &Image, instr: Instr, text: &str) {
-    let Some(address) = stored_outside(image, instr) else {
-        return;
-    };
-    match place_of(image, address) {
-        Some(place) => {
-            let (word, first, length) = (place.word, place.range.first, place.range.length);
-            console.explain(format_args!(
-                "{text}: {address:04X} is in {word} {first:04X} {length:04X}"
-            ));
-        }
-        None => console.explain(format_args!("{text}: {address:04X} is in no range")),
-    }
-}
-
-/// Says where the stack's top is, or that a procedure sets it.
-fn explain_top<C: Console>(console: &C, image: &Image, instr: Instr, text: &str) {
-    let top = image.regions.top();
-    if instr == Instr::Lxi(Pair::Sp, top) {
-        console.explain(format_args!("{text} isn't in the main program"));
-    } else {
-        console.explain(format_args!("{text}: STACK ends before {top:04X}"));
     }
 }
 
