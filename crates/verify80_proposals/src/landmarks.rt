@@ -1,8 +1,8 @@
-//! The words to which spans grow.
+//! The numbers to which spans grow.
 
 use crate::marks::mark;
 use crate::program::ReachedProgram;
-use decode80::Instr;
+use decode80::{Instr, Operand};
 use image80::RegionMap;
 use std::alloc::{AllocError, Global};
 use verify80_states::{ByteSpan, Cell, Cells, PairSpan, Span, State, Words, is_marked};
@@ -12,11 +12,63 @@ const JOINS: u32 = 4;
 /// How often it then grows from landmark to landmark, before it grows to any word: once for each page of memory and some more.
 const STEPS: u32 = 300;
 
-/// For each word the next landmark from it on, up and down: ends of data, of pages, and words that the program names.
+/// For each number the next landmark from it on, up and down.
 #[derive(Drop)]
-pub(crate) struct Landmarks {
+struct Scale {
     up: Vec<u16>,
     down: Vec<u16>,
+}
+
+impl Scale {
+    /// The landmarks at which spans begin and end.
+    fn new(alloc: Global, is_first: &[bool], is_last: &[bool]) -> Result<Scale, AllocError> {
+        let mut scale = Scale {
+            up: vec![in alloc; u16::MAX; 65_536]?,
+            down: vec![in alloc; 0; 65_536]?,
+        };
+        let mut first = 0;
+        let mut last = u16::MAX;
+        for number in 0..65_536_u32 {
+            let low = number as u16;
+            if is_marked(is_first, low) {
+                first = low;
+            }
+            if let Some(place) = scale.down.get_mut(usize::from(low)) {
+                *place = first;
+            }
+            let high = u16::MAX - low;
+            if is_marked(is_last, high) {
+                last = high;
+            }
+            if let Some(place) = scale.up.get_mut(usize::from(high)) {
+                *place = last;
+            }
+        }
+        Ok(scale)
+    }
+
+    /// The landmark at a number or above it.
+    fn above(&self, number: u16) -> u16 {
+        match self.up.get(usize::from(number)) {
+            Some(landmark) => *landmark,
+            None => u16::MAX,
+        }
+    }
+
+    /// The landmark at a number or below it.
+    fn below(&self, number: u16) -> u16 {
+        match self.down.get(usize::from(number)) {
+            Some(landmark) => *landmark,
+            None => 0,
+        }
+    }
+}
+
+/// The numbers to which spans grow: ends of data, of pages, and what the program names.
+#[derive(Drop)]
+pub(crate) struct Landmarks {
+    words: Scale,
+    bytes: Scale,
 }
 
 impl Landmarks {
@@ -27,52 +79,13 @@ impl Landmarks {
     pub fn new(alloc: Global, program: ReachedProgram<'_>) -> Result<Landmarks, AllocError> {
         let mut is_last = vec![in alloc; false; 65_536]?;
         let mut is_first = vec![in alloc; false; 65_536]?;
+        let mut is_byte = vec![in alloc; false; 65_536]?;
         mark_ends(alloc, program, &mut is_first, &mut is_last)?;
-        mark_names(program, &mut is_first, &mut is_last);
-        let mut landmarks = Landmarks {
-            up: vec![in alloc; u16::MAX; 65_536]?,
-            down: vec![in alloc; 0; 65_536]?,
-        };
-        landmarks.fill(&is_first, &is_last);
-        Ok(landmarks)
-    }
-
-    /// Notes the next landmark of each word.
-    fn fill(&mut self, is_first: &[bool], is_last: &[bool]) {
-        let mut first = 0;
-        let mut last = u16::MAX;
-        for number in 0..65_536_u32 {
-            let low = number as u16;
-            if is_marked(is_first, low) {
-                first = low;
-            }
-            if let Some(place) = self.down.get_mut(usize::from(low)) {
-                *place = first;
-            }
-            let high = u16::MAX - low;
-            if is_marked(is_last, high) {
-                last = high;
-            }
-            if let Some(place) = self.up.get_mut(usize::from(high)) {
-                *place = last;
-            }
-        }
-    }
-
-    /// The landmark at a word or above it.
-    fn above(&self, word: u16) -> u16 {
-        match self.up.get(usize::from(word)) {
-            Some(landmark) => *landmark,
-            None => u16::MAX,
-        }
-    }
-
-    /// The landmark at a word or below it.
-    fn below(&self, word: u16) -> u16 {
-        match self.down.get(usize::from(word)) {
-            Some(landmark) => *landmark,
-            None => 0,
-        }
+        mark_names(program, &mut is_first, &mut is_last, &mut is_byte);
+        Ok(Landmarks {
+            words: Scale::new(alloc, &is_first, &is_last)?,
+            bytes: Scale::new(alloc, &is_byte, &is_byte)?,
+        })
     }
 
     /// A state with all that two states may be; an end that has moved so often goes on to a landmark.
@@ -103,14 +116,10 @@ impl Landmarks {
     }
 
     fn grown_bytes(&self, old: ByteSpan, new: ByteSpan, growths: u32) -> ByteSpan {
-        let first = old.first.min(new.first);
-        let last = old.last.max(new.last);
-        if growths < JOINS {
-            return ByteSpan { first, last };
-        }
+        let words = grown(&self.bytes, words_of(old), words_of(new), growths);
         ByteSpan {
-            first: if first == old.first { first } else { 0 },
-            last: if last == old.last { last } else { u8::MAX },
+            first: words.first.min(255) as u8,
+            last: words.last.min(255) as u8,
         }
     }
 
@@ -140,26 +149,39 @@ impl Landmarks {
     }
 
     fn grown_words(&self, old: Span, new: Span, growths: u32) -> Span {
-        let hull = old.hull(new);
-        if growths < JOINS {
-            return hull;
-        }
-        let is_last_time = growths > STEPS;
-        let first = if hull.first == old.first {
-            old.first
-        } else if is_last_time {
-            0
-        } else {
-            self.below(hull.first)
-        };
-        let last = if hull.last == old.last {
-            old.last
-        } else if is_last_time {
-            u16::MAX
-        } else {
-            self.above(hull.last)
-        };
-        Span { first, last }
+        grown(&self.words, old, new, growths)
+    }
+}
+
+/// What two spans may be; an end that has moved so often goes on to a landmark.
+fn grown(scale: &Scale, old: Span, new: Span, growths: u32) -> Span {
+    let hull = old.hull(new);
+    if growths < JOINS {
+        return hull;
+    }
+    let is_last_time = growths > STEPS;
+    let first = if hull.first == old.first {
+        old.first
+    } else if is_last_time {
+        0
+    } else {
+        scale.below(hull.first)
+    };
+    let last = if hull.last == old.last {
+        old.last
+    } else if is_last_time {
+        u16::MAX
+    } else {
+        scale.above(hull.last)
+    };
+    Span { first, last }
+}
+
+/// The bytes as words.
+fn words_of(bytes: ByteSpan) -> Span {
+    Span {
+        first: u16::from(bytes.first),
+        last: u16::from(bytes.last),
     }
 }
 
@@ -207,15 +229,30 @@ fn mark_ends(
     Ok(())
 }
 
-/// Marks the words that LXI names, and those beside them.
-fn mark_names(program: ReachedProgram<'_>, is_first: &mut [bool], is_last: &mut [bool]) {
+/// Marks the words that LXI names and the bytes that other instructions name, and those beside them.
+fn mark_names(
+    program: ReachedProgram<'_>,
+    is_first: &mut [bool],
+    is_last: &mut [bool],
+    is_byte: &mut [bool],
+) {
     for number in 0..65_536_u32 {
         if let Some(found) = program.at(number as u16) {
-            if let Instr::Lxi(_, word) = found.instr {
-                mark(is_first, word);
-                mark(is_first, word.wrapping_add(1));
-                mark(is_last, word);
-                mark(is_last, word.wrapping_sub(1));
+            match found.instr {
+                Instr::Lxi(_, word) => {
+                    mark(is_first, word);
+                    mark(is_first, word.wrapping_add(1));
+                    mark(is_last, word);
+                    mark(is_last, word.wrapping_sub(1));
+                }
+                Instr::Operate(_, Operand::Immediate(byte))
+                | Instr::Mvi(_, byte)
+                | Instr::MviMemory(byte) => {
+                    mark(is_byte, u16::from(byte));
+                    mark(is_byte, u16::from(byte.wrapping_add(1)));
+                    mark(is_byte, u16::from(byte.wrapping_sub(1)));
+                }
+                _ => {}
             }
         }
     }
