@@ -161,30 +161,37 @@ impl Nodes {
         if group.count >= self.most(at) && group.joined != Units::ALL {
             self.join_some(alloc, at)?;
         }
-        let joined = self.group(at).joined;
-        if joined != Units::NONE {
-            if let Some(place) = self.find_alike(at, state, joined) {
+        self.put(at, state)
+    }
+
+    /// Puts a state at its address: into one from which only joined parts tell it apart, or as one of its own.
+    fn put(&mut self, at: u16, state: State) -> Result<u32, AllocError> {
+        match self.find_alike(at, state) {
+            Some(place) => {
                 self.grow(place, state)?;
-                return Ok(place);
+                Ok(place)
             }
+            None => self.append(at, state),
         }
-        self.append(at, state)
     }
 
     /// How many states an address has now, at most.
     fn most(&self, at: u16) -> u32 {
-        if self.is_late {
+        if self.is_late || self.nodes.len() >= MANY || self.group(at).joined != Units::NONE {
+            self.most_joined()
+        } else {
+            self.most
+        }
+    }
+
+    /// How many it has, at most, once some of them are no longer told apart.
+    fn most_joined(&self) -> u32 {
+        if self.is_late || self.nodes.len() >= TOO_MANY {
             1
-        } else if self.nodes.len() < MANY {
-            if self.group(at).joined == Units::NONE {
-                self.most
-            } else {
-                JOINED.min(self.most)
-            }
-        } else if self.nodes.len() < TOO_MANY {
+        } else if self.nodes.len() >= MANY {
             FEWER
         } else {
-            1
+            JOINED.min(self.most)
         }
     }
 
@@ -207,10 +214,17 @@ impl Nodes {
         }
     }
 
-    /// A state at an address that says no more than this one, if one is found: the same one, or one of those that came last.
+    /// A state at an address that says no more than this one, if one is found: in its list, or among those that came last.
     fn find_around(&self, at: u16, state: State) -> Option<u32> {
-        if let Some(place) = self.find_same(at, state) {
-            return Some(self.holder(place));
+        let mut place = self.first_listed(at, state);
+        for _ in 0..self.nodes.len() {
+            let Some(node) = self.get(place) else {
+                break;
+            };
+            if node.at == at && state.is_inside(node.state) {
+                return Some(self.holder(place));
+            }
+            place = node.next_listed;
         }
         let mut place = self.group(at).first;
         for _ in 0..NEWEST {
@@ -223,12 +237,13 @@ impl Nodes {
         None
     }
 
-    /// The same state at the address.
-    fn find_same(&self, at: u16, state: State) -> Option<u32> {
-        let mut place = *self.lists.get(list_of(at, state))?;
+    /// A state at an address that differs from this one in none but the joined parts.
+    fn find_alike(&self, at: u16, state: State) -> Option<u32> {
+        let parts = Units::ALL.difference(self.group(at).joined);
+        let mut place = self.first_listed(at, state);
         for _ in 0..self.nodes.len() {
             let node = self.get(place)?;
-            if node.at == at && node.state == state {
+            if node.at == at && node.taken_by == place && are_alike(node.state, state, parts) {
                 return Some(place);
             }
             place = node.next_listed;
@@ -236,25 +251,19 @@ impl Nodes {
         None
     }
 
-    /// A state at an address that differs from this one in none but these parts.
-    fn find_alike(&self, at: u16, state: State, joined: Units) -> Option<u32> {
-        let parts = Units::ALL.difference(joined);
-        let mut place = self.group(at).first;
-        for _ in 0..self.nodes.len() {
-            let node = self.get(place)?;
-            if are_alike(node.state, state, parts) {
-                return Some(place);
-            }
-            place = node.next;
+    /// The first state of the list in which a state is, by the parts that tell states apart at its address.
+    fn first_listed(&self, at: u16, state: State) -> u32 {
+        match self.lists.get(list_of(at, state, self.group(at).joined)) {
+            Some(first) => *first,
+            None => NOWHERE,
         }
-        None
     }
 
     /// Appends a state, from which others have to be followed.
     fn append(&mut self, at: u16, state: State) -> Result<u32, AllocError> {
         let place = place_of(self.nodes.len());
         let group = self.group(at);
-        let next_listed = self.put_first(list_of(at, state), place);
+        let next_listed = self.put_first(list_of(at, state, group.joined), place);
         self.nodes.push(Node {
             at,
             state,
@@ -305,59 +314,11 @@ impl Nodes {
         Ok(())
     }
 
-    /// No longer tells apart the states at an address by the part that tells the most of them apart, until there are few enough.
+    /// No longer tells apart the states at an address by those parts that tell the most of them apart, as many as it takes until there are
+    /// few enough.
     fn join_some(&mut self, alloc: Global, at: u16) -> Result<(), AllocError> {
-        if self.most(at) == 1 {
-            return self.join_by(at, Units::ALL);
-        }
-        for _ in 0..PARTS {
-            if self.group(at).joined != Units::NONE && self.group(at).count < self.most(at) {
-                break;
-            }
-            let part = self.part_that_tells_most(alloc, at)?;
-            self.join_by(at, part)?;
-        }
-        Ok(())
-    }
-
-    /// The part of which the states at an address have the most values, of those by which they are still distinguished.
-    fn part_that_tells_most(&self, alloc: Global, at: u16) -> Result<Units, AllocError> {
-        let joined = self.group(at).joined;
-        let mut most = 0;
-        let mut best = Units::ALL;
-        for part in 0..PARTS {
-            let unit = Units::numbered(part);
-            if !joined.intersects(unit) {
-                let count = self.count_values(alloc, at, part)?;
-                if count > most {
-                    most = count;
-                    best = unit;
-                }
-            }
-        }
-        Ok(best)
-    }
-
-    /// How many values a part has in the states at an address.
-    fn count_values(&self, alloc: Global, at: u16, part: usize) -> Result<usize, AllocError> {
-        let mut values = Vec::new(alloc);
-        let mut place = self.group(at).first;
-        for _ in 0..self.nodes.len() {
-            let Some(node) = self.get(place) else {
-                break;
-            };
-            values.push(value_of(node.state, part))?;
-            place = node.next;
-        }
-        values.sort_unstable();
-        values.dedup();
-        Ok(values.len())
-    }
-
-    /// Joins the states at an address that only these parts and those before tell apart.
-    fn join_by(&mut self, at: u16, part: Units) -> Result<(), AllocError> {
-        let group = self.group(at);
-        let joined = group.joined.union(part);
+        let places = self.places_at(alloc, at)?;
+        let joined = self.parts_to_join(alloc, at, &places)?;
         self.set_group(
             at,
             Group {
@@ -366,59 +327,93 @@ impl Nodes {
                 joined,
             },
         );
-        let mut place = group.first;
-        for _ in 0..self.nodes.len() {
-            let Some(node) = self.get(place) else {
-                break;
-            };
-            self.regroup(at, place, node.state, joined)?;
-            place = node.next;
+        for place in &places {
+            self.put_back(at, *place)?;
         }
         Ok(())
     }
 
-    /// Puts a state back at its address, or into one from which these parts alone tell it apart.
-    fn regroup(
-        &mut self,
-        at: u16,
-        place: u32,
-        state: State,
-        joined: Units,
-    ) -> Result<(), AllocError> {
-        match self.find_alike(at, state, joined) {
-            Some(holder) => {
-                if let Some(node) = self.nodes.get_mut(place as usize) {
-                    node.taken_by = holder;
-                }
-                if let Some(node) = self.nodes.get_mut(holder as usize) {
-                    node.growths = 0;
-                }
-                self.grow(holder, state)
-            }
-            None => {
-                let group = self.group(at);
-                if let Some(node) = self.nodes.get_mut(place as usize) {
-                    node.next = group.first;
-                }
-                self.set_group(
-                    at,
-                    Group {
-                        first: place,
-                        count: group.count.saturating_add(1),
-                        joined,
-                    },
-                );
-                Ok(())
+    /// The places of the states at an address.
+    fn places_at(&self, alloc: Global, at: u16) -> Result<Vec<u32>, AllocError> {
+        let mut places = Vec::new(alloc);
+        let mut place = self.group(at).first;
+        for _ in 0..self.nodes.len() {
+            let Some(node) = self.get(place) else {
+                break;
+            };
+            places.push(place)?;
+            place = node.next;
+        }
+        Ok(places)
+    }
+
+    /// The parts by which states at an address are no longer told apart, with those of which they have the most values.
+    fn parts_to_join(&self, alloc: Global, at: u16, places: &[u32]) -> Result<Units, AllocError> {
+        let most = self.most_joined() as usize;
+        let mut joined = self.group(at).joined;
+        let mut counted = Vec::new(alloc);
+        for part in 0..PARTS {
+            if !joined.intersects(Units::numbered(part)) {
+                let count = self.count_apart(alloc, places, Units::ALL.difference(Units::numbered(part)))?;
+                counted.push((count, PARTS - part))?;
             }
         }
+        counted.sort_unstable();
+        for _ in 0..PARTS {
+            let Some((_, part)) = counted.pop() else {
+                break;
+            };
+            joined = joined.union(Units::numbered(PARTS - part));
+            if self.count_apart(alloc, places, joined)? < most {
+                return Ok(joined);
+            }
+        }
+        Ok(Units::ALL)
+    }
+
+    /// How many of these states are told apart, if these parts are joined.
+    fn count_apart(&self, alloc: Global, places: &[u32], joined: Units) -> Result<usize, AllocError> {
+        let mut sums = Vec::new(alloc);
+        for place in places {
+            if let Some(node) = self.get(*place) {
+                sums.push(sum_of(0, node.state, joined))?;
+            }
+        }
+        sums.sort_unstable();
+        sums.dedup();
+        Ok(sums.len())
+    }
+
+    /// Puts a state back at its address, into the one that has it from now on.
+    fn put_back(&mut self, at: u16, place: u32) -> Result<(), AllocError> {
+        let Some(node) = self.get(place) else {
+            return Ok(());
+        };
+        let holder = self.put(at, node.state)?;
+        if let Some(node) = self.nodes.get_mut(holder as usize) {
+            node.growths = 0;
+        }
+        if let Some(node) = self.nodes.get_mut(place as usize) {
+            node.taken_by = holder;
+        }
+        Ok(())
     }
 }
 
-/// The list of a state.
-fn list_of(at: u16, state: State) -> usize {
-    let mut sum = u32::from(at);
+/// The list of a state, of which these parts tell it apart from none.
+fn list_of(at: u16, state: State, joined: Units) -> usize {
+    (sum_of(u32::from(at), state, joined) / 8192) as usize % LISTS
+}
+
+/// A sum over the parts of a state without these.
+fn sum_of(first: u32, state: State, joined: Units) -> u32 {
+    let mut sum = first;
+    let mut bits = joined.bits();
     for part in 0..PARTS {
-        sum = sum.wrapping_mul(0x9E37_79B1) ^ value_of(state, part);
+        if bits % 2 == 0 {
+            sum = sum.wrapping_mul(0x9E37_79B1) ^ value_of(state, part);
+        }
+        bits = bits / 2;
     }
-    (sum.wrapping_mul(0x9E37_79B1) / 8192) as usize % LISTS
+    sum.wrapping_mul(0x9E37_79B1)
 }
