@@ -41,7 +41,7 @@ pub(crate) fn compact(
         let place = place_of(number);
         if let Some(node) = nodes.get(place) {
             if node.taken_by == place {
-                append_state(&mut proposal, nodes, hints, program, &places, node)?;
+                append_state(&mut proposal, nodes, hints, program, &places, *node)?;
             }
         }
     }

@@ -2,7 +2,8 @@
 
 use crate::program::ReachedProgram;
 use crate::slots::{
-    Slots, cell_parts, find_pointers, placed_cells, pointer_at, slots_before, stored_parts,
+    Slots, cell_parts, find_places, find_pointers, placed_cells, pointer_at, slots_before,
+    stored_parts,
 };
 use crate::units::{Units, reduced};
 use decode80::{Fetched, Flow, Instr, Operand, Operation, Pair, Rotation, Storing};
@@ -57,10 +58,11 @@ impl Needs {
     /// `AllocError` if memory runs out.
     pub fn of(alloc: Global, program: ReachedProgram<'_>) -> Result<Needs, AllocError> {
         let pointers = find_pointers(alloc, program)?;
+        let places = find_places(alloc, program, &pointers)?;
         let mut needs = vec![in alloc; Need::NONE; 65_536]?;
         let mut behind = vec![in alloc; Need::NONE; 65_536]?;
         for _ in 0..SWEEPS {
-            if !sweep(program, &pointers, &mut needs, &mut behind) {
+            if !sweep(program, &pointers, &places, &mut needs, &mut behind) {
                 break;
             }
         }
@@ -112,6 +114,7 @@ fn named_by(
 fn sweep(
     program: ReachedProgram<'_>,
     pointers: &[Option<u16>],
+    places: &[usize],
     needs: &mut [Need],
     behind: &mut [Need],
 ) -> bool {
@@ -122,7 +125,7 @@ fn sweep(
             if let Flow::Calls(entry) | Flow::CallsIf(_, entry) = found.instr.flow() {
                 is_changed |= note_behind(program, behind, entry, need_at(needs, found.next));
             }
-            let need = need_before(program, pointers, needs, behind, at, found);
+            let need = need_before(program, pointers, places, needs, behind, at, found);
             if let Some(place) = needs.get_mut(usize::from(at)) {
                 if *place != need {
                     *place = need;
@@ -174,6 +177,7 @@ fn need_at(needs: &[Need], at: u16) -> Need {
 fn need_before(
     program: ReachedProgram<'_>,
     pointers: &[Option<u16>],
+    places: &[usize],
     needs: &[Need],
     behind: &[Need],
     at: u16,
@@ -185,7 +189,7 @@ fn need_before(
         Flow::Returns => returned(program, behind, at),
         Flow::Continues | Flow::Pushes | Flow::Pops | Flow::Exchanges => {
             through(
-                program,
+                places,
                 instr,
                 pointer_at(pointers, at),
                 need_at(needs, next),
@@ -222,7 +226,7 @@ fn called(need: Need) -> Need {
 }
 
 /// What is needed before an instruction that goes on, given what is needed after it.
-fn through(program: ReachedProgram<'_>, instr: Instr, pointer: Option<u16>, need: Need) -> Need {
+fn through(places: &[usize], instr: Instr, pointer: Option<u16>, need: Need) -> Need {
     let pointed = match instr.storing() {
         Storing::ThroughHl => Units::HL,
         Storing::Through(pair) => Units::of_index_pair(pair),
@@ -232,7 +236,7 @@ fn through(program: ReachedProgram<'_>, instr: Instr, pointer: Option<u16>, need
         parts: moved_through(instr, need.parts)
             .union(pointed)
             .union(stored_parts(instr, pointer, need.slots)),
-        slots: slots_before(program, instr, pointer, need.parts, need.slots),
+        slots: slots_before(places, instr, pointer, need.parts, need.slots),
     }
 }
 

@@ -108,11 +108,8 @@ impl Nodes {
     }
 
     /// A state, if there is one at a place.
-    pub fn get(&self, place: u32) -> Option<Node> {
-        match self.nodes.get(place as usize) {
-            Some(node) => Some(*node),
-            None => None,
-        }
+    pub fn get(&self, place: u32) -> Option<&Node> {
+        self.nodes.get(place as usize)
     }
 
     /// What is needed of a state at an address.
@@ -354,7 +351,11 @@ impl Nodes {
         let mut counted = Vec::new(alloc);
         for part in 0..PARTS {
             if !joined.intersects(Units::numbered(part)) {
-                let count = self.count_apart(alloc, places, Units::ALL.difference(Units::numbered(part)))?;
+                let count = self.count_apart(
+                    alloc,
+                    places,
+                    Units::ALL.difference(Units::numbered(part)),
+                )?;
                 counted.push((count, PARTS - part))?;
             }
         }
@@ -372,7 +373,12 @@ impl Nodes {
     }
 
     /// How many of these states are told apart, if these parts are joined.
-    fn count_apart(&self, alloc: Global, places: &[u32], joined: Units) -> Result<usize, AllocError> {
+    fn count_apart(
+        &self,
+        alloc: Global,
+        places: &[u32],
+        joined: Units,
+    ) -> Result<usize, AllocError> {
         let mut sums = Vec::new(alloc);
         for place in places {
             if let Some(node) = self.get(*place) {
@@ -389,7 +395,8 @@ impl Nodes {
         let Some(node) = self.get(place) else {
             return Ok(());
         };
-        let holder = self.put(at, node.state)?;
+        let state = node.state;
+        let holder = self.put(at, state)?;
         if let Some(node) = self.nodes.get_mut(holder as usize) {
             node.growths = 0;
         }

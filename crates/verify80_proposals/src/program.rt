@@ -1,6 +1,5 @@
 //! The program that states are proposed for, and its ways.
 
-use crate::slots::Slots;
 use decode80::{Fetched, Flow, Instr};
 use image80::Regions;
 use verify80_states::{CallReturns, State, given, state_after};
@@ -38,14 +37,6 @@ impl<'a> ReachedProgram<'a> {
         match self.groups.get(usize::from(address)) {
             Some(number) => *number,
             None => 0,
-        }
-    }
-
-    /// These bytes of memory, and another, if it is quiet.
-    pub(crate) fn with_quiet(self, slots: Slots, address: u16) -> Slots {
-        match self.quiet.get(usize::from(address)) {
-            Some(true) => slots.with(address),
-            _ => slots,
         }
     }
 

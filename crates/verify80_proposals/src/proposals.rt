@@ -11,12 +11,12 @@ const MOST_STATES: u32 = 4352;
 const STATES: [u32; 4] = [MOST_STATES, 256, 32, 8];
 /// How often it is tried which procedures know where they return to.
 const TRIALS: usize = 3;
-/// How many states are followed on trial, each as often as it grows.
-const TRIAL_STEPS: u32 = 100_000;
+/// How many ways are followed on trial, each as often as its state grows.
+const TRIAL_WAYS: usize = 120_000;
 /// How many are followed if calls aren't told apart, before the search hurries.
-const STEPS: u32 = 500_000;
+const WAYS: usize = 400_000;
 /// How many are followed then, at most.
-const LATE_STEPS: u32 = 4_000_000;
+const LATE_WAYS: usize = 1_000_000;
 
 /// The table of a number from 0 to 3, if there is one: calls told apart or joined, and then both once more as if no address were quiet.
 ///
@@ -41,18 +41,16 @@ pub fn propose_table(
     }
 }
 
-/// A table in which calls are told apart; `None` if none can be, or too many states would have to be followed.
+/// A table in which calls are told apart, with as many states at an address as can be followed; `None` if none can be told apart.
 fn propose_told_apart(
     alloc: Global,
     program: ReachedProgram<'_>,
     groups: &Groups,
 ) -> Result<Option<Proposal>, AllocError> {
-    for number in 0..STATES.len() {
-        if let Some(most) = STATES.get(number) {
-            let found = try_told_apart(alloc, program, groups, *most)?;
-            if found.is_some() {
-                return Ok(found);
-            }
+    for most in &STATES {
+        let found = try_told_apart(alloc, program, groups, *most)?;
+        if found.is_some() {
+            return Ok(found);
         }
     }
     Ok(None)
@@ -69,44 +67,48 @@ fn try_told_apart(
     most: u32,
 ) -> Result<Option<Proposal>, AllocError> {
     let mut knows = groups.called(alloc)?;
+    let limits = Limits {
+        states: most,
+        ways: TRIAL_WAYS,
+        late_ways: 0,
+    };
     for _ in 0..TRIALS {
         if !knows.contains(&true) {
             break;
         }
-        let returns = groups.returns(alloc, &knows)?;
-        let tried = propose(
-            alloc,
-            ReachedProgram {
-                returns: &returns,
-                groups: groups.numbers(),
-                ..program
-            },
-            Limits {
-                states: most,
-                steps: TRIAL_STEPS,
-                late_steps: 0,
-            },
-        )?;
-        let Some(proposal) = tried else {
+        let Some(proposal) = propose_with(alloc, program, groups, &knows, limits)? else {
             break;
         };
         if !groups.take_marks(program, &proposal.table, &mut knows) {
-            return Ok(Some(Proposal {
-                returns,
-                ..proposal
-            }));
+            return Ok(Some(proposal));
         }
     }
     Ok(None)
 }
 
-/// A table in which calls aren't told apart.
+/// A table in which calls aren't told apart: each procedure is followed by itself.
 fn propose_joined(
     alloc: Global,
     program: ReachedProgram<'_>,
     groups: &Groups,
 ) -> Result<Option<Proposal>, AllocError> {
-    let returns = groups.returns(alloc, &[])?;
+    let limits = Limits {
+        states: MOST_STATES,
+        ways: WAYS,
+        late_ways: LATE_WAYS,
+    };
+    propose_with(alloc, program, groups, &[], limits)
+}
+
+/// A table in which the marked groups know where they return to.
+fn propose_with(
+    alloc: Global,
+    program: ReachedProgram<'_>,
+    groups: &Groups,
+    knows: &[bool],
+    limits: Limits,
+) -> Result<Option<Proposal>, AllocError> {
+    let returns = groups.returns(alloc, knows)?;
     let found = propose(
         alloc,
         ReachedProgram {
@@ -114,11 +116,7 @@ fn propose_joined(
             groups: groups.numbers(),
             ..program
         },
-        Limits {
-            states: MOST_STATES,
-            steps: STEPS,
-            late_steps: LATE_STEPS,
-        },
+        limits,
     )?;
     match found {
         Some(proposal) => Ok(Some(Proposal {

@@ -22,13 +22,14 @@ pub struct Proposal {
 pub(crate) struct Limits {
     /// How many states an address has, at most.
     pub states: u32,
-    /// How many states are followed, each as often as it grows.
-    pub steps: u32,
-    /// How many are followed then, one at each address.
-    pub late_steps: u32,
+    /// How many ways are followed from states, each as often as the state grows.
+    pub ways: usize,
+    /// How many are followed then, if each address has one state.
+    pub late_ways: usize,
 }
 
-/// What is known at each address that the program may reach, or `None` if too many states would have to be followed.
+/// What is known at each address that the program may reach, or `None` if too many ways would have to be followed. What the limits leave
+/// is lessened by the ways that were followed.
 ///
 /// At the start nothing is, and behind a call nothing, unless the callee's states know where they return to.
 ///
@@ -44,50 +45,64 @@ pub(crate) fn propose(
     let mut nodes = Nodes::new(alloc, needs, landmarks, limits.states)?;
     let mut hints = Vec::new(alloc);
     let start = nodes.enter(alloc, program.start, State::ANY)?;
-    if !follow_all(alloc, &mut nodes, &mut hints, program, limits.steps)? {
+    if !follow_all(alloc, &mut nodes, &mut hints, program, limits.ways)? {
         nodes.hurry();
-        if !follow_all(alloc, &mut nodes, &mut hints, program, limits.late_steps)? {
+        if !follow_all(alloc, &mut nodes, &mut hints, program, limits.late_ways)? {
             return Ok(None);
         }
     }
     Ok(Some(compact(alloc, &nodes, &hints, program, start)?))
 }
 
-/// Follows states until none waits, but no more than these, and says whether none waits.
+/// Follows states until none waits, but no more ways than these, and says whether none waits.
 fn follow_all(
     alloc: Global,
     nodes: &mut Nodes,
     hints: &mut Vec<u32>,
     program: ReachedProgram<'_>,
-    most: u32,
+    most: usize,
 ) -> Result<bool, AllocError> {
+    let mut left = most;
     for _ in 0..most {
         let Some(place) = nodes.next_waiting() else {
             return Ok(true);
         };
-        if let Some(node) = nodes.get(place) {
-            if node.taken_by == place {
-                follow(alloc, nodes, hints, program, place, node)?;
-            }
+        let ways = follow(alloc, nodes, hints, program, place)?;
+        if ways > left {
+            return Ok(false);
         }
+        left = left.saturating_sub(ways);
     }
     Ok(false)
 }
 
-/// Enters what each way makes of a state, and notes where.
+/// Enters what each way makes of a state, notes where, and answers how many ways there are. Of a state that was taken in none is followed.
 fn follow(
     alloc: Global,
     nodes: &mut Nodes,
     hints: &mut Vec<u32>,
     program: ReachedProgram<'_>,
     place: u32,
-    node: Node,
-) -> Result<(), AllocError> {
-    let Some(found) = program.at(node.at) else {
-        return Ok(());
+) -> Result<usize, AllocError> {
+    let Some(
+        Node {
+            at,
+            state,
+            hint,
+            taken_by,
+            ..
+        },
+    ) = nodes.get(place)
+    else {
+        return Ok(0);
     };
-    let ways = program.count_ways(node.at, found.instr);
-    let first = if node.hint == NOWHERE {
+    let (at, state, hint, taken_by) = (*at, *state, *hint, *taken_by);
+    let found = match program.at(at) {
+        Some(found) if taken_by == place => found,
+        _ => return Ok(0),
+    };
+    let ways = program.count_ways(at, found.instr);
+    let first = if hint == NOWHERE {
         let first = hints.len();
         for _ in 0..ways {
             hints.push(NOWHERE)?;
@@ -95,10 +110,10 @@ fn follow(
         nodes.set_hint(place, place_of(first));
         first
     } else {
-        node.hint as usize
+        hint as usize
     };
     for number in 0..ways {
-        let to = match program.way(node.at, found, node.state, number) {
+        let to = match program.way(at, found, state, number) {
             Some((to, state)) => nodes.enter(alloc, to, state)?,
             None => NOWHERE,
         };
@@ -106,5 +121,5 @@ fn follow(
             *hint = to;
         }
     }
-    Ok(())
+    Ok(ways)
 }

@@ -1,10 +1,11 @@
-//! The bytes of memory that a state may know, at each address: each has a place of its own among eight, that of its address modulo 8.
+//! The bytes of memory that a state may know, at each address: each has a place among eight, in all states the same.
 
+use crate::marks::mark;
 use crate::program::ReachedProgram;
 use crate::units::Units;
 use decode80::{Fetched, Flow, Instr, Operand, Pair};
 use std::alloc::{AllocError, Global};
-use verify80_states::{ByteSpan, Cell, Cells};
+use verify80_states::{ByteSpan, Cell, Cells, is_marked};
 
 /// How many bytes a state may know.
 pub(crate) const SLOTS: usize = 8;
@@ -26,15 +27,15 @@ impl Slots {
         }
     }
 
-    /// Whether an address has its place.
+    /// Whether an address has a place.
     pub fn has(self, address: u16) -> bool {
-        self.at(place_of(address)) == Some(address)
+        self.0.contains(&address)
     }
 
-    /// These, and an address too, if its place is free or has a greater one.
-    pub fn with(self, address: u16) -> Slots {
+    /// These, and an address at a place, if that is free or has a greater one.
+    fn with(self, place: usize, address: u16) -> Slots {
         let Slots(mut slots) = self;
-        if let Some(slot) = slots.get_mut(place_of(address)) {
+        if let Some(slot) = slots.get_mut(place) {
             if address < *slot {
                 *slot = address;
             }
@@ -43,10 +44,10 @@ impl Slots {
     }
 
     /// These without an address.
-    pub fn without(self, address: u16) -> Slots {
+    fn without(self, address: u16) -> Slots {
         let Slots(mut slots) = self;
-        if let Some(slot) = slots.get_mut(place_of(address)) {
-            if address == *slot {
+        for slot in &mut slots {
+            if *slot == address {
                 *slot = NONE;
             }
         }
@@ -58,7 +59,7 @@ impl Slots {
         let mut both = self;
         for place in 0..SLOTS {
             if let Some(address) = other.at(place) {
-                both = both.with(address);
+                both = both.with(place, address);
             }
         }
         both
@@ -69,16 +70,54 @@ impl Slots {
         let mut both = self;
         for place in 0..SLOTS {
             if let (None, Some(address)) = (self.at(place), other.at(place)) {
-                both = both.with(address);
+                both = both.with(place, address);
             }
         }
         both
     }
 }
 
-/// The place of an address.
-fn place_of(address: u16) -> usize {
-    usize::from(address % 8)
+/// By address the place of each quiet byte that the program reads by name, in turn; that of others is none of them.
+///
+/// # Errors
+/// `AllocError` if memory runs out.
+pub(crate) fn find_places(
+    alloc: Global,
+    program: ReachedProgram<'_>,
+    pointers: &[Option<u16>],
+) -> Result<Vec<usize>, AllocError> {
+    let mut is_read = vec![in alloc; false; 65_536]?;
+    for number in 0..65_536_u32 {
+        if let Some(found) = program.at(number as u16) {
+            for address in &bytes_read(found.instr, pointer_at(pointers, number as u16)) {
+                if let Some(address) = address {
+                    mark(&mut is_read, *address);
+                }
+            }
+        }
+    }
+    let mut places = vec![in alloc; SLOTS; 65_536]?;
+    let mut next = 0;
+    for number in 0..65_536_u32 {
+        if is_marked(&is_read, number as u16) && is_marked(program.quiet, number as u16) {
+            if let Some(place) = places.get_mut(number as usize) {
+                *place = next;
+            }
+            next = (next + 1) % SLOTS;
+        }
+    }
+    Ok(places)
+}
+
+/// The bytes of memory that an instruction reads by name, or through a known pointer: the low one first.
+fn bytes_read(instr: Instr, pointer: Option<u16>) -> [Option<u16>; 2] {
+    match instr {
+        Instr::Lda(address) => [Some(address), None],
+        Instr::Lhld(address) => [Some(address), Some(address.wrapping_add(1))],
+        Instr::Load(_) | Instr::InrMemory | Instr::DcrMemory | Instr::Operate(_, Operand::Memory) =>
+            { [pointer, None] }
+        _ => [None, None],
+    }
 }
 
 /// The word that HL is known to be before the instruction at each address, where an LXI H stands before it in one piece of code.
@@ -126,42 +165,47 @@ fn pointer_after(found: Fetched, before: Option<u16>) -> Option<u16> {
 
 /// The bytes that are to be known before an instruction, given those that are to be known after it, and which parts of a state.
 pub(crate) fn slots_before(
-    program: ReachedProgram<'_>,
+    places: &[usize],
     instr: Instr,
     pointer: Option<u16>,
     parts: Units,
     after: Slots,
 ) -> Slots {
-    let counted = Units::ZERO.union(Units::SIGN);
-    match instr {
-        Instr::Sta(address) => after.without(address),
-        Instr::Shld(address) => after.without(address).without(address.wrapping_add(1)),
-        Instr::Store(_) | Instr::MviMemory(_) => match pointer {
-            Some(address) => after.without(address),
-            None => after,
-        },
-        Instr::Lda(address) if parts.intersects(Units::A.union(Units::TEST)) => {
-            program.with_quiet(after, address)
+    let stored = match (instr, pointer) {
+        (Instr::Sta(address), _) | (Instr::Store(_) | Instr::MviMemory(_), Some(address)) => {
+            after.without(address)
         }
-        Instr::Lhld(address) if parts.intersects(Units::HL) => {
-            let after = program.with_quiet(after, address);
-            program.with_quiet(after, address.wrapping_add(1))
-        }
-        Instr::Load(to) if parts.intersects(Units::of(to)) => with_pointed(program, after, pointer),
-        Instr::InrMemory | Instr::DcrMemory if parts.intersects(counted) => {
-            with_pointed(program, after, pointer)
-        }
-        Instr::Operate(_, Operand::Memory) if parts.intersects(Units::A.union(Units::ALL_FLAGS)) =>
-            { with_pointed(program, after, pointer) }
+        (Instr::Shld(address), _) => after.without(address).without(address.wrapping_add(1)),
         _ => after,
+    };
+    let mut before = stored;
+    let [low, high] = bytes_read(instr, pointer);
+    for (address, read) in &[(low, parts_read(instr)), (high, Units::H)] {
+        if let Some(address) = address {
+            if parts.intersects(*read) {
+                before = before.with(place_at(places, *address), *address);
+            }
+        }
+    }
+    before
+}
+
+/// The place of an address, if it has one.
+fn place_at(places: &[usize], address: u16) -> usize {
+    match places.get(usize::from(address)) {
+        Some(place) => *place,
+        None => SLOTS,
     }
 }
 
-/// These bytes, and the one at a known address.
-fn with_pointed(program: ReachedProgram<'_>, slots: Slots, pointer: Option<u16>) -> Slots {
-    match pointer {
-        Some(address) => program.with_quiet(slots, address),
-        None => slots,
+/// The parts of a state to which the byte comes that an instruction reads: the low one, if it reads two.
+fn parts_read(instr: Instr) -> Units {
+    match instr {
+        Instr::Lda(_) => Units::A.union(Units::TEST),
+        Instr::Lhld(_) => Units::L,
+        Instr::Load(to) => Units::of(to),
+        Instr::InrMemory | Instr::DcrMemory => Units::ZERO.union(Units::SIGN),
+        _ => Units::A.union(Units::ALL_FLAGS),
     }
 }
 
@@ -169,8 +213,17 @@ fn with_pointed(program: ReachedProgram<'_>, slots: Slots, pointer: Option<u16>)
 pub(crate) fn stored_parts(instr: Instr, pointer: Option<u16>, after: Slots) -> Units {
     match instr {
         Instr::Sta(address) if after.has(address) => Units::A,
-        Instr::Shld(address) if after.has(address) || after.has(address.wrapping_add(1)) => {
-            Units::HL
+        Instr::Shld(address) => {
+            let low = if after.has(address) {
+                Units::L
+            } else {
+                Units::NONE
+            };
+            if after.has(address.wrapping_add(1)) {
+                low.union(Units::H)
+            } else {
+                low
+            }
         }
         Instr::Store(register) => match pointer {
             Some(address) if after.has(address) => Units::of(register),
