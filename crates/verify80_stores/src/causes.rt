@@ -1,14 +1,13 @@
 //! What sets the pair of a store or a jump that isn't shown to stay inside. This is advice: nothing is promised of it.
 
+use crate::quiet::mark_quiet;
 use crate::stores::Stores;
-use decode80::{Fetched, Flow, IndexPair, Instr, Pair, Storing};
+use decode80::{Fetched, Flow, IndexPair, Instr, Pair, Register, Storing};
+use image80::Range;
 use std::alloc::{AllocError, Global};
 use verify80::{Vouched, find_reached};
 use verify80_proposals::{Groups, ReachedProgram};
-use verify80_states::CallReturns;
-
-/// How many steps back are taken in all, at most.
-const STEPS: usize = 1_000_000;
+use verify80_states::{CallReturns, is_marked};
 
 /// What sets the pair of an open store or jump.
 #[derive(Clone, Copy, Debug, PartialEq, Eq)]
@@ -18,6 +17,8 @@ pub struct Cause {
     /// Its pair.
     pub pair: Pair,
     pub setter: Setter,
+    /// Why what is set there isn't known, if a reason is seen.
+    pub reason: Option<Reason>,
 }
 
 impl Cause {
@@ -43,10 +44,17 @@ pub enum Setter {
     Nothing,
 }
 
+/// Why a byte that is read isn't known.
+#[derive(Clone, Copy, Debug, PartialEq, Eq)]
+pub enum Reason {
+    /// The byte of data at an address isn't quiet.
+    NotQuiet(u16),
+    /// The byte, or the table, at an address is neither code nor data.
+    NotCode(u16),
+}
+
 /// For each open store and each open jump the nearest instruction that sets its pair to what isn't known: on some way to it, and in
 /// procedures that return before. An LXI is named only if nothing else is found; so is an instruction that counts the pair.
-///
-/// After a million steps back nothing more is found.
 ///
 /// # Errors
 /// `AllocError` if memory runs out.
@@ -54,6 +62,7 @@ pub fn find_causes(
     alloc: Global,
     vouched: &Vouched,
     stores: &Stores,
+    quiet: &[Range],
 ) -> Result<Vec<Cause>, AllocError> {
     let image = vouched.image();
     let found = find_reached(alloc, vouched)?;
@@ -61,6 +70,7 @@ pub fn find_causes(
         may_return: Vec::new(alloc),
         know_return: Vec::new(alloc),
     };
+    let marks = mark_quiet(alloc, &image.regions, quiet)?;
     let program = ReachedProgram {
         code: &[],
         instructions: found.instructions(),
@@ -68,17 +78,22 @@ pub fn find_causes(
         groups: &[],
         start: image.start,
         regions: &image.regions,
-        quiet: &[],
+        quiet: &marks,
     };
-    let mut ways = Ways::new(alloc, program, vouched)?;
+    let groups = Groups::new(alloc, program, vouched.rows())?;
+    let setters = Setters {
+        bc: PairSetters::of(alloc, program, &groups, Pair::Bc)?,
+        de: PairSetters::of(alloc, program, &groups, Pair::De)?,
+        hl: PairSetters::of(alloc, program, &groups, Pair::Hl)?,
+    };
     let mut causes = Vec::new(alloc);
     for open in &stores.open {
         if let Some(pair) = pointer_of(open.instr) {
-            causes.push(ways.cause(alloc, program, open.at, pair)?)?;
+            causes.push(setters.cause(program, open.at, pair))?;
         }
     }
     for at in &stores.open_jumps {
-        causes.push(ways.cause(alloc, program, *at, Pair::Hl)?)?;
+        causes.push(setters.cause(program, *at, Pair::Hl))?;
     }
     Ok(causes)
 }
@@ -87,227 +102,327 @@ pub fn find_causes(
 fn pointer_of(instr: Instr) -> Option<Pair> {
     match instr.storing() {
         Storing::ThroughHl => Some(Pair::Hl),
-        Storing::Through(IndexPair::Bc) => Some(Pair::Bc),
-        Storing::Through(IndexPair::De) => Some(Pair::De),
+        Storing::Through(pair) => Some(pair_of(pair)),
         Storing::Nowhere | Storing::Byte(_) | Storing::Word(_) => None,
     }
 }
 
-/// The ways of a program, backwards.
-#[derive(Drop)]
-struct Ways {
-    groups: Groups,
-    /// By address the first of its ways: 65,536 places.
-    first: Vec<u32>,
-    /// Where each way comes from, and the next way to the same address.
-    ways: Vec<(u16, u32)>,
-    /// The returns of each group.
-    returns: Vec<u16>,
-    /// How many steps back are left.
-    left: usize,
+fn pair_of(pair: IndexPair) -> Pair {
+    match pair {
+        IndexPair::Bc => Pair::Bc,
+        IndexPair::De => Pair::De,
+    }
 }
 
-/// No way.
+/// The setters of each pair.
+#[derive(Drop)]
+struct Setters {
+    bc: PairSetters,
+    de: PairSetters,
+    hl: PairSetters,
+}
+
+impl Setters {
+    fn of_pair(&self, pair: Pair) -> &PairSetters {
+        match pair {
+            Pair::Bc => &self.bc,
+            Pair::De => &self.de,
+            Pair::Hl | Pair::Sp => &self.hl,
+        }
+    }
+
+    /// What sets a pair before the instruction at an address.
+    fn cause(&self, program: ReachedProgram<'_>, at: u16, pair: Pair) -> Cause {
+        let setter = self.of_pair(pair).setter(at);
+        let reason = match setter {
+            Setter::Instruction(by) => self.reason(program, by),
+            Setter::Count(_) | Setter::Nothing => None,
+        };
+        Cause {
+            at,
+            pair,
+            setter,
+            reason,
+        }
+    }
+
+    /// Why what an instruction reads isn't known; of MOV r,A what the one before it reads.
+    fn reason(&self, program: ReachedProgram<'_>, at: u16) -> Option<Reason> {
+        let instr = match program.at(at)?.instr {
+            Instr::Mov(_, Register::A) => {
+                let loads = loads_before(program, at)?;
+                return self.reason(program, loads);
+            }
+            instr => instr,
+        };
+        match instr {
+            Instr::Lhld(address) | Instr::Lda(address) => reason_at(program, address),
+            Instr::Load(_) => reason_at(program, self.hl.table(program, at)?),
+            Instr::Ldax(pair) => reason_at(
+                program,
+                self.of_pair(pair_of(pair)).table(program, at)?,
+            ),
+            _ => None,
+        }
+    }
+}
+
+/// The instruction right before another, if it loads A.
+fn loads_before(program: ReachedProgram<'_>, at: u16) -> Option<u16> {
+    for length in 1..4_u16 {
+        let before = at.wrapping_sub(length);
+        if let Some(found) = program.at(before) {
+            if found.next == at
+                && matches!(
+                    found.instr,
+                    Instr::Lda(_) | Instr::Ldax(_) | Instr::Load(Register::A)
+                )
+            {
+                return Some(before);
+            }
+        }
+    }
+    None
+}
+
+/// Why the byte at an address isn't known, if it isn't.
+fn reason_at(program: ReachedProgram<'_>, address: u16) -> Option<Reason> {
+    let regions = program.regions;
+    if regions.in_data(address) {
+        if is_marked(program.quiet, address) {
+            None
+        } else {
+            Some(Reason::NotQuiet(address))
+        }
+    } else if regions.in_code(address) || regions.stack().contains(address) {
+        None
+    } else {
+        Some(Reason::NotCode(address))
+    }
+}
+
+/// By address the nearest instruction before it, of each kind, that sets a pair: 65,536 places each.
+#[derive(Drop)]
+struct PairSetters {
+    /// To what isn't known.
+    unknown: Vec<Option<u16>>,
+    /// INX and DCX.
+    counted: Vec<Option<u16>>,
+    /// LXI.
+    loaded: Vec<Option<u16>>,
+}
+
+impl PairSetters {
+    fn of(
+        alloc: Global,
+        program: ReachedProgram<'_>,
+        groups: &Groups,
+        pair: Pair,
+    ) -> Result<PairSetters, AllocError> {
+        Ok(PairSetters {
+            unknown: spread(alloc, program, groups, pair, Kind::Unknown)?,
+            counted: spread(alloc, program, groups, pair, Kind::Counted)?,
+            loaded: spread(alloc, program, groups, pair, Kind::Loaded)?,
+        })
+    }
+
+    /// What sets the pair before an address.
+    fn setter(&self, at: u16) -> Setter {
+        if let Some(by) = found_at(&self.unknown, at) {
+            Setter::Instruction(by)
+        } else if let Some(by) = found_at(&self.counted, at) {
+            Setter::Count(by)
+        } else if let Some(by) = found_at(&self.loaded, at) {
+            Setter::Instruction(by)
+        } else {
+            Setter::Nothing
+        }
+    }
+
+    /// The word by which a table is read at an address: that of the nearest LXI, if need be before what is added to it.
+    fn table(&self, program: ReachedProgram<'_>, at: u16) -> Option<u16> {
+        let by = match self.setter(at) {
+            Setter::Instruction(by) if matches!(program.at(by)?.instr, Instr::Dad(_)) => by,
+            _ => at,
+        };
+        match program.at(found_at(&self.loaded, by)?)?.instr {
+            Instr::Lxi(_, word) => Some(word),
+            _ => None,
+        }
+    }
+}
+
+/// The address that is found for another.
+fn found_at(found: &[Option<u16>], at: u16) -> Option<u16> {
+    match found.get(usize::from(at)) {
+        Some(found) => *found,
+        None => None,
+    }
+}
+
+/// How an instruction sets a pair.
+#[derive(Clone, Copy, PartialEq, Eq)]
+enum Kind {
+    Unknown,
+    Counted,
+    Loaded,
+}
+
+/// How an instruction sets a pair, if it does.
+fn kind_of(instr: Instr, pair: Pair) -> Option<Kind> {
+    if !instr.facts().writes.includes(pair) {
+        return None;
+    }
+    match instr {
+        Instr::Inx(_) | Instr::Dcx(_) => Some(Kind::Counted),
+        Instr::Lxi(_, _) => Some(Kind::Loaded),
+        _ => Some(Kind::Unknown),
+    }
+}
+
+/// By address the nearest instruction of a kind from which a way leads there that doesn't set the pair anew.
+fn spread(
+    alloc: Global,
+    program: ReachedProgram<'_>,
+    groups: &Groups,
+    pair: Pair,
+    kind: Kind,
+) -> Result<Vec<Option<u16>>, AllocError> {
+    let mut ways = Ways::new(alloc, program, groups)?;
+    for number in 0..65_536_u32 {
+        let at = u16::MAX - number as u16;
+        if let Some(found) = program.at(at) {
+            if kind_of(found.instr, pair) == Some(kind) {
+                ways.follow(program, groups, at, found, at)?;
+            }
+        }
+    }
+    let mut place = 0_usize;
+    for _ in 0..65_536_u32 {
+        let Some((at, by)) = ways.reached.get(place) else {
+            break;
+        };
+        let (at, by) = (*at, *by);
+        place = place.saturating_add(1);
+        if let Some(found) = program.at(at) {
+            if let None | Some(Kind::Counted) = kind_of(found.instr, pair) {
+                ways.follow(program, groups, at, found, by)?;
+            }
+        }
+    }
+    Ok(ways.found)
+}
+
+/// The ways that are followed.
+#[derive(Drop)]
+struct Ways {
+    /// By address the instruction from which it was reached.
+    found: Vec<Option<u16>>,
+    /// The addresses that were reached, in order, and from where.
+    reached: Vec<(u16, u16)>,
+    /// By group the first call of its procedures.
+    first: Vec<u32>,
+    /// The address behind each call, and the next call of the same group.
+    calls: Vec<(u16, u32)>,
+}
+
+/// No call.
 const NONE: u32 = u32::MAX;
 
 impl Ways {
     fn new(
         alloc: Global,
         program: ReachedProgram<'_>,
-        vouched: &Vouched,
+        groups: &Groups,
     ) -> Result<Ways, AllocError> {
         let mut ways = Ways {
-            groups: Groups::new(alloc, program, vouched.rows())?,
+            found: vec![in alloc; None; 65_536]?,
+            reached: Vec::new(alloc),
             first: vec![in alloc; NONE; 65_536]?,
-            ways: Vec::new(alloc),
-            returns: Vec::new(alloc),
-            left: STEPS,
+            calls: Vec::new(alloc),
         };
         for number in 0..65_536_u32 {
-            let at = number as u16;
-            if let Some(found) = program.at(at) {
-                ways.note(program, at, found)?;
+            if let Some(found) = program.at(number as u16) {
+                if let Flow::Calls(entry) | Flow::CallsIf(_, entry) = found.instr.flow() {
+                    ways.add_call(groups.number(entry), found.next)?;
+                }
             }
         }
         Ok(ways)
     }
 
-    /// Notes where an instruction leads.
-    fn note(
+    fn add_call(&mut self, group: u16, behind: u16) -> Result<(), AllocError> {
+        let number = u32::try_from(self.calls.len()).unwrap_or(NONE);
+        if let Some(first) = self.first.get_mut(usize::from(group)) {
+            self.calls.push((behind, *first))?;
+            *first = number;
+        }
+        Ok(())
+    }
+
+    /// Follows an instruction to where it leads.
+    fn follow(
         &mut self,
         program: ReachedProgram<'_>,
+        groups: &Groups,
         at: u16,
         found: Fetched,
+        by: u16,
     ) -> Result<(), AllocError> {
         match found.instr.flow() {
             Flow::Continues | Flow::Pushes | Flow::Pops | Flow::Exchanges => {
-                self.add(at, found.next)
+                self.reach(found.next, by)
             }
-            Flow::Jumps(to) => self.add(at, to),
+            Flow::Jumps(to) => self.reach(to, by),
             Flow::JumpsIf(_, to) | Flow::CallsIf(_, to) | Flow::Calls(to) => {
-                self.add(at, found.next)?;
-                self.add(at, to)
+                self.reach(found.next, by)?;
+                self.reach(to, by)
             }
             Flow::JumpsToHl => {
                 for to in program.targets(at) {
-                    self.add(at, *to)?;
+                    self.reach(*to, by)?;
                 }
                 Ok(())
             }
-            Flow::Returns => {
-                self.returns.push(at)?;
-                Ok(())
-            }
+            Flow::Returns => self.return_from(groups.number(at), by),
             Flow::ReturnsIf(_) => {
-                self.returns.push(at)?;
-                self.add(at, found.next)
+                self.return_from(groups.number(at), by)?;
+                self.reach(found.next, by)
             }
             Flow::Halts => Ok(()),
         }
     }
 
-    fn add(&mut self, from: u16, to: u16) -> Result<(), AllocError> {
-        let number = u32::try_from(self.ways.len()).unwrap_or(NONE);
-        let next = match self.first.get(usize::from(to)) {
-            Some(next) => *next,
+    /// Reaches what stands behind the calls of a group, once.
+    fn return_from(&mut self, group: u16, by: u16) -> Result<(), AllocError> {
+        let mut call = match self.first.get_mut(usize::from(group)) {
+            Some(first) => {
+                let call = *first;
+                *first = NONE;
+                call
+            }
             None => NONE,
         };
-        self.ways.push((from, next))?;
-        if let Some(place) = self.first.get_mut(usize::from(to)) {
-            *place = number;
+        for _ in 0..self.calls.len() {
+            let Some((behind, next)) = self.calls.get(call as usize) else {
+                break;
+            };
+            let (behind, next) = (*behind, *next);
+            call = next;
+            self.reach(behind, by)?;
         }
         Ok(())
     }
 
-    /// What sets a pair before the instruction at an address.
-    fn cause(
-        &mut self,
-        alloc: Global,
-        program: ReachedProgram<'_>,
-        at: u16,
-        pair: Pair,
-    ) -> Result<Cause, AllocError> {
-        let mut search = Search {
-            seen: vec![in alloc; false; 65_536]?,
-            waiting: Vec::new(alloc),
-            counted: Setter::Nothing,
-            loaded: Setter::Nothing,
-        };
-        search.waiting.push(at)?;
-        let mut place = 0_usize;
-        let mut setter = Setter::Nothing;
-        let most = self.left;
-        for _ in 0..most {
-            let Some(here) = search.waiting.get(place) else {
-                break;
-            };
-            let here = *here;
-            place = place.saturating_add(1);
-            self.left = self.left.saturating_sub(1);
-            if let Some(found) = self.look_back(program, &mut search, here, pair)? {
-                setter = found;
-                break;
+    /// Reaches an address, if it wasn't.
+    fn reach(&mut self, at: u16, by: u16) -> Result<(), AllocError> {
+        match self.found.get_mut(usize::from(at)) {
+            Some(found) if found.is_none() => {
+                *found = Some(by);
+                self.reached.push((at, by))?;
+                Ok(())
             }
+            _ => Ok(()),
         }
-        if setter == Setter::Nothing {
-            setter = search.counted;
-        }
-        if setter == Setter::Nothing {
-            setter = search.loaded;
-        }
-        Ok(Cause { at, pair, setter })
-    }
-
-    /// Looks at what comes right before an address.
-    fn look_back(
-        &mut self,
-        program: ReachedProgram<'_>,
-        search: &mut Search,
-        here: u16,
-        pair: Pair,
-    ) -> Result<Option<Setter>, AllocError> {
-        let mut way = match self.first.get(usize::from(here)) {
-            Some(first) => *first,
-            None => NONE,
-        };
-        for _ in 0..self.ways.len() {
-            let Some((from, next)) = self.ways.get(way as usize) else {
-                break;
-            };
-            let (from, next) = (*from, *next);
-            way = next;
-            if let Some(found) = program.at(from) {
-                if let Some(entry) = returned_from(found, here) {
-                    for at in &self.returns {
-                        if self.groups.number(*at) == self.groups.number(entry) {
-                            if let Some(setter) = search.come_from(program, *at, pair)? {
-                                return Ok(Some(setter));
-                            }
-                        }
-                    }
-                }
-                if let Some(setter) = search.come_from(program, from, pair)? {
-                    return Ok(Some(setter));
-                }
-            }
-        }
-        Ok(None)
-    }
-}
-
-/// The procedure that has returned to an address, if the instruction before it calls one.
-fn returned_from(found: Fetched, here: u16) -> Option<u16> {
-    match found.instr.flow() {
-        Flow::Calls(entry) | Flow::CallsIf(_, entry) if found.next == here => Some(entry),
-        _ => None,
-    }
-}
-
-/// A search for what sets a pair.
-#[derive(Drop)]
-struct Search {
-    /// The addresses that were reached: by address.
-    seen: Vec<bool>,
-    /// The same, in order.
-    waiting: Vec<u16>,
-    /// The first instruction that counts the pair.
-    counted: Setter,
-    /// The first LXI.
-    loaded: Setter,
-}
-
-impl Search {
-    /// Goes back to an instruction: what sets the pair there, if it is what is searched for.
-    fn come_from(
-        &mut self,
-        program: ReachedProgram<'_>,
-        from: u16,
-        pair: Pair,
-    ) -> Result<Option<Setter>, AllocError> {
-        match self.seen.get_mut(usize::from(from)) {
-            Some(seen) if !*seen => *seen = true,
-            _ => return Ok(None),
-        }
-        let Some(found) = program.at(from) else {
-            return Ok(None);
-        };
-        if found.instr.facts().writes.includes(pair) {
-            match found.instr {
-                Instr::Inx(_) | Instr::Dcx(_) => {
-                    if self.counted == Setter::Nothing {
-                        self.counted = Setter::Count(from);
-                    }
-                }
-                Instr::Lxi(_, _) => {
-                    if self.loaded == Setter::Nothing {
-                        self.loaded = Setter::Instruction(from);
-                    }
-                    return Ok(None);
-                }
-                _ => return Ok(Some(Setter::Instruction(from))),
-            }
-        }
-        self.waiting.push(from)?;
-        Ok(None)
     }
 }
