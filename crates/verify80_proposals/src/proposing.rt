@@ -32,8 +32,8 @@ pub(crate) struct Limits {
     pub late_ways: usize,
 }
 
-/// What is known at each address that the program may reach, or `None` if too many ways would have to be followed. What the limits leave
-/// is lessened by the ways that were followed.
+/// What is known at each address that the program may reach, or `None` if too many ways would have to be followed: more than the limits say,
+/// or than are left, which become fewer.
 ///
 /// At the start nothing is, and behind a call nothing, unless the callee's states know where they return to.
 ///
@@ -43,15 +43,23 @@ pub(crate) fn propose(
     alloc: Global,
     program: ReachedProgram<'_>,
     limits: Limits,
+    left: &mut usize,
 ) -> Result<Option<Proposal>, AllocError> {
     let needs = Needs::of(alloc, program)?;
     let landmarks = Landmarks::new(alloc, program)?;
     let mut nodes = Nodes::new(alloc, needs, landmarks, limits.states)?;
     let mut hints = Vec::new(alloc);
     let start = nodes.enter(alloc, program.start, State::ANY)?;
-    if !follow_all(alloc, &mut nodes, &mut hints, program, limits.ways)? {
+    if !follow_all(alloc, &mut nodes, &mut hints, program, limits.ways, left)? {
         nodes.hurry();
-        if !follow_all(alloc, &mut nodes, &mut hints, program, limits.late_ways)? {
+        if !follow_all(
+            alloc,
+            &mut nodes,
+            &mut hints,
+            program,
+            limits.late_ways,
+            left,
+        )? {
             return Ok(None);
         }
     }
@@ -65,17 +73,20 @@ fn follow_all(
     hints: &mut Vec<u32>,
     program: ReachedProgram<'_>,
     most: usize,
+    left: &mut usize,
 ) -> Result<bool, AllocError> {
-    let mut left = most;
+    let mut waiting = most.min(*left);
+    *left = left.saturating_sub(waiting);
     for _ in 0..most {
         let Some(place) = nodes.next_waiting() else {
+            *left = left.saturating_add(waiting);
             return Ok(true);
         };
         let ways = follow(alloc, nodes, hints, program, place)?;
-        if ways > left {
+        if ways > waiting {
             return Ok(false);
         }
-        left = left.saturating_sub(ways);
+        waiting = waiting.saturating_sub(ways);
     }
     Ok(false)
 }
