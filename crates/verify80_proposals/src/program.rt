@@ -2,7 +2,7 @@
 
 use decode80::{Fetched, Flow, Instr};
 use image80::Regions;
-use verify80_states::{CallReturns, State, given, state_after};
+use verify80_states::{CallReturns, State, given, is_marked, state_after};
 
 /// A program: its code, its instructions that may be reached, and which of its procedures return.
 #[derive(Clone, Copy)]
@@ -138,9 +138,16 @@ impl<'a> ReachedProgram<'a> {
         }
     }
 
-    /// What an instruction makes of a state.
+    /// What an instruction makes of a state, of quiet memory alone.
     fn after(self, found: Fetched, taken: bool, state: State) -> State {
-        state_after(self.code, found.instr, taken, found.next, state)
+        let after = state_after(self.code, found.instr, taken, found.next, state);
+        match after.source {
+            Some(at) if !is_marked(self.quiet, at) => State {
+                source: None,
+                ..after
+            },
+            _ => after,
+        }
     }
 
     /// A way of a state that is left, if one is.

@@ -8,7 +8,7 @@ use Rattle.decode80.specs.declared.operation.Operation.TheVariants.{Add, AddCarr
 use Rattle.decode80.specs.declared.rotation.Rotation.{Rotation}
 use Rattle.decode80.specs.declared.rotation.Rotation.TheVariants.{Left, Right, LeftThroughCarry, RightThroughCarry}
 use Rattle.decode80.specs.declared.restart.Restart.{Restart}
-use Rattle.decode80.specs.declared.restart.Restart.TheVariants.{Vector0, Vector1, Vector2, Vector3, Vector4, Vector5, Vector6, Vector7}
+use Rattle.decode80.specs.declared.restart.Restart.TheVariants.{Vector0}
 use Rattle.decode80.specs.Restart.{restart_number}
 use Rattle.decode80.specs.Fetch.{ahead, behind}
 use Rattle.machine80.specs.declared.flags.Flags.{Flags}
@@ -117,10 +117,4 @@ complement_is_byte byte = omega arith
 
 pub vector_is_word : (n : Restart) → IsWord (8 * restart_number n)
 vector_is_word Vector0 = omega arith
-vector_is_word Vector1 = omega arith
-vector_is_word Vector2 = omega arith
-vector_is_word Vector3 = omega arith
-vector_is_word Vector4 = omega arith
-vector_is_word Vector5 = omega arith
-vector_is_word Vector6 = omega arith
-vector_is_word Vector7 = omega arith
+vector_is_word n = omega arith

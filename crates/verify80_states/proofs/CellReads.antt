@@ -3,11 +3,11 @@ use Rattle.std.specs.Prelude.{◌≡◌, ◌==◌, ℕ, Bool, true, false, List,
 use Rattle.std.proofs.Common.{subst, sym}
 use Rattle.std.proofs.lemmas.Bool.{eqb-true}
 use Rattle.machine80.specs.Effects.{byte_in}
-use Rattle.verify80_states.specs.declared.spans.byte_span.ByteSpan.{ByteSpan}
+use Rattle.verify80_spans.specs.declared.byte_span.ByteSpan.{ByteSpan}
 use Rattle.verify80_states.specs.declared.states.cells.Cell.{Cell}
 use Rattle.verify80_states.specs.declared.states.cells.Cells.{Cells}
 use Rattle.verify80_states.specs.Bytes.{HasBytes}
-use Rattle.verify80_states.specs.Span.{ByteWithin, byte_alone}
+use Rattle.verify80_spans.specs.Span.{ByteWithin, byte_alone}
 use Rattle.verify80_states.specs.Cells.{HoldsCell, HoldsCells, cell_or, bytes_at}
 use Rattle.verify80_states.specs.Steps.{ReadsCode}
 use Rattle.verify80_states.specs.Following.{byte_at, code_or, loaded_at}

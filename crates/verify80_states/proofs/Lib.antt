@@ -11,6 +11,7 @@ mod CellReads
 mod FollowLemmas
 mod MemoryLemmas
 mod CellLemmas
+mod SourceLemmas
 mod GivenLemmas
 mod InsideLemmas
 mod StepLemmas

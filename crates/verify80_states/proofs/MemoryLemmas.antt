@@ -6,7 +6,7 @@ use Rattle.std.proofs.lemmas.List.Elements.{All-contains, Contains-append_left, 
 use Rattle.std.proofs.lemmas.Bool.Decides.{nat_tests}
 use Rattle.decode80.specs.declared.instr.Instr.{Instr}
 use Rattle.decode80.specs.declared.instr.Instr.TheVariants.{Store, MviMemory, InrMemory, DcrMemory, Stax, Sta, Shld, Push, Pop, Call, CallIf, Ret, ReturnIf, Rst, Xthl, Lxi, Inx, Dcx, Sphl}
-use Rattle.decode80.specs.declared.pair.Pair.TheVariants.{Bc, De, Hl, Sp}
+use Rattle.decode80.specs.declared.pair.Pair.TheVariants.{Sp}
 use Rattle.decode80.specs.declared.pair.StackPair.{StackPair}
 use Rattle.decode80.specs.declared.pair.StackPair.TheVariants.{Bc as StackBc, De as StackDe, Hl as StackHl, Psw}
 use Rattle.decode80.specs.Facts.{flow}
@@ -22,10 +22,10 @@ use Rattle.machine80.specs.Flags.{holds as holds_of, flags_byte}
 use Rattle.machine80.specs.Cpu.{word, high_of, low_of}
 use Rattle.machine80.specs.Effects.{push_bytes, stores, stored, changed}
 use Rattle.machine80.specs.Step.{guard, first_outside, ends_at}
-use Rattle.verify80_states.specs.declared.spans.span.Span.{Span}
+use Rattle.verify80_spans.specs.declared.span.Span.{Span}
 use Rattle.verify80_states.specs.declared.states.state.Words.{Words}
 use Rattle.verify80_states.specs.declared.states.state.State.{State}
-use Rattle.verify80_states.specs.Span.{Within, word_alone}
+use Rattle.verify80_spans.specs.Span.{Within, word_alone}
 use Rattle.verify80_states.specs.State.{HoldsRegisters, HoldsWord, HoldsWords, IsOnStack, no_words, pushed, popped}
 use Rattle.verify80_states.specs.Following.{pushed_words, called, returned, words_after}
 use Rattle.verify80_states.specs.Steps.{is_taken}
@@ -412,17 +412,8 @@ module _ (regions : Areas) (ground : Ground regions) where
     words_changed (CallIf c w) next cpu s pass holds words = maybe_push (holds_of c cpu.registers.flags) (holds_of c cpu.registers.flags) next cpu.sp s.words refl pass words
     words_changed Ret next cpu s pass holds words = words_popped s.words m cpu.sp words
     words_changed (ReturnIf c) next cpu s pass holds words = maybe_return (holds_of c cpu.registers.flags) s.words cpu.sp words
-    words_changed (Lxi Bc n) next cpu s pass holds words = words
-    words_changed (Lxi De n) next cpu s pass holds words = words
-    words_changed (Lxi Hl n) next cpu s pass holds words = words
     words_changed (Lxi Sp n) next cpu s pass holds words = none_hold m _
-    words_changed (Inx Bc) next cpu s pass holds words = words
-    words_changed (Inx De) next cpu s pass holds words = words
-    words_changed (Inx Hl) next cpu s pass holds words = words
     words_changed (Inx Sp) next cpu s pass holds words = none_hold m _
-    words_changed (Dcx Bc) next cpu s pass holds words = words
-    words_changed (Dcx De) next cpu s pass holds words = words
-    words_changed (Dcx Hl) next cpu s pass holds words = words
     words_changed (Dcx Sp) next cpu s pass holds words = none_hold m _
     words_changed Sphl next cpu s pass holds words = none_hold m _
     words_changed i next cpu s pass holds words = words

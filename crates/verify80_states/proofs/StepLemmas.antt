@@ -18,9 +18,8 @@ use Rattle.verify80_states.specs.declared.states.cells.Cells.{Cells}
 use Rattle.verify80_states.specs.declared.states.state.Words.{Words}
 use Rattle.verify80_states.specs.declared.states.state.State.{State}
 use Rattle.verify80_states.specs.Bytes.{AreBytes, HasBytes, HoldsBytes}
-use Rattle.verify80_states.specs.Span.{any_byte}
-use Rattle.verify80_states.specs.Cells.{AreQuietCells}
-use Rattle.verify80_states.specs.State.{Holds, HoldsRegisters, with_byte}
+use Rattle.verify80_spans.specs.Span.{any_byte}
+use Rattle.verify80_states.specs.State.{Holds, HoldsRegisters, IsQuietState, with_byte}
 use Rattle.verify80_states.specs.Following.{registers_after, state_after}
 use Rattle.verify80_states.specs.Steps.{ReadsCode, is_taken}
 use Rattle.verify80_states.proofs.SpanLemmas.{any_byte_within}
@@ -28,6 +27,7 @@ use Rattle.verify80_states.proofs.StateLemmas.{with_byte_holds}
 use Rattle.verify80_states.proofs.FollowLemmas.{changed_registers}
 use Rattle.verify80_states.proofs.MemoryLemmas.{Ground, code_kept, words_changed}
 use Rattle.verify80_states.proofs.CellLemmas.{cells_changed}
+use Rattle.verify80_states.proofs.SourceLemmas.{source_changed}
 
 machine_of : Machine → Turn → Machine
 machine_of otherwise (Next m) = m
@@ -50,28 +50,19 @@ pub passed : (regions : Areas) (refused : Bool) (m after : Machine) (found : Fet
 passed regions refused m after found fetched h =
     passed_by regions refused (guard regions found.instr m.cpu) found m after refl (sym (ap (λ (o : Option Fetched). step_on regions refused o m) fetched) ∙ h)
 
--- the registers of a state whose words and cells are others
-pub other_words : (s : State) (w : Words) (cells : Cells) (r : Registers) → HoldsRegisters s r → HoldsRegisters (record s { words = w; cells = cells }) r
-other_words s w cells r holds = record {
-  a = holds.a;
-  bc = holds.bc;
-  de = holds.de;
-  hl = holds.hl;
-  copy = holds.copy;
-  zero = holds.zero;
-  carry = holds.carry;
-  sign = holds.sign;
-  compared = holds.compared;
-}
+-- the registers of a state in which all else is other
+pub other_words : (s : State) (w : Words) (cells : Cells) (source : Option ℕ) (r : Registers) → HoldsRegisters s r → HoldsRegisters (record s { words = w; cells = cells; source = source }) r
+other_words s w cells source r holds = record { a = holds.a; bc = holds.bc; de = holds.de; hl = holds.hl; copy = holds.copy; flags = holds.flags }
 
 module _ (regions : Areas) (ground : Ground regions) (code : List (Option ℕ)) where
   -- what an instruction makes of a state holds of what it makes of a machine
-  proceeds : (i : Instr) (next : ℕ) (m : Machine) (s : State) → HasOperandInRange i → HoldsBytes m → length m.memory ≡ 65536 → ReadsCode code m.memory → AreQuietCells (in_data regions) s.cells → HasBytes (proceeded i next m).memory → guard regions i m.cpu ≡ None →
+  proceeds : (i : Instr) (next : ℕ) (m : Machine) (s : State) → HasOperandInRange i → HoldsBytes m → length m.memory ≡ 65536 → ReadsCode code m.memory → IsQuietState (in_data regions) s → HasBytes (proceeded i next m).memory → guard regions i m.cpu ≡ None →
       Holds regions s m → Holds regions (state_after code i (is_taken (flow i) m.cpu.registers.flags) next s) (proceeded i next m)
   proceeds i next m s small bytes whole reads are after pass holds = record {
-    registers = other_words (registers_after code i s) _ _ _ (changed_registers code m.memory reads bytes.memory regions i m.cpu s small bytes.registers holds.registers holds.words holds.cells);
+    registers = other_words (registers_after code i s) _ _ _ _ (changed_registers code m.memory reads bytes.memory regions i m.cpu s small bytes.registers holds.registers holds.words holds.cells);
     words = words_changed regions ground m.memory whole i next m.cpu s pass holds.registers holds.words;
-    cells = cells_changed regions ground code m.memory reads bytes.memory whole i next m.cpu s pass small bytes.registers after are holds.registers holds.cells;
+    cells = cells_changed regions ground code m.memory reads bytes.memory whole i next m.cpu s pass small bytes.registers after are.cells holds.registers holds.cells;
+    source = source_changed regions ground code m.memory whole i next m.cpu s pass small bytes.registers are.source holds.registers holds.source;
   }
 
   reads_on : (next port : ℕ) (m after : Machine) (s : State) (byte : Option ℕ) → HoldsBytes m → AreBytes after.cpu.registers → Holds regions s m → with_input m next port byte ≡ Next after →
@@ -82,22 +73,23 @@ module _ (regions : Areas) (ground : Ground regions) (code : List (Option ℕ)) 
       let small : byte < 256 = (subst (λ (n : Machine). AreBytes n.cpu.registers) (sym same) stay).a in
       subst (λ (n : Machine). Holds regions (state_after code (In port) false next s) n) same
       (record {
-        registers = other_words (with_byte s A any_byte) s.words s.cells _ (with_byte_holds s m.cpu.registers A any_byte byte bytes.registers holds.registers (any_byte_within byte small));
+        registers = other_words (with_byte s A any_byte) s.words s.cells None _ (with_byte_holds s m.cpu.registers A any_byte byte bytes.registers holds.registers (any_byte_within byte small));
         words = holds.words;
         cells = holds.cells;
+        source = tt;
       })
 
   writes_on : (refused : Bool) (next port : ℕ) (m after : Machine) (s : State) → Holds regions s m → execute regions refused (Out port) next m ≡ Next after → Holds regions (state_after code (Out port) false next s) after
   writes_on true next port m after s holds h = cc
   writes_on false next port m after s holds h =
       subst (λ (n : Machine). Holds regions (state_after code (Out port) false next s) n) (next_in h)
-      (record { registers = other_words s s.words s.cells m.cpu.registers holds.registers; words = holds.words; cells = holds.cells })
+      (record { registers = other_words s s.words s.cells s.source m.cpu.registers holds.registers; words = holds.words; cells = holds.cells; source = holds.source })
 
   jumps_on : (e : Option End) (next : ℕ) (m after : Machine) (t : State) → Holds regions t (proceeded Pchl next m) → turn_of e (proceeded Pchl next m) ≡ Next after → Holds regions t after
   jumps_on None next m after t holds h = subst (λ (n : Machine). Holds regions t n) (next_in h) holds
   jumps_on (Some e) next m after t holds h = cc
 
-  executes : (refused : Bool) (i : Instr) (next : ℕ) (m after : Machine) (s : State) → HasOperandInRange i → HoldsBytes m → HoldsBytes after → length m.memory ≡ 65536 → ReadsCode code m.memory → AreQuietCells (in_data regions) s.cells →
+  executes : (refused : Bool) (i : Instr) (next : ℕ) (m after : Machine) (s : State) → HasOperandInRange i → HoldsBytes m → HoldsBytes after → length m.memory ≡ 65536 → ReadsCode code m.memory → IsQuietState (in_data regions) s →
       guard regions i m.cpu ≡ None → Holds regions s m → execute regions refused i next m ≡ Next after → Holds regions (state_after code i (is_taken (flow i) m.cpu.registers.flags) next s) after
   executes refused Hlt next m after s small bytes stay whole reads are pass holds h = cc
   executes refused (In port) next m after s small bytes stay whole reads are pass holds h = reads_on next port m after s (next_input m.inputs port) bytes stay.registers holds h
@@ -108,7 +100,7 @@ module _ (regions : Areas) (ground : Ground regions) (code : List (Option ℕ)) 
       subst (λ (n : Machine). Holds regions (state_after code i (is_taken (flow i) m.cpu.registers.flags) next s) n) (next_in h)
       (proceeds i next m s small bytes whole reads are (subst (λ (n : Machine). HasBytes n.memory) (sym (next_in h)) stay.memory) pass holds)
 
-  pub step_state : (refused : Bool) (m after : Machine) (found : Fetched) (s : State) → HasOperandInRange found.instr → HoldsBytes m → HoldsBytes after → length m.memory ≡ 65536 → ReadsCode code m.memory → AreQuietCells (in_data regions) s.cells →
+  pub step_state : (refused : Bool) (m after : Machine) (found : Fetched) (s : State) → HasOperandInRange found.instr → HoldsBytes m → HoldsBytes after → length m.memory ≡ 65536 → ReadsCode code m.memory → IsQuietState (in_data regions) s →
       fetch regions m.memory m.cpu.pc ≡ Some found → step_of regions refused m ≡ Next after → Holds regions s m →
       Holds regions (state_after code found.instr (is_taken (flow found.instr) m.cpu.registers.flags) found.next s) after
   step_state refused m after found s small bytes stay whole reads are fetched h holds =

@@ -2,6 +2,8 @@
 use Rattle.std.specs.Prelude.{◌≡◌, ◌⊎◌, ◌+◌, ◌++◌, ℕ, zero, suc, ◌<◌, Bool, false, List, [], ◌∷◌, All, Option, None, Some, Ok, length, slice_get, slice_index_or, refl}
 use Rattle.std.proofs.Common.{subst, sym, ap, ◌∙◌, arith, inl, inr}
 use Rattle.decode80.specs.declared.fetching.Fetched.{Fetched}
+use Rattle.decode80.specs.declared.flow.Flow.{Flow}
+use Rattle.decode80.specs.declared.flow.Flow.TheVariants.{Continues, Pushes, Pops, Exchanges}
 use Rattle.image80.specs.Image.{Located}
 use Rattle.machine80.specs.World.{World}
 use Rattle.machine80.specs.Run.{world_of}
@@ -12,10 +14,9 @@ use Rattle.verify80.specs.Reached.{AreReached, IsReached, StandsOnWalk, found_at
 use Rattle.verify80_states.specs.declared.fitting.fitting.Placed.{Placed}
 use Rattle.verify80_states.specs.Bytes.{HoldsBytes, MemoryKeepsItsLength}
 use Rattle.verify80_states.specs.declared.states.state.State.{State}
-use Rattle.verify80_states.specs.Cells.{AreQuietCells}
-use Rattle.verify80_states.specs.State.{anything}
+use Rattle.verify80_states.specs.State.{IsQuietState, anything}
 use Rattle.verify80_states.specs.Steps.{HasCode}
-use Rattle.verify80_states.specs.Fitting.{Has, KnowsQuiet}
+use Rattle.verify80_states.specs.Fitting.{Has, Covers, FitsBy, KnowsQuiet}
 use Rattle.verify80_states.specs.Calls.{ReturnFacts, never, no_returns}
 use Rattle.verify80_states.specs.FittingTable.{AllFit, Fits, SaysNothingAt}
 use Rattle.verify80_states.specs.Runs.{KeepsToCalls, IsKept}
@@ -72,7 +73,7 @@ nothing_is_kept image quiet reached table are whole ground length_stays everywhe
   disturbed = λ w memory leaves stays keeps. record { keeps = still_keeps image ground quiet table w memory knows leaves stays keeps.keeps; owes = keeps.owes };
 } where
   knows : KnowsQuiet quiet table
-  knows = λ k d inside. subst (λ (s : State). AreQuietCells quiet s.cells) (sym (nothing k d inside)) (none_quiet quiet)
+  knows = λ k d inside. subst (IsQuietState quiet) (sym (nothing k d inside)) (none_quiet quiet)
 
   here : (w : World) → StandsOnWalk image w → HoldsBytes w.machine → HasCode image w.machine.memory → length w.machine.memory ≡ 65536 → KeepsToCalls image no_returns table w
   here w stands held code size =
@@ -105,3 +106,13 @@ nothing_more table e n below here nothing at less = go (split at n less) where
   go : (at < n) ⊎ (at ≡ n) → SaysNothingAt (table ++ e ∷ []) at
   go (inl before) = let says = below at before in record { place = says.place; placed = says.placed; there = front table says.place says.placed says.there; here = says.here; nothing = says.nothing }
   go (inr now) = record { place = length table; placed = e; there = slice_get-last table e; here = here ∙ sym now; nothing = nothing }
+
+-- a flow that goes on to the next instruction
+pub goes_next : (targets : List ℕ) (table : List Placed) (after : Bool → State → State) (s : State) (next : ℕ) (w : Flow) → (w ≡ Continues) ⊎ ((w ≡ Pushes) ⊎ ((w ≡ Pops) ⊎ (w ≡ Exchanges))) →
+    Covers table next (after false s) → FitsBy targets table after s next w
+goes_next targets table after s next w is covers = by is where
+  by : (w ≡ Continues) ⊎ ((w ≡ Pushes) ⊎ ((w ≡ Pops) ⊎ (w ≡ Exchanges))) → FitsBy targets table after s next w
+  by (inl e) = subst (λ (f : Flow). FitsBy targets table after s next f) (sym e) covers
+  by (inr (inl e)) = subst (λ (f : Flow). FitsBy targets table after s next f) (sym e) covers
+  by (inr (inr (inl e))) = subst (λ (f : Flow). FitsBy targets table after s next f) (sym e) covers
+  by (inr (inr (inr e))) = subst (λ (f : Flow). FitsBy targets table after s next f) (sym e) covers

@@ -1,5 +1,4 @@
 pub mod Bytes
-pub mod Span
 pub mod Cells
 pub mod State
 pub mod Following

@@ -12,16 +12,16 @@ use Rattle.image80.specs.Regions.{Areas, top_of}
 use Rattle.machine80.specs.declared.flags.Flags.{Flags}
 use Rattle.machine80.specs.declared.registers.Registers.{Registers}
 use Rattle.machine80.specs.Cpu.{word, register_of}
-use Rattle.machine80.specs.Effects.{word_in}
+use Rattle.machine80.specs.Effects.{byte_in, word_in}
 use Rattle.machine80.specs.Step.{Machine}
-use Rattle.verify80_states.specs.declared.spans.span.Span.{Span}
-use Rattle.verify80_states.specs.declared.spans.byte_span.ByteSpan.{ByteSpan}
-use Rattle.verify80_states.specs.declared.spans.byte_span.Outcome.{Outcome}
+use Rattle.verify80_spans.specs.declared.span.Span.{Span}
+use Rattle.verify80_spans.specs.declared.byte_span.ByteSpan.{ByteSpan}
+use Rattle.verify80_spans.specs.declared.byte_span.Outcome.{Outcome}
 use Rattle.verify80_states.specs.declared.states.state.PairSpan.{PairSpan}
 use Rattle.verify80_states.specs.declared.states.state.Words.{Words}
 use Rattle.verify80_states.specs.declared.states.state.State.{State}
-use Rattle.verify80_states.specs.Span.{Within, ByteWithin, IsInside, IsByteInside, IsKnown, any_word, any_byte, is_byte_alone, meet, meet_bytes, high_of, low_of, joined, zero_of, sign_of}
-use Rattle.verify80_states.specs.Cells.{HoldsCells, AreCellsInside, no_cells}
+use Rattle.verify80_spans.specs.Span.{Within, ByteWithin, IsInside, IsByteInside, IsKnown, any_word, any_byte, is_byte_alone, meet, meet_bytes, high_of, low_of, joined, zero_of, sign_of}
+use Rattle.verify80_states.specs.Cells.{HoldsCells, AreCellsInside, AreQuietCells, no_cells, cut_cells}
 
 -- the word of a pair is one of its words, and its low byte one of its low bytes
 pub record HoldsPair (p : PairSpan) (h l : ℕ) : Type 0 where
@@ -33,6 +33,13 @@ abbrev pub Compares : Option ℕ → (a : ℕ) → Flags → Type 0
 Compares None a flags = Unit {0}
 Compares (Some n) a flags = (flags.zero ≡ (a == n)) × (flags.carry ≡ nat_lt a n)
 
+-- what is known of Z, CY and S, and what was compared last
+pub record HoldsFlags (z cy s : Option Bool) (n : Option ℕ) (a : ℕ) (flags : Flags) : Type 0 where
+  pub zero : IsKnown z flags.zero
+  pub carry : IsKnown cy flags.carry
+  pub sign : IsKnown s flags.sign
+  pub compared : Compares n a flags
+
 -- what a state says of registers and flags: A also has the byte of the register that it was copied from, or to
 pub record HoldsRegisters (s : State) (r : Registers) : Type 0 where
   pub a : ByteWithin s.a r.a
@@ -40,10 +47,7 @@ pub record HoldsRegisters (s : State) (r : Registers) : Type 0 where
   pub de : HoldsPair s.de r.d r.e
   pub hl : HoldsPair s.hl r.h r.l
   pub copy : register_of r s.copy ≡ r.a
-  pub zero : IsKnown s.zero r.flags.zero
-  pub carry : IsKnown s.carry r.flags.carry
-  pub sign : IsKnown s.sign r.flags.sign
-  pub compared : Compares s.compared r.a r.flags
+  pub flags : HoldsFlags s.zero s.carry s.sign s.compared r.a r.flags
 
 -- a word of a span lies at an address from the stack pointer up, both of its bytes on the stack
 pub record IsOnStack (regions : Areas) (span : Span) (memory : List ℕ) (sp at : ℕ) : Type 0 where
@@ -64,11 +68,17 @@ pub record HoldsWords (regions : Areas) (w : Words) (memory : List ℕ) (sp : �
   pub third : HoldsWord regions w.third memory sp (ahead sp 4)
   pub fourth : HoldsWord regions w.fourth memory sp (ahead sp 6)
 
+-- a byte of memory is that of A, if one is named
+abbrev pub HoldsSource : Option ℕ → (memory : List ℕ) → (a : ℕ) → Type 0
+HoldsSource None memory a = Unit {0}
+HoldsSource (Some at) memory a = byte_in memory at ≡ a
+
 -- what a state says of a machine
 pub record Holds (regions : Areas) (s : State) (m : Machine) : Type 0 where
   pub registers : HoldsRegisters s m.cpu.registers
   pub words : HoldsWords regions s.words m.memory m.cpu.sp
   pub cells : HoldsCells s.cells m.memory
+  pub source : HoldsSource s.source m.memory m.cpu.registers.a
 
 -- a state says nothing that another doesn't
 pub record IsPairInside (inner outer : PairSpan) : Type 0 where
@@ -113,6 +123,16 @@ pub record IsStateInside (inner outer : State) : Type 0 where
   pub compared : IsComparisonInside inner.compared outer.compared
   pub words : AreWordsInside inner.words outer.words
   pub cells : AreCellsInside inner.cells outer.cells
+  pub source : IsComparisonInside inner.source outer.source
+
+-- it says something of quiet addresses alone
+abbrev pub IsQuietSource : (quiet : ℕ → Bool) → Option ℕ → Type 0
+IsQuietSource quiet None = Unit {0}
+IsQuietSource quiet (Some at) = quiet at ≡ true
+
+pub record IsQuietState (quiet : ℕ → Bool) (s : State) : Type 0 where
+  pub cells : AreQuietCells quiet s.cells
+  pub source : IsQuietSource quiet s.source
 
 -- nothing is known
 abbrev pub any_pair : PairSpan
@@ -134,6 +154,7 @@ anything = record {
   compared = None;
   words = no_words;
   cells = no_cells;
+  source = None;
 }
 
 -- a pair of these words, and one of these halves
@@ -164,33 +185,25 @@ words_of s Sp = any_word
 abbrev pub copy_without : Register → (copy : Register) → Register
 copy_without A copy = A
 copy_without B B = A
-copy_without B copy = copy
 copy_without C C = A
-copy_without C copy = copy
 copy_without D D = A
-copy_without D copy = copy
 copy_without E E = A
-copy_without E copy = copy
 copy_without H H = A
-copy_without H copy = copy
 copy_without L L = A
-copy_without L copy = copy
+copy_without to copy = copy
 
 abbrev pub copy_outside : Pair → (copy : Register) → Register
 copy_outside Bc B = A
 copy_outside Bc C = A
-copy_outside Bc copy = copy
 copy_outside De D = A
 copy_outside De E = A
-copy_outside De copy = copy
 copy_outside Hl H = A
 copy_outside Hl L = A
-copy_outside Hl copy = copy
-copy_outside Sp copy = copy
+copy_outside pair copy = copy
 
 -- a register is written: the other half of its pair stays
 abbrev pub with_byte : State → Register → ByteSpan → State
-with_byte s A byte = record s { a = byte; copy = A; compared = None }
+with_byte s A byte = record s { a = byte; copy = A; compared = None; source = None }
 with_byte s B byte = record s { bc = pair_of_halves byte s.bc.low; copy = copy_without B s.copy }
 with_byte s C byte = record s { bc = pair_of_halves (high_of s.bc.words) byte; copy = copy_without C s.copy }
 with_byte s D byte = record s { de = pair_of_halves byte s.de.low; copy = copy_without D s.copy }
@@ -237,9 +250,9 @@ cut_copy s E byte = record s { de = cut_low s.de byte }
 cut_copy s H byte = record s { hl = cut_high s.hl byte }
 cut_copy s L byte = record s { hl = cut_low s.hl byte }
 
--- A is known to hold one of these bytes too, and so is the register that has its byte
+-- A is known to hold one of these bytes too, and so are the register and the byte of memory that have its byte
 abbrev pub cut : State → ByteSpan → State
-cut s byte = record (cut_copy s s.copy byte) { a = meet_bytes s.a byte }
+cut s byte = record (cut_copy s s.copy byte) { a = meet_bytes s.a byte; cells = cut_cells s.source byte s.cells }
 
 -- a word is pushed, and one is popped
 abbrev pub pushed : Words → Option Span → Words

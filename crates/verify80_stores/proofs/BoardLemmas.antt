@@ -19,7 +19,7 @@ use Rattle.verify80.specs.Starts.{IsStart, NeverGoesWrongFromPowerOn}
 use Rattle.verify80.specs.Reached.{StandsOnWalk, StaysOnWalks}
 use Rattle.verify80.specs.Boards.{Disturbs, fetched_anywhere, StaysInside, Executes, OnBoard, with_respected_pointer, respected_pointer, begins, disturbed, executed, Anywhere, KeepsPromise, MayStart}
 use Rattle.verify80.specs.Reached.{AreReached}
-use Rattle.verify80_states.specs.declared.spans.span.Span.{Span}
+use Rattle.verify80_spans.specs.declared.span.Span.{Span}
 use Rattle.verify80_states.specs.declared.fitting.fitting.Placed.{Placed}
 use Rattle.verify80_states.specs.Bytes.{HoldsBytes, BytesStayBytes}
 use Rattle.verify80_states.specs.Runs.{KeepsTo, KeepsToCalls, RunsKeepTo, IsKnown}
@@ -44,21 +44,13 @@ keeps_so image table m places inputs outputs k = record {
   placed = k.placed;
   there = k.there;
   at = k.at;
-  holds = record { registers = k.holds.registers; words = k.holds.words; cells = k.holds.cells };
+  holds = record { registers = k.holds.registers; words = k.holds.words; cells = k.holds.cells; source = k.holds.source };
   code = k.code;
   whole = k.whole;
 }
 
 keeps_with : (image : Located) (table : List Placed) (w : World) (inputs : List (List ℕ)) → KeepsTo image table w → KeepsTo image table (record { machine = record w.machine { inputs = inputs }; places = w.places })
-keeps_with image table w inputs k = record {
-  place = k.place;
-  placed = k.placed;
-  there = k.there;
-  at = k.at;
-  holds = record { registers = k.holds.registers; words = k.holds.words; cells = k.holds.cells };
-  code = k.code;
-  whole = k.whole;
-}
+keeps_with image table w inputs k = keeps_so image table w.machine w.places inputs w.machine.outputs k
 
 -- a machine on which a run may begin is one with SP at the stack's top, but for SP
 set_start : Located → (began : Bool) → Machine → Machine

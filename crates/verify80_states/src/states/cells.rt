@@ -4,7 +4,7 @@ ghost use Rattle.std.specs.Prelude.{◌≡◌, true};
 ghost use Rattle.verify80_states.specs.Marks.{is_marked};
 
 use crate::fitting::is_marked;
-use crate::spans::{ByteSpan, Span};
+use verify80_spans::{ByteSpan, Span};
 
 /// What the byte at an address may be.
 #[derive(Clone, Copy, Debug, PartialEq, Eq)]
@@ -14,7 +14,7 @@ pub struct Cell {
 }
 
 impl Cell {
-    ghost use Rattle.verify80_states.specs.Cells.{IsCellInside, IsQuietCell, cell_or, stored_cell};
+    ghost use Rattle.verify80_states.specs.Cells.{IsCellInside, IsQuietCell, cell_or, cut_cell, stored_cell};
 
     /// Nothing is known.
     pub const ANY: Cell = Cell {
@@ -41,6 +41,20 @@ impl Cell {
         ensures { result ≡ cell_or self at otherwise }
     {
         if self.at == at { self.bytes } else { otherwise }
+    }
+
+    /// The cell when the byte at an address is one of these too.
+    fn cut(self, at: u16, bytes: ByteSpan) -> Cell
+        ensures { result ≡ cut_cell at bytes self }
+    {
+        if self.at == at {
+            Cell {
+                at: self.at,
+                bytes: self.bytes.meet(bytes),
+            }
+        } else {
+            self
+        }
     }
 
     /// The cell when one of these bytes is stored at one of these addresses.
@@ -73,7 +87,7 @@ pub struct Cells {
 }
 
 impl Cells {
-    ghost use Rattle.verify80_states.specs.Cells.{AreCellsInside, AreQuietCells, bytes_at, stored_cells};
+    ghost use Rattle.verify80_states.specs.Cells.{AreCellsInside, AreQuietCells, bytes_at, cut_cells, stored_cells};
 
     /// Nothing is known.
     pub const ANY: Cells = Cells {
@@ -127,6 +141,25 @@ impl Cells {
         let bytes = self.third.or(at, bytes);
         let bytes = self.second.or(at, bytes);
         self.first.or(at, bytes)
+    }
+
+    /// The cells when the byte at an address, if one is named, is one of these too.
+    pub fn cut(self, at: Option<u16>, bytes: ByteSpan) -> Cells
+        ensures { result ≡ cut_cells at bytes self }
+    {
+        match at {
+            None => self,
+            Some(at) => Cells {
+                first: self.first.cut(at, bytes),
+                second: self.second.cut(at, bytes),
+                third: self.third.cut(at, bytes),
+                fourth: self.fourth.cut(at, bytes),
+                fifth: self.fifth.cut(at, bytes),
+                sixth: self.sixth.cut(at, bytes),
+                seventh: self.seventh.cut(at, bytes),
+                eighth: self.eighth.cut(at, bytes),
+            },
+        }
     }
 
     /// The cells when one of these bytes is stored at one of these addresses.

@@ -1,14 +1,14 @@
 //! What becomes of a state at an instruction.
 
 ghost use Rattle.std.specs.Prelude.{◌≡◌};
-ghost use Rattle.verify80_states.specs.Following.{byte_at, known_word, loaded_at, loaded, loaded_word, moved, counted, resulted, tested, operand_bytes, after_operation, added_carry, turned, exchanged_pairs, index_words, popped_to, registers_after, pushed_words, called, returned, words_after, cells_after, state_after};
-ghost use Rattle.verify80_states.specs.Span.{uncarried};
+ghost use Rattle.verify80_states.specs.Following.{byte_at, known_word, loaded_at, loaded, moved, counted, resulted, tested, operand_bytes, after_operation, added_carry, turned, exchanged_pairs, index_words, popped_to, registers_after, pushed_words, called, returned, words_after, cells_after, only_address, address_outside, source_after, state_after};
+ghost use Rattle.verify80_spans.specs.Span.{uncarried};
 ghost use Rattle.verify80_states.specs.State.{compared_with, with_outcome};
 
-use crate::spans::{ByteSpan, Outcome, Span, operated, rotated};
 use crate::states::cells::Cells;
 use crate::states::state::{State, Words};
 use decode80::{IndexPair, Instr, Operand, Operation, Pair, Register, StackPair, ahead};
+use verify80_spans::{ByteSpan, Outcome, Span, operated, rotated};
 
 /// The byte of code at an address, if code is there.
 fn byte_at(code: &[Option<u8>], at: u16) -> Option<u8>
@@ -49,16 +49,6 @@ fn loaded(code: &[Option<u8>], cells: Cells, at: Span) -> ByteSpan
     } else {
         ByteSpan::ANY
     }
-}
-
-/// The word that is read at an address.
-fn loaded_word(code: &[Option<u8>], cells: Cells, address: u16) -> Span
-    ensures { result ≡ loaded_word code.now cells address }
-{
-    Span::of_halves(
-        loaded_at(code, cells, ahead(address, 1)),
-        loaded_at(code, cells, address),
-    )
 }
 
 /// A register is copied.
@@ -284,7 +274,9 @@ fn registers_after(code: &[Option<u8>], instr: Instr, state: State) -> State
             state.with_byte(Register::A, loaded_at(code, state.cells, address))
         }
         Instr::In(_) => state.with_byte(Register::A, ByteSpan::ANY),
-        Instr::Lhld(address) => state.with_words(Pair::Hl, loaded_word(code, state.cells, address)),
+        Instr::Lhld(address) => state
+            .with_byte(Register::H, loaded_at(code, state.cells, ahead(address, 1)))
+            .with_byte(Register::L, loaded_at(code, state.cells, address)),
         Instr::Xchg => exchanged_pairs(state),
         Instr::Pop(pair) => popped_to(pair, known_word(state.words.first), state),
         Instr::Xthl => state.with_words(Pair::Hl, known_word(state.words.first)),
@@ -368,6 +360,47 @@ fn cells_after(code: &[Option<u8>], instr: Instr, state: State) -> Cells
     }
 }
 
+/// An address, if it is the only one of a span.
+fn only_address(span: Span) -> Option<u16>
+    ensures { result ≡ only_address span }
+{
+    if span.is_alone() {
+        Some(span.first)
+    } else {
+        None
+    }
+}
+
+/// An address that is outside of a span.
+fn address_outside(span: Span, address: Option<u16>) -> Option<u16>
+    ensures { result ≡ address_outside span address }
+{
+    match address {
+        Some(at) if span.first <= at && at <= span.last => None,
+        other => other,
+    }
+}
+
+/// The address of a byte that A has after an instruction, given what is left of that when the registers are written.
+fn source_after(instr: Instr, state: State, left: Option<u16>) -> Option<u16>
+    ensures { result ≡ source_after instr state left }
+{
+    let pointed = state.hl.words;
+    match instr {
+        Instr::Lda(address) | Instr::Sta(address) => Some(address),
+        Instr::Load(Register::A) | Instr::Store(Register::A) => only_address(pointed),
+        Instr::Store(_) | Instr::MviMemory(_) | Instr::InrMemory | Instr::DcrMemory => {
+            address_outside(pointed, left)
+        }
+        Instr::Stax(pair) => address_outside(index_words(state, pair), left),
+        Instr::Shld(address) => address_outside(
+            Span::alone(ahead(address, 1)),
+            address_outside(Span::alone(address), left),
+        ),
+        _ => left,
+    }
+}
+
 /// What is known after an instruction, given what is known before it, the bytes of code by address, and whether its call or return is
 /// taken; `next` is the address after it.
 ///
@@ -375,9 +408,11 @@ fn cells_after(code: &[Option<u8>], instr: Instr, state: State) -> Cells
 pub fn state_after(code: &[Option<u8>], instr: Instr, taken: bool, next: u16, state: State) -> State
     ensures { result ≡ state_after code.now instr taken next state }
 {
+    let after = registers_after(code, instr, state);
     State {
         words: words_after(instr, taken, next, state),
         cells: cells_after(code, instr, state),
-        ..registers_after(code, instr, state)
+        source: source_after(instr, state, after.source),
+        ..after
     }
 }

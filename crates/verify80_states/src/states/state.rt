@@ -1,8 +1,9 @@
 //! What is known of a machine at an instruction.
 
-use crate::spans::{ByteSpan, Outcome, Span};
+use crate::fitting::is_marked;
 use crate::states::cells::Cells;
 use decode80::{Pair, Register};
+use verify80_spans::{ByteSpan, Outcome, Span};
 
 /// What a pair may be: its words, and its low bytes, which may be fewer than those of the words.
 #[derive(Clone, Copy, Debug, PartialEq, Eq)]
@@ -13,7 +14,7 @@ pub struct PairSpan {
 
 impl PairSpan {
     ghost use Rattle.std.specs.Prelude.{◌≡◌, ◌↔◌, true};
-    ghost use Rattle.verify80_states.specs.Span.{high_of};
+    ghost use Rattle.verify80_spans.specs.Span.{high_of};
     ghost use Rattle.verify80_states.specs.State.{pair_of_words, pair_of_halves, cut_high, cut_low, IsPairInside};
 
     /// Any word.
@@ -164,6 +165,8 @@ pub struct State {
     pub compared: Option<u8>,
     pub words: Words,
     pub cells: Cells,
+    /// The address of a byte of memory that A has, if one is known.
+    pub source: Option<u16>,
 }
 
 ghost use Rattle.std.specs.Prelude.{◌≡◌, true};
@@ -218,6 +221,17 @@ fn is_comparison_inside(inner: Option<u8>, outer: Option<u8>) -> bool
     }
 }
 
+/// Whether what is known of the byte of memory that A has does.
+fn is_source_inside(inner: Option<u16>, outer: Option<u16>) -> bool
+    ensures { result ≡ true → IsComparisonInside inner outer }
+{
+    match (inner, outer) {
+        (_, None) => true,
+        (Some(inner), Some(outer)) => inner == outer,
+        (None, Some(_)) => false,
+    }
+}
+
 /// Whether what is known of a copy does.
 fn is_copy_inside(inner: Register, outer: Register) -> bool
     ensures { result ≡ true → IsCopyInside inner outer }
@@ -236,7 +250,8 @@ fn is_copy_inside(inner: Register, outer: Register) -> bool
 
 impl State {
     ghost use Rattle.std.specs.Prelude.{◌≡◌, true};
-    ghost use Rattle.verify80_states.specs.State.{byte_of, words_of, with_byte, with_words, with_outcome, with_carry, with_any_flags, cut, cut_copy, AreRegistersInside, IsStateInside};
+    ghost use Rattle.verify80_states.specs.State.{byte_of, words_of, with_byte, with_words, with_outcome, with_carry, with_any_flags, cut, cut_copy, AreRegistersInside, IsStateInside, IsQuietState};
+    ghost use Rattle.verify80_states.specs.Marks.{is_marked};
 
     /// Nothing is known.
     pub const ANY: State = State {
@@ -251,6 +266,7 @@ impl State {
         compared: None,
         words: Words::NONE,
         cells: Cells::ANY,
+        source: None,
     };
 
     /// Whether this state says all that another does.
@@ -263,6 +279,7 @@ impl State {
             && is_flag_inside(self.carry, other.carry)
             && is_flag_inside(self.sign, other.sign)
             && is_comparison_inside(self.compared, other.compared)
+            && is_source_inside(self.source, other.source)
             && self.words.are_inside(other.words)
             && self.cells.are_inside(other.cells)
     }
@@ -314,6 +331,7 @@ impl State {
                 a: byte,
                 copy: Register::A,
                 compared: None,
+                source: None,
                 ..self
             },
             Register::B => State {
@@ -445,13 +463,25 @@ impl State {
         }
     }
 
-    /// The state in which A holds one of these bytes, and so does the register that has its byte.
+    /// The state in which A holds one of these bytes, and so do the register and the byte of memory that have its byte.
     pub fn cut(self, byte: ByteSpan) -> State
         ensures { result ≡ cut self byte }
     {
         State {
             a: self.a.meet(byte),
+            cells: self.cells.cut(self.source, byte),
             ..self.cut_copy(byte)
         }
+    }
+
+    /// Whether it says something of addresses alone that are marked as quiet.
+    pub fn is_quiet(self, quiet: &[bool]) -> bool
+        ensures { result ≡ true → IsQuietState (is_marked quiet.now) self }
+    {
+        self.cells.are_quiet(quiet)
+            && match self.source {
+                None => true,
+                Some(at) => is_marked(quiet, at),
+            }
     }
 }
