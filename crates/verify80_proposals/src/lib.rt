@@ -17,8 +17,10 @@
 
 mod compacting;
 mod groups;
+mod joining;
 mod landmarks;
 mod marks;
+mod moving;
 mod needs;
 mod nodes;
 mod program;

@@ -46,11 +46,11 @@ pub(crate) struct Node {
 
 /// The states at one address.
 #[derive(Clone, Copy)]
-struct Group {
-    first: u32,
-    count: u32,
+pub(crate) struct Group {
+    pub first: u32,
+    pub count: u32,
     /// The parts by which they are no longer distinguished.
-    joined: Units,
+    pub joined: Units,
 }
 
 /// The states that are known so far, and those from which others have still to be followed.
@@ -112,9 +112,14 @@ impl Nodes {
         self.nodes.get(place as usize)
     }
 
-    /// What is needed of a state at an address.
-    fn needed(&self, at: u16, state: State) -> State {
-        self.needs.needed(at, state)
+    /// A state is taken in by another, which begins to grow anew.
+    pub fn hand_over(&mut self, place: u32, holder: u32) {
+        if let Some(node) = self.nodes.get_mut(holder as usize) {
+            node.growths = 0;
+        }
+        if let Some(node) = self.nodes.get_mut(place as usize) {
+            node.taken_by = holder;
+        }
     }
 
     /// Notes where the hints of a state begin.
@@ -150,7 +155,7 @@ impl Nodes {
     /// # Errors
     /// `AllocError` if memory runs out.
     pub fn enter(&mut self, alloc: Global, at: u16, state: State) -> Result<u32, AllocError> {
-        let state = self.needed(at, state);
+        let state = self.needs.needed(at, state);
         if let Some(place) = self.find_around(at, state) {
             return Ok(place);
         }
@@ -162,7 +167,7 @@ impl Nodes {
     }
 
     /// Puts a state at its address: into one from which only joined parts tell it apart, or as one of its own.
-    fn put(&mut self, at: u16, state: State) -> Result<u32, AllocError> {
+    pub fn put(&mut self, at: u16, state: State) -> Result<u32, AllocError> {
         match self.find_alike(at, state) {
             Some(place) => {
                 self.grow(place, state)?;
@@ -182,7 +187,7 @@ impl Nodes {
     }
 
     /// How many it has, at most, once some of them are no longer told apart.
-    fn most_joined(&self) -> u32 {
+    pub fn most_joined(&self) -> u32 {
         if self.is_late || self.nodes.len() >= TOO_MANY {
             1
         } else if self.nodes.len() >= MANY {
@@ -193,7 +198,7 @@ impl Nodes {
     }
 
     /// The states at an address.
-    fn group(&self, at: u16) -> Group {
+    pub fn group(&self, at: u16) -> Group {
         match self.groups.get(usize::from(at)) {
             Some(group) => *group,
             None => Group {
@@ -205,7 +210,7 @@ impl Nodes {
     }
 
     /// Sets the states at an address.
-    fn set_group(&mut self, at: u16, group: Group) {
+    pub fn set_group(&mut self, at: u16, group: Group) {
         if let Some(place) = self.groups.get_mut(usize::from(at)) {
             *place = group;
         }
@@ -310,101 +315,6 @@ impl Nodes {
         }
         Ok(())
     }
-
-    /// No longer tells apart the states at an address by those parts that tell the most of them apart, as many as it takes until there are
-    /// few enough.
-    fn join_some(&mut self, alloc: Global, at: u16) -> Result<(), AllocError> {
-        let places = self.places_at(alloc, at)?;
-        let joined = self.parts_to_join(alloc, at, &places)?;
-        self.set_group(
-            at,
-            Group {
-                first: NOWHERE,
-                count: 0,
-                joined,
-            },
-        );
-        for place in &places {
-            self.put_back(at, *place)?;
-        }
-        Ok(())
-    }
-
-    /// The places of the states at an address.
-    fn places_at(&self, alloc: Global, at: u16) -> Result<Vec<u32>, AllocError> {
-        let mut places = Vec::new(alloc);
-        let mut place = self.group(at).first;
-        for _ in 0..self.nodes.len() {
-            let Some(node) = self.get(place) else {
-                break;
-            };
-            places.push(place)?;
-            place = node.next;
-        }
-        Ok(places)
-    }
-
-    /// The parts by which states at an address are no longer told apart, with those of which they have the most values.
-    fn parts_to_join(&self, alloc: Global, at: u16, places: &[u32]) -> Result<Units, AllocError> {
-        let most = self.most_joined() as usize;
-        let mut joined = self.group(at).joined;
-        let mut counted = Vec::new(alloc);
-        for part in 0..PARTS {
-            if !joined.intersects(Units::numbered(part)) {
-                let count = self.count_apart(
-                    alloc,
-                    places,
-                    Units::ALL.difference(Units::numbered(part)),
-                )?;
-                counted.push((count, PARTS.saturating_sub(part)))?;
-            }
-        }
-        counted.sort_unstable();
-        for _ in 0..PARTS {
-            let Some((_, part)) = counted.pop() else {
-                break;
-            };
-            joined = joined.union(Units::numbered(PARTS.saturating_sub(part)));
-            if self.count_apart(alloc, places, joined)? < most {
-                return Ok(joined);
-            }
-        }
-        Ok(Units::ALL)
-    }
-
-    /// How many of these states are told apart, if these parts are joined.
-    fn count_apart(
-        &self,
-        alloc: Global,
-        places: &[u32],
-        joined: Units,
-    ) -> Result<usize, AllocError> {
-        let mut sums = Vec::new(alloc);
-        for place in places {
-            if let Some(node) = self.get(*place) {
-                sums.push(sum_of(0, node.state, joined))?;
-            }
-        }
-        sums.sort_unstable();
-        sums.dedup();
-        Ok(sums.len())
-    }
-
-    /// Puts a state back at its address, into the one that has it from now on.
-    fn put_back(&mut self, at: u16, place: u32) -> Result<(), AllocError> {
-        let Some(node) = self.get(place) else {
-            return Ok(());
-        };
-        let state = node.state;
-        let holder = self.put(at, state)?;
-        if let Some(node) = self.nodes.get_mut(holder as usize) {
-            node.growths = 0;
-        }
-        if let Some(node) = self.nodes.get_mut(place as usize) {
-            node.taken_by = holder;
-        }
-        Ok(())
-    }
 }
 
 /// The list of a state, of which these parts tell it apart from none.
@@ -413,7 +323,7 @@ fn list_of(at: u16, state: State, joined: Units) -> usize {
 }
 
 /// A sum over the parts of a state without these.
-fn sum_of(first: u32, state: State, joined: Units) -> u32 {
+pub(crate) fn sum_of(first: u32, state: State, joined: Units) -> u32 {
     let mut sum = first;
     let mut bits = joined.bits();
     for part in 0..PARTS {

@@ -122,45 +122,7 @@ impl Units {
 
 /// Whether two states agree in these parts.
 pub(crate) fn are_alike(one: State, other: State, parts: Units) -> bool {
-    let keeps_a = parts.intersects(Units::A.union(Units::TEST));
-    (!keeps_a || one.a == other.a && one.copy == other.copy && one.source == other.source)
-        && are_pairs_alike(
-            one.bc,
-            other.bc,
-            parts.intersects(Units::B),
-            parts.intersects(Units::C),
-        )
-        && are_pairs_alike(
-            one.de,
-            other.de,
-            parts.intersects(Units::D),
-            parts.intersects(Units::E),
-        )
-        && are_pairs_alike(
-            one.hl,
-            other.hl,
-            parts.intersects(Units::H),
-            parts.intersects(Units::L),
-        )
-        && (!parts.intersects(Units::ZERO) || one.zero == other.zero)
-        && (!parts.intersects(Units::CARRY) || one.carry == other.carry)
-        && (!parts.intersects(Units::SIGN) || one.sign == other.sign)
-        && (!parts.intersects(Units::TEST) || one.compared == other.compared)
-        && (!parts.intersects(Units::FIRST) || one.words.first == other.words.first)
-        && (!parts.intersects(Units::SECOND) || one.words.second == other.words.second)
-        && (!parts.intersects(Units::THIRD) || one.words.third == other.words.third)
-        && (!parts.intersects(Units::FOURTH) || one.words.fourth == other.words.fourth)
-        && reduced_cells(one.cells, parts) == reduced_cells(other.cells, parts)
-}
-
-/// Whether two pairs agree in these halves.
-fn are_pairs_alike(one: PairSpan, other: PairSpan, high: bool, low: bool) -> bool {
-    match (high, low) {
-        (true, true) => one == other,
-        (true, false) => one.high() == other.high(),
-        (false, true) => one.low == other.low,
-        (false, false) => true,
-    }
+    reduced(one, parts) == reduced(other, parts)
 }
 
 /// A state of which only these parts are known.
