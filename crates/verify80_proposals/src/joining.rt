@@ -19,7 +19,11 @@ impl Nodes {
             },
         );
         for place in &places {
-            self.put_back(at, *place)?;
+            if let Some(node) = self.get(*place) {
+                let state = node.state;
+                let holder = self.put(at, state)?;
+                self.hand_over(*place, holder);
+            }
         }
         Ok(())
     }
@@ -82,16 +86,5 @@ impl Nodes {
         sums.sort_unstable();
         sums.dedup();
         Ok(sums.len())
-    }
-
-    /// Puts a state back at its address, into the one that has it from now on.
-    fn put_back(&mut self, at: u16, place: u32) -> Result<(), AllocError> {
-        let Some(node) = self.get(place) else {
-            return Ok(());
-        };
-        let state = node.state;
-        let holder = self.put(at, state)?;
-        self.hand_over(place, holder);
-        Ok(())
     }
 }

@@ -103,7 +103,7 @@ fn named_by(
                 _ => Slots::NONE,
             };
             if let Some(place) = named.get_mut(number as usize) {
-                *place = need_at(needs, number as u16).slots.or(after);
+                *place = need_at(needs, number as u16).slots.and(after);
             }
         }
     }

@@ -265,7 +265,10 @@ impl Nodes {
     fn append(&mut self, at: u16, state: State) -> Result<u32, AllocError> {
         let place = place_of(self.nodes.len());
         let group = self.group(at);
-        let next_listed = self.put_first(list_of(at, state, group.joined), place);
+        let next_listed = self.first_listed(at, state);
+        if let Some(first) = self.lists.get_mut(list_of(at, state, group.joined)) {
+            *first = place;
+        }
         self.nodes.push(Node {
             at,
             state,
@@ -286,18 +289,6 @@ impl Nodes {
         );
         self.waiting.push(place)?;
         Ok(place)
-    }
-
-    /// Puts a state first in a list, and gives the one that was first.
-    fn put_first(&mut self, list: usize, place: u32) -> u32 {
-        match self.lists.get_mut(list) {
-            Some(first) => {
-                let next = *first;
-                *first = place;
-                next
-            }
-            None => NOWHERE,
-        }
     }
 
     /// A state takes in another, and others have to be followed from it again.

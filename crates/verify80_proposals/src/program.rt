@@ -76,16 +76,25 @@ impl<'a> ReachedProgram<'a> {
             }
             Flow::Jumps(to) => Some((to, self.after(found, false, state))),
             Flow::JumpsIf(condition, to) => match number {
-                0 => self.left(found, true, to, given(condition, true, state)),
-                _ => self.left(found, false, next, given(condition, false, state)),
+                0 => Some((to, self.after(found, true, given(condition, true, state)?))),
+                _ => Some((
+                    next,
+                    self.after(found, false, given(condition, false, state)?),
+                )),
             },
             Flow::CallsIf(condition, to) => match number {
-                0 => self.left(found, true, to, given(condition, true, state)),
-                1 => self.left(found, false, next, given(condition, false, state)),
+                0 => Some((to, self.after(found, true, given(condition, true, state)?))),
+                1 => Some((
+                    next,
+                    self.after(found, false, given(condition, false, state)?),
+                )),
                 _ => self.returned(to, next),
             },
             Flow::ReturnsIf(condition) => match number {
-                0 => self.left(found, false, next, given(condition, false, state)),
+                0 => Some((
+                    next,
+                    self.after(found, false, given(condition, false, state)?),
+                )),
                 _ => self.back(at, found, given(condition, true, state)?),
             },
             Flow::Calls(to) => match number {
@@ -148,17 +157,5 @@ impl<'a> ReachedProgram<'a> {
             },
             _ => after,
         }
-    }
-
-    /// A way of a state that is left, if one is.
-    fn left(
-        self,
-        found: Fetched,
-        taken: bool,
-        to: u16,
-        left: Option<State>,
-    ) -> Option<(u16, State)> {
-        let state = left?;
-        Some((to, self.after(found, taken, state)))
     }
 }

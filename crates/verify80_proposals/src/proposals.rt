@@ -119,7 +119,7 @@ fn propose_with(
         alloc,
         ReachedProgram {
             returns: &returns,
-            groups: groups.numbers(),
+            groups: &groups.numbers,
             ..program
         },
         limits,

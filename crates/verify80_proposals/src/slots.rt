@@ -64,17 +64,6 @@ impl Slots {
         }
         both
     }
-
-    /// These, and those of others at places that are free.
-    pub fn or(self, other: Slots) -> Slots {
-        let mut both = self;
-        for place in 0..SLOTS {
-            if let (None, Some(address)) = (self.at(place), other.at(place)) {
-                both = both.with(place, address);
-            }
-        }
-        both
-    }
 }
 
 /// By address the place of each quiet byte that the program reads by name, in turn; that of others is none of them.
@@ -238,7 +227,7 @@ pub(crate) fn cell_parts(slots: Slots) -> Units {
     let mut parts = Units::NONE;
     for place in 0..SLOTS {
         if slots.at(place).is_some() {
-            parts = parts.union(Units::cell(place));
+            parts = parts.union(Units::numbered(place.min(7) + 15));
         }
     }
     parts

@@ -53,11 +53,6 @@ impl Units {
         Units(bit)
     }
 
-    /// The byte of memory whose cell has a place below 8.
-    pub fn cell(place: usize) -> Units {
-        Units::numbered(place.min(7) + 15)
-    }
-
     /// A register.
     pub fn of(register: Register) -> Units {
         match register {
@@ -180,14 +175,14 @@ pub(crate) fn reduced(state: State, parts: Units) -> State {
 /// Cells of which only these parts are known: each keeps its address.
 fn reduced_cells(cells: Cells, parts: Units) -> Cells {
     Cells {
-        first: reduced_cell(cells.first, parts.intersects(Units::cell(0))),
-        second: reduced_cell(cells.second, parts.intersects(Units::cell(1))),
-        third: reduced_cell(cells.third, parts.intersects(Units::cell(2))),
-        fourth: reduced_cell(cells.fourth, parts.intersects(Units::cell(3))),
-        fifth: reduced_cell(cells.fifth, parts.intersects(Units::cell(4))),
-        sixth: reduced_cell(cells.sixth, parts.intersects(Units::cell(5))),
-        seventh: reduced_cell(cells.seventh, parts.intersects(Units::cell(6))),
-        eighth: reduced_cell(cells.eighth, parts.intersects(Units::cell(7))),
+        first: reduced_cell(cells.first, parts.intersects(Units::numbered(15))),
+        second: reduced_cell(cells.second, parts.intersects(Units::numbered(16))),
+        third: reduced_cell(cells.third, parts.intersects(Units::numbered(17))),
+        fourth: reduced_cell(cells.fourth, parts.intersects(Units::numbered(18))),
+        fifth: reduced_cell(cells.fifth, parts.intersects(Units::numbered(19))),
+        sixth: reduced_cell(cells.sixth, parts.intersects(Units::numbered(20))),
+        seventh: reduced_cell(cells.seventh, parts.intersects(Units::numbered(21))),
+        eighth: reduced_cell(cells.eighth, parts.intersects(Units::numbered(22))),
     }
 }
 
