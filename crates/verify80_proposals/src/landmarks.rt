@@ -206,6 +206,7 @@ fn with_same_flags(old: State, new: State) -> State {
         } else {
             None
         },
+        set: old.set & new.set,
         ..old
     }
 }

@@ -223,7 +223,7 @@ impl Nodes {
             let Some(node) = self.get(place) else {
                 break;
             };
-            if node.at == at && state.is_inside(node.state) {
+            if node.at == at && state.is_inside(node.state, &[]) {
                 return Some(self.holder(place));
             }
             place = node.next_listed;
@@ -231,7 +231,7 @@ impl Nodes {
         let mut place = self.group(at).first;
         for _ in 0..NEWEST {
             let node = self.get(place)?;
-            if state.is_inside(node.state) {
+            if state.is_inside(node.state, &[]) {
                 return Some(place);
             }
             place = node.next;

@@ -142,6 +142,7 @@ pub(crate) fn reduced(state: State, parts: Units) -> State {
         ),
         copy: if keeps_a { state.copy } else { Register::A },
         source: if keeps_a { state.source } else { None },
+        set: state.set,
         zero: if parts.intersects(Units::ZERO) {
             state.zero
         } else {

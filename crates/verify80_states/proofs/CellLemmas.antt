@@ -1,5 +1,5 @@
 -- What is known of bytes of memory, along stores and where it is read.
-use Rattle.std.specs.Prelude.{◌≡◌, ◌≢◌, ◌<◌, ◌&&◌, ◌==◌, ℕ, ◌/◌, ◌%◌, Bool, true, false, List, [], ◌∷◌, Option, None, Some, nat_le, length, slice_index, slice_set, refl, if◌then◌else◌}
+use Rattle.std.specs.Prelude.{◌≡◌, ◌≢◌, ◌⊎◌, ◌<◌, ◌&&◌, ◌==◌, ℕ, ◌/◌, ◌%◌, Bool, true, false, List, [], ◌∷◌, Option, None, Some, nat_le, length, slice_index, slice_set, refl, if◌then◌else◌}
 use Rattle.std.proofs.Common.{subst, sym, ap, ◌∙◌, arith, get_or, inl, inr}
 use Rattle.std.proofs.lemmas.Bool.{eqb-true}
 use Rattle.std.proofs.lemmas.Bool.Decides.{nat_tests}
@@ -24,11 +24,13 @@ use Rattle.verify80_spans.specs.declared.span.Span.{Span}
 use Rattle.verify80_spans.specs.declared.byte_span.ByteSpan.{ByteSpan}
 use Rattle.verify80_states.specs.declared.states.cells.Cell.{Cell}
 use Rattle.verify80_states.specs.declared.states.cells.Cells.{Cells}
+use Rattle.verify80_states.specs.declared.states.variables.Variable.{Variable}
 use Rattle.verify80_states.specs.declared.states.state.State.{State}
+use Rattle.verify80_states.specs.Variables.{HoldsSet, IsSaid}
 use Rattle.verify80_states.specs.Bytes.{HasBytes, AreBytes}
 use Rattle.verify80_spans.specs.Span.{Within, ByteWithin, any_byte, byte_alone, word_alone, is_alone, next_byte, previous_byte, meet_bytes}
 use Rattle.verify80_spans.specs.Span.{high_of as high_bytes}
-use Rattle.verify80_states.specs.Cells.{HoldsCell, EachCell, HoldsCells, IsCellInside, AreCellsInside, IsQuietCell, AreQuietCells, any_cell, no_cells, map_cells, cut_cell, cut_cells, stored_cell, stored_cells}
+use Rattle.verify80_states.specs.Cells.{HoldsCell, EachCell, HoldsCells, IsSaidByCell, IsCellInside, AreCellsInside, IsQuietCell, AreQuietCells, any_cell, no_cells, map_cells, cut_cell, cut_cells, stored_cell, stored_cells}
 use Rattle.verify80_states.specs.State.{HoldsRegisters, HoldsSource, IsQuietSource, IsQuietState, anything, byte_of}
 use Rattle.verify80_states.specs.declared.fitting.fitting.Placed.{Placed}
 use Rattle.verify80_states.specs.Fitting.{KnowsQuiet}
@@ -57,22 +59,27 @@ each_so P Q W f cells so one two = record {
 }
 
 -- cells around others
-around : (c d : Cell) (memory : List ℕ) → HasBytes memory → IsCellInside c d → HoldsCell c memory → HoldsCell d memory
-around c d memory bytes (inl any) holds = subst (λ (s : ByteSpan). ByteWithin s (byte_in memory d.at)) (sym any) (any_byte_within (byte_in memory d.at) (memory_byte memory d.at bytes))
-around c d memory bytes (inr inside) holds =
-    subst (λ n. ByteWithin d.bytes (byte_in memory n)) inside.0 (byte_inside_within c.bytes d.bytes (byte_in memory c.at) inside.1 holds)
+module _ (variables : List Variable) (set : ℕ) (memory : List ℕ) (bytes : HasBytes memory) (named : HoldsSet variables set memory) where
+  around : (c d : Cell) → IsCellInside variables set c d → HoldsCell c memory → HoldsCell d memory
+  around c d inside holds = by inside.either where
+    by : IsSaidByCell c d ⊎ IsSaid variables set d → HoldsCell d memory
+    by (inl (inl any)) = subst (λ (s : ByteSpan). ByteWithin s (byte_in memory d.at)) (sym any) (any_byte_within (byte_in memory d.at) (memory_byte memory d.at bytes))
+    by (inl (inr so)) = subst (λ n. ByteWithin d.bytes (byte_in memory n)) so.0 (byte_inside_within c.bytes d.bytes (byte_in memory c.at) so.1 holds)
+    by (inr said) =
+        let v = said.variable in
+        subst (λ n. ByteWithin d.bytes (byte_in memory n)) said.at (byte_inside_within v.bytes d.bytes (byte_in memory v.at) said.inside (named v said.named))
 
-pub cells_around : (cells others : Cells) (memory : List ℕ) → HasBytes memory → AreCellsInside cells others → HoldsCells cells memory → HoldsCells others memory
-cells_around cells others memory bytes inside holds = record {
-  first = around cells.first others.first memory bytes inside.first holds.first;
-  second = around cells.second others.second memory bytes inside.second holds.second;
-  third = around cells.third others.third memory bytes inside.third holds.third;
-  fourth = around cells.fourth others.fourth memory bytes inside.fourth holds.fourth;
-  fifth = around cells.fifth others.fifth memory bytes inside.fifth holds.fifth;
-  sixth = around cells.sixth others.sixth memory bytes inside.sixth holds.sixth;
-  seventh = around cells.seventh others.seventh memory bytes inside.seventh holds.seventh;
-  eighth = around cells.eighth others.eighth memory bytes inside.eighth holds.eighth;
-}
+  pub cells_around : (cells others : Cells) → AreCellsInside variables set cells others → HoldsCells cells memory → HoldsCells others memory
+  cells_around cells others inside holds = record {
+    first = around cells.first others.first inside.first holds.first;
+    second = around cells.second others.second inside.second holds.second;
+    third = around cells.third others.third inside.third holds.third;
+    fourth = around cells.fourth others.fourth inside.fourth holds.fourth;
+    fifth = around cells.fifth others.fifth inside.fifth holds.fifth;
+    sixth = around cells.sixth others.sixth inside.sixth holds.sixth;
+    seventh = around cells.seventh others.seventh inside.seventh holds.seventh;
+    eighth = around cells.eighth others.eighth inside.eighth holds.eighth;
+  }
 
 pub any_cell_holds : (memory : List ℕ) → HasBytes memory → HoldsCell any_cell memory
 any_cell_holds memory bytes = any_byte_within (byte_in memory 0) (memory_byte memory 0 bytes)
@@ -176,15 +183,15 @@ cells_cut_quiet quiet (Some at) bytes cells is are =
 pub word_within : (n : ℕ) → Within (word_alone n) n
 word_within n = record { above = omega arith; below = omega arith }
 
-pointed_is_word : (r : Registers) (pair : IndexPair) → AreBytes r → index_pair_of r pair < 65536
+pub pointed_is_word : (r : Registers) (pair : IndexPair) → AreBytes r → index_pair_of r pair < 65536
 pointed_is_word r IndexBc bytes = bc_is_word r bytes
 pointed_is_word r IndexDe bytes = de_is_word r bytes
 
-counted_up : (s : ByteSpan) (byte : ℕ) (r : Registers) → byte < 256 → ByteWithin s byte → ByteWithin (next_byte s) (increment_answer byte r.flags).value
+pub counted_up : (s : ByteSpan) (byte : ℕ) (r : Registers) → byte < 256 → ByteWithin s byte → ByteWithin (next_byte s) (increment_answer byte r.flags).value
 unfolding increment_answer byte_answer
 counted_up s byte r small inside = next_byte_within s byte small inside
 
-counted_down : (s : ByteSpan) (byte : ℕ) (r : Registers) → byte < 256 → ByteWithin s byte → ByteWithin (previous_byte s) (decrement_answer byte r.flags).value
+pub counted_down : (s : ByteSpan) (byte : ℕ) (r : Registers) → byte < 256 → ByteWithin s byte → ByteWithin (previous_byte s) (decrement_answer byte r.flags).value
 unfolding decrement_answer byte_answer
 counted_down s byte r small inside = previous_byte_within s byte small inside
 

@@ -23,7 +23,7 @@ within_by c memory at otherwise false same holds other = by_span (cell_or c at o
 cell_within : (c : Cell) (memory : List ℕ) (at : ℕ) (otherwise : ByteSpan) → HoldsCell c memory → ByteWithin otherwise (byte_in memory at) → ByteWithin (cell_or c at otherwise) (byte_in memory at)
 cell_within c memory at otherwise holds other = within_by c memory at otherwise (c.at == at) refl holds other
 
-cells_within : (cells : Cells) (memory : List ℕ) (at : ℕ) → HoldsCells cells memory → HasBytes memory → ByteWithin (bytes_at cells at) (byte_in memory at)
+pub cells_within : (cells : Cells) (memory : List ℕ) (at : ℕ) → HoldsCells cells memory → HasBytes memory → ByteWithin (bytes_at cells at) (byte_in memory at)
 cells_within cells memory at holds bytes =
     cell_within cells.first memory at _ holds.first (cell_within cells.second memory at _ holds.second (cell_within cells.third memory at _ holds.third (cell_within cells.fourth memory at _ holds.fourth (cell_within cells.fifth memory at _ holds.fifth (cell_within cells.sixth memory at _ holds.sixth (cell_within cells.seventh memory at _ holds.seventh (cell_within cells.eighth memory at _ holds.eighth (any_byte_within (byte_in memory at) (memory_byte memory at bytes)))))))))
 

@@ -5,7 +5,7 @@ use Rattle.std.proofs.lemmas.Bool.Decides.{nat_tests}
 use Rattle.decode80.specs.declared.register.Register.{Register}
 use Rattle.decode80.specs.declared.register.Register.TheVariants.{A}
 use Rattle.decode80.specs.declared.condition.Condition.{Condition}
-use Rattle.decode80.specs.declared.condition.Condition.TheVariants.{NonZero, Zero, NoCarry, Carry, Plus, Minus}
+use Rattle.decode80.specs.declared.condition.Condition.TheVariants.{NonZero, Zero, NoCarry, Carry, ParityOdd, ParityEven, Plus, Minus}
 use Rattle.image80.specs.Regions.{Areas}
 use Rattle.machine80.specs.declared.registers.Registers.{Registers}
 use Rattle.machine80.specs.Step.{Machine}
@@ -21,11 +21,12 @@ use Rattle.verify80_states.proofs.StateLemmas.{cut_holds}
 use Rattle.verify80_states.proofs.CellLemmas.{cells_cut, cells_cut_quiet}
 
 -- a state is left, it holds, and says something of quiet addresses alone
-pub record Leaves (quiet : ℕ → Bool) (regions : Areas) (m : Machine) (o : Option State) : Type 0 where
+pub record Leaves (quiet : ℕ → Bool) (regions : Areas) (m : Machine) (set : ℕ) (o : Option State) : Type 0 where
   pub left : State
   pub is : o ≡ Some left
   pub holds : Holds regions left m
   pub are : IsQuietState quiet left
+  pub same : left.set ≡ set
 
 -- some bytes are left, and one is among them
 record LeavesByte (o : Option ByteSpan) (n : ℕ) : Type 0 where
@@ -78,21 +79,24 @@ flags_are : (s : State) (r : Registers) (z cy n : Option Bool) → HoldsRegister
 flags_are s r z cy n holds zero carry sign =
     record { a = holds.a; bc = holds.bc; de = holds.de; hl = holds.hl; copy = holds.copy; flags = record { zero = zero; carry = carry; sign = sign; compared = holds.flags.compared } }
 
-cut_keeps : (s : State) (copy : Register) (span : ByteSpan) → ((cut_copy s copy span).words ≡ s.words) × ((cut_copy s copy span).source ≡ s.source)
-cut_keeps s A span = (refl, refl)
-cut_keeps s copy span = (refl, refl)
+cut_keeps : (s : State) (copy : Register) (span : ByteSpan) → ((cut_copy s copy span).words ≡ s.words) × (((cut_copy s copy span).source ≡ s.source) × ((cut_copy s copy span).set ≡ s.set))
+cut_keeps s A span = (refl, (refl, refl))
+cut_keeps s copy span = (refl, (refl, refl))
+
+pub cut_set : (s : State) (span : ByteSpan) → (cut s span).set ≡ s.set
+cut_set s span = (cut_keeps s s.copy span).1.1
 
 module _ (quiet : ℕ → Bool) (regions : Areas) (m : Machine) (bytes : AreBytes m.cpu.registers) where
-  abbrev LeavesOf : Option State → Type 0
-  LeavesOf o = Leaves quiet regions m o
+  abbrev LeavesOf : (set : ℕ) → Option State → Type 0
+  LeavesOf set o = Leaves quiet regions m set o
 
   with_flags : (s : State) (z cy n : Option Bool) → Holds regions s m → IsKnown z m.cpu.registers.flags.zero → IsKnown cy m.cpu.registers.flags.carry → IsKnown n m.cpu.registers.flags.sign → Holds regions (record s { zero = z; carry = cy; sign = n }) m
   with_flags s z cy n holds zero carry sign =
       record { registers = flags_are s m.cpu.registers z cy n holds.registers zero carry sign; words = holds.words; cells = holds.cells; source = holds.source }
 
-  same_left : (known wanted truth : Bool) (s : State) → Holds regions s m → IsQuietState quiet s → truth ≡ known → truth ≡ wanted → LeavesOf (if_same known wanted s)
-  same_left true true truth s holds are one two = record { left = s; is = refl; holds = holds; are = are }
-  same_left false false truth s holds are one two = record { left = s; is = refl; holds = holds; are = are }
+  same_left : (known wanted truth : Bool) (s : State) → Holds regions s m → IsQuietState quiet s → truth ≡ known → truth ≡ wanted → LeavesOf s.set (if_same known wanted s)
+  same_left true true truth s holds are one two = record { left = s; is = refl; holds = holds; are = are; same = refl }
+  same_left false false truth s holds are one two = record { left = s; is = refl; holds = holds; are = are; same = refl }
   same_left known wanted truth s holds are one two = cc
 
   -- a state in which A has one of some bytes too
@@ -103,38 +107,38 @@ module _ (quiet : ℕ → Bool) (regions : Areas) (m : Machine) (bytes : AreByte
         registers = cut_holds s m.cpu.registers span bytes holds.registers inside;
         words = subst (λ (w : Words). HoldsWords regions w m.memory m.cpu.sp) (sym keeps.0) holds.words;
         cells = cells_cut s.source span s.cells m.memory m.cpu.registers.a holds.source inside holds.cells;
-        source = subst (λ (o : Option ℕ). HoldsSource o m.memory m.cpu.registers.a) (sym keeps.1) holds.source;
+        source = subst (λ (o : Option ℕ). HoldsSource o m.memory m.cpu.registers.a) (sym keeps.1.0) holds.source;
       }
 
   cut_are : (s : State) (span : ByteSpan) → IsQuietState quiet s → IsQuietState quiet (cut s span)
   cut_are s span are = record {
     cells = cells_cut_quiet quiet s.source span s.cells are.source are.cells;
-    source = subst (IsQuietSource quiet) (sym (cut_keeps s s.copy span).1) are.source;
+    source = subst (IsQuietSource quiet) (sym (cut_keeps s s.copy span).1.0) are.source;
   }
 
-  cut_left : (o : Option ByteSpan) (t : State) → Holds regions t m → IsQuietState quiet t → LeavesByte o m.cpu.registers.a → LeavesOf (cut_to o t)
+  cut_left : (o : Option ByteSpan) (t : State) → Holds regions t m → IsQuietState quiet t → LeavesByte o m.cpu.registers.a → LeavesOf t.set (cut_to o t)
   cut_left o t holds are byte =
-      record { left = cut t byte.span; is = ap (λ (x : Option ByteSpan). cut_to x t) byte.is; holds = cut_state t byte.span holds byte.inside; are = cut_are t byte.span are }
+      record { left = cut t byte.span; is = ap (λ (x : Option ByteSpan). cut_to x t) byte.is; holds = cut_state t byte.span holds byte.inside; are = cut_are t byte.span are; same = cut_set t byte.span }
 
-  zero_given : (known : Option Bool) (wanted : Bool) (s : State) → Holds regions s m → IsQuietState quiet s → IsKnown known m.cpu.registers.flags.zero → m.cpu.registers.flags.zero ≡ wanted → LeavesOf (given_zero known wanted s)
+  zero_given : (known : Option Bool) (wanted : Bool) (s : State) → Holds regions s m → IsQuietState quiet s → IsKnown known m.cpu.registers.flags.zero → m.cpu.registers.flags.zero ≡ wanted → LeavesOf s.set (given_zero known wanted s)
   zero_given (Some known) wanted s holds are knows is = same_left known wanted m.cpu.registers.flags.zero s holds are knows is
   zero_given None wanted s holds are knows is =
       let flags = holds.registers.flags in
       cut_left (zero_bytes s.compared wanted s.a) (record s { zero = Some wanted }) (with_flags s (Some wanted) s.carry s.sign holds is flags.carry flags.sign) (record { cells = are.cells; source = are.source })
       (zero_leaves s.compared wanted s m.cpu.registers holds.registers flags.compared is)
 
-  carry_given : (known : Option Bool) (wanted : Bool) (s : State) → Holds regions s m → IsQuietState quiet s → IsKnown known m.cpu.registers.flags.carry → m.cpu.registers.flags.carry ≡ wanted → LeavesOf (given_carry known wanted s)
+  carry_given : (known : Option Bool) (wanted : Bool) (s : State) → Holds regions s m → IsQuietState quiet s → IsKnown known m.cpu.registers.flags.carry → m.cpu.registers.flags.carry ≡ wanted → LeavesOf s.set (given_carry known wanted s)
   carry_given (Some known) wanted s holds are knows is = same_left known wanted m.cpu.registers.flags.carry s holds are knows is
   carry_given None wanted s holds are knows is =
       let flags = holds.registers.flags in
       cut_left (carry_bytes s.compared wanted s.a) (record s { carry = Some wanted }) (with_flags s s.zero (Some wanted) s.sign holds flags.zero is flags.sign) (record { cells = are.cells; source = are.source })
       (carry_leaves s.compared wanted s m.cpu.registers holds.registers flags.compared is)
 
-  sign_given : (known : Option Bool) (wanted : Bool) (s : State) → Holds regions s m → IsQuietState quiet s → IsKnown known m.cpu.registers.flags.sign → m.cpu.registers.flags.sign ≡ wanted → LeavesOf (given_sign known wanted s)
+  sign_given : (known : Option Bool) (wanted : Bool) (s : State) → Holds regions s m → IsQuietState quiet s → IsKnown known m.cpu.registers.flags.sign → m.cpu.registers.flags.sign ≡ wanted → LeavesOf s.set (given_sign known wanted s)
   sign_given (Some known) wanted s holds are knows is = same_left known wanted m.cpu.registers.flags.sign s holds are knows is
   sign_given None wanted s holds are knows is =
       let flags = holds.registers.flags in
-      record { left = record s { sign = Some wanted }; is = refl; holds = with_flags s s.zero s.carry (Some wanted) holds flags.zero flags.carry is; are = record { cells = are.cells; source = are.source } }
+      record { left = record s { sign = Some wanted }; is = refl; holds = with_flags s s.zero s.carry (Some wanted) holds flags.zero flags.carry is; are = record { cells = are.cells; source = are.source }; same = refl }
 
 turned : (b c : Bool) → not b ≡ c → b ≡ not c
 turned true true h = cc
@@ -143,7 +147,7 @@ turned false true h = refl
 turned false false h = cc
 
 pub given_holds : (quiet : ℕ → Bool) (regions : Areas) (m : Machine) (bytes : AreBytes m.cpu.registers) (c : Condition) (wanted : Bool) (s : State) → Holds regions s m → IsQuietState quiet s → holds_of c m.cpu.registers.flags ≡ wanted →
-    Leaves quiet regions m (given c wanted s)
+    Leaves quiet regions m s.set (given c wanted s)
 unfolding holds_of
 given_holds quiet regions m bytes Zero wanted s holds are is = zero_given quiet regions m bytes s.zero wanted s holds are holds.registers.flags.zero is
 given_holds quiet regions m bytes NonZero wanted s holds are is = zero_given quiet regions m bytes s.zero (not wanted) s holds are holds.registers.flags.zero (turned m.cpu.registers.flags.zero wanted is)
@@ -151,4 +155,4 @@ given_holds quiet regions m bytes Carry wanted s holds are is = carry_given quie
 given_holds quiet regions m bytes NoCarry wanted s holds are is = carry_given quiet regions m bytes s.carry (not wanted) s holds are holds.registers.flags.carry (turned m.cpu.registers.flags.carry wanted is)
 given_holds quiet regions m bytes Minus wanted s holds are is = sign_given quiet regions m bytes s.sign wanted s holds are holds.registers.flags.sign is
 given_holds quiet regions m bytes Plus wanted s holds are is = sign_given quiet regions m bytes s.sign (not wanted) s holds are holds.registers.flags.sign (turned m.cpu.registers.flags.sign wanted is)
-given_holds quiet regions m bytes c wanted s holds are is = record { left = s; is = refl; holds = holds; are = are }
+given_holds quiet regions m bytes c wanted s holds are is = record { left = s; is = refl; holds = holds; are = are; same = refl }

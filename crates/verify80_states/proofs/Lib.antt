@@ -12,6 +12,7 @@ mod FollowLemmas
 mod MemoryLemmas
 mod CellLemmas
 mod SourceLemmas
+mod VariableLemmas
 mod GivenLemmas
 mod InsideLemmas
 mod StepLemmas

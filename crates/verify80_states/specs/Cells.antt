@@ -5,6 +5,8 @@ use Rattle.verify80_spans.specs.declared.span.Span.{Span}
 use Rattle.verify80_spans.specs.declared.byte_span.ByteSpan.{ByteSpan}
 use Rattle.verify80_states.specs.declared.states.cells.Cell.{Cell}
 use Rattle.verify80_states.specs.declared.states.cells.Cells.{Cells}
+use Rattle.verify80_states.specs.declared.states.variables.Variable.{Variable}
+use Rattle.verify80_states.specs.Variables.{IsSaid}
 use Rattle.verify80_spans.specs.Span.{ByteWithin, IsByteInside, any_byte, is_alone, meet_bytes}
 
 -- the byte at a cell's address is one of its bytes
@@ -25,19 +27,22 @@ pub record EachCell (P : Cell → Type 0) (cells : Cells) : Type 0 where
 abbrev pub HoldsCells : Cells → (memory : List ℕ) → Type 0
 HoldsCells cells memory = EachCell (λ c. HoldsCell c memory) cells
 
--- a cell says nothing that another doesn't
-abbrev pub IsCellInside : (inner outer : Cell) → Type 0
-IsCellInside inner outer = (outer.bytes ≡ any_byte) ⊎ ((inner.at ≡ outer.at) × IsByteInside inner.bytes outer.bytes)
+-- a cell says nothing that another doesn't; and nothing that neither another does nor a variable that is named
+abbrev pub IsSaidByCell : (inner outer : Cell) → Type 0
+IsSaidByCell inner outer = (outer.bytes ≡ any_byte) ⊎ ((inner.at ≡ outer.at) × IsByteInside inner.bytes outer.bytes)
 
-pub record AreCellsInside (inner outer : Cells) : Type 0 where
-  pub first : IsCellInside inner.first outer.first
-  pub second : IsCellInside inner.second outer.second
-  pub third : IsCellInside inner.third outer.third
-  pub fourth : IsCellInside inner.fourth outer.fourth
-  pub fifth : IsCellInside inner.fifth outer.fifth
-  pub sixth : IsCellInside inner.sixth outer.sixth
-  pub seventh : IsCellInside inner.seventh outer.seventh
-  pub eighth : IsCellInside inner.eighth outer.eighth
+pub record IsCellInside (variables : List Variable) (set : ℕ) (inner outer : Cell) : Type 0 where
+  pub either : IsSaidByCell inner outer ⊎ IsSaid variables set outer
+
+pub record AreCellsInside (variables : List Variable) (set : ℕ) (inner outer : Cells) : Type 0 where
+  pub first : IsCellInside variables set inner.first outer.first
+  pub second : IsCellInside variables set inner.second outer.second
+  pub third : IsCellInside variables set inner.third outer.third
+  pub fourth : IsCellInside variables set inner.fourth outer.fourth
+  pub fifth : IsCellInside variables set inner.fifth outer.fifth
+  pub sixth : IsCellInside variables set inner.sixth outer.sixth
+  pub seventh : IsCellInside variables set inner.seventh outer.seventh
+  pub eighth : IsCellInside variables set inner.eighth outer.eighth
 
 -- something is known only of addresses that are quiet
 abbrev pub IsQuietCell : (quiet : ℕ → Bool) → Cell → Type 0

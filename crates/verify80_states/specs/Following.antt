@@ -2,7 +2,7 @@
 -- Microcomputer Systems User's Manual, chapter 4; that spans are followed is this project's own.)
 use Rattle.std.specs.Prelude.{◌+◌, ◌*◌, ◌&&◌, ℕ, Bool, true, false, not, List, Option, None, Some, nat_le, slice_get, if◌then◌else◌}
 use Rattle.decode80.specs.declared.register.Register.{Register}
-use Rattle.decode80.specs.declared.register.Register.TheVariants.{A, D, E, H, L}
+use Rattle.decode80.specs.declared.register.Register.TheVariants.{A, B, C, D, E, H, L}
 use Rattle.decode80.specs.declared.pair.Pair.{Pair}
 use Rattle.decode80.specs.declared.pair.Pair.TheVariants.{Bc, De, Hl, Sp}
 use Rattle.decode80.specs.declared.pair.StackPair.{StackPair}
@@ -12,7 +12,7 @@ use Rattle.decode80.specs.declared.pair.IndexPair.TheVariants.{Bc as IndexBc, De
 use Rattle.decode80.specs.declared.instr.Instr.{Instr}
 use Rattle.decode80.specs.declared.instr.Instr.TheVariants.{Mov, Load, Mvi, Lxi, Dad, Inx, Dcx, Inr, InrMemory, Dcr, DcrMemory, Operate, Store, MviMemory, Call, CallIf, Ret, ReturnIf, Rst, Push, Pop, Stax, Ldax, Shld, Lhld, Sta, Lda, Rotate, Daa, Cma, Stc, Cmc, Xthl, Xchg, Sphl, In}
 use Rattle.decode80.specs.declared.operation.Operation.{Operation}
-use Rattle.decode80.specs.declared.operation.Operation.TheVariants.{Subtract, And, ExclusiveOr, Or, Compare}
+use Rattle.decode80.specs.declared.operation.Operation.TheVariants.{Add, AddCarry, Subtract, SubtractBorrow, And, ExclusiveOr, Or, Compare}
 use Rattle.decode80.specs.declared.operation.Operand.{Operand}
 use Rattle.decode80.specs.declared.operation.Operand.TheVariants.{Register as InRegister, Memory, Immediate}
 use Rattle.decode80.specs.Fetch.{ahead}
@@ -23,6 +23,8 @@ use Rattle.verify80_states.specs.declared.states.cells.Cells.{Cells}
 use Rattle.verify80_states.specs.declared.states.state.Words.{Words}
 use Rattle.verify80_states.specs.declared.states.state.State.{State}
 use Rattle.verify80_spans.specs.Span.{any_word, any_byte, word_alone, byte_alone, is_alone, next_span, previous_span, next_byte, previous_byte, sum_span, sum_carries, high_of, operated, rotated, complemented, uncarried}
+use Rattle.verify80_states.specs.declared.states.variables.Variable.{Variable}
+use Rattle.verify80_states.specs.Variables.{takes}
 use Rattle.verify80_states.specs.Cells.{bytes_at, stored_cells}
 use Rattle.verify80_states.specs.State.{byte_of, words_of, with_byte, with_words, with_outcome, with_carry, with_any_flags, compared_with, no_words, pushed, popped}
 
@@ -218,4 +220,15 @@ source_after instr s left = left
 -- all of it
 abbrev pub state_after : (code : List (Option ℕ)) → Instr → (taken : Bool) → (next : ℕ) → State → State
 state_after code instr taken next s =
-    record (registers_after code instr s) { words = words_after instr taken next s; cells = cells_after code instr s; source = source_after instr s (registers_after code instr s).source }
+    record (registers_after code instr s) { words = words_after instr taken next s; cells = cells_after code instr s; source = source_after instr s (registers_after code instr s).source; set = s.set }
+
+-- whether what an instruction stores where a variable may be is one of the variable's bytes
+abbrev pub is_steady : (code : List (Option ℕ)) → Instr → State → Variable → Bool
+is_steady code (Store register) s v = takes v s.hl.words (byte_of s register)
+is_steady code (MviMemory byte) s v = takes v s.hl.words (byte_alone byte)
+is_steady code InrMemory s v = takes v s.hl.words (next_byte (loaded code s.cells s.hl.words))
+is_steady code DcrMemory s v = takes v s.hl.words (previous_byte (loaded code s.cells s.hl.words))
+is_steady code (Stax pair) s v = takes v (index_words s pair) s.a
+is_steady code (Sta address) s v = takes v (word_alone address) s.a
+is_steady code (Shld address) s v = takes v (word_alone address) s.hl.low && takes v (word_alone (ahead address 1)) (high_of s.hl.words)
+is_steady code instr s v = true

@@ -1,7 +1,7 @@
 -- What is known of a machine at an instruction: what its registers may hold, some of its flags, what was compared last, the words on top
 -- of its stack, and bytes of memory; and what becomes of that when registers, flags and words are written. (The registers and flags are those of the
 -- Intel 8080 Microcomputer Systems User's Manual, chapter 4; that they are followed by spans is this project's own.)
-use Rattle.std.specs.Prelude.{◌≡◌, ◌≢◌, ◌≤◌, ◌==◌, ℕ, Bool, true, List, Option, None, Some, nat_lt, if◌then◌else◌}
+use Rattle.std.specs.Prelude.{◌≡◌, ◌≢◌, ◌≤◌, ◌==◌, ◌⊎◌, ℕ, Bool, true, List, Option, None, Some, nat_lt, slice_get, if◌then◌else◌}
 use Rattle.decode80.specs.declared.register.Register.{Register}
 use Rattle.decode80.specs.declared.register.Register.TheVariants.{A, B, C, D, E, H, L}
 use Rattle.decode80.specs.declared.pair.Pair.{Pair}
@@ -21,7 +21,9 @@ use Rattle.verify80_states.specs.declared.states.state.PairSpan.{PairSpan}
 use Rattle.verify80_states.specs.declared.states.state.Words.{Words}
 use Rattle.verify80_states.specs.declared.states.state.State.{State}
 use Rattle.verify80_spans.specs.Span.{Within, ByteWithin, IsInside, IsByteInside, IsKnown, any_word, any_byte, is_byte_alone, meet, meet_bytes, high_of, low_of, joined, zero_of, sign_of}
-use Rattle.verify80_states.specs.Cells.{HoldsCells, AreCellsInside, AreQuietCells, no_cells, cut_cells}
+use Rattle.verify80_states.specs.declared.states.variables.Variable.{Variable}
+use Rattle.verify80_states.specs.Variables.{is_bit}
+use Rattle.verify80_states.specs.Cells.{HoldsCells, AreCellsInside, AreQuietCells, bytes_at, no_cells, cut_cells}
 
 -- the word of a pair is one of its words, and its low byte one of its low bytes
 pub record HoldsPair (p : PairSpan) (h l : ℕ) : Type 0 where
@@ -114,7 +116,12 @@ pub record AreRegistersInside (inner outer : State) : Type 0 where
   pub de : IsPairInside inner.de outer.de
   pub hl : IsPairInside inner.hl outer.hl
 
-pub record IsStateInside (inner outer : State) : Type 0 where
+-- each variable that it names is named by the other, or said by its cells
+abbrev pub IsSetInside : List Variable → (inner outer : State) → Type 0
+IsSetInside variables inner outer = (number : ℕ) (v : Variable) → slice_get variables number ≡ Some v → is_bit outer.set number ≡ true →
+    (is_bit inner.set number ≡ true) ⊎ IsByteInside (bytes_at inner.cells v.at) v.bytes
+
+pub record IsStateInside (variables : List Variable) (inner outer : State) : Type 0 where
   pub registers : AreRegistersInside inner outer
   pub copy : IsCopyInside inner.copy outer.copy
   pub zero : IsFlagInside inner.zero outer.zero
@@ -122,7 +129,8 @@ pub record IsStateInside (inner outer : State) : Type 0 where
   pub sign : IsFlagInside inner.sign outer.sign
   pub compared : IsComparisonInside inner.compared outer.compared
   pub words : AreWordsInside inner.words outer.words
-  pub cells : AreCellsInside inner.cells outer.cells
+  pub cells : AreCellsInside variables inner.set inner.cells outer.cells
+  pub set : IsSetInside variables inner outer
   pub source : IsComparisonInside inner.source outer.source
 
 -- it says something of quiet addresses alone
@@ -155,7 +163,12 @@ anything = record {
   words = no_words;
   cells = no_cells;
   source = None;
+  set = 0;
 }
+
+-- nothing is known but of these variables
+abbrev pub unknown_but : (set : ℕ) → State
+unknown_but set = record anything { set = set }
 
 -- a pair of these words, and one of these halves
 abbrev pub pair_of_words : Span → PairSpan

@@ -4,6 +4,7 @@ ghost use Rattle.std.specs.Prelude.{◌≡◌, true};
 ghost use Rattle.verify80_states.specs.Marks.{is_marked};
 
 use crate::fitting::is_marked;
+use crate::states::variables::{Variable, is_said};
 use verify80_spans::{ByteSpan, Span};
 
 /// What the byte at an address may be.
@@ -14,7 +15,7 @@ pub struct Cell {
 }
 
 impl Cell {
-    ghost use Rattle.verify80_states.specs.Cells.{IsCellInside, IsQuietCell, cell_or, cut_cell, stored_cell};
+    ghost use Rattle.verify80_states.specs.Cells.{IsCellInside, IsQuietCell, IsSaidByCell, cell_or, cut_cell, stored_cell};
 
     /// Nothing is known.
     pub const ANY: Cell = Cell {
@@ -23,10 +24,20 @@ impl Cell {
     };
 
     /// Whether this cell says all that another does.
-    fn is_inside(self, other: Cell) -> bool
-        ensures { result ≡ true → IsCellInside self other }
+    fn says(self, other: Cell) -> bool
+        ensures { result ≡ true → IsSaidByCell self other }
     {
         other.bytes == ByteSpan::ANY || self.at == other.at && self.bytes.is_inside(other.bytes)
+    }
+
+    /// Whether this cell, or a variable that a set names, says all that another cell does.
+    fn is_inside(self, other: Cell, variables: &[Variable], set: u64) -> bool
+        ensures { result ≡ true → IsCellInside variables.now set self other }
+    {
+        if self.says(other) {
+            return true;
+        }
+        is_said(variables, set, other)
     }
 
     /// Whether it says nothing, or its address is marked as quiet.
@@ -101,18 +112,32 @@ impl Cells {
         eighth: Cell::ANY,
     };
 
-    /// Whether these cells say all that others do.
-    pub fn are_inside(self, other: Cells) -> bool
-        ensures { result ≡ true → AreCellsInside self other }
+    /// Whether these cells, and the variables that a set names, say all that others do.
+    pub(crate) fn are_inside(self, other: Cells, variables: &[Variable], set: u64) -> bool
+        ensures { result ≡ true → AreCellsInside variables.now set self other }
     {
-        self.first.is_inside(other.first)
-            && self.second.is_inside(other.second)
-            && self.third.is_inside(other.third)
-            && self.fourth.is_inside(other.fourth)
-            && self.fifth.is_inside(other.fifth)
-            && self.sixth.is_inside(other.sixth)
-            && self.seventh.is_inside(other.seventh)
-            && self.eighth.is_inside(other.eighth)
+        if !self.first.is_inside(other.first, variables, set) {
+            return false;
+        }
+        if !self.second.is_inside(other.second, variables, set) {
+            return false;
+        }
+        if !self.third.is_inside(other.third, variables, set) {
+            return false;
+        }
+        if !self.fourth.is_inside(other.fourth, variables, set) {
+            return false;
+        }
+        if !self.fifth.is_inside(other.fifth, variables, set) {
+            return false;
+        }
+        if !self.sixth.is_inside(other.sixth, variables, set) {
+            return false;
+        }
+        if !self.seventh.is_inside(other.seventh, variables, set) {
+            return false;
+        }
+        self.eighth.is_inside(other.eighth, variables, set)
     }
 
     /// Whether something is known only of addresses that are marked as quiet.

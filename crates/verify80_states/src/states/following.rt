@@ -1,12 +1,13 @@
 //! What becomes of a state at an instruction.
 
 ghost use Rattle.std.specs.Prelude.{◌≡◌};
-ghost use Rattle.verify80_states.specs.Following.{byte_at, known_word, loaded_at, loaded, moved, counted, resulted, tested, operand_bytes, after_operation, added_carry, turned, exchanged_pairs, index_words, popped_to, registers_after, pushed_words, called, returned, words_after, cells_after, only_address, address_outside, source_after, state_after};
+ghost use Rattle.verify80_states.specs.Following.{byte_at, known_word, loaded_at, loaded, moved, counted, resulted, tested, operand_bytes, after_operation, added_carry, turned, exchanged_pairs, index_words, popped_to, registers_after, pushed_words, called, returned, words_after, cells_after, only_address, address_outside, source_after, is_steady, state_after};
 ghost use Rattle.verify80_spans.specs.Span.{uncarried};
 ghost use Rattle.verify80_states.specs.State.{compared_with, with_outcome};
 
 use crate::states::cells::Cells;
 use crate::states::state::{State, Words};
+use crate::states::variables::Variable;
 use decode80::{IndexPair, Instr, Operand, Operation, Pair, Register, StackPair, ahead};
 use verify80_spans::{ByteSpan, Outcome, Span, operated, rotated};
 
@@ -413,6 +414,28 @@ pub fn state_after(code: &[Option<u8>], instr: Instr, taken: bool, next: u16, st
         words: words_after(instr, taken, next, state),
         cells: cells_after(code, instr, state),
         source: source_after(instr, state, after.source),
+        set: state.set,
         ..after
+    }
+}
+
+/// Whether what an instruction stores where a variable may be is one of the variable's bytes.
+pub(crate) fn is_steady(code: &[Option<u8>], instr: Instr, state: State, variable: Variable) -> bool
+    ensures { result ≡ is_steady code.now instr state variable }
+{
+    let cells = state.cells;
+    let pointed = state.hl.words;
+    match instr {
+        Instr::Store(register) => variable.takes(pointed, state.byte(register)),
+        Instr::MviMemory(byte) => variable.takes(pointed, ByteSpan::alone(byte)),
+        Instr::InrMemory => variable.takes(pointed, loaded(code, cells, pointed).next()),
+        Instr::DcrMemory => variable.takes(pointed, loaded(code, cells, pointed).previous()),
+        Instr::Stax(pair) => variable.takes(index_words(state, pair), state.a),
+        Instr::Sta(address) => variable.takes(Span::alone(address), state.a),
+        Instr::Shld(address) => {
+            variable.takes(Span::alone(address), state.hl.low)
+                && variable.takes(Span::alone(ahead(address, 1)), state.hl.high())
+        }
+        _ => true,
     }
 }

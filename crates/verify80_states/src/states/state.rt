@@ -2,6 +2,7 @@
 
 use crate::fitting::is_marked;
 use crate::states::cells::Cells;
+use crate::states::variables::{Variable, is_bit};
 use decode80::{Pair, Register};
 use verify80_spans::{ByteSpan, Outcome, Span};
 
@@ -167,6 +168,8 @@ pub struct State {
     pub cells: Cells,
     /// The address of a byte of memory that A has, if one is known.
     pub source: Option<u16>,
+    /// The variables that have one of their bytes: a bit for each.
+    pub set: u64,
 }
 
 ghost use Rattle.std.specs.Prelude.{◌≡◌, true};
@@ -249,8 +252,12 @@ fn is_copy_inside(inner: Register, outer: Register) -> bool
 }
 
 impl State {
-    ghost use Rattle.std.specs.Prelude.{◌≡◌, true};
-    ghost use Rattle.verify80_states.specs.State.{byte_of, words_of, with_byte, with_words, with_outcome, with_carry, with_any_flags, cut, cut_copy, AreRegistersInside, IsStateInside, IsQuietState};
+    ghost use Rattle.std.specs.Prelude.{◌≡◌, ◌⊎◌, true, Some, slice_get};
+    ghost use Rattle.verify80_spans.specs.Span.{IsByteInside};
+    ghost use Rattle.verify80_states.specs.declared.states.variables.Variable.{Variable};
+    ghost use Rattle.verify80_states.specs.Variables.{is_bit};
+    ghost use Rattle.verify80_states.specs.Cells.{bytes_at};
+    ghost use Rattle.verify80_states.specs.State.{byte_of, words_of, with_byte, with_words, with_outcome, with_carry, with_any_flags, cut, cut_copy, AreRegistersInside, IsSetInside, IsStateInside, IsQuietState};
     ghost use Rattle.verify80_states.specs.Marks.{is_marked};
 
     /// Nothing is known.
@@ -267,12 +274,16 @@ impl State {
         words: Words::NONE,
         cells: Cells::ANY,
         source: None,
+        set: 0,
     };
 
-    /// Whether this state says all that another does.
-    pub fn is_inside(self, other: State) -> bool
-        ensures { result ≡ true → IsStateInside self other }
+    /// Whether this state says all that another does, given the variables that they name.
+    pub fn is_inside(self, other: State, variables: &[Variable]) -> bool
+        ensures { result ≡ true → IsStateInside variables.now self other }
     {
+        if !self.is_set_inside(other, variables) {
+            return false;
+        }
         self.are_registers_inside(other)
             && is_copy_inside(self.copy, other.copy)
             && is_flag_inside(self.zero, other.zero)
@@ -281,7 +292,34 @@ impl State {
             && is_comparison_inside(self.compared, other.compared)
             && is_source_inside(self.source, other.source)
             && self.words.are_inside(other.words)
-            && self.cells.are_inside(other.cells)
+            && self.cells.are_inside(other.cells, variables, self.set)
+    }
+
+    /// Whether it names each variable that another state names, or its cells say as much.
+    fn is_set_inside(self, other: State, variables: &[Variable]) -> bool
+        ensures { result ≡ true → IsSetInside variables.now self other }
+    {
+        for number in 0..variables.len() {
+            if !self.has_named(other, variables, number) {
+                return false;
+            }
+        }
+        true
+    }
+
+    /// Whether another state doesn't name the variable with a number, or this one does, or its cells say as much.
+    fn has_named(self, other: State, variables: &[Variable], number: usize) -> bool
+        ensures { result ≡ true → (v : Variable) → slice_get variables.now number ≡ Some v → is_bit other.set number ≡ true →
+            (is_bit self.set number ≡ true) ⊎ IsByteInside (bytes_at self.cells v.at) v.bytes }
+    {
+        match variables.get(number) {
+            Some(variable) => {
+                !is_bit(other.set, number)
+                    || is_bit(self.set, number)
+                    || self.cells.bytes_at(variable.at).is_inside(variable.bytes)
+            }
+            None => true,
+        }
     }
 
     /// Whether the registers say all that those of another state do.

@@ -1,4 +1,4 @@
-use Rattle.std.proofs.Common.{rules}
+use Rattle.std.proofs.Common.{rules, refl}
 use Rattle.verify80_states.proofs.states.state.State.is_inside.Goals as goal
 
 pub returns-then-are_inside : goal.returns-then-are_inside
@@ -10,6 +10,7 @@ returns-then-are_inside c is = record {
   sign = search rules;
   compared = search rules;
   words = search rules;
-  cells = search rules;
+  cells = c.are_inside-then-are_inside.ensures is;
   source = search rules;
+  set = c.if-not-is_set_inside.ensures refl;
 }

@@ -1,0 +1,17 @@
+use Rattle.std.proofs.Common.{◌≡◌, Some, true, refl, arith, below_more}
+use Rattle.std.specs.Prelude.{◌⊎◌, slice_get}
+use Rattle.std.proofs.lemmas.Option.{slice_get_within}
+use Rattle.verify80_spans.specs.Span.{IsByteInside}
+use Rattle.verify80_states.specs.declared.states.variables.Variable.{Variable}
+use Rattle.verify80_states.specs.Variables.{is_bit}
+use Rattle.verify80_states.specs.Cells.{bytes_at}
+use Rattle.verify80_states.proofs.states.state.State.is_set_inside.Goals as goal
+
+pub loop-number-preserved : goal.loop-number-preserved
+loop-number-preserved c k less =
+    below_more (λ k. (v : Variable) → slice_get c.args.variables.now k ≡ Some v → is_bit c.args.other.set k ≡ true → (is_bit c.args.self.set k ≡ true) ⊎ IsByteInside (bytes_at c.args.self.cells v.at) v.bytes)
+    c.loop-number.number c.loop-number.invariant (c.if-not-has_named.ensures refl) k less
+
+pub returns : goal.returns
+returns c is number v there named =
+    c.loop-number.invariant number (let inside = slice_get_within c.args.variables.now number v there in let enough = c.loop-number-test.false in omega (arith, inside, enough)) v there named
