@@ -117,10 +117,4 @@ complement_is_byte byte = omega arith
 
 pub vector_is_word : (n : Restart) → IsWord (8 * restart_number n)
 vector_is_word Vector0 = omega arith
-vector_is_word Vector1 = omega arith
-vector_is_word Vector2 = omega arith
-vector_is_word Vector3 = omega arith
-vector_is_word Vector4 = omega arith
-vector_is_word Vector5 = omega arith
-vector_is_word Vector6 = omega arith
-vector_is_word Vector7 = omega arith
+vector_is_word n = omega arith

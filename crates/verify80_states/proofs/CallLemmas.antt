@@ -2,7 +2,7 @@
 use Rattle.std.specs.Prelude.{◌≡◌, ◌⊎◌, ℕ, Bool, true, false, List, [], ◌∷◌, drop, refl, if◌then◌else◌}
 use Rattle.std.proofs.Common.{◌∙◌, ap, sym, subst, inl, inr, true≢false}
 use Rattle.decode80.specs.declared.flow.Flow.{Flow}
-use Rattle.decode80.specs.declared.flow.Flow.TheVariants.{Continues, Jumps, JumpsIf, JumpsToHl, Calls, CallsIf, Returns, ReturnsIf, Pushes, Pops, Exchanges, Halts}
+use Rattle.decode80.specs.declared.flow.Flow.TheVariants.{Jumps, JumpsIf, JumpsToHl, Calls, CallsIf, Returns, ReturnsIf, Halts}
 use Rattle.machine80.specs.declared.flags.Flags.{Flags}
 use Rattle.machine80.specs.Flags.{holds}
 use Rattle.machine80.specs.World.{is_return_taken, places_by}
@@ -58,18 +58,9 @@ owed_return returns table may known places place older so is (waits _ _ _ there 
 
 -- an address whose instruction returns accounts for that
 pub returns_here : (returns : ReturnFacts) (targets : List ℕ) (at next : ℕ) (f : Flow) (flags : Flags) → AccountsFor returns targets at next f → is_return_taken f flags ≡ true → returns.may at ≡ true
-returns_here returns targets at next Continues flags accounts taken = absurd (true≢false (sym taken))
-returns_here returns targets at next Pushes flags accounts taken = absurd (true≢false (sym taken))
-returns_here returns targets at next Pops flags accounts taken = absurd (true≢false (sym taken))
-returns_here returns targets at next Exchanges flags accounts taken = absurd (true≢false (sym taken))
-returns_here returns targets at next (Jumps to) flags accounts taken = absurd (true≢false (sym taken))
-returns_here returns targets at next (JumpsIf condition to) flags accounts taken = absurd (true≢false (sym taken))
-returns_here returns targets at next JumpsToHl flags accounts taken = absurd (true≢false (sym taken))
-returns_here returns targets at next (Calls to) flags accounts taken = absurd (true≢false (sym taken))
-returns_here returns targets at next (CallsIf condition to) flags accounts taken = absurd (true≢false (sym taken))
 returns_here returns targets at next Returns flags accounts taken = accounts
 returns_here returns targets at next (ReturnsIf condition) flags accounts taken = accounts.0
-returns_here returns targets at next Halts flags accounts taken = absurd (true≢false (sym taken))
+returns_here returns targets at next w flags accounts taken = absurd (true≢false (sym taken))
 
 -- and takes the newest place away
 dropped_if : (b : Bool) (places : List ℕ) → b ≡ true → (if b then drop 1 places else places) ≡ drop 1 places
@@ -77,18 +68,9 @@ dropped_if true places taken = refl
 dropped_if false places taken = absurd (true≢false (sym taken))
 
 pub returned_places : (f : Flow) (next : ℕ) (flags : Flags) (places : List ℕ) → is_return_taken f flags ≡ true → places_by f next flags places ≡ drop 1 places
-returned_places Continues next flags places taken = absurd (true≢false (sym taken))
-returned_places Pushes next flags places taken = absurd (true≢false (sym taken))
-returned_places Pops next flags places taken = absurd (true≢false (sym taken))
-returned_places Exchanges next flags places taken = absurd (true≢false (sym taken))
-returned_places (Jumps to) next flags places taken = absurd (true≢false (sym taken))
-returned_places (JumpsIf condition to) next flags places taken = absurd (true≢false (sym taken))
-returned_places JumpsToHl next flags places taken = absurd (true≢false (sym taken))
-returned_places (Calls to) next flags places taken = absurd (true≢false (sym taken))
-returned_places (CallsIf condition to) next flags places taken = absurd (true≢false (sym taken))
 returned_places Returns next flags places taken = refl
 returned_places (ReturnsIf condition) next flags places taken = dropped_if (holds condition flags) places taken
-returned_places Halts next flags places taken = absurd (true≢false (sym taken))
+returned_places w next flags places taken = absurd (true≢false (sym taken))
 
 -- any other step
 module _ (returns : ReturnFacts) (table : List Placed) where
@@ -127,10 +109,6 @@ module _ (returns : ReturnFacts) (table : List Placed) where
 
     pub owed_on : (f : Flow) → AccountsFor returns targets at next f → ((entry : ℕ) → CallsEntry f entry → returns.may entry ≡ true → returns.known entry ≡ false → Has table next anything) →
         Leads f flags targets next hl to → OwesAt to (places_by f next flags places)
-    owed_on Continues accounts behind way = goes_to next way accounts
-    owed_on Pushes accounts behind way = goes_to next way accounts
-    owed_on Pops accounts behind way = goes_to next way accounts
-    owed_on Exchanges accounts behind way = goes_to next way accounts
     owed_on (Jumps address) accounts behind way = goes_to address way accounts
     owed_on (JumpsIf condition address) accounts behind (inl way) = goes_to address way.1 accounts.0
     owed_on (JumpsIf condition address) accounts behind (inr way) = goes_to next way.1 accounts.1
@@ -141,3 +119,4 @@ module _ (returns : ReturnFacts) (table : List Placed) where
     owed_on Returns accounts behind way = absurd way
     owed_on (ReturnsIf condition) accounts behind way = passed_return (holds condition flags) to places way.0 (goes_to next way.1 accounts.1)
     owed_on Halts accounts behind way = absurd way
+    owed_on w accounts behind way = goes_to next way accounts

@@ -5,6 +5,7 @@ use Rattle.std.proofs.lemmas.Bool.Decides.{nat_tests}
 use Rattle.std.specs.Int.Bits.{and_self, or_self, xor_self}
 use Rattle.decode80.specs.declared.register.Register.{Register}
 use Rattle.decode80.specs.declared.register.Register.TheVariants.{A, B, C, D, E, H, L}
+use Rattle.decode80.specs.declared.pair.Pair.{Pair}
 use Rattle.decode80.specs.declared.pair.Pair.TheVariants.{Bc, De, Hl, Sp}
 use Rattle.decode80.specs.declared.pair.StackPair.TheVariants.{Bc as StackBc, De as StackDe, Hl as StackHl, Psw}
 use Rattle.decode80.specs.declared.pair.IndexPair.{IndexPair}
@@ -25,7 +26,7 @@ use Rattle.machine80.specs.declared.registers.Registers.{Registers}
 use Rattle.machine80.specs.declared.cpu.Cpu.{Cpu}
 use Rattle.machine80.specs.Flags.{bit_of, flags_of_result, flags_from}
 use Rattle.machine80.specs.Arithmetic.{byte_answer, sum_answer, difference_answer, operation_answer, increment_answer, decrement_answer, decimal_answer, rotation_answer, pair_sum, pair_sum_flags, complement_of, carry_set, carry_turned}
-use Rattle.machine80.specs.Cpu.{word, register_of, with_register, hl_of, index_pair_of}
+use Rattle.machine80.specs.Cpu.{word, register_of, with_register, hl_of, pair_of, with_pair, index_pair_of}
 use Rattle.machine80.specs.Effects.{byte_in, word_in, operand_of, changed}
 use Rattle.verify80_states.specs.declared.spans.span.Span.{Span}
 use Rattle.verify80_states.specs.declared.spans.byte_span.ByteSpan.{ByteSpan}
@@ -33,23 +34,20 @@ use Rattle.verify80_states.specs.declared.spans.byte_span.Outcome.{Outcome}
 use Rattle.verify80_states.specs.declared.states.state.State.{State}
 use Rattle.verify80_states.specs.Bytes.{HasBytes, AreBytes}
 use Rattle.verify80_states.specs.Span.{Within, ByteWithin, IsKnown, any_word, any_byte, word_alone, byte_alone, is_alone, is_byte_alone, next_span, previous_span, next_byte, previous_byte, sum_span, high_of, operated, doubled, rotated, complemented, uncarried}
-use Rattle.verify80_states.specs.State.{HoldsRegisters, HoldsWord, HoldsWords, Compares, compared_with, byte_of, with_byte, with_words, with_outcome}
+use Rattle.verify80_states.specs.State.{HoldsRegisters, HoldsWord, HoldsWords, Compares, compared_with, byte_of, words_of, with_byte, with_words, with_outcome}
 use Rattle.verify80_states.specs.Steps.{ReadsCode}
 use Rattle.verify80_states.specs.declared.states.cells.Cells.{Cells}
 use Rattle.verify80_states.specs.Cells.{HoldsCells}
 use Rattle.verify80_states.proofs.CellReads.{read_within}
-use Rattle.verify80_states.specs.Following.{known_word, loaded_at, loaded, loaded_word, moved, counted, resulted, tested, is_accumulator, operand_bytes, after_operation, added_carry, turned, exchanged, index_words, registers_after}
-use Rattle.verify80_states.proofs.ByteLemmas.{byte_at as memory_byte}
+use Rattle.verify80_states.specs.Following.{known_word, loaded_at, loaded, moved, counted, resulted, tested, is_accumulator, operand_bytes, after_operation, added_carry, turned, exchanged, index_words, registers_after}
+use Rattle.verify80_states.proofs.ByteLemmas.{byte_at as memory_byte, word_at}
 use Rattle.verify80_states.proofs.ArithmeticBounds.{decimal_is_byte}
-use Rattle.verify80_states.proofs.RegisterBytes.{register_is_byte}
-use Rattle.verify80_states.proofs.SpanLemmas.{any_word_within, any_byte_within, alone_within, high_within, joined_within, next_within, previous_within, next_byte_within, previous_byte_within, sum_within, sum_any, carries}
+use Rattle.verify80_states.proofs.RegisterBytes.{register_is_byte, register_written, bc_is_word, de_is_word, hl_is_word}
+use Rattle.verify80_states.proofs.SpanLemmas.{any_word_within, any_byte_within, alone_within, high_within, next_within, previous_within, next_byte_within, previous_byte_within, sum_within, sum_any, carries}
 use Rattle.verify80_states.proofs.OutcomeLemmas.{Makes, result_of, carry_of, operated_makes, is_first, by_span}
 use Rattle.verify80_states.proofs.StateLemmas.{words_hold, byte_holds, with_byte_holds, bc_written_holds, de_written_holds, hl_written_holds, with_words_holds, outcome_holds, carry_holds, any_flags_hold, compared_holds, copy_holds}
 
 -- what is read
-word_small : (h l : ℕ) → h < 256 → l < 256 → word h l < 65536
-word_small h l high low = omega arith
-
 word_first : (s : Span) (n : ℕ) → is_alone s ≡ true → Within s n → s.first ≡ n
 word_first s n alone inside = grind (arith, nat_tests)
 
@@ -65,51 +63,26 @@ loaded_within code cells memory s n reads holds bytes inside = loaded_go code ce
 
 popped_within : (regions : Areas) (o : Option Span) (memory : List ℕ) (sp : ℕ) → HoldsWord regions o memory sp sp → HasBytes memory → Within (known_word o) (word_in memory sp)
 popped_within regions None memory sp holds bytes =
-    any_word_within (word_in memory sp) (word_small _ _ (memory_byte memory (ahead sp 1) bytes) (memory_byte memory sp bytes))
+    any_word_within (word_in memory sp) (word_at memory sp bytes)
 popped_within regions (Some span) memory sp holds bytes = holds.within
 
 -- a register is copied
 copied : (r : Registers) (from : Register) → register_of (with_register r A (register_of r from)) from ≡ register_of r from
 copied r A = refl
-copied r B = refl
-copied r C = refl
-copied r D = refl
-copied r E = refl
-copied r H = refl
-copied r L = refl
+copied r from = refl
 
 moved_holds : (s : State) (r : Registers) (to from : Register) → AreBytes r → HoldsRegisters s r → HoldsRegisters (moved to from s) (with_register r to (register_of r from))
 moved_holds s r A from bytes holds =
     copy_holds (with_byte s A (byte_of s from)) (with_register r A (register_of r from)) from
     (with_byte_holds s r A (byte_of s from) (register_of r from) bytes holds (byte_holds s r from bytes holds)) (copied r from)
-moved_holds s r B A bytes holds = copy_holds (with_byte s B s.a) (with_register r B r.a) B (with_byte_holds s r B s.a r.a bytes holds holds.a) refl
-moved_holds s r C A bytes holds = copy_holds (with_byte s C s.a) (with_register r C r.a) C (with_byte_holds s r C s.a r.a bytes holds holds.a) refl
-moved_holds s r D A bytes holds = copy_holds (with_byte s D s.a) (with_register r D r.a) D (with_byte_holds s r D s.a r.a bytes holds holds.a) refl
-moved_holds s r E A bytes holds = copy_holds (with_byte s E s.a) (with_register r E r.a) E (with_byte_holds s r E s.a r.a bytes holds holds.a) refl
-moved_holds s r H A bytes holds = copy_holds (with_byte s H s.a) (with_register r H r.a) H (with_byte_holds s r H s.a r.a bytes holds holds.a) refl
-moved_holds s r L A bytes holds = copy_holds (with_byte s L s.a) (with_register r L r.a) L (with_byte_holds s r L s.a r.a bytes holds holds.a) refl
-moved_holds s r B from bytes holds = with_byte_holds s r B (byte_of s from) (register_of r from) bytes holds (byte_holds s r from bytes holds)
-moved_holds s r C from bytes holds = with_byte_holds s r C (byte_of s from) (register_of r from) bytes holds (byte_holds s r from bytes holds)
-moved_holds s r D from bytes holds = with_byte_holds s r D (byte_of s from) (register_of r from) bytes holds (byte_holds s r from bytes holds)
-moved_holds s r E from bytes holds = with_byte_holds s r E (byte_of s from) (register_of r from) bytes holds (byte_holds s r from bytes holds)
-moved_holds s r H from bytes holds = with_byte_holds s r H (byte_of s from) (register_of r from) bytes holds (byte_holds s r from bytes holds)
-moved_holds s r L from bytes holds = with_byte_holds s r L (byte_of s from) (register_of r from) bytes holds (byte_holds s r from bytes holds)
-
--- flags stay with the register that is written
-kept_flags : (r : Registers) (to : Register) (byte : ℕ) → (with_register r to byte).flags ≡ r.flags
-kept_flags r A byte = refl
-kept_flags r B byte = refl
-kept_flags r C byte = refl
-kept_flags r D byte = refl
-kept_flags r E byte = refl
-kept_flags r H byte = refl
-kept_flags r L byte = refl
+moved_holds s r to A bytes holds = copy_holds (with_byte s to s.a) (with_register r to r.a) to (with_byte_holds s r to s.a r.a bytes holds holds.a) refl
+moved_holds s r to from bytes holds = with_byte_holds s r to (byte_of s from) (register_of r from) bytes holds (byte_holds s r from bytes holds)
 
 counted_holds : (s : State) (r : Registers) (to : Register) (span : ByteSpan) (byte : ℕ) (half : Bool) → AreBytes r → HoldsRegisters s r → ByteWithin span byte →
     HoldsRegisters (counted to span s) (record (with_register r to byte) { flags = flags_of_result byte half r.flags.carry })
 counted_holds s r to span byte half bytes holds inside =
     outcome_holds (with_byte s to span) (with_register r to byte) (record { value = span; carry = s.carry }) byte half r.flags.carry
-    (with_byte_holds s r to span byte bytes holds inside) (record { value = inside; carry = holds.carry })
+    (with_byte_holds s r to span byte bytes holds inside) (record { value = inside; carry = holds.flags.carry })
 
 counts_up : (s : State) (r : Registers) (to : Register) → AreBytes r → HoldsRegisters s r → (let answer = increment_answer (register_of r to) r.flags in
     HoldsRegisters (counted to (next_byte (byte_of s to)) s) (record (with_register r to answer.value) { flags = answer.flags }))
@@ -127,13 +100,13 @@ memory_up : (s : State) (r : Registers) (span : ByteSpan) (byte : ℕ) → Holds
     HoldsRegisters (with_outcome s (record { value = next_byte span; carry = s.carry })) (record r { flags = (increment_answer byte r.flags).flags })
 unfolding increment_answer byte_answer
 memory_up s r span byte holds small inside = outcome_holds s r (record { value = next_byte span; carry = s.carry }) ((byte + 1) % 256) _ r.flags.carry holds
-    (record { value = next_byte_within span byte small inside; carry = holds.carry })
+    (record { value = next_byte_within span byte small inside; carry = holds.flags.carry })
 
 memory_down : (s : State) (r : Registers) (span : ByteSpan) (byte : ℕ) → HoldsRegisters s r → byte < 256 → ByteWithin span byte →
     HoldsRegisters (with_outcome s (record { value = previous_byte span; carry = s.carry })) (record r { flags = (decrement_answer byte r.flags).flags })
 unfolding decrement_answer byte_answer
 memory_down s r span byte holds small inside = outcome_holds s r (record { value = previous_byte span; carry = s.carry }) ((byte + 255) % 256) _ r.flags.carry holds
-    (record { value = previous_byte_within span byte small inside; carry = holds.carry })
+    (record { value = previous_byte_within span byte small inside; carry = holds.flags.carry })
 
 -- operations on A
 resulted_holds : (s : State) (r : Registers) (out : Outcome) (byte : ℕ) (half full : Bool) → AreBytes r → HoldsRegisters s r → Makes out byte full →
@@ -172,7 +145,7 @@ module _ (s : State) (r : Registers) (t : ByteSpan) (v : ℕ) (bytes : AreBytes 
   Done o itself = let answer = operation_answer o r.a v r.flags in HoldsRegisters (after_operation o itself t s) (record r { a = answer.value; flags = answer.flags })
 
   plain : (o : Operation) → Makes (operated o s.a t s.carry) (result_of o r.a v r.flags) (carry_of o r.a v r.flags)
-  plain o = operated_makes o s.a t s.carry r.a v r.flags bytes.a small holds.a inside holds.carry
+  plain o = operated_makes o s.a t s.carry r.a v r.flags bytes.a small holds.a inside holds.flags.carry
 
   add_holds : (itself : Bool) → Done Add itself
   unfolding operation_answer sum_answer byte_answer
@@ -258,14 +231,7 @@ operates Subtract true s r t v bytes small holds inside same = rw (same refl) (i
 
 is_itself : (operand : Operand) (memory : List ℕ) (r : Registers) → is_accumulator operand ≡ true → operand_of operand memory r ≡ r.a
 is_itself (InRegister A) memory r is = refl
-is_itself (InRegister B) memory r is = cc
-is_itself (InRegister C) memory r is = cc
-is_itself (InRegister D) memory r is = cc
-is_itself (InRegister E) memory r is = cc
-is_itself (InRegister H) memory r is = cc
-is_itself (InRegister L) memory r is = cc
-is_itself Memory memory r is = cc
-is_itself (Immediate byte) memory r is = cc
+is_itself operand memory r is = cc
 
 -- rotations
 doubled_within : (s : ByteSpan) (a : ℕ) (b : Bool) → ByteWithin s a → a < 256 → (nat_lt s.last 128 ≡ b) → ByteWithin (doubled s) (a * 2 % 256 + a / 128)
@@ -320,9 +286,9 @@ unfolding rotation_answer
 rotates Left s r bytes holds = carry_holds _ (record r { a = r.a * 2 % 256 + r.a / 128 }) None _ (with_byte_holds s r A _ _ bytes holds (left_go s.a r.a r.flags s.carry (is_byte_alone s.a) refl holds.a bytes.a)) tt
 rotates Right s r bytes holds = carry_holds _ (record r { a = r.a / 2 + r.a % 2 * 128 }) None _ (with_byte_holds s r A _ _ bytes holds (right_go s.a r.a s.carry (is_byte_alone s.a) refl holds.a bytes.a)) tt
 rotates LeftThroughCarry s r bytes holds =
-    carry_holds _ (record r { a = r.a * 2 % 256 + bit_of r.flags.carry }) None _ (with_byte_holds s r A _ _ bytes holds (through_left s.a r.a s.carry r.flags.carry holds.carry holds.a bytes.a)) tt
+    carry_holds _ (record r { a = r.a * 2 % 256 + bit_of r.flags.carry }) None _ (with_byte_holds s r A _ _ bytes holds (through_left s.a r.a s.carry r.flags.carry holds.flags.carry holds.a bytes.a)) tt
 rotates RightThroughCarry s r bytes holds =
-    carry_holds _ (record r { a = r.a / 2 + bit_of r.flags.carry * 128 }) None _ (with_byte_holds s r A _ _ bytes holds (through_right s.a r.a s.carry r.flags.carry holds.carry holds.a bytes.a)) tt
+    carry_holds _ (record r { a = r.a / 2 + bit_of r.flags.carry * 128 }) None _ (with_byte_holds s r A _ _ bytes holds (through_right s.a r.a s.carry r.flags.carry holds.flags.carry holds.a bytes.a)) tt
 
 -- the other kinds
 adjusts : (s : State) (r : Registers) → AreBytes r → HoldsRegisters s r → (let answer = decimal_answer r.a r.flags in HoldsRegisters (registers_after [] Daa s) (record r { a = answer.value; flags = answer.flags }))
@@ -347,16 +313,11 @@ turn (Some known) b is = ap (λ (x : Bool). not x) is
 
 turns_carry : (s : State) (r : Registers) → HoldsRegisters s r → HoldsRegisters (registers_after [] Cmc s) (record r { flags = carry_turned r.flags })
 unfolding carry_turned
-turns_carry s r holds = carry_holds s r (turned s.carry) (not r.flags.carry) holds (turn s.carry r.flags.carry holds.carry)
+turns_carry s r holds = carry_holds s r (turned s.carry) (not r.flags.carry) holds (turn s.carry r.flags.carry holds.flags.carry)
 
 exchanges_copy : (copy : Register) (r : Registers) → register_of r copy ≡ r.a → register_of (record r { d = r.h; e = r.l; h = r.d; l = r.e }) (exchanged copy) ≡ r.a
 exchanges_copy A r same = same
-exchanges_copy B r same = same
-exchanges_copy C r same = same
-exchanges_copy D r same = same
-exchanges_copy E r same = same
-exchanges_copy H r same = same
-exchanges_copy L r same = same
+exchanges_copy copy r same = same
 
 -- pairs are counted and added
 pub index_within : (s : State) (r : Registers) (pair : IndexPair) → HoldsRegisters s r → Within (index_words s pair) (index_pair_of r pair)
@@ -370,6 +331,13 @@ up_within s n small inside = next_within s n small inside
 down_within : (s : Span) (n : ℕ) → n < 65536 → Within s n → Within (previous_span s) (behind n 1)
 unfolding behind
 down_within s n small inside = previous_within s n small inside
+
+counts : (count : Span → Span) (step : ℕ → ℕ) (s : State) (cpu : Cpu) (pair : Pair) → ((span : Span) (n : ℕ) → n < 65536 → Within span n → Within (count span) (step n)) → AreBytes cpu.registers → HoldsRegisters s cpu.registers →
+    HoldsRegisters (with_words s pair (count (words_of s pair))) (with_pair cpu pair (step (pair_of cpu pair))).registers
+counts count step s cpu Bc law bytes holds = with_words_holds s cpu Bc (count s.bc.words) _ holds (law s.bc.words _ (bc_is_word cpu.registers bytes) holds.bc.words)
+counts count step s cpu De law bytes holds = with_words_holds s cpu De (count s.de.words) _ holds (law s.de.words _ (de_is_word cpu.registers bytes) holds.de.words)
+counts count step s cpu Hl law bytes holds = with_words_holds s cpu Hl (count s.hl.words) _ holds (law s.hl.words _ (hl_is_word cpu.registers bytes) holds.hl.words)
+counts count step s cpu Sp law bytes holds = holds
 
 adds : (s : State) (cpu : Cpu) (span : Span) (n : ℕ) (known : Option Bool) → AreBytes cpu.registers → HoldsRegisters s cpu.registers → Within (sum_span s.hl.words span) ((hl_of cpu.registers + n) % 65536) →
     IsKnown known (nat_lt 65535 (hl_of cpu.registers + n)) → (let sum = pair_sum (hl_of cpu.registers) n in
@@ -409,31 +377,19 @@ module _ (code : List (Option ℕ)) (memory : List ℕ) (reads : ReadsCode code 
       memory_down s cpu.registers (loaded code s.cells s.hl.words) (byte_in memory (hl_of cpu.registers)) holds (memory_byte memory (hl_of cpu.registers) held)
       (loaded_within code s.cells memory s.hl.words (hl_of cpu.registers) reads cells held holds.hl.words)
   changed_registers regions (Lxi pair n) cpu s small bytes holds words cells = with_words_holds s cpu pair (word_alone n) n holds (record { above = omega arith; below = omega arith })
-  changed_registers regions (Inx Bc) cpu s small bytes holds words cells =
-      with_words_holds s cpu Bc (next_span s.bc.words) _ holds (up_within s.bc.words _ (word_small cpu.registers.b cpu.registers.c bytes.b bytes.c) holds.bc.words)
-  changed_registers regions (Inx De) cpu s small bytes holds words cells =
-      with_words_holds s cpu De (next_span s.de.words) _ holds (up_within s.de.words _ (word_small cpu.registers.d cpu.registers.e bytes.d bytes.e) holds.de.words)
-  changed_registers regions (Inx Hl) cpu s small bytes holds words cells =
-      with_words_holds s cpu Hl (next_span s.hl.words) _ holds (up_within s.hl.words _ (word_small cpu.registers.h cpu.registers.l bytes.h bytes.l) holds.hl.words)
-  changed_registers regions (Inx Sp) cpu s small bytes holds words cells = holds
-  changed_registers regions (Dcx Bc) cpu s small bytes holds words cells =
-      with_words_holds s cpu Bc (previous_span s.bc.words) _ holds (down_within s.bc.words _ (word_small cpu.registers.b cpu.registers.c bytes.b bytes.c) holds.bc.words)
-  changed_registers regions (Dcx De) cpu s small bytes holds words cells =
-      with_words_holds s cpu De (previous_span s.de.words) _ holds (down_within s.de.words _ (word_small cpu.registers.d cpu.registers.e bytes.d bytes.e) holds.de.words)
-  changed_registers regions (Dcx Hl) cpu s small bytes holds words cells =
-      with_words_holds s cpu Hl (previous_span s.hl.words) _ holds (down_within s.hl.words _ (word_small cpu.registers.h cpu.registers.l bytes.h bytes.l) holds.hl.words)
-  changed_registers regions (Dcx Sp) cpu s small bytes holds words cells = holds
+  changed_registers regions (Inx pair) cpu s small bytes holds words cells = counts next_span (λ n. ahead n 1) s cpu pair up_within bytes holds
+  changed_registers regions (Dcx pair) cpu s small bytes holds words cells = counts previous_span (λ n. behind n 1) s cpu pair down_within bytes holds
   changed_registers regions (Dad Bc) cpu s small bytes holds words cells = adds s cpu s.bc.words _ (added_carry s Bc) bytes holds
-      (sum_within s.hl.words s.bc.words _ _ (word_small cpu.registers.h cpu.registers.l bytes.h bytes.l) (word_small cpu.registers.b cpu.registers.c bytes.b bytes.c) holds.hl.words holds.bc.words)
+      (sum_within s.hl.words s.bc.words _ _ (hl_is_word cpu.registers bytes) (bc_is_word cpu.registers bytes) holds.hl.words holds.bc.words)
       (carries s.hl.words s.bc.words _ _ holds.hl.words holds.bc.words)
   changed_registers regions (Dad De) cpu s small bytes holds words cells = adds s cpu s.de.words _ (added_carry s De) bytes holds
-      (sum_within s.hl.words s.de.words _ _ (word_small cpu.registers.h cpu.registers.l bytes.h bytes.l) (word_small cpu.registers.d cpu.registers.e bytes.d bytes.e) holds.hl.words holds.de.words)
+      (sum_within s.hl.words s.de.words _ _ (hl_is_word cpu.registers bytes) (de_is_word cpu.registers bytes) holds.hl.words holds.de.words)
       (carries s.hl.words s.de.words _ _ holds.hl.words holds.de.words)
   changed_registers regions (Dad Hl) cpu s small bytes holds words cells = adds s cpu s.hl.words _ (added_carry s Hl) bytes holds
-      (sum_within s.hl.words s.hl.words _ _ (word_small cpu.registers.h cpu.registers.l bytes.h bytes.l) (word_small cpu.registers.h cpu.registers.l bytes.h bytes.l) holds.hl.words holds.hl.words)
+      (sum_within s.hl.words s.hl.words _ _ (hl_is_word cpu.registers bytes) (hl_is_word cpu.registers bytes) holds.hl.words holds.hl.words)
       (carries s.hl.words s.hl.words _ _ holds.hl.words holds.hl.words)
   changed_registers regions (Dad Sp) cpu s small bytes holds words cells = adds s cpu any_word cpu.sp None bytes holds
-      (sum_any s.hl.words (hl_of cpu.registers) _ (word_small cpu.registers.h cpu.registers.l bytes.h bytes.l) (omega arith) holds.hl.words) tt
+      (sum_any s.hl.words (hl_of cpu.registers) _ (hl_is_word cpu.registers bytes) (omega arith) holds.hl.words) tt
   changed_registers regions (Operate o operand) cpu s small bytes holds words cells =
       operates o (is_accumulator operand) s cpu.registers (operand_bytes code operand s) (operand_of operand memory cpu.registers) bytes (operand_small o operand cpu.registers small bytes) holds
       (operand_within operand s cpu.registers bytes holds cells) (is_itself operand memory cpu.registers)
@@ -446,21 +402,12 @@ module _ (code : List (Option ℕ)) (memory : List ℕ) (reads : ReadsCode code 
   changed_registers regions (Lda address) cpu s small bytes holds words cells =
       with_byte_holds s cpu.registers A (loaded_at code s.cells address) (byte_in memory address) bytes holds (read_within code s.cells memory address reads cells held)
   changed_registers regions (Lhld address) cpu s small bytes holds words cells =
-      hl_written_holds s cpu.registers (loaded_word code s.cells address) (byte_in memory (ahead address 1)) (byte_in memory address) holds
-      (words_hold (loaded_word code s.cells address) (byte_in memory (ahead address 1)) (byte_in memory address) (memory_byte memory address held)
-      (joined_within (loaded_at code s.cells (ahead address 1)) (loaded_at code s.cells address) (byte_in memory (ahead address 1)) (byte_in memory address)
-      (read_within code s.cells memory (ahead address 1) reads cells held) (read_within code s.cells memory address reads cells held)))
-  changed_registers regions Xchg cpu s small bytes holds words cells = record {
-    a = holds.a;
-    bc = holds.bc;
-    de = holds.hl;
-    hl = holds.de;
-    copy = exchanges_copy s.copy cpu.registers holds.copy;
-    zero = holds.zero;
-    carry = holds.carry;
-    sign = holds.sign;
-    compared = holds.compared;
-  }
+      let high = byte_in memory (ahead address 1) in
+      let one = with_byte_holds s cpu.registers H (loaded_at code s.cells (ahead address 1)) high bytes holds (read_within code s.cells memory (ahead address 1) reads cells held) in
+      with_byte_holds (with_byte s H (loaded_at code s.cells (ahead address 1))) (record cpu.registers { h = high }) L (loaded_at code s.cells address) (byte_in memory address)
+      (register_written cpu.registers H high (memory_byte memory (ahead address 1) held) bytes) one (read_within code s.cells memory address reads cells held)
+  changed_registers regions Xchg cpu s small bytes holds words cells =
+      record { a = holds.a; bc = holds.bc; de = holds.hl; hl = holds.de; copy = exchanges_copy s.copy cpu.registers holds.copy; flags = holds.flags }
   changed_registers regions (Pop StackBc) cpu s small bytes holds words cells = bc_written_holds s cpu.registers (known_word s.words.first) _ _ holds
       (words_hold (known_word s.words.first) _ _ (memory_byte memory cpu.sp held) (popped_within regions s.words.first memory cpu.sp words.first held))
   changed_registers regions (Pop StackDe) cpu s small bytes holds words cells = de_written_holds s cpu.registers (known_word s.words.first) _ _ holds

@@ -1,18 +1,24 @@
 -- What a condition leaves of a state holds if the condition does.
 use Rattle.std.specs.Prelude.{◌≡◌, ◌==◌, ◌+◌, ◌-◌, ℕ, Bool, true, false, not, Option, None, Some, nat_lt, nat_le, min, max, refl}
-use Rattle.std.proofs.Common.{arith, sym, ap, ◌∙◌}
+use Rattle.std.proofs.Common.{arith, subst, sym, ap, ◌∙◌}
 use Rattle.std.proofs.lemmas.Bool.Decides.{nat_tests}
 use Rattle.decode80.specs.declared.register.Register.{Register}
-use Rattle.decode80.specs.declared.register.Register.TheVariants.{A, B, C, D, E, H, L}
+use Rattle.decode80.specs.declared.register.Register.TheVariants.{A}
 use Rattle.decode80.specs.declared.condition.Condition.{Condition}
 use Rattle.decode80.specs.declared.condition.Condition.TheVariants.{NonZero, Zero, NoCarry, Carry, ParityOdd, ParityEven, Plus, Minus}
+use Rattle.image80.specs.Regions.{Areas}
 use Rattle.machine80.specs.declared.registers.Registers.{Registers}
+use Rattle.machine80.specs.Step.{Machine}
 use Rattle.machine80.specs.Flags.{holds as holds_of}
 use Rattle.verify80_states.specs.declared.spans.byte_span.ByteSpan.{ByteSpan}
+use Rattle.verify80_states.specs.declared.states.cells.Cells.{Cells}
+use Rattle.verify80_states.specs.declared.states.state.Words.{Words}
 use Rattle.verify80_states.specs.declared.states.state.State.{State}
 use Rattle.verify80_states.specs.Bytes.{AreBytes}
 use Rattle.verify80_states.specs.Span.{ByteWithin, IsKnown, byte_alone, only, without, below, from}
-use Rattle.verify80_states.specs.State.{HoldsRegisters, Compares, cut, cut_copy}
+use Rattle.verify80_states.specs.Cells.{HoldsCells}
+use Rattle.verify80_states.specs.State.{Holds, HoldsRegisters, HoldsWords, Compares, cut, cut_copy}
+use Rattle.verify80_states.proofs.SpanLemmas.{alone_within}
 use Rattle.verify80_states.specs.Given.{if_same, zero_bytes, carry_bytes, cut_to, given_zero, given_carry, given_sign, given}
 use Rattle.verify80_states.proofs.StateLemmas.{cut_holds}
 
@@ -71,95 +77,52 @@ carry_leaves (Some n) true s r holds compares is = below_leaves n r.a s.a (sym c
 carry_leaves (Some n) false s r holds compares is = from_leaves n r.a s.a (sym compares.1 ∙ is) holds.a
 
 -- a flag becomes known
-zero_is : (s : State) (r : Registers) (wanted : Bool) → HoldsRegisters s r → r.flags.zero ≡ wanted → HoldsRegisters (record s { zero = Some wanted }) r
-zero_is s r wanted holds is = record {
-  a = holds.a;
-  bc = holds.bc;
-  de = holds.de;
-  hl = holds.hl;
-  copy = holds.copy;
-  zero = is;
-  carry = holds.carry;
-  sign = holds.sign;
-  compared = holds.compared;
-}
-
-carry_is : (s : State) (r : Registers) (wanted : Bool) → HoldsRegisters s r → r.flags.carry ≡ wanted → HoldsRegisters (record s { carry = Some wanted }) r
-carry_is s r wanted holds is = record {
-  a = holds.a;
-  bc = holds.bc;
-  de = holds.de;
-  hl = holds.hl;
-  copy = holds.copy;
-  zero = holds.zero;
-  carry = is;
-  sign = holds.sign;
-  compared = holds.compared;
-}
-
-sign_is : (s : State) (r : Registers) (wanted : Bool) → HoldsRegisters s r → r.flags.sign ≡ wanted → HoldsRegisters (record s { sign = Some wanted }) r
-sign_is s r wanted holds is = record {
-  a = holds.a;
-  bc = holds.bc;
-  de = holds.de;
-  hl = holds.hl;
-  copy = holds.copy;
-  zero = holds.zero;
-  carry = holds.carry;
-  sign = is;
-  compared = holds.compared;
-}
+flags_are : (s : State) (r : Registers) (z cy n : Option Bool) → HoldsRegisters s r → IsKnown z r.flags.zero → IsKnown cy r.flags.carry → IsKnown n r.flags.sign → HoldsRegisters (record s { zero = z; carry = cy; sign = n }) r
+flags_are s r z cy n holds zero carry sign =
+    record { a = holds.a; bc = holds.bc; de = holds.de; hl = holds.hl; copy = holds.copy; flags = record { zero = zero; carry = carry; sign = sign; compared = holds.flags.compared } }
 
 same_left : (known wanted truth : Bool) (s : State) (r : Registers) → HoldsRegisters s r → truth ≡ known → truth ≡ wanted → Leaves (if_same known wanted s) s r
 same_left true true truth s r holds one two = record { left = s; is = refl; holds = holds; words = refl; cells = refl }
 same_left false false truth s r holds one two = record { left = s; is = refl; holds = holds; words = refl; cells = refl }
-same_left true false truth s r holds one two = cc
-same_left false true truth s r holds one two = cc
+same_left known wanted truth s r holds one two = cc
 
-cut_words : (s : State) (span : ByteSpan) → (cut s span).words ≡ s.words
-cut_words s span = go s.copy where
-  go : (copy : Register) → (cut_copy s copy span).words ≡ s.words
-  go A = refl
-  go B = refl
-  go C = refl
-  go D = refl
-  go E = refl
-  go H = refl
-  go L = refl
+cut_keeps : (s : State) (copy : Register) (span : ByteSpan) → ((cut_copy s copy span).words ≡ s.words) × ((cut_copy s copy span).cells ≡ s.cells)
+cut_keeps s A span = (refl, refl)
+cut_keeps s copy span = (refl, refl)
 
-cut_cells : (s : State) (span : ByteSpan) → (cut s span).cells ≡ s.cells
-cut_cells s span = go s.copy where
-  go : (copy : Register) → (cut_copy s copy span).cells ≡ s.cells
-  go A = refl
-  go B = refl
-  go C = refl
-  go D = refl
-  go E = refl
-  go H = refl
-  go L = refl
+-- a state in which A has its byte alone
+pub cut_state : (regions : Areas) (s : State) (m : Machine) → AreBytes m.cpu.registers → Holds regions s m → Holds regions (cut s (byte_alone m.cpu.registers.a)) m
+cut_state regions s m bytes holds =
+    let span = byte_alone m.cpu.registers.a in
+    let keeps = cut_keeps s s.copy span in
+    record {
+      registers = cut_holds s m.cpu.registers span bytes holds.registers (alone_within m.cpu.registers.a);
+      words = subst (λ (w : Words). HoldsWords regions w m.memory m.cpu.sp) (sym keeps.0) holds.words;
+      cells = subst (λ (c : Cells). HoldsCells c m.memory) (sym keeps.1) holds.cells;
+    }
 
 cut_left : (o : Option ByteSpan) (s t : State) (r : Registers) → AreBytes r → HoldsRegisters t r → t.words ≡ s.words → t.cells ≡ s.cells → LeavesByte o r.a → Leaves (cut_to o t) s r
 cut_left o s t r bytes holds words cells byte = record {
   left = cut t byte.span;
   is = ap (λ (x : Option ByteSpan). cut_to x t) byte.is;
   holds = cut_holds t r byte.span bytes holds byte.inside;
-  words = cut_words t byte.span ∙ words;
-  cells = cut_cells t byte.span ∙ cells;
+  words = (cut_keeps t t.copy byte.span).0 ∙ words;
+  cells = (cut_keeps t t.copy byte.span).1 ∙ cells;
 }
 
 zero_given : (known : Option Bool) (wanted : Bool) (s : State) (r : Registers) → AreBytes r → HoldsRegisters s r → IsKnown known r.flags.zero → r.flags.zero ≡ wanted → Leaves (given_zero known wanted s) s r
 zero_given (Some known) wanted s r bytes holds knows is = same_left known wanted r.flags.zero s r holds knows is
 zero_given None wanted s r bytes holds knows is =
-    cut_left (zero_bytes s.compared wanted s.a) s (record s { zero = Some wanted }) r bytes (zero_is s r wanted holds is) refl refl (zero_leaves s.compared wanted s r holds holds.compared is)
+    cut_left (zero_bytes s.compared wanted s.a) s (record s { zero = Some wanted }) r bytes (flags_are s r (Some wanted) s.carry s.sign holds is holds.flags.carry holds.flags.sign) refl refl (zero_leaves s.compared wanted s r holds holds.flags.compared is)
 
 carry_given : (known : Option Bool) (wanted : Bool) (s : State) (r : Registers) → AreBytes r → HoldsRegisters s r → IsKnown known r.flags.carry → r.flags.carry ≡ wanted → Leaves (given_carry known wanted s) s r
 carry_given (Some known) wanted s r bytes holds knows is = same_left known wanted r.flags.carry s r holds knows is
 carry_given None wanted s r bytes holds knows is =
-    cut_left (carry_bytes s.compared wanted s.a) s (record s { carry = Some wanted }) r bytes (carry_is s r wanted holds is) refl refl (carry_leaves s.compared wanted s r holds holds.compared is)
+    cut_left (carry_bytes s.compared wanted s.a) s (record s { carry = Some wanted }) r bytes (flags_are s r s.zero (Some wanted) s.sign holds holds.flags.zero is holds.flags.sign) refl refl (carry_leaves s.compared wanted s r holds holds.flags.compared is)
 
 sign_given : (known : Option Bool) (wanted : Bool) (s : State) (r : Registers) → HoldsRegisters s r → IsKnown known r.flags.sign → r.flags.sign ≡ wanted → Leaves (given_sign known wanted s) s r
 sign_given (Some known) wanted s r holds knows is = same_left known wanted r.flags.sign s r holds knows is
-sign_given None wanted s r holds knows is = record { left = record s { sign = Some wanted }; is = refl; holds = sign_is s r wanted holds is; words = refl; cells = refl }
+sign_given None wanted s r holds knows is = record { left = record s { sign = Some wanted }; is = refl; holds = flags_are s r s.zero s.carry (Some wanted) holds holds.flags.zero holds.flags.carry is; words = refl; cells = refl }
 
 turned : (b c : Bool) → not b ≡ c → b ≡ not c
 turned true true h = cc
@@ -169,11 +132,11 @@ turned false false h = cc
 
 pub given_holds : (c : Condition) (wanted : Bool) (s : State) (r : Registers) → AreBytes r → HoldsRegisters s r → holds_of c r.flags ≡ wanted → Leaves (given c wanted s) s r
 unfolding holds_of
-given_holds Zero wanted s r bytes holds is = zero_given s.zero wanted s r bytes holds holds.zero is
-given_holds NonZero wanted s r bytes holds is = zero_given s.zero (not wanted) s r bytes holds holds.zero (turned r.flags.zero wanted is)
-given_holds Carry wanted s r bytes holds is = carry_given s.carry wanted s r bytes holds holds.carry is
-given_holds NoCarry wanted s r bytes holds is = carry_given s.carry (not wanted) s r bytes holds holds.carry (turned r.flags.carry wanted is)
-given_holds Minus wanted s r bytes holds is = sign_given s.sign wanted s r holds holds.sign is
-given_holds Plus wanted s r bytes holds is = sign_given s.sign (not wanted) s r holds holds.sign (turned r.flags.sign wanted is)
+given_holds Zero wanted s r bytes holds is = zero_given s.zero wanted s r bytes holds holds.flags.zero is
+given_holds NonZero wanted s r bytes holds is = zero_given s.zero (not wanted) s r bytes holds holds.flags.zero (turned r.flags.zero wanted is)
+given_holds Carry wanted s r bytes holds is = carry_given s.carry wanted s r bytes holds holds.flags.carry is
+given_holds NoCarry wanted s r bytes holds is = carry_given s.carry (not wanted) s r bytes holds holds.flags.carry (turned r.flags.carry wanted is)
+given_holds Minus wanted s r bytes holds is = sign_given s.sign wanted s r holds holds.flags.sign is
+given_holds Plus wanted s r bytes holds is = sign_given s.sign (not wanted) s r holds holds.flags.sign (turned r.flags.sign wanted is)
 given_holds ParityOdd wanted s r bytes holds is = record { left = s; is = refl; holds = holds; words = refl; cells = refl }
 given_holds ParityEven wanted s r bytes holds is = record { left = s; is = refl; holds = holds; words = refl; cells = refl }

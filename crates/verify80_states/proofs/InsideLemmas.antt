@@ -2,7 +2,7 @@
 use Rattle.std.specs.Prelude.{◌≡◌, ℕ, Bool, List, Option, None, Some, refl}
 use Rattle.std.proofs.Common.{subst}
 use Rattle.decode80.specs.declared.register.Register.{Register}
-use Rattle.decode80.specs.declared.register.Register.TheVariants.{A, B, C, D, E, H, L}
+use Rattle.decode80.specs.declared.register.Register.TheVariants.{A}
 use Rattle.decode80.specs.Fetch.{ahead}
 use Rattle.image80.specs.Regions.{Areas}
 use Rattle.machine80.specs.declared.registers.Registers.{Registers}
@@ -31,12 +31,7 @@ comparison_around o (Some n) r inside holds = subst (λ (x : Option ℕ). Compar
 
 copy_around : (c d : Register) (r : Registers) → IsCopyInside c d → register_of r c ≡ r.a → register_of r d ≡ r.a
 copy_around c A r inside same = refl
-copy_around c B r inside same = subst (λ (x : Register). register_of r x ≡ r.a) inside same
-copy_around c C r inside same = subst (λ (x : Register). register_of r x ≡ r.a) inside same
-copy_around c D r inside same = subst (λ (x : Register). register_of r x ≡ r.a) inside same
-copy_around c E r inside same = subst (λ (x : Register). register_of r x ≡ r.a) inside same
-copy_around c H r inside same = subst (λ (x : Register). register_of r x ≡ r.a) inside same
-copy_around c L r inside same = subst (λ (x : Register). register_of r x ≡ r.a) inside same
+copy_around c d r inside same = subst (λ (x : Register). register_of r x ≡ r.a) inside same
 
 word_around : (regions : Areas) (o u : Option Span) (memory : List ℕ) (sp at : ℕ) → IsWordInside o u → HoldsWord regions o memory sp at → HoldsWord regions u memory sp at
 word_around regions o None memory sp at inside holds = tt
@@ -63,10 +58,12 @@ state_around regions s t m bytes inside holds =
         de = pair_around s.de t.de r.d r.e inside.registers.de h.de;
         hl = pair_around s.hl t.hl r.h r.l inside.registers.hl h.hl;
         copy = copy_around s.copy t.copy r inside.copy h.copy;
-        zero = flag_around s.zero t.zero r.flags.zero inside.zero h.zero;
-        carry = flag_around s.carry t.carry r.flags.carry inside.carry h.carry;
-        sign = flag_around s.sign t.sign r.flags.sign inside.sign h.sign;
-        compared = comparison_around s.compared t.compared r inside.compared h.compared;
+        flags = record {
+          zero = flag_around s.zero t.zero r.flags.zero inside.zero h.flags.zero;
+          carry = flag_around s.carry t.carry r.flags.carry inside.carry h.flags.carry;
+          sign = flag_around s.sign t.sign r.flags.sign inside.sign h.flags.sign;
+          compared = comparison_around s.compared t.compared r inside.compared h.flags.compared;
+        };
       };
       words = words_around regions s.words t.words m.memory m.cpu.sp inside.words holds.words;
       cells = cells_around s.cells t.cells m.memory bytes inside.cells holds.cells;

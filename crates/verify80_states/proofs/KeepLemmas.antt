@@ -7,7 +7,7 @@ use Rattle.decode80.specs.declared.condition.Condition.{Condition}
 use Rattle.decode80.specs.declared.instr.Instr.TheVariants.{Pchl}
 use Rattle.decode80.specs.declared.fetching.Fetched.{Fetched}
 use Rattle.decode80.specs.declared.flow.Flow.{Flow}
-use Rattle.decode80.specs.declared.flow.Flow.TheVariants.{Continues, Jumps, JumpsIf, JumpsToHl, Calls, CallsIf, Returns, ReturnsIf, Pushes, Pops, Exchanges, Halts}
+use Rattle.decode80.specs.declared.flow.Flow.TheVariants.{Jumps, JumpsIf, JumpsToHl, Calls, CallsIf, Returns, ReturnsIf, Halts}
 use Rattle.decode80.specs.Facts.{flow}
 use Rattle.image80.specs.Regions.{Areas, in_data, targets_at}
 use Rattle.image80.specs.Image.{Located}
@@ -26,13 +26,13 @@ use Rattle.verify80_states.specs.declared.spans.span.Span.{Span}
 use Rattle.verify80_states.specs.declared.states.state.State.{State}
 use Rattle.verify80_states.specs.declared.fitting.fitting.Placed.{Placed}
 use Rattle.verify80_states.specs.Bytes.{AreBytes, HoldsBytes, BytesStayBytes, FetchedOperandsAreBounded, MemoryKeepsItsLength}
-use Rattle.verify80_states.specs.Span.{Within}
+use Rattle.verify80_states.specs.Span.{Within, ByteWithin, byte_alone}
 use Rattle.verify80_states.specs.Cells.{AreQuietCells}
-use Rattle.verify80_states.specs.State.{Holds, HoldsWord, anything}
+use Rattle.verify80_states.specs.State.{Holds, HoldsWord, anything, cut}
 use Rattle.verify80_states.specs.Following.{state_after}
 use Rattle.verify80_states.specs.Given.{given}
 use Rattle.verify80_states.specs.Steps.{is_taken, ReadsCode, AreCodeBytes, HasCode}
-use Rattle.verify80_states.specs.Fitting.{Has, HasAfter, FitsBy, KnowsQuiet}
+use Rattle.verify80_states.specs.Fitting.{Has, Covers, CoversAfter, FitsBy, KnowsQuiet}
 use Rattle.verify80_states.specs.Calls.{AccountsFor, ReturnFacts, KeepsCalls, KnowsReturn, KnowsReturnIf, KnowsReturnsOf, Owes, none}
 use Rattle.verify80_states.specs.FittingTable.{Fits}
 use Rattle.verify80_states.specs.Runs.{KeepsTo, KeepsToCalls, IsKnown, IsKept}
@@ -40,7 +40,7 @@ use Rattle.verify80_states.proofs.StateLemmas.{anything_holds}
 use Rattle.verify80_states.proofs.MemoryLemmas.{Ground, none_hold, words_stay}
 use Rattle.verify80_states.proofs.CellLemmas.{cells_beside, cells_quieter, none_hold as no_cells_hold}
 use Rattle.verify80_states.proofs.CallLemmas.{owed_on, owed_return, returned_places, returns_here}
-use Rattle.verify80_states.proofs.GivenLemmas.{given_holds}
+use Rattle.verify80_states.proofs.GivenLemmas.{given_holds, cut_state}
 use Rattle.verify80_states.proofs.InsideLemmas.{state_around}
 use Rattle.verify80_states.proofs.StepLemmas.{passed, step_state, step_code}
 use Rattle.verify80_states.proofs.WayLemmas.{GoesOn, Leads, executes}
@@ -80,18 +80,23 @@ pub record Meets (regions : Areas) (table : List Placed) (to : ℕ) (m : Machine
   pub holds : Holds regions state m
 
 -- what a state owes where its flow leads, it has there
-module _ (regions : Areas) (targets : List ℕ) (table : List Placed) (after : Bool → State → State) (m there : Machine) (bytes : AreBytes m.cpu.registers) where
+module _ (regions : Areas) (targets : List ℕ) (table : List Placed) (after : Bool → State → State) (m there : Machine) (bytes : AreBytes m.cpu.registers) (now : AreBytes there.cpu.registers) where
   abbrev pub Follows : Flow → Type 0
   Follows w = (t : State) → Holds regions t m → AreQuietCells (in_data regions) t.cells → Holds regions (after (is_taken w m.cpu.registers.flags) t) there
 
-  at_once : (next to : ℕ) (s : State) → to ≡ next → Has table next s → Holds regions s there → Meets regions table to there
-  at_once next to s same has holds = record { state = s; has = subst (λ n. Has table n s) (sym same) has; holds = holds }
+  at_once : (next to : ℕ) (s : State) → to ≡ next → Covers table next s → Holds regions s there → Meets regions table to there
+  at_once next to s same covers holds = by covers.either where
+    by : Has table next s ⊎ ((byte : ℕ) → ByteWithin s.a byte → Has table next (cut s (byte_alone byte))) → Meets regions table to there
+    by (inl has) = record { state = s; has = subst (λ n. Has table n s) (sym same) has; holds = holds }
+    by (inr each) =
+        let byte = there.cpu.registers.a in
+        record { state = cut s (byte_alone byte); has = subst (λ n. Has table n (cut s (byte_alone byte))) (sym same) (each byte holds.registers.a); holds = cut_state regions s there now holds }
 
-  by_condition : (taken : Bool) (left : Option State) (t : State) (to address : ℕ) → left ≡ Some t → HasAfter table address (after taken) left → to ≡ address → Holds regions (after taken t) there → Meets regions table to there
+  by_condition : (taken : Bool) (left : Option State) (t : State) (to address : ℕ) → left ≡ Some t → CoversAfter table address (after taken) left → to ≡ address → Holds regions (after taken t) there → Meets regions table to there
   by_condition taken left t to address is has same holds =
-      at_once address to (after taken t) same (subst (λ (o : Option State). HasAfter table address (after taken) o) is has) holds
+      at_once address to (after taken t) same (subst (λ (o : Option State). CoversAfter table address (after taken) o) is has) holds
 
-  if_given : (condition : Condition) (taken : Bool) (s : State) (to address : ℕ) → AreQuietCells (in_data regions) s.cells → Holds regions s m → holds_of condition m.cpu.registers.flags ≡ taken → HasAfter table address (after taken) (given condition taken s) → to ≡ address →
+  if_given : (condition : Condition) (taken : Bool) (s : State) (to address : ℕ) → AreQuietCells (in_data regions) s.cells → Holds regions s m → holds_of condition m.cpu.registers.flags ≡ taken → CoversAfter table address (after taken) (given condition taken s) → to ≡ address →
       ((t : State) → Holds regions t m → AreQuietCells (in_data regions) t.cells → Holds regions (after taken t) there) → Meets regions table to there
   if_given condition taken s to address are holds is has same follow =
       let left = given_holds condition taken s m.cpu.registers bytes holds.registers is in
@@ -103,10 +108,6 @@ module _ (regions : Areas) (targets : List ℕ) (table : List Placed) (after : B
 
   pub arrives : (w : Flow) (s : State) (next to : ℕ) → FitsBy targets table after s next w → Leads w m.cpu.registers.flags targets next (hl_of m.cpu.registers) to → Follows w → AreQuietCells (in_data regions) s.cells → Holds regions s m →
       Meets regions table to there
-  arrives Continues s next to fits leads follow are holds = at_once next to (after false s) leads fits (follow s holds are)
-  arrives Pushes s next to fits leads follow are holds = at_once next to (after false s) leads fits (follow s holds are)
-  arrives Pops s next to fits leads follow are holds = at_once next to (after false s) leads fits (follow s holds are)
-  arrives Exchanges s next to fits leads follow are holds = at_once next to (after false s) leads fits (follow s holds are)
   arrives (Jumps address) s next to fits leads follow are holds = at_once address to (after false s) leads fits (follow s holds are)
   arrives (JumpsIf condition address) s next to fits (inl way) follow are holds = if_given condition true s to address are holds way.0 fits.0 way.1 (with_taken (JumpsIf condition address) true way.0 follow)
   arrives (JumpsIf condition address) s next to fits (inr way) follow are holds = if_given condition false s to next are holds way.0 fits.1 way.1 (with_taken (JumpsIf condition address) false way.0 follow)
@@ -118,10 +119,11 @@ module _ (regions : Areas) (targets : List ℕ) (table : List Placed) (after : B
   arrives Returns s next to fits leads follow are holds = absurd leads
   arrives (ReturnsIf condition) s next to fits leads follow are holds = if_given condition false s to next are holds leads.0 fits leads.1 (with_taken (ReturnsIf condition) false leads.0 follow)
   arrives Halts s next to fits leads follow are holds = absurd leads
+  arrives w s next to fits leads follow are holds = at_once next to (after false s) leads fits (follow s holds are)
 
   -- a return that is taken goes where the state says, if it knows that
   back_to : (t : State) → KnowsReturn table (after true) t → Holds regions t m → Holds regions (after true t) there → Meets regions table (word_in m.memory m.cpu.sp) there
-  back_to t knows before now = record { state = after true t; has = subst (λ n. Has table n (after true t)) place knows.has; holds = now } where
+  back_to t knows before holds = at_once knows.span.first (word_in m.memory m.cpu.sp) (after true t) (sym place) knows.covers holds where
     pushed_there : HoldsWord regions (Some knows.span) m.memory m.cpu.sp m.cpu.sp
     pushed_there = subst (λ (o : Option Span). HoldsWord regions o m.memory m.cpu.sp m.cpu.sp) knows.first before.words.first
 
@@ -135,16 +137,7 @@ module _ (regions : Areas) (targets : List ℕ) (table : List Placed) (after : B
       let left = given_holds condition true s m.cpu.registers bytes holds.registers taken in
       let here : Holds regions left.left m = record { registers = left.holds; words = rw left.words holds.words; cells = rw left.cells holds.cells } in
       back_to left.left (subst (λ (o : Option State). KnowsReturnIf table (after true) o) left.is knows) here (with_taken (ReturnsIf condition) true taken follow left.left here (rw left.cells are))
-  arrives_back Continues s taken knows follow are holds = absurd (true≢false (sym taken))
-  arrives_back Pushes s taken knows follow are holds = absurd (true≢false (sym taken))
-  arrives_back Pops s taken knows follow are holds = absurd (true≢false (sym taken))
-  arrives_back Exchanges s taken knows follow are holds = absurd (true≢false (sym taken))
-  arrives_back (Jumps to) s taken knows follow are holds = absurd (true≢false (sym taken))
-  arrives_back (JumpsIf condition to) s taken knows follow are holds = absurd (true≢false (sym taken))
-  arrives_back JumpsToHl s taken knows follow are holds = absurd (true≢false (sym taken))
-  arrives_back (Calls to) s taken knows follow are holds = absurd (true≢false (sym taken))
-  arrives_back (CallsIf condition to) s taken knows follow are holds = absurd (true≢false (sym taken))
-  arrives_back Halts s taken knows follow are holds = absurd (true≢false (sym taken))
+  arrives_back w s taken knows follow are holds = absurd (true≢false (sym taken))
 
 -- a return that is taken goes to the word on top of the stack
 back_if : (b : Bool) (word next : ℕ) → b ≡ true → (if b then word else next) ≡ word
@@ -154,16 +147,7 @@ back_if false word next taken = absurd (true≢false (sym taken))
 return_target : (w : Flow) (next : ℕ) (memory : List ℕ) (cpu : Cpu) → is_return_taken w cpu.registers.flags ≡ true → goes_to w next memory cpu ≡ word_in memory cpu.sp
 return_target Returns next memory cpu taken = refl
 return_target (ReturnsIf condition) next memory cpu taken = back_if (holds_of condition cpu.registers.flags) (word_in memory cpu.sp) next taken
-return_target Continues next memory cpu taken = absurd (true≢false (sym taken))
-return_target Pushes next memory cpu taken = absurd (true≢false (sym taken))
-return_target Pops next memory cpu taken = absurd (true≢false (sym taken))
-return_target Exchanges next memory cpu taken = absurd (true≢false (sym taken))
-return_target (Jumps to) next memory cpu taken = absurd (true≢false (sym taken))
-return_target (JumpsIf condition to) next memory cpu taken = absurd (true≢false (sym taken))
-return_target JumpsToHl next memory cpu taken = absurd (true≢false (sym taken))
-return_target (Calls to) next memory cpu taken = absurd (true≢false (sym taken))
-return_target (CallsIf condition to) next memory cpu taken = absurd (true≢false (sym taken))
-return_target Halts next memory cpu taken = absurd (true≢false (sym taken))
+return_target w next memory cpu taken = absurd (true≢false (sym taken))
 
 -- a state that says nothing holds of any machine
 pub nothing_holds : (regions : Areas) (ground : Ground regions) (m : Machine) → HoldsBytes m → Holds regions anything m
@@ -253,7 +237,7 @@ module _ (image : Located) (quiet : ℕ → Bool) (bytes : List (Option ℕ)) (r
     whole_now = length_stays image.regions refused w.machine after.machine step ∙ keeps.keeps.whole
 
     -- what the instruction makes of a state holds after the step
-    abbrev follows : Follows image.regions (declared_targets image.regions w.machine.cpu.pc) table (λ taken t. state_after bytes found.instr taken found.next t) w.machine after.machine before.registers (flow found.instr)
+    abbrev follows : Follows image.regions (declared_targets image.regions w.machine.cpu.pc) table (λ taken t. state_after bytes found.instr taken found.next t) w.machine after.machine before.registers now.registers (flow found.instr)
     follows = λ t holds are.
         let bound = bounded image.regions w.machine.memory w.machine.cpu.pc found before.memory fetched in
         step_state image.regions ground bytes refused w.machine after.machine found t bound.operand before now keeps.keeps.whole (reads_code w.machine.memory keeps.keeps.code) are fetched step holds
@@ -262,7 +246,7 @@ module _ (image : Located) (quiet : ℕ → Bool) (bytes : List (Option ℕ)) (r
     brings : (to : ℕ) → after.machine.cpu.pc ≡ to → to ≡ word_in w.machine.memory w.machine.cpu.sp → is_return_taken (flow found.instr) w.machine.cpu.registers.flags ≡ true →
         (returning.known w.machine.cpu.pc ≡ true) ⊎ Has table to anything → KeepsTo image table after
     brings to at word taken (inl so) =
-        let meets = arrives_back image.regions (declared_targets image.regions w.machine.cpu.pc) table (λ taken t. state_after bytes found.instr taken found.next t) w.machine after.machine before.registers
+        let meets = arrives_back image.regions (declared_targets image.regions w.machine.cpu.pc) table (λ taken t. state_after bytes found.instr taken found.next t) w.machine after.machine before.registers now.registers
         (flow found.instr) holding taken (calls.known so) follows (quiet_in_data keeps.keeps.place keeps.keeps.placed keeps.keeps.there) keeps.keeps.holds in
         keeps_by after meets.state (subst (λ n. Has table n meets.state) (sym (at ∙ word)) meets.has) now meets.holds code_now whole_now
     brings to at word taken (inr has) =
@@ -284,7 +268,7 @@ module _ (image : Located) (quiet : ℕ → Bool) (bytes : List (Option ℕ)) (r
     gone way =
         let fit = fits.entries keeps.keeps.place keeps.keeps.placed found keeps.keeps.there reached_here looked_here in
         let fit_here = subst (λ n. FitsBy (declared_targets image.regions n) table (λ taken t. state_after bytes found.instr taken found.next t) holding found.next (flow found.instr)) keeps.keeps.at fit in
-        let meets = arrives image.regions (declared_targets image.regions w.machine.cpu.pc) table (λ taken t. state_after bytes found.instr taken found.next t) w.machine after.machine before.registers
+        let meets = arrives image.regions (declared_targets image.regions w.machine.cpu.pc) table (λ taken t. state_after bytes found.instr taken found.next t) w.machine after.machine before.registers now.registers
         (flow found.instr) holding found.next after.machine.cpu.pc fit_here way
         follows (quiet_in_data keeps.keeps.place keeps.keeps.placed keeps.keeps.there) keeps.keeps.holds in
         let owes = owed_on returning table (declared_targets image.regions w.machine.cpu.pc) w.machine.cpu.pc found.next (hl_of w.machine.cpu.registers) after.machine.cpu.pc

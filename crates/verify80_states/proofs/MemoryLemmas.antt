@@ -412,17 +412,8 @@ module _ (regions : Areas) (ground : Ground regions) where
     words_changed (CallIf c w) next cpu s pass holds words = maybe_push (holds_of c cpu.registers.flags) (holds_of c cpu.registers.flags) next cpu.sp s.words refl pass words
     words_changed Ret next cpu s pass holds words = words_popped s.words m cpu.sp words
     words_changed (ReturnIf c) next cpu s pass holds words = maybe_return (holds_of c cpu.registers.flags) s.words cpu.sp words
-    words_changed (Lxi Bc n) next cpu s pass holds words = words
-    words_changed (Lxi De n) next cpu s pass holds words = words
-    words_changed (Lxi Hl n) next cpu s pass holds words = words
     words_changed (Lxi Sp n) next cpu s pass holds words = none_hold m _
-    words_changed (Inx Bc) next cpu s pass holds words = words
-    words_changed (Inx De) next cpu s pass holds words = words
-    words_changed (Inx Hl) next cpu s pass holds words = words
     words_changed (Inx Sp) next cpu s pass holds words = none_hold m _
-    words_changed (Dcx Bc) next cpu s pass holds words = words
-    words_changed (Dcx De) next cpu s pass holds words = words
-    words_changed (Dcx Hl) next cpu s pass holds words = words
     words_changed (Dcx Sp) next cpu s pass holds words = none_hold m _
     words_changed Sphl next cpu s pass holds words = none_hold m _
     words_changed i next cpu s pass holds words = words

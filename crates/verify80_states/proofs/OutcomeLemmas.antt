@@ -1,5 +1,6 @@
 -- What the accumulator's operations make of spans.
-use Rattle.std.specs.Prelude.{◌≡◌, ◌≤◌, ◌<◌, ◌&&◌, ℕ, ◌+◌, ◌-◌, ◌%◌, Bool, true, false, Option, None, Some, nat_lt, nat_le, min, max, bit_and, bit_or, bit_xor, refl}
+use Rattle.std.specs.Prelude.{◌≡◌, ◌≤◌, ◌<◌, ◌&&◌, ℕ, ◌+◌, ◌-◌, ◌*◌, ◌%◌, Bool, true, false, Option, None, Some, nat_lt, nat_le, min, max, bit_and, bit_or, bit_xor, refl}
+use Rattle.std.specs.Int.Bits.{or_add_and, xor_add_and}
 use Rattle.std.proofs.Common.{arith, subst, sym}
 use Rattle.std.proofs.lemmas.Nat.{and_le_l, and_le_r, le_or_l, le_or_r}
 use Rattle.std.proofs.lemmas.Bool.Decides.{nat_tests}
@@ -89,13 +90,16 @@ or_go s t a v true alone small first second =
 or_go s t a v false alone small first second =
     let left : a ≤ bit_or a v = le_or_l a v in
     let right : v ≤ bit_or a v = le_or_r a v in
-    by_span (or_of s t) (record { first = max s.first t.first; last = 255 }) (bit_or a v) (rw alone refl) (record { above = grind (arith, nat_tests); below = omega arith })
+    let sum : bit_or a v + bit_and a v ≡ a + v = or_add_and a v in
+    by_span (or_of s t) (record { first = max s.first t.first; last = min (s.last + t.last) 255 }) (bit_or a v) (rw alone refl) (record { above = grind (arith, nat_tests); below = grind (arith, nat_tests) })
 
 xor_go : (s t : ByteSpan) (a v : ℕ) (b : Bool) → are_alone s t ≡ b → bit_xor a v < 256 → ByteWithin s a → ByteWithin t v → ByteWithin (exclusive_or_of s t) (bit_xor a v)
 xor_go s t a v true alone small first second =
     let same = both_first s t a v alone first second in
     by_span (exclusive_or_of s t) (byte_alone (bit_xor s.first t.first)) (bit_xor a v) (rw alone refl) (rw (same.0, same.1) (alone_within (bit_xor a v)))
-xor_go s t a v false alone small first second = by_span (exclusive_or_of s t) any_byte (bit_xor a v) (rw alone refl) (any_byte_within (bit_xor a v) small)
+xor_go s t a v false alone small first second =
+    let sum : bit_xor a v + bit_and a v * 2 ≡ a + v = xor_add_and a v in
+    by_span (exclusive_or_of s t) (record { first = 0; last = min (s.last + t.last) 255 }) (bit_xor a v) (rw alone refl) (record { above = omega arith; below = grind (arith, nat_tests) })
 
 bit_is : (b : Bool) → bit_of b ≤ 1
 unfolding bit_of

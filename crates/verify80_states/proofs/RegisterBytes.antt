@@ -83,10 +83,8 @@ pair_written cpu Hl n small bytes = hl_written cpu.registers (n / 256) (n % 256)
 pair_written cpu Sp n small bytes = bytes
 
 pub sp_written : (cpu : Cpu) (pair : Pair) (n : ℕ) → IsWord n → IsWord cpu.sp → IsWord (with_pair cpu pair n).sp
-sp_written cpu Bc n small sp = sp
-sp_written cpu De n small sp = sp
-sp_written cpu Hl n small sp = sp
 sp_written cpu Sp n small sp = small
+sp_written cpu pair n small sp = sp
 
 pub stack_pair_written : (r : Registers) (pair : StackPair) (high low : ℕ) → IsByte high → IsByte low → AreBytes r → AreBytes (with_stack_pair r pair high low)
 stack_pair_written r StackBc high low h l bytes = bc_written r high low h l bytes

@@ -20,6 +20,7 @@ use Rattle.verify80_states.specs.Bytes.{AreBytes}
 use Rattle.verify80_states.specs.Span.{Within, ByteWithin, IsKnown, any_byte, high_of, joined, zero_of, sign_of}
 use Rattle.verify80_states.specs.State.{HoldsPair, HoldsRegisters, Compares, any_pair, anything, pair_of_words, pair_of_halves, byte_of, copy_without, copy_outside, with_byte, with_words, with_outcome, with_carry, with_any_flags, cut_high, cut_low, cut_copy, cut}
 use Rattle.verify80_states.proofs.SpanLemmas.{high_within, low_within, joined_within, any_word_within, any_byte_within, meet_within, meet_bytes_within, known_if}
+use Rattle.verify80_states.proofs.ArithmeticBounds.{word_of_bytes}
 use Rattle.verify80_states.proofs.OutcomeLemmas.{Makes}
 
 -- pairs
@@ -53,196 +54,60 @@ byte_holds s r L bytes holds = holds.hl.low
 copy_stays : (to copy : Register) (r : Registers) (byte : ℕ) → register_of r copy ≡ r.a → register_of (with_register r to byte) (copy_without to copy) ≡ (with_register r to byte).a
 copy_stays A copy r byte same = refl
 copy_stays B B r byte same = refl
-copy_stays B A r byte same = same
-copy_stays B C r byte same = same
-copy_stays B D r byte same = same
-copy_stays B E r byte same = same
-copy_stays B H r byte same = same
-copy_stays B L r byte same = same
 copy_stays C C r byte same = refl
-copy_stays C A r byte same = same
-copy_stays C B r byte same = same
-copy_stays C D r byte same = same
-copy_stays C E r byte same = same
-copy_stays C H r byte same = same
-copy_stays C L r byte same = same
 copy_stays D D r byte same = refl
-copy_stays D A r byte same = same
-copy_stays D B r byte same = same
-copy_stays D C r byte same = same
-copy_stays D E r byte same = same
-copy_stays D H r byte same = same
-copy_stays D L r byte same = same
 copy_stays E E r byte same = refl
-copy_stays E A r byte same = same
-copy_stays E B r byte same = same
-copy_stays E C r byte same = same
-copy_stays E D r byte same = same
-copy_stays E H r byte same = same
-copy_stays E L r byte same = same
 copy_stays H H r byte same = refl
-copy_stays H A r byte same = same
-copy_stays H B r byte same = same
-copy_stays H C r byte same = same
-copy_stays H D r byte same = same
-copy_stays H E r byte same = same
-copy_stays H L r byte same = same
 copy_stays L L r byte same = refl
-copy_stays L A r byte same = same
-copy_stays L B r byte same = same
-copy_stays L C r byte same = same
-copy_stays L D r byte same = same
-copy_stays L E r byte same = same
-copy_stays L H r byte same = same
+copy_stays to copy r byte same = same
 
 -- a register is written
 pub with_byte_holds : (s : State) (r : Registers) (to : Register) (span : ByteSpan) (byte : ℕ) → AreBytes r → HoldsRegisters s r → ByteWithin span byte →
     HoldsRegisters (with_byte s to span) (with_register r to byte)
-with_byte_holds s r A span byte bytes holds inside = record {
-  a = inside;
-  bc = holds.bc;
-  de = holds.de;
-  hl = holds.hl;
-  copy = refl;
-  zero = holds.zero;
-  carry = holds.carry;
-  sign = holds.sign;
-  compared = tt;
-}
-with_byte_holds s r B span byte bytes holds inside = record {
-  a = holds.a;
-  bc = halves_hold span s.bc.low byte r.c inside holds.bc.low;
-  de = holds.de;
-  hl = holds.hl;
-  copy = copy_stays B s.copy r byte holds.copy;
-  zero = holds.zero;
-  carry = holds.carry;
-  sign = holds.sign;
-  compared = holds.compared;
-}
-with_byte_holds s r C span byte bytes holds inside = record {
-  a = holds.a;
-  bc = halves_hold (high_of s.bc.words) span r.b byte (high_holds s.bc r.b r.c bytes.c holds.bc) inside;
-  de = holds.de;
-  hl = holds.hl;
-  copy = copy_stays C s.copy r byte holds.copy;
-  zero = holds.zero;
-  carry = holds.carry;
-  sign = holds.sign;
-  compared = holds.compared;
-}
-with_byte_holds s r D span byte bytes holds inside = record {
-  a = holds.a;
-  bc = holds.bc;
-  de = halves_hold span s.de.low byte r.e inside holds.de.low;
-  hl = holds.hl;
-  copy = copy_stays D s.copy r byte holds.copy;
-  zero = holds.zero;
-  carry = holds.carry;
-  sign = holds.sign;
-  compared = holds.compared;
-}
-with_byte_holds s r E span byte bytes holds inside = record {
-  a = holds.a;
-  bc = holds.bc;
-  de = halves_hold (high_of s.de.words) span r.d byte (high_holds s.de r.d r.e bytes.e holds.de) inside;
-  hl = holds.hl;
-  copy = copy_stays E s.copy r byte holds.copy;
-  zero = holds.zero;
-  carry = holds.carry;
-  sign = holds.sign;
-  compared = holds.compared;
-}
-with_byte_holds s r H span byte bytes holds inside = record {
-  a = holds.a;
-  bc = holds.bc;
-  de = holds.de;
-  hl = halves_hold span s.hl.low byte r.l inside holds.hl.low;
-  copy = copy_stays H s.copy r byte holds.copy;
-  zero = holds.zero;
-  carry = holds.carry;
-  sign = holds.sign;
-  compared = holds.compared;
-}
-with_byte_holds s r L span byte bytes holds inside = record {
-  a = holds.a;
-  bc = holds.bc;
-  de = holds.de;
-  hl = halves_hold (high_of s.hl.words) span r.h byte (high_holds s.hl r.h r.l bytes.l holds.hl) inside;
-  copy = copy_stays L s.copy r byte holds.copy;
-  zero = holds.zero;
-  carry = holds.carry;
-  sign = holds.sign;
-  compared = holds.compared;
-}
+with_byte_holds s r A span byte bytes holds inside =
+    let flags = holds.flags in
+    record { a = inside; bc = holds.bc; de = holds.de; hl = holds.hl; copy = refl; flags = record { zero = flags.zero; carry = flags.carry; sign = flags.sign; compared = tt } }
+with_byte_holds s r B span byte bytes holds inside =
+    record { a = holds.a; bc = halves_hold span s.bc.low byte r.c inside holds.bc.low; de = holds.de; hl = holds.hl; copy = copy_stays B s.copy r byte holds.copy; flags = holds.flags }
+with_byte_holds s r C span byte bytes holds inside =
+    let bc = halves_hold (high_of s.bc.words) span r.b byte (high_holds s.bc r.b r.c bytes.c holds.bc) inside in
+    record { a = holds.a; bc = bc; de = holds.de; hl = holds.hl; copy = copy_stays C s.copy r byte holds.copy; flags = holds.flags }
+with_byte_holds s r D span byte bytes holds inside =
+    record { a = holds.a; bc = holds.bc; de = halves_hold span s.de.low byte r.e inside holds.de.low; hl = holds.hl; copy = copy_stays D s.copy r byte holds.copy; flags = holds.flags }
+with_byte_holds s r E span byte bytes holds inside =
+    let de = halves_hold (high_of s.de.words) span r.d byte (high_holds s.de r.d r.e bytes.e holds.de) inside in
+    record { a = holds.a; bc = holds.bc; de = de; hl = holds.hl; copy = copy_stays E s.copy r byte holds.copy; flags = holds.flags }
+with_byte_holds s r H span byte bytes holds inside =
+    record { a = holds.a; bc = holds.bc; de = holds.de; hl = halves_hold span s.hl.low byte r.l inside holds.hl.low; copy = copy_stays H s.copy r byte holds.copy; flags = holds.flags }
+with_byte_holds s r L span byte bytes holds inside =
+    let hl = halves_hold (high_of s.hl.words) span r.h byte (high_holds s.hl r.h r.l bytes.l holds.hl) inside in
+    record { a = holds.a; bc = holds.bc; de = holds.de; hl = hl; copy = copy_stays L s.copy r byte holds.copy; flags = holds.flags }
 
 -- the copy of A when a pair is written
 bc_copy : (copy : Register) (r : Registers) (high low : ℕ) → register_of r copy ≡ r.a → register_of (record r { b = high; c = low }) (copy_outside Bc copy) ≡ r.a
 bc_copy B r high low same = refl
 bc_copy C r high low same = refl
-bc_copy A r high low same = same
-bc_copy D r high low same = same
-bc_copy E r high low same = same
-bc_copy H r high low same = same
-bc_copy L r high low same = same
+bc_copy copy r high low same = same
 
 de_copy : (copy : Register) (r : Registers) (high low : ℕ) → register_of r copy ≡ r.a → register_of (record r { d = high; e = low }) (copy_outside De copy) ≡ r.a
 de_copy D r high low same = refl
 de_copy E r high low same = refl
-de_copy A r high low same = same
-de_copy B r high low same = same
-de_copy C r high low same = same
-de_copy H r high low same = same
-de_copy L r high low same = same
+de_copy copy r high low same = same
 
 hl_copy : (copy : Register) (r : Registers) (high low : ℕ) → register_of r copy ≡ r.a → register_of (record r { h = high; l = low }) (copy_outside Hl copy) ≡ r.a
 hl_copy H r high low same = refl
 hl_copy L r high low same = refl
-hl_copy A r high low same = same
-hl_copy B r high low same = same
-hl_copy C r high low same = same
-hl_copy D r high low same = same
-hl_copy E r high low same = same
+hl_copy copy r high low same = same
 
 -- a pair is written
 pub bc_written_holds : (s : State) (r : Registers) (span : Span) (high low : ℕ) → HoldsRegisters s r → HoldsPair (pair_of_words span) high low → HoldsRegisters (with_words s Bc span) (record r { b = high; c = low })
-bc_written_holds s r span high low holds pair = record {
-  a = holds.a;
-  bc = pair;
-  de = holds.de;
-  hl = holds.hl;
-  copy = bc_copy s.copy r high low holds.copy;
-  zero = holds.zero;
-  carry = holds.carry;
-  sign = holds.sign;
-  compared = holds.compared;
-}
+bc_written_holds s r span high low holds pair = record { a = holds.a; bc = pair; de = holds.de; hl = holds.hl; copy = bc_copy s.copy r high low holds.copy; flags = holds.flags }
 
 pub de_written_holds : (s : State) (r : Registers) (span : Span) (high low : ℕ) → HoldsRegisters s r → HoldsPair (pair_of_words span) high low → HoldsRegisters (with_words s De span) (record r { d = high; e = low })
-de_written_holds s r span high low holds pair = record {
-  a = holds.a;
-  bc = holds.bc;
-  de = pair;
-  hl = holds.hl;
-  copy = de_copy s.copy r high low holds.copy;
-  zero = holds.zero;
-  carry = holds.carry;
-  sign = holds.sign;
-  compared = holds.compared;
-}
+de_written_holds s r span high low holds pair = record { a = holds.a; bc = holds.bc; de = pair; hl = holds.hl; copy = de_copy s.copy r high low holds.copy; flags = holds.flags }
 
 pub hl_written_holds : (s : State) (r : Registers) (span : Span) (high low : ℕ) → HoldsRegisters s r → HoldsPair (pair_of_words span) high low → HoldsRegisters (with_words s Hl span) (record r { h = high; l = low })
-hl_written_holds s r span high low holds pair = record {
-  a = holds.a;
-  bc = holds.bc;
-  de = holds.de;
-  hl = pair;
-  copy = hl_copy s.copy r high low holds.copy;
-  zero = holds.zero;
-  carry = holds.carry;
-  sign = holds.sign;
-  compared = holds.compared;
-}
+hl_written_holds s r span high low holds pair = record { a = holds.a; bc = holds.bc; de = holds.de; hl = pair; copy = hl_copy s.copy r high low holds.copy; flags = holds.flags }
 
 pub with_words_holds : (s : State) (cpu : Cpu) (pair : Pair) (span : Span) (n : ℕ) → HoldsRegisters s cpu.registers → Within span n → HoldsRegisters (with_words s pair span) (with_pair cpu pair n).registers
 with_words_holds s cpu Bc span n holds inside = bc_written_holds s cpu.registers span (n / 256) (n % 256) holds (split_holds span n inside)
@@ -268,93 +133,36 @@ sign_known s n inside = go (nat_lt s.last 128) (nat_le 128 s.first) refl refl wh
   go false true low high = known_by (sign_of s) true (nat_le 128 n) (rw (low, high) refl) (grind (arith, nat_tests))
   go false false low high = rw (low, high) tt
 
+-- flags are written
+flags_copy : (copy : Register) (r : Registers) (f : Flags) → register_of r copy ≡ r.a → register_of (record r { flags = f }) copy ≡ r.a
+flags_copy A r f same = refl
+flags_copy copy r f same = same
+
 pub outcome_holds : (s : State) (r : Registers) (out : Outcome) (byte : ℕ) (half full : Bool) → HoldsRegisters s r → Makes out byte full →
     HoldsRegisters (with_outcome s out) (record r { flags = flags_of_result byte half full })
 unfolding flags_of_result
-outcome_holds s r out byte half full holds makes = record {
-  a = holds.a;
-  bc = holds.bc;
-  de = holds.de;
-  hl = holds.hl;
-  copy = copy_same s.copy holds.copy;
-  zero = zero_known out.value byte makes.value;
-  carry = makes.carry;
-  sign = sign_known out.value byte makes.value;
-  compared = tt;
-} where
-  copy_same : (copy : Register) → register_of r copy ≡ r.a → register_of (record r { flags = flags_of_result byte half full }) copy ≡ r.a
-  copy_same A same = refl
-  copy_same B same = same
-  copy_same C same = same
-  copy_same D same = same
-  copy_same E same = same
-  copy_same H same = same
-  copy_same L same = same
-
--- other flags
-flags_copy : (copy : Register) (r : Registers) (f : Flags) → register_of r copy ≡ r.a → register_of (record r { flags = f }) copy ≡ r.a
-flags_copy A r f same = refl
-flags_copy B r f same = same
-flags_copy C r f same = same
-flags_copy D r f same = same
-flags_copy E r f same = same
-flags_copy H r f same = same
-flags_copy L r f same = same
+outcome_holds s r out byte half full holds makes =
+    let copy = flags_copy s.copy r (flags_of_result byte half full) holds.copy in
+    record { a = holds.a; bc = holds.bc; de = holds.de; hl = holds.hl; copy = copy; flags = record { zero = zero_known out.value byte makes.value; carry = makes.carry; sign = sign_known out.value byte makes.value; compared = tt } }
 
 pub carry_holds : (s : State) (r : Registers) (known : Option Bool) (carry : Bool) → HoldsRegisters s r → IsKnown known carry →
     HoldsRegisters (with_carry s known) (record r { flags = record r.flags { carry = carry } })
-carry_holds s r known carry holds is = record {
-  a = holds.a;
-  bc = holds.bc;
-  de = holds.de;
-  hl = holds.hl;
-  copy = flags_copy s.copy r (record r.flags { carry = carry }) holds.copy;
-  zero = holds.zero;
-  carry = is;
-  sign = holds.sign;
-  compared = tt;
-}
+carry_holds s r known carry holds is =
+    let copy = flags_copy s.copy r (record r.flags { carry = carry }) holds.copy in
+    record { a = holds.a; bc = holds.bc; de = holds.de; hl = holds.hl; copy = copy; flags = record { zero = holds.flags.zero; carry = is; sign = holds.flags.sign; compared = tt } }
 
 pub any_flags_hold : (s : State) (r : Registers) (f : Flags) → HoldsRegisters s r → HoldsRegisters (with_any_flags s) (record r { flags = f })
-any_flags_hold s r f holds = record {
-  a = holds.a;
-  bc = holds.bc;
-  de = holds.de;
-  hl = holds.hl;
-  copy = flags_copy s.copy r f holds.copy;
-  zero = tt;
-  carry = tt;
-  sign = tt;
-  compared = tt;
-}
+any_flags_hold s r f holds = record { a = holds.a; bc = holds.bc; de = holds.de; hl = holds.hl; copy = flags_copy s.copy r f holds.copy; flags = record { zero = tt; carry = tt; sign = tt; compared = tt } }
 
 -- a comparison is known
 pub compared_holds : (s : State) (r : Registers) (compared : Option ℕ) → HoldsRegisters s r → Compares compared r.a r.flags → HoldsRegisters (record s { compared = compared }) r
-compared_holds s r compared holds is = record {
-  a = holds.a;
-  bc = holds.bc;
-  de = holds.de;
-  hl = holds.hl;
-  copy = holds.copy;
-  zero = holds.zero;
-  carry = holds.carry;
-  sign = holds.sign;
-  compared = is;
-}
+compared_holds s r compared holds is =
+    let flags = holds.flags in
+    record { a = holds.a; bc = holds.bc; de = holds.de; hl = holds.hl; copy = holds.copy; flags = record { zero = flags.zero; carry = flags.carry; sign = flags.sign; compared = is } }
 
 -- another register is known to have A's byte
 pub copy_holds : (s : State) (r : Registers) (copy : Register) → HoldsRegisters s r → register_of r copy ≡ r.a → HoldsRegisters (record s { copy = copy }) r
-copy_holds s r copy holds same = record {
-  a = holds.a;
-  bc = holds.bc;
-  de = holds.de;
-  hl = holds.hl;
-  copy = same;
-  zero = holds.zero;
-  carry = holds.carry;
-  sign = holds.sign;
-  compared = holds.compared;
-}
+copy_holds s r copy holds same = record { a = holds.a; bc = holds.bc; de = holds.de; hl = holds.hl; copy = same; flags = holds.flags }
 
 -- bytes of a pair are cut
 cut_high_holds : (p : PairSpan) (span : ByteSpan) (h l : ℕ) → l < 256 → HoldsPair p h l → ByteWithin span h → HoldsPair (cut_high p span) h l
@@ -372,43 +180,13 @@ cut_low_holds p span h l small holds inside =
     }
 
 bc_is : (s : State) (r : Registers) (p : PairSpan) → HoldsRegisters s r → HoldsPair p r.b r.c → HoldsRegisters (record s { bc = p }) r
-bc_is s r p holds pair = record {
-  a = holds.a;
-  bc = pair;
-  de = holds.de;
-  hl = holds.hl;
-  copy = holds.copy;
-  zero = holds.zero;
-  carry = holds.carry;
-  sign = holds.sign;
-  compared = holds.compared;
-}
+bc_is s r p holds pair = record { a = holds.a; bc = pair; de = holds.de; hl = holds.hl; copy = holds.copy; flags = holds.flags }
 
 de_is : (s : State) (r : Registers) (p : PairSpan) → HoldsRegisters s r → HoldsPair p r.d r.e → HoldsRegisters (record s { de = p }) r
-de_is s r p holds pair = record {
-  a = holds.a;
-  bc = holds.bc;
-  de = pair;
-  hl = holds.hl;
-  copy = holds.copy;
-  zero = holds.zero;
-  carry = holds.carry;
-  sign = holds.sign;
-  compared = holds.compared;
-}
+de_is s r p holds pair = record { a = holds.a; bc = holds.bc; de = pair; hl = holds.hl; copy = holds.copy; flags = holds.flags }
 
 hl_is : (s : State) (r : Registers) (p : PairSpan) → HoldsRegisters s r → HoldsPair p r.h r.l → HoldsRegisters (record s { hl = p }) r
-hl_is s r p holds pair = record {
-  a = holds.a;
-  bc = holds.bc;
-  de = holds.de;
-  hl = pair;
-  copy = holds.copy;
-  zero = holds.zero;
-  carry = holds.carry;
-  sign = holds.sign;
-  compared = holds.compared;
-}
+hl_is s r p holds pair = record { a = holds.a; bc = holds.bc; de = holds.de; hl = pair; copy = holds.copy; flags = holds.flags }
 
 cut_copy_holds : (s : State) (r : Registers) (copy : Register) (span : ByteSpan) → AreBytes r → HoldsRegisters s r → ByteWithin span (register_of r copy) → HoldsRegisters (cut_copy s copy span) r
 cut_copy_holds s r A span bytes holds inside = holds
@@ -420,17 +198,7 @@ cut_copy_holds s r H span bytes holds inside = hl_is s r (cut_high s.hl span) ho
 cut_copy_holds s r L span bytes holds inside = hl_is s r (cut_low s.hl span) holds (cut_low_holds s.hl span r.h r.l bytes.l holds.hl inside)
 
 a_is : (s : State) (r : Registers) (span : ByteSpan) → HoldsRegisters s r → ByteWithin span r.a → HoldsRegisters (record s { a = span }) r
-a_is s r span holds inside = record {
-  a = inside;
-  bc = holds.bc;
-  de = holds.de;
-  hl = holds.hl;
-  copy = holds.copy;
-  zero = holds.zero;
-  carry = holds.carry;
-  sign = holds.sign;
-  compared = holds.compared;
-}
+a_is s r span holds inside = record { a = inside; bc = holds.bc; de = holds.de; hl = holds.hl; copy = holds.copy; flags = holds.flags }
 
 pub cut_holds : (s : State) (r : Registers) (span : ByteSpan) → AreBytes r → HoldsRegisters s r → ByteWithin span r.a → HoldsRegisters (cut s span) r
 cut_holds s r span bytes holds inside =
@@ -438,11 +206,8 @@ cut_holds s r span bytes holds inside =
     (meet_bytes_within s.a span r.a holds.a inside)
 
 -- bytes make registers of which anything holds
-word_small : (h l : ℕ) → h < 256 → l < 256 → word h l < 65536
-word_small h l high low = omega arith
-
 any_pair_holds : (h l : ℕ) → h < 256 → l < 256 → HoldsPair any_pair h l
-any_pair_holds h l high low = record { words = any_word_within (word h l) (word_small h l high low); low = any_byte_within l low }
+any_pair_holds h l high low = record { words = any_word_within (word h l) (word_of_bytes h l high low); low = any_byte_within l low }
 
 pub anything_holds : (r : Registers) → AreBytes r → HoldsRegisters anything r
 anything_holds r bytes = record {
@@ -451,8 +216,5 @@ anything_holds r bytes = record {
   de = any_pair_holds r.d r.e bytes.d bytes.e;
   hl = any_pair_holds r.h r.l bytes.h bytes.l;
   copy = refl;
-  zero = tt;
-  carry = tt;
-  sign = tt;
-  compared = tt;
+  flags = record { zero = tt; carry = tt; sign = tt; compared = tt };
 }

@@ -52,17 +52,7 @@ passed regions refused m after found fetched h =
 
 -- the registers of a state whose words and cells are others
 pub other_words : (s : State) (w : Words) (cells : Cells) (r : Registers) → HoldsRegisters s r → HoldsRegisters (record s { words = w; cells = cells }) r
-other_words s w cells r holds = record {
-  a = holds.a;
-  bc = holds.bc;
-  de = holds.de;
-  hl = holds.hl;
-  copy = holds.copy;
-  zero = holds.zero;
-  carry = holds.carry;
-  sign = holds.sign;
-  compared = holds.compared;
-}
+other_words s w cells r holds = record { a = holds.a; bc = holds.bc; de = holds.de; hl = holds.hl; copy = holds.copy; flags = holds.flags }
 
 module _ (regions : Areas) (ground : Ground regions) (code : List (Option ℕ)) where
   -- what an instruction makes of a state holds of what it makes of a machine

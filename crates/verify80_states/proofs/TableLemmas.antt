@@ -2,6 +2,8 @@
 use Rattle.std.specs.Prelude.{◌≡◌, ◌⊎◌, ◌+◌, ◌++◌, ℕ, zero, suc, ◌<◌, Bool, false, List, [], ◌∷◌, All, Option, None, Some, Ok, length, slice_get, slice_index_or, refl}
 use Rattle.std.proofs.Common.{subst, sym, ap, ◌∙◌, arith, inl, inr}
 use Rattle.decode80.specs.declared.fetching.Fetched.{Fetched}
+use Rattle.decode80.specs.declared.flow.Flow.{Flow}
+use Rattle.decode80.specs.declared.flow.Flow.TheVariants.{Continues, Pushes, Pops, Exchanges}
 use Rattle.image80.specs.Image.{Located}
 use Rattle.machine80.specs.World.{World}
 use Rattle.machine80.specs.Run.{world_of}
@@ -15,7 +17,7 @@ use Rattle.verify80_states.specs.declared.states.state.State.{State}
 use Rattle.verify80_states.specs.Cells.{AreQuietCells}
 use Rattle.verify80_states.specs.State.{anything}
 use Rattle.verify80_states.specs.Steps.{HasCode}
-use Rattle.verify80_states.specs.Fitting.{Has, KnowsQuiet}
+use Rattle.verify80_states.specs.Fitting.{Has, Covers, FitsBy, KnowsQuiet}
 use Rattle.verify80_states.specs.Calls.{ReturnFacts, never, no_returns}
 use Rattle.verify80_states.specs.FittingTable.{AllFit, Fits, SaysNothingAt}
 use Rattle.verify80_states.specs.Runs.{KeepsToCalls, IsKept}
@@ -105,3 +107,13 @@ nothing_more table e n below here nothing at less = go (split at n less) where
   go : (at < n) ⊎ (at ≡ n) → SaysNothingAt (table ++ e ∷ []) at
   go (inl before) = let says = below at before in record { place = says.place; placed = says.placed; there = front table says.place says.placed says.there; here = says.here; nothing = says.nothing }
   go (inr now) = record { place = length table; placed = e; there = slice_get-last table e; here = here ∙ sym now; nothing = nothing }
+
+-- a flow that goes on to the next instruction
+pub goes_next : (targets : List ℕ) (table : List Placed) (after : Bool → State → State) (s : State) (next : ℕ) (w : Flow) → (w ≡ Continues) ⊎ ((w ≡ Pushes) ⊎ ((w ≡ Pops) ⊎ (w ≡ Exchanges))) →
+    Covers table next (after false s) → FitsBy targets table after s next w
+goes_next targets table after s next w is covers = by is where
+  by : (w ≡ Continues) ⊎ ((w ≡ Pushes) ⊎ ((w ≡ Pops) ⊎ (w ≡ Exchanges))) → FitsBy targets table after s next w
+  by (inl e) = subst (λ (f : Flow). FitsBy targets table after s next f) (sym e) covers
+  by (inr (inl e)) = subst (λ (f : Flow). FitsBy targets table after s next f) (sym e) covers
+  by (inr (inr (inl e))) = subst (λ (f : Flow). FitsBy targets table after s next f) (sym e) covers
+  by (inr (inr (inr e))) = subst (λ (f : Flow). FitsBy targets table after s next f) (sym e) covers

@@ -7,7 +7,7 @@ use Rattle.std.proofs.lemmas.Bool.Decides.{nat_tests}
 use Rattle.decode80.specs.declared.instr.Instr.{Instr}
 use Rattle.decode80.specs.declared.instr.Instr.TheVariants.{In, Out, Pchl, Hlt, Pop}
 use Rattle.decode80.specs.declared.flow.Flow.{Flow}
-use Rattle.decode80.specs.declared.flow.Flow.TheVariants.{Continues, Jumps, JumpsIf, JumpsToHl, Calls, CallsIf, Returns, ReturnsIf, Pushes, Pops, Exchanges, Halts}
+use Rattle.decode80.specs.declared.flow.Flow.TheVariants.{Jumps, JumpsIf, JumpsToHl, Calls, CallsIf, Returns, ReturnsIf, Halts}
 use Rattle.decode80.specs.Facts.{flow}
 use Rattle.image80.specs.Regions.{Areas, targets_at}
 use Rattle.machine80.specs.declared.end.End.TheVariants.{JumpOutside}
@@ -24,10 +24,6 @@ use Rattle.verify80_states.proofs.StepLemmas.{next_in}
 
 -- where a flow leads, returns that are taken aside, by the flags and HL
 abbrev pub Leads : Flow → Flags → (targets : List ℕ) → (next hl to : ℕ) → Type 0
-Leads Continues flags targets next hl to = to ≡ next
-Leads Pushes flags targets next hl to = to ≡ next
-Leads Pops flags targets next hl to = to ≡ next
-Leads Exchanges flags targets next hl to = to ≡ next
 Leads (Jumps address) flags targets next hl to = to ≡ address
 Leads (JumpsIf condition address) flags targets next hl to = ((holds condition flags ≡ true) × (to ≡ address)) ⊎ ((holds condition flags ≡ false) × (to ≡ next))
 Leads JumpsToHl flags targets next hl to = Contains targets to × (to ≡ hl)
@@ -36,6 +32,7 @@ Leads (CallsIf condition address) flags targets next hl to = ((holds condition f
 Leads Returns flags targets next hl to = ⊥
 Leads (ReturnsIf condition) flags targets next hl to = (holds condition flags ≡ false) × (to ≡ next)
 Leads Halts flags targets next hl to = ⊥
+Leads w flags targets next hl to = to ≡ next
 
 -- either way of a test
 either : (b : Bool) (address next : ℕ) → ((b ≡ true) × ((if b then address else next) ≡ address)) ⊎ ((b ≡ false) × ((if b then address else next) ≡ next))
@@ -49,18 +46,13 @@ return_or_not false word next = inr (refl, refl)
 -- what is no jump by HL and no halt
 goes : (w : Flow) (targets : List ℕ) (next hl : ℕ) (memory : List ℕ) (cpu : Cpu) → (w ≡ JumpsToHl → ⊥) → (w ≡ Halts → ⊥) →
     (is_return_taken w cpu.registers.flags ≡ true) ⊎ Leads w cpu.registers.flags targets next hl (goes_to w next memory cpu)
-goes Continues targets next hl memory cpu no_jump no_halt = inr refl
-goes Pushes targets next hl memory cpu no_jump no_halt = inr refl
-goes Pops targets next hl memory cpu no_jump no_halt = inr refl
-goes Exchanges targets next hl memory cpu no_jump no_halt = inr refl
-goes (Jumps to) targets next hl memory cpu no_jump no_halt = inr refl
 goes (JumpsIf condition to) targets next hl memory cpu no_jump no_halt = inr (either (holds condition cpu.registers.flags) to next)
 goes JumpsToHl targets next hl memory cpu no_jump no_halt = absurd (no_jump refl)
-goes (Calls to) targets next hl memory cpu no_jump no_halt = inr refl
 goes (CallsIf condition to) targets next hl memory cpu no_jump no_halt = inr (either (holds condition cpu.registers.flags) to next)
 goes Returns targets next hl memory cpu no_jump no_halt = inl refl
 goes (ReturnsIf condition) targets next hl memory cpu no_jump no_halt = return_or_not (holds condition cpu.registers.flags) _ next
 goes Halts targets next hl memory cpu no_jump no_halt = absurd (no_halt refl)
+goes w targets next hl memory cpu no_jump no_halt = inr refl
 
 -- what a test of a list finds is in it
 found_by : (x y : ℕ) (xs : List ℕ) → ((y == x) ≡ true → ⊥) → list_any (λ y. y == x) (y ∷ xs) ≡ true → list_any (λ y. y == x) xs ≡ true

@@ -2,7 +2,7 @@
 -- return the table has a state that says nothing, unless the callee's states know where they return to. (This project's own.)
 use Rattle.std.specs.Prelude.{◌≡◌, ◌⊎◌, ℕ, Bool, true, false, List, ◌∷◌, [], Contains, Option, None, Some}
 use Rattle.decode80.specs.declared.flow.Flow.{Flow}
-use Rattle.decode80.specs.declared.flow.Flow.TheVariants.{Continues, Jumps, JumpsIf, JumpsToHl, Calls, CallsIf, Returns, ReturnsIf, Pushes, Pops, Exchanges, Halts}
+use Rattle.decode80.specs.declared.flow.Flow.TheVariants.{Jumps, JumpsIf, JumpsToHl, Calls, CallsIf, Returns, ReturnsIf, Halts}
 use Rattle.decode80.specs.declared.fetching.Fetched.{Fetched}
 use Rattle.decode80.specs.Facts.{flow}
 use Rattle.verify80_states.specs.declared.spans.span.Span.{Span}
@@ -14,7 +14,7 @@ use Rattle.verify80_states.specs.State.{anything}
 use Rattle.verify80_states.specs.Following.{state_after}
 use Rattle.verify80_states.specs.Given.{given}
 use Rattle.verify80_states.specs.Marks.{is_marked}
-use Rattle.verify80_states.specs.Fitting.{Has, CallsEntry}
+use Rattle.verify80_states.specs.Fitting.{Has, Covers, CallsEntry}
 
 -- from each address on, until the procedure returns: whether it may return, and whether each of its returns goes to an address that the
 -- state there knows
@@ -41,10 +41,6 @@ AccountsForCall returns at entry next = returns.may entry ≡ true → IsWithin 
 
 -- and wherever an instruction leads, if its address accounts for it
 abbrev pub AccountsFor : ReturnFacts → (targets : List ℕ) → (at next : ℕ) → Flow → Type 0
-AccountsFor returns targets at next Continues = IsWithin returns at next
-AccountsFor returns targets at next Pushes = IsWithin returns at next
-AccountsFor returns targets at next Pops = IsWithin returns at next
-AccountsFor returns targets at next Exchanges = IsWithin returns at next
 AccountsFor returns targets at next (Jumps to) = IsWithin returns at to
 AccountsFor returns targets at next (JumpsIf condition to) = IsWithin returns at to × IsWithin returns at next
 AccountsFor returns targets at next JumpsToHl = (to : ℕ) → Contains targets to → IsWithin returns at to
@@ -53,13 +49,14 @@ AccountsFor returns targets at next (CallsIf condition to) = AccountsForCall ret
 AccountsFor returns targets at next Returns = returns.may at ≡ true
 AccountsFor returns targets at next (ReturnsIf condition) = (returns.may at ≡ true) × IsWithin returns at next
 AccountsFor returns targets at next Halts = Unit {0}
+AccountsFor returns targets at next w = IsWithin returns at next
 
--- a state knows where a return goes, and the table has there what the return makes of it: `after` is that
+-- a state knows where a return goes, and the table covers there what the return makes of it: `after` is that
 pub record KnowsReturn (table : List Placed) (after : State → State) (s : State) : Type 0 where
   pub span : Span
   pub first : s.words.first ≡ Some span
   pub alone : is_alone span ≡ true
-  pub has : Has table span.first (after s)
+  pub covers : Covers table span.first (after s)
 
 abbrev pub KnowsReturnIf : List Placed → (after : State → State) → Option State → Type 0
 KnowsReturnIf table after None = Unit {0}
@@ -68,16 +65,7 @@ KnowsReturnIf table after (Some s) = KnowsReturn table after s
 abbrev pub KnowsReturnsOf : List Placed → (after : State → State) → State → Flow → Type 0
 KnowsReturnsOf table after s Returns = KnowsReturn table after s
 KnowsReturnsOf table after s (ReturnsIf condition) = KnowsReturnIf table after (given condition true s)
-KnowsReturnsOf table after s Continues = Unit {0}
-KnowsReturnsOf table after s Pushes = Unit {0}
-KnowsReturnsOf table after s Pops = Unit {0}
-KnowsReturnsOf table after s Exchanges = Unit {0}
-KnowsReturnsOf table after s (Jumps to) = Unit {0}
-KnowsReturnsOf table after s (JumpsIf condition to) = Unit {0}
-KnowsReturnsOf table after s JumpsToHl = Unit {0}
-KnowsReturnsOf table after s (Calls to) = Unit {0}
-KnowsReturnsOf table after s (CallsIf condition to) = Unit {0}
-KnowsReturnsOf table after s Halts = Unit {0}
+KnowsReturnsOf table after s w = Unit {0}
 
 -- if a state's instruction is a call whose callee may return, the table has a state that says nothing behind it, unless the callee's states
 -- know where they return to; and if this state is to know that, it does

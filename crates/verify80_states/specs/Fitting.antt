@@ -1,15 +1,15 @@
 -- What a state in a table owes: states, each at an address, such that what the instruction there makes of one is inside one wherever it
 -- leads. (This project's own.)
-use Rattle.std.specs.Prelude.{◌≡◌, ℕ, Bool, true, false, List, All, Contains, Option, None, Some, slice_get}
+use Rattle.std.specs.Prelude.{◌≡◌, ◌⊎◌, ℕ, Bool, true, false, List, All, Contains, Option, None, Some, slice_get}
 use Rattle.decode80.specs.declared.fetching.Fetched.{Fetched}
 use Rattle.decode80.specs.declared.flow.Flow.{Flow}
-use Rattle.decode80.specs.declared.flow.Flow.TheVariants.{Continues, Jumps, JumpsIf, JumpsToHl, Calls, CallsIf, Returns, ReturnsIf, Pushes, Pops, Exchanges, Halts}
+use Rattle.decode80.specs.declared.flow.Flow.TheVariants.{Jumps, JumpsIf, JumpsToHl, Calls, CallsIf, Returns, ReturnsIf, Halts}
 use Rattle.decode80.specs.Facts.{flow}
 use Rattle.verify80_states.specs.declared.states.state.State.{State}
 use Rattle.verify80_states.specs.declared.fitting.fitting.Placed.{Placed}
-use Rattle.verify80_states.specs.Span.{Within}
+use Rattle.verify80_states.specs.Span.{Within, ByteWithin, byte_alone}
 use Rattle.verify80_states.specs.Cells.{AreQuietCells}
-use Rattle.verify80_states.specs.State.{IsStateInside}
+use Rattle.verify80_states.specs.State.{IsStateInside, cut}
 use Rattle.verify80_states.specs.Following.{state_after}
 use Rattle.verify80_states.specs.Given.{given}
 
@@ -21,27 +21,28 @@ pub record Has (table : List Placed) (to : ℕ) (s : State) : Type 0 where
   pub at : placed.at ≡ to
   pub inside : IsStateInside s placed.state
 
+-- the table has states at an address that together say no more than this one: one of them, or one for each byte that A may be
+pub record Covers (table : List Placed) (to : ℕ) (s : State) : Type 0 where
+  pub either : Has table to s ⊎ ((byte : ℕ) → ByteWithin s.a byte → Has table to (cut s (byte_alone byte)))
+
 -- the same of what an instruction makes of a state, if there is one
-abbrev pub HasAfter : List Placed → (to : ℕ) → (State → State) → Option State → Type 0
-HasAfter table to after None = Unit {0}
-HasAfter table to after (Some s) = Has table to (after s)
+abbrev pub CoversAfter : List Placed → (to : ℕ) → (State → State) → Option State → Type 0
+CoversAfter table to after None = Unit {0}
+CoversAfter table to after (Some s) = Covers table to (after s)
 
 -- what a state owes where an instruction leads: `after` is what the instruction makes of a state, its call or return taken or not
 abbrev pub FitsBy : (targets : List ℕ) → List Placed → (after : Bool → State → State) → State → (next : ℕ) → Flow → Type 0
-FitsBy targets table after s next Continues = Has table next (after false s)
-FitsBy targets table after s next Pushes = Has table next (after false s)
-FitsBy targets table after s next Pops = Has table next (after false s)
-FitsBy targets table after s next Exchanges = Has table next (after false s)
-FitsBy targets table after s next (Jumps to) = Has table to (after false s)
+FitsBy targets table after s next (Jumps to) = Covers table to (after false s)
 FitsBy targets table after s next (JumpsIf condition to) =
-    HasAfter table to (after true) (given condition true s) × HasAfter table next (after false) (given condition false s)
-FitsBy targets table after s next JumpsToHl = (to : ℕ) → Contains targets to → Within s.hl.words to → Has table to (after false s)
-FitsBy targets table after s next (Calls to) = Has table to (after true s)
+    CoversAfter table to (after true) (given condition true s) × CoversAfter table next (after false) (given condition false s)
+FitsBy targets table after s next JumpsToHl = (to : ℕ) → Contains targets to → Within s.hl.words to → Covers table to (after false s)
+FitsBy targets table after s next (Calls to) = Covers table to (after true s)
 FitsBy targets table after s next (CallsIf condition to) =
-    HasAfter table to (after true) (given condition true s) × HasAfter table next (after false) (given condition false s)
+    CoversAfter table to (after true) (given condition true s) × CoversAfter table next (after false) (given condition false s)
 FitsBy targets table after s next Returns = Unit {0}
-FitsBy targets table after s next (ReturnsIf condition) = HasAfter table next (after false) (given condition false s)
+FitsBy targets table after s next (ReturnsIf condition) = CoversAfter table next (after false) (given condition false s)
 FitsBy targets table after s next Halts = Unit {0}
+FitsBy targets table after s next w = Covers table next (after false s)
 
 -- a state at an address fits the instruction there
 abbrev pub FitsAt : (code : List (Option ℕ)) → (targets : List ℕ) → List Placed → State → Fetched → Type 0
@@ -51,16 +52,7 @@ FitsAt code targets table s found = FitsBy targets table (λ taken t. state_afte
 abbrev pub CallsEntry : Flow → ℕ → Type 0
 CallsEntry (Calls to) entry = to ≡ entry
 CallsEntry (CallsIf condition to) entry = to ≡ entry
-CallsEntry Continues entry = ⊥
-CallsEntry (Jumps to) entry = ⊥
-CallsEntry (JumpsIf condition to) entry = ⊥
-CallsEntry JumpsToHl entry = ⊥
-CallsEntry Returns entry = ⊥
-CallsEntry (ReturnsIf condition) entry = ⊥
-CallsEntry Pushes entry = ⊥
-CallsEntry Pops entry = ⊥
-CallsEntry Exchanges entry = ⊥
-CallsEntry Halts entry = ⊥
+CallsEntry w entry = ⊥
 
 -- a table knows bytes of quiet addresses alone
 abbrev pub KnowsQuiet : (quiet : ℕ → Bool) → List Placed → Type 0

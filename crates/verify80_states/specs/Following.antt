@@ -22,7 +22,7 @@ use Rattle.verify80_states.specs.declared.spans.byte_span.Outcome.{Outcome}
 use Rattle.verify80_states.specs.declared.states.cells.Cells.{Cells}
 use Rattle.verify80_states.specs.declared.states.state.Words.{Words}
 use Rattle.verify80_states.specs.declared.states.state.State.{State}
-use Rattle.verify80_states.specs.Span.{any_word, any_byte, word_alone, byte_alone, is_alone, next_span, previous_span, next_byte, previous_byte, sum_span, sum_carries, high_of, joined, operated, rotated, complemented, uncarried}
+use Rattle.verify80_states.specs.Span.{any_word, any_byte, word_alone, byte_alone, is_alone, next_span, previous_span, next_byte, previous_byte, sum_span, sum_carries, high_of, operated, rotated, complemented, uncarried}
 use Rattle.verify80_states.specs.Cells.{bytes_at, stored_cells}
 use Rattle.verify80_states.specs.State.{byte_of, words_of, with_byte, with_words, with_outcome, with_carry, with_any_flags, compared_with, no_words, pushed, popped}
 
@@ -44,15 +44,12 @@ abbrev pub known_word : Option Span → Span
 known_word None = any_word
 known_word (Some span) = span
 
--- a byte that is read at an address: only code and cells are known; one where a pair points to, and a word at an address
+-- a byte that is read at an address: only code and cells are known; and one where a pair points to
 abbrev pub loaded_at : List (Option ℕ) → Cells → ℕ → ByteSpan
 loaded_at code cells at = code_or (byte_at code at) (bytes_at cells at)
 
 abbrev pub loaded : List (Option ℕ) → Cells → Span → ByteSpan
 loaded code cells at = if is_alone at then loaded_at code cells at.first else any_byte
-
-abbrev pub loaded_word : List (Option ℕ) → Cells → ℕ → Span
-loaded_word code cells address = joined (loaded_at code cells (ahead address 1)) (loaded_at code cells address)
 
 -- a register is copied; one of them may be A
 abbrev pub moved : (to from : Register) → State → State
@@ -73,9 +70,7 @@ tested s = record s { compared = Some 0 }
 
 abbrev pub is_accumulator : Operand → Bool
 is_accumulator (InRegister A) = true
-is_accumulator (InRegister register) = false
-is_accumulator Memory = false
-is_accumulator (Immediate byte) = false
+is_accumulator operand = false
 
 abbrev pub operand_bytes : List (Option ℕ) → Operand → State → ByteSpan
 operand_bytes code (InRegister register) s = byte_of s register
@@ -92,10 +87,7 @@ after_operation Subtract true byte s = tested (resulted (uncarried (byte_alone 0
 after_operation And false byte s = tested (resulted (operated And s.a byte s.carry) s)
 after_operation Or false byte s = tested (resulted (operated Or s.a byte s.carry) s)
 after_operation ExclusiveOr false byte s = tested (resulted (operated ExclusiveOr s.a byte s.carry) s)
-after_operation Subtract false byte s = resulted (operated Subtract s.a byte s.carry) s
-after_operation Add itself byte s = resulted (operated Add s.a byte s.carry) s
-after_operation AddCarry itself byte s = resulted (operated AddCarry s.a byte s.carry) s
-after_operation SubtractBorrow itself byte s = resulted (operated SubtractBorrow s.a byte s.carry) s
+after_operation operation itself byte s = resulted (operated operation s.a byte s.carry) s
 
 -- the carry of DAD: nothing is known of SP
 abbrev pub added_carry : State → Pair → Option Bool
@@ -113,9 +105,7 @@ exchanged D = H
 exchanged E = L
 exchanged H = D
 exchanged L = E
-exchanged A = A
-exchanged B = B
-exchanged C = C
+exchanged register = register
 
 abbrev pub exchanged_pairs : State → State
 exchanged_pairs s = record s { de = s.hl; hl = s.de; copy = exchanged s.copy }
@@ -152,7 +142,7 @@ registers_after code Cmc s = with_carry s (turned s.carry)
 registers_after code (Ldax pair) s = with_byte s A (loaded code s.cells (index_words s pair))
 registers_after code (Lda address) s = with_byte s A (loaded_at code s.cells address)
 registers_after code (In port) s = with_byte s A any_byte
-registers_after code (Lhld address) s = with_words s Hl (loaded_word code s.cells address)
+registers_after code (Lhld address) s = with_byte (with_byte s H (loaded_at code s.cells (ahead address 1))) L (loaded_at code s.cells address)
 registers_after code Xchg s = exchanged_pairs s
 registers_after code (Pop pair) s = popped_to pair (known_word s.words.first) s
 registers_after code Xthl s = with_words s Hl (known_word s.words.first)

@@ -124,7 +124,7 @@ difference_of s t borrow =
     then record { value = record { first = 256 + s.first - (t.last + borrow.last); last = 256 + s.last - (t.first + borrow.first) }; carry = Some true }
     else record { value = any_byte; carry = None })
 
--- the same of bits: exact for two bytes alone
+-- the same of bits: exact for two bytes alone, and never above their sum
 abbrev pub are_alone : ByteSpan → ByteSpan → Bool
 are_alone s t = is_byte_alone s && is_byte_alone t
 
@@ -132,10 +132,10 @@ abbrev pub and_of : ByteSpan → ByteSpan → ByteSpan
 and_of s t = if are_alone s t then byte_alone (bit_and s.first t.first) else record { first = 0; last = min s.last t.last }
 
 abbrev pub exclusive_or_of : ByteSpan → ByteSpan → ByteSpan
-exclusive_or_of s t = if are_alone s t then byte_alone (bit_xor s.first t.first) else any_byte
+exclusive_or_of s t = if are_alone s t then byte_alone (bit_xor s.first t.first) else record { first = 0; last = min (s.last + t.last) 255 }
 
 abbrev pub or_of : ByteSpan → ByteSpan → ByteSpan
-or_of s t = if are_alone s t then byte_alone (bit_or s.first t.first) else record { first = max s.first t.first; last = 255 }
+or_of s t = if are_alone s t then byte_alone (bit_or s.first t.first) else record { first = max s.first t.first; last = min (s.last + t.last) 255 }
 
 abbrev pub uncarried : ByteSpan → Outcome
 uncarried value = record { value = value; carry = Some false }

@@ -33,6 +33,13 @@ abbrev pub Compares : Option ℕ → (a : ℕ) → Flags → Type 0
 Compares None a flags = Unit {0}
 Compares (Some n) a flags = (flags.zero ≡ (a == n)) × (flags.carry ≡ nat_lt a n)
 
+-- what is known of Z, CY and S, and what was compared last
+pub record HoldsFlags (z cy s : Option Bool) (n : Option ℕ) (a : ℕ) (flags : Flags) : Type 0 where
+  pub zero : IsKnown z flags.zero
+  pub carry : IsKnown cy flags.carry
+  pub sign : IsKnown s flags.sign
+  pub compared : Compares n a flags
+
 -- what a state says of registers and flags: A also has the byte of the register that it was copied from, or to
 pub record HoldsRegisters (s : State) (r : Registers) : Type 0 where
   pub a : ByteWithin s.a r.a
@@ -40,10 +47,7 @@ pub record HoldsRegisters (s : State) (r : Registers) : Type 0 where
   pub de : HoldsPair s.de r.d r.e
   pub hl : HoldsPair s.hl r.h r.l
   pub copy : register_of r s.copy ≡ r.a
-  pub zero : IsKnown s.zero r.flags.zero
-  pub carry : IsKnown s.carry r.flags.carry
-  pub sign : IsKnown s.sign r.flags.sign
-  pub compared : Compares s.compared r.a r.flags
+  pub flags : HoldsFlags s.zero s.carry s.sign s.compared r.a r.flags
 
 -- a word of a span lies at an address from the stack pointer up, both of its bytes on the stack
 pub record IsOnStack (regions : Areas) (span : Span) (memory : List ℕ) (sp at : ℕ) : Type 0 where
@@ -164,29 +168,21 @@ words_of s Sp = any_word
 abbrev pub copy_without : Register → (copy : Register) → Register
 copy_without A copy = A
 copy_without B B = A
-copy_without B copy = copy
 copy_without C C = A
-copy_without C copy = copy
 copy_without D D = A
-copy_without D copy = copy
 copy_without E E = A
-copy_without E copy = copy
 copy_without H H = A
-copy_without H copy = copy
 copy_without L L = A
-copy_without L copy = copy
+copy_without to copy = copy
 
 abbrev pub copy_outside : Pair → (copy : Register) → Register
 copy_outside Bc B = A
 copy_outside Bc C = A
-copy_outside Bc copy = copy
 copy_outside De D = A
 copy_outside De E = A
-copy_outside De copy = copy
 copy_outside Hl H = A
 copy_outside Hl L = A
-copy_outside Hl copy = copy
-copy_outside Sp copy = copy
+copy_outside pair copy = copy
 
 -- a register is written: the other half of its pair stays
 abbrev pub with_byte : State → Register → ByteSpan → State

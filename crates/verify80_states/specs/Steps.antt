@@ -1,7 +1,7 @@
 -- What holds of a state before a step of the machine, and what holds then after it. (This project's own.)
 use Rattle.std.specs.Prelude.{◌≡◌, ℕ, Bool, true, false, List, Option, None, Some, slice_index, if◌then◌else◌}
 use Rattle.decode80.specs.declared.flow.Flow.{Flow}
-use Rattle.decode80.specs.declared.flow.Flow.TheVariants.{Continues, Jumps, JumpsIf, JumpsToHl, Calls, CallsIf, Returns, ReturnsIf, Pushes, Pops, Exchanges, Halts}
+use Rattle.decode80.specs.declared.flow.Flow.TheVariants.{JumpsIf, Calls, CallsIf, Returns, ReturnsIf}
 use Rattle.image80.specs.Regions.{Areas, in_code}
 use Rattle.image80.specs.Image.{Located, memory_of}
 use Rattle.machine80.specs.declared.flags.Flags.{Flags}
@@ -15,13 +15,7 @@ is_taken (Calls to) flags = true
 is_taken (CallsIf condition to) flags = holds condition flags
 is_taken Returns flags = true
 is_taken (ReturnsIf condition) flags = holds condition flags
-is_taken Continues flags = false
-is_taken (Jumps to) flags = false
-is_taken JumpsToHl flags = false
-is_taken Pushes flags = false
-is_taken Pops flags = false
-is_taken Exchanges flags = false
-is_taken Halts flags = false
+is_taken w flags = false
 
 -- a memory has the bytes of code
 abbrev pub ReadsCode : (code : List (Option ℕ)) → (memory : List ℕ) → Type 0

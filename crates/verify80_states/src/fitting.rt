@@ -3,6 +3,7 @@
 //! | Item | What it is |
 //! |---|---|
 //! | [`Placed`] | a state at an address |
+//! | [`APART`] | the first hint of states that tell A's bytes apart |
 //! | [`fits`] | whether a table fits |
 //! | [`CallReturns`] | whether the procedure at each address may still return, and where to |
 //! | [`fitting_states_hold`] | runs keep to a table that fits, as a contract |
@@ -13,6 +14,6 @@ mod laws;
 mod marks;
 
 pub use calls::CallReturns;
-pub use fitting::{Placed, anything, fits, reached_at, targets_at};
+pub use fitting::{APART, Placed, anything, fits, reached_at, targets_at};
 pub use laws::fitting_states_hold;
 pub use marks::is_marked;

@@ -9,6 +9,7 @@
 //! | [`state_after`] | what they may be after an instruction |
 //! | [`given`] | what a condition says of them |
 //! | [`Placed`] | a state at an address: a table is a list of these |
+//! | [`APART`] | the first hint of states that tell A's bytes apart |
 //! | [`CallReturns`] | whether the procedure at each address may still return, and where to |
 //! | [`fits`] | whether a table fits an image |
 //! | [`anything`] | a table that fits each image |
@@ -21,7 +22,8 @@ mod spans;
 mod states;
 
 pub use fitting::{
-    CallReturns, Placed, anything, fits, fitting_states_hold, is_marked, reached_at, targets_at,
+    APART, CallReturns, Placed, anything, fits, fitting_states_hold, is_marked, reached_at,
+    targets_at,
 };
 pub use spans::{ByteSpan, Span, bytes_stay_bytes};
 pub use states::{Cell, Cells, PairSpan, State, Words, given, index_words, state_after};

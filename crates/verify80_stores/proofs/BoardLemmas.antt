@@ -50,15 +50,7 @@ keeps_so image table m places inputs outputs k = record {
 }
 
 keeps_with : (image : Located) (table : List Placed) (w : World) (inputs : List (List ℕ)) → KeepsTo image table w → KeepsTo image table (record { machine = record w.machine { inputs = inputs }; places = w.places })
-keeps_with image table w inputs k = record {
-  place = k.place;
-  placed = k.placed;
-  there = k.there;
-  at = k.at;
-  holds = record { registers = k.holds.registers; words = k.holds.words; cells = k.holds.cells };
-  code = k.code;
-  whole = k.whole;
-}
+keeps_with image table w inputs k = keeps_so image table w.machine w.places inputs w.machine.outputs k
 
 -- a machine on which a run may begin is one with SP at the stack's top, but for SP
 set_start : Located → (began : Bool) → Machine → Machine

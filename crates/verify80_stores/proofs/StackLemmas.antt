@@ -13,7 +13,8 @@ use Rattle.image80.specs.Image.{Located, memory_of}
 use Rattle.image80.specs.Regions.{in_code}
 use Rattle.machine80.specs.Step.{fetch}
 use Rattle.verify80.specs.Boards.{HasAt, IsUnset, starts, goes_on, SetsStack, sets_sp, uses_sp}
-use Rattle.verify80_stores.specs.StackPointer.{AreClosed, IsClosedAt, LeadsToMarked, is_marked}
+use Rattle.verify80_states.specs.Marks.{is_marked}
+use Rattle.verify80_stores.specs.StackPointer.{AreClosed, IsClosedAt, LeadsToMarked}
 
 -- what is fetched of an image's memory is what the image has there
 abbrev Finds : Located → (at : ℕ) → Result Fetched FetchFault → Type 0

@@ -56,11 +56,6 @@ by_any_pair i s span h = cc
 -- a store is no PCHL
 no_jump : (i : Instr) → stores_by_pair i ≡ true → is_pchl i ≡ true → ⊥
 no_jump Pchl stores jump = cc
-no_jump (Store from) stores jump = cc
-no_jump (MviMemory byte) stores jump = cc
-no_jump InrMemory stores jump = cc
-no_jump DcrMemory stores jump = cc
-no_jump (Stax pair) stores jump = cc
 no_jump i stores jump = cc
 
 -- the address that a pair points to is one of its span
@@ -117,14 +112,11 @@ first_is inside (x ∷ xs) a h = first_step inside x xs a (inside x) refl (λ re
 store_guard : (first second third : Option ℕ) (a : ℕ) → ends_at first Stack (ends_at second Direct (ends_at third StoreOutside None)) ≡ Some (StoreOutside a) → third ≡ Some a
 store_guard None None None a h = cc
 store_guard None None (Some b) a h = (let e : b ≡ a = cc in ap (λ x. Some x) e)
-store_guard None (Some b) third a h = cc
-store_guard (Some b) second third a h = cc
+store_guard first second third a h = cc
 
 jump_guard : (first second third : Option ℕ) (to : ℕ) → ends_at first Stack (ends_at second Direct (ends_at third StoreOutside None)) ≡ Some (JumpOutside to) → ⊥
 jump_guard None None None to h = cc
-jump_guard None None (Some b) to h = cc
-jump_guard None (Some b) third to h = cc
-jump_guard (Some b) second third to h = cc
+jump_guard first second third to h = cc
 
 -- no instruction that is executed ends at a store, and PCHL alone at a jump
 no_input_end : (next port : ℕ) (m : Machine) (byte : Option ℕ) (e : End) → ((p : ℕ) → InputEnd p ≡ e → ⊥) → with_input m next port byte ≡ Stop e → ⊥
@@ -319,9 +311,6 @@ module _ (image : Located) (bytes : ℕ) (quiet : ℕ → Bool) (reached : List 
   jump_listed w to outside (inr target) = absurd (inside_targets (targets_at image.regions w.machine.cpu.pc) (hl_of w.machine.cpu.registers) outside target)
 
   ends_so : (start : Machine) → IsStart image start → HoldsBytes start → (most : Option ℕ) (w : World) (e : End) → IsWorldFrom image start most w → turn_at image.regions most w ≡ Stop e → IsProperEnd e → EndsAsListed stores open_jumps w.machine.cpu.pc e
-  ends_so start begins held most w Halt from stops proper = tt
-  ends_so start begins held most w (InputEnd port) from stops proper = tt
-  ends_so start begins held most w (OutputRefused port) from stops proper = tt
   ends_so start begins held most w (StoreOutside address) from stops proper =
       let stands = walks.stands start begins most w from in
       let out = store_ends image.regions (guard image.regions stands.found.instr w.machine.cpu) (refuses most w.machine.outputs) stands.found w.machine address refl (turn_there most w stands.found (StoreOutside address) stands.fetched stops) in
@@ -333,6 +322,7 @@ module _ (image : Located) (bytes : ℕ) (quiet : ℕ → Bool) (reached : List 
   ends_so start begins held most w (Fetch at) from stops proper = absurd proper
   ends_so start begins held most w (Stack at) from stops proper = absurd proper
   ends_so start begins held most w (Direct at) from stops proper = absurd proper
+  ends_so start begins held most w e from stops proper = tt
 
   -- what is listed is what walks reach
   kind_there : (kind : Instr → Bool) (at : ℕ) (o : Option Fetched) → found_at reached at ≡ o → is_kind kind o ≡ true → IsReachedAs (code_of image) kind at

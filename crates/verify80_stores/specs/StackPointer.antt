@@ -1,14 +1,12 @@
 -- When marked addresses are all that the main program may reach with SP not set. (This project's own.)
-use Rattle.std.specs.Prelude.{◌≡◌, ◌<◌, ℕ, Bool, true, false, List, slice_index_or}
+use Rattle.std.specs.Prelude.{◌≡◌, ◌<◌, ℕ, Bool, true, false, List}
 use Rattle.decode80.specs.declared.fetching.Fetched.{Fetched}
 use Rattle.decode80.specs.declared.flow.Flow.{Flow}
 use Rattle.decode80.specs.Facts.{flow}
 use Rattle.image80.specs.Image.{Located}
 use Rattle.image80.specs.Regions.{Areas}
 use Rattle.verify80.specs.Boards.{GoesBy, HasAt, sets_sp, uses_sp}
-
-abbrev pub is_marked : List Bool → ℕ → Bool
-is_marked marks at = slice_index_or marks at false
+use Rattle.verify80_states.specs.Marks.{is_marked}
 
 -- each address to which an instruction leads is marked
 abbrev pub LeadsToMarked : Areas → List Bool → (at : ℕ) → Flow → (next : ℕ) → Type 0

@@ -8,12 +8,15 @@ ghost use Rattle.std.specs.List.{list_all};
 ghost use Rattle.decode80.specs.declared.flow.Flow.TheVariants.{JumpsToHl};
 ghost use Rattle.decode80.specs.Facts.{flow};
 ghost use Rattle.verify80.specs.Boards.{SetsStack, sets_sp, uses_sp};
-ghost use Rattle.verify80_stores.specs.StackPointer.{AreClosed, IsClosedAt, LeadsToMarked, is_marked};
+ghost use Rattle.verify80_states.specs.Marks.{is_marked};
+ghost use Rattle.verify80_stores.specs.StackPointer.{AreClosed, IsClosedAt, LeadsToMarked};
 
+use crate::marks::unmarked;
 use decode80::{Fetched, Flow, Instr, Pair, fetch};
 use image80::{Image, Regions};
 use std::alloc::{AllocError, Global};
 use verify80::ImageCode;
+use verify80_states::is_marked;
 
 /// Whether the main program of an image sets SP, on each way, before an instruction uses it. If it does, SP may be anything where a
 /// run begins.
@@ -33,8 +36,7 @@ pub(crate) fn sets_stack(alloc: Global, image: &Image) -> Result<bool, AllocErro
 
 /// Whether each marked address is closed.
 fn are_closed(code: &ImageCode, regions: &Regions, marks: &[bool]) -> bool
-    requires regions { regions.now ≡ code.now.regions }
-    requires whole { length marks.now ≡ 65536 }
+    requires { regions.now ≡ code.now.regions }
     ensures { result ≡ true → AreClosed code.now marks.now 65536 }
 {
     for address in 0..65_536_u32 {
@@ -48,8 +50,7 @@ fn are_closed(code: &ImageCode, regions: &Regions, marks: &[bool]) -> bool
 /// Whether an address isn't marked, or the instruction there doesn't use SP, and, unless it sets it, leads to marked addresses alone. If
 /// no instruction is there, nothing is wanted.
 fn is_closed(code: &ImageCode, regions: &Regions, marks: &[bool], at: u16) -> bool
-    requires regions { regions.now ≡ code.now.regions }
-    requires whole { length marks.now ≡ 65536 }
+    requires { regions.now ≡ code.now.regions }
     ensures { result ≡ true → is_marked marks.now at ≡ true → IsClosedAt code.now marks.now at }
 {
     if !is_marked(marks, at) {
@@ -64,7 +65,6 @@ fn is_closed(code: &ImageCode, regions: &Regions, marks: &[bool], at: u16) -> bo
 
 /// Whether each address to which an instruction leads is marked.
 fn leads_to_marked(regions: &Regions, marks: &[bool], at: u16, found: Fetched) -> bool
-    requires { length marks.now ≡ 65536 }
     ensures { result ≡ true → LeadsToMarked regions.now marks.now at (flow found.instr) found.next }
 {
     match found.instr.flow() {
@@ -85,7 +85,6 @@ fn leads_to_marked(regions: &Regions, marks: &[bool], at: u16, found: Fetched) -
 
 /// Whether targets are declared for an address, and each is marked.
 fn targets_are_marked(regions: &Regions, marks: &[bool], at: u16) -> bool
-    requires { length marks.now ≡ 65536 }
     ensures { result ≡ true → LeadsToMarked regions.now marks.now at JumpsToHl 0 }
 {
     match regions.targets(at) {
@@ -96,18 +95,9 @@ fn targets_are_marked(regions: &Regions, marks: &[bool], at: u16) -> bool
 
 /// Whether each of these addresses is marked.
 fn are_marked(marks: &[bool], targets: &[u16]) -> bool
-    requires { length marks.now ≡ 65536 }
     ensures { result ≡ list_all (is_marked marks.now) targets.now }
 {
     targets.iter().all(|target| is_marked(marks, *target))
-}
-
-/// Whether an address is marked.
-fn is_marked(marks: &[bool], at: u16) -> bool
-    requires { length marks.now ≡ 65536 }
-    ensures { result ≡ is_marked marks.now at }
-{
-    marks[usize::from(at)]
 }
 
 /// Whether an instruction sets SP to a word of its own.
@@ -171,16 +161,6 @@ fn find_unset(
         search.follow(code, regions, at)?;
     }
     Ok(search.marks)
-}
-
-/// A given number of places, none of which is marked.
-///
-/// # Errors
-/// `AllocError` if memory runs out.
-fn unmarked(alloc: Global, count: usize) -> Result<Vec<bool>, AllocError>
-    ensures { IfOk result (λ marks. length marks.items ≡ count) }
-{
-    Ok(vec![in alloc; false; count]?)
 }
 
 impl Search {

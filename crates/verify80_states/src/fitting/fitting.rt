@@ -7,31 +7,34 @@ ghost use Rattle.image80.specs.Regions.{AreRegions, in_data};
 ghost use Rattle.verify80.specs.Looking.{code_of, declared_targets};
 ghost use Rattle.verify80.specs.Reached.{AreReached, found_at};
 ghost use Rattle.verify80_states.specs.declared.fitting.fitting.Placed.{Placed};
-ghost use Rattle.verify80_states.specs.Span.{Within};
-ghost use Rattle.verify80_states.specs.State.{anything};
+ghost use Rattle.verify80_states.specs.Span.{Within, ByteWithin, byte_alone};
+ghost use Rattle.verify80_states.specs.State.{anything, cut};
 ghost use Rattle.verify80_states.specs.Following.{state_after};
 ghost use Rattle.verify80_states.specs.Marks.{is_marked};
 ghost use Rattle.verify80_states.specs.Steps.{AreCodeBytes};
-ghost use Rattle.verify80_states.specs.Fitting.{CallsEntry, Has, HasAfter, FitsAt, KnowsQuiet};
+ghost use Rattle.verify80_states.specs.Fitting.{CallsEntry, Has, Covers, CoversAfter, FitsAt, KnowsQuiet};
 ghost use Rattle.verify80_states.specs.Calls.{AccountsFor, KeepsCalls, KnowsReturn, KnowsReturnsOf, returns_of};
 ghost use Rattle.verify80_states.specs.FittingTable.{AllFit};
 ghost use Rattle.verify80_states.specs.Runs.{IsKept};
 
 use crate::fitting::calls::CallReturns;
 use crate::fitting::laws::fitting_states_hold;
-use crate::spans::{Span, bytes_stay_bytes};
+use crate::spans::{ByteSpan, Span, bytes_stay_bytes};
 use crate::states::{State, given, state_after};
 use decode80::{Fetched, Flow};
 use image80::laws::code_data_and_stack_are_apart;
 use image80::{Image, Regions};
 use std::alloc::{AllocError, Global};
 
+/// The hints from here on name no place: less this, each says where those of A's bytes begin, one for each that A may be.
+pub const APART: u32 = 0x8000_0000;
+
 /// A state at an address.
 #[derive(Clone, Copy, Debug)]
 pub struct Placed {
     pub at: u16,
     pub state: State,
-    /// Where its hints begin: for each way on the place of a state that says no more.
+    /// Where its hints begin: for each way on the place of a state that says no more, or of one for each byte that A may be there.
     pub hint: u32,
 }
 
@@ -40,7 +43,7 @@ pub struct Placed {
 pub(crate) struct Fit<'a> {
     /// The states.
     pub table: &'a [Placed],
-    /// For each way on from each state the place of one that says no more.
+    /// For each way on from each state the place of one that says no more; or where the places of those for each byte of A begin.
     pub hints: &'a [u32],
     /// Whether procedures return, and know where to.
     pub returns: &'a CallReturns,
@@ -66,8 +69,35 @@ impl Fit<'_> {
         }
     }
 
-    /// Whether it does of what an instruction makes of a state, if there is one.
-    fn has_after(
+    /// Whether the states that a hint names stand at an address, and together say no more than this one.
+    fn covers(&self, hint: u32, to: u16, state: State) -> bool
+        ensures { result ≡ true → Covers self.now.table.now to state }
+    {
+        self.has(hint, to, state) || self.has_each(hint, to, state)
+    }
+
+    /// Whether a hint names a state for each byte that A may be.
+    fn has_each(&self, hint: u32, to: u16, state: State) -> bool
+        ensures { result ≡ true → (byte : ℕ) → ByteWithin state.a byte → Has self.now.table.now to (cut state (byte_alone byte)) }
+    {
+        let Some(first) = self.hints.get(hint as usize) else {
+            return false;
+        };
+        if *first < APART {
+            return false;
+        }
+        let mut next = *first - APART;
+        for number in u32::from(state.a.first)..u32::from(state.a.last) + 1 {
+            if !self.has(next, to, state.cut(ByteSpan::alone(number as u8))) {
+                return false;
+            }
+            next = next.saturating_add(1);
+        }
+        true
+    }
+
+    /// Whether they do of what an instruction makes of a state, if there is one.
+    fn covers_after(
         &self,
         hint: u32,
         to: u16,
@@ -75,11 +105,11 @@ impl Fit<'_> {
         taken: bool,
         left: Option<State>,
     ) -> bool
-        ensures { result ≡ true → HasAfter self.now.table.now to (λ t. state_after self.now.code.now found.instr taken found.next t) left }
+        ensures { result ≡ true → CoversAfter self.now.table.now to (λ t. state_after self.now.code.now found.instr taken found.next t) left }
     {
         match left {
             None => true,
-            Some(state) => self.has(hint, to, self.after(found, taken, state)),
+            Some(state) => self.covers(hint, to, self.after(found, taken, state)),
         }
     }
 
@@ -90,13 +120,13 @@ impl Fit<'_> {
         state_after(self.code, found.instr, taken, found.next, state)
     }
 
-    /// Whether the table has a state at each of these targets that HL may be.
+    /// Whether the table covers a state at each of these targets that HL may be.
     fn has_at_each(&self, hint: u32, targets: &[u16], hl: Span, state: State) -> bool
-        ensures { result ≡ true → (to : ℕ) → Contains targets.now to → Within hl to → Has self.now.table.now to state }
+        ensures { result ≡ true → (to : ℕ) → Contains targets.now to → Within hl to → Covers self.now.table.now to state }
     {
         let mut next = hint;
         for to in targets {
-            if hl.first <= *to && *to <= hl.last && !self.has(next, *to, state) {
+            if hl.first <= *to && *to <= hl.last && !self.covers(next, *to, state) {
                 return false;
             }
             next = next.saturating_add(1);
@@ -113,12 +143,12 @@ impl Fit<'_> {
         let second = hint.saturating_add(1);
         match instr.flow() {
             Flow::Continues | Flow::Pushes | Flow::Pops | Flow::Exchanges => {
-                self.has(hint, next, self.after(found, false, state))
+                self.covers(hint, next, self.after(found, false, state))
             }
-            Flow::Jumps(to) => self.has(hint, to, self.after(found, false, state)),
+            Flow::Jumps(to) => self.covers(hint, to, self.after(found, false, state)),
             Flow::JumpsIf(condition, to) | Flow::CallsIf(condition, to) => {
-                self.has_after(hint, to, found, true, given(condition, true, state))
-                    && self.has_after(second, next, found, false, given(condition, false, state))
+                self.covers_after(hint, to, found, true, given(condition, true, state))
+                    && self.covers_after(second, next, found, false, given(condition, false, state))
             }
             Flow::JumpsToHl => self.has_at_each(
                 hint,
@@ -126,9 +156,9 @@ impl Fit<'_> {
                 state.hl.words,
                 self.after(found, false, state),
             ),
-            Flow::Calls(to) => self.has(hint, to, self.after(found, true, state)),
+            Flow::Calls(to) => self.covers(hint, to, self.after(found, true, state)),
             Flow::ReturnsIf(condition) => {
-                self.has_after(hint, next, found, false, given(condition, false, state))
+                self.covers_after(hint, next, found, false, given(condition, false, state))
             }
             Flow::Returns | Flow::Halts => true,
         }
@@ -198,7 +228,7 @@ impl Fit<'_> {
         }
     }
 
-    /// Whether a state knows where a return goes, and the table has there what the return makes of it, if the states at its address are to.
+    /// Whether a state knows where a return goes, and the table covers there what the return makes of it, if the states at its address are to.
     fn keeps_returns(&self, placed: Placed, found: Fetched) -> bool
         ensures { result ≡ true → (returns_of self.now.returns.now).known placed.at ≡ true →
             KnowsReturnsOf self.now.table.now (λ t. state_after self.now.code.now found.instr true found.next t) placed.state (flow found.instr) }
@@ -222,7 +252,7 @@ impl Fit<'_> {
     {
         match state.words.first {
             Some(span) => {
-                span.is_alone() && self.has(hint, span.first, self.after(found, true, state))
+                span.is_alone() && self.covers(hint, span.first, self.after(found, true, state))
             }
             None => false,
         }

@@ -185,18 +185,21 @@ impl ByteSpan {
         }
     }
 
-    /// What XRA makes of them.
+    /// What XRA makes of them: no more than their sum.
     pub fn exclusive_or(self, other: ByteSpan) -> ByteSpan
         ensures { result ≡ exclusive_or_of self other }
     {
         if self.is_alone() && other.is_alone() {
             ByteSpan::alone(self.first ^ other.first)
         } else {
-            ByteSpan::ANY
+            ByteSpan {
+                first: 0,
+                last: self.last.saturating_add(other.last),
+            }
         }
     }
 
-    /// What ORA makes of them.
+    /// What ORA makes of them: no less than either, and no more than their sum.
     pub fn or(self, other: ByteSpan) -> ByteSpan
         ensures { result ≡ or_of self other }
     {
@@ -205,7 +208,7 @@ impl ByteSpan {
         } else {
             ByteSpan {
                 first: self.first.max(other.first),
-                last: u8::MAX,
+                last: self.last.saturating_add(other.last),
             }
         }
     }

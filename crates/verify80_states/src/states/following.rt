@@ -1,7 +1,7 @@
 //! What becomes of a state at an instruction.
 
 ghost use Rattle.std.specs.Prelude.{◌≡◌};
-ghost use Rattle.verify80_states.specs.Following.{byte_at, known_word, loaded_at, loaded, loaded_word, moved, counted, resulted, tested, operand_bytes, after_operation, added_carry, turned, exchanged_pairs, index_words, popped_to, registers_after, pushed_words, called, returned, words_after, cells_after, state_after};
+ghost use Rattle.verify80_states.specs.Following.{byte_at, known_word, loaded_at, loaded, moved, counted, resulted, tested, operand_bytes, after_operation, added_carry, turned, exchanged_pairs, index_words, popped_to, registers_after, pushed_words, called, returned, words_after, cells_after, state_after};
 ghost use Rattle.verify80_states.specs.Span.{uncarried};
 ghost use Rattle.verify80_states.specs.State.{compared_with, with_outcome};
 
@@ -49,16 +49,6 @@ fn loaded(code: &[Option<u8>], cells: Cells, at: Span) -> ByteSpan
     } else {
         ByteSpan::ANY
     }
-}
-
-/// The word that is read at an address.
-fn loaded_word(code: &[Option<u8>], cells: Cells, address: u16) -> Span
-    ensures { result ≡ loaded_word code.now cells address }
-{
-    Span::of_halves(
-        loaded_at(code, cells, ahead(address, 1)),
-        loaded_at(code, cells, address),
-    )
 }
 
 /// A register is copied.
@@ -284,7 +274,12 @@ fn registers_after(code: &[Option<u8>], instr: Instr, state: State) -> State
             state.with_byte(Register::A, loaded_at(code, state.cells, address))
         }
         Instr::In(_) => state.with_byte(Register::A, ByteSpan::ANY),
-        Instr::Lhld(address) => state.with_words(Pair::Hl, loaded_word(code, state.cells, address)),
+        Instr::Lhld(address) => state
+            .with_byte(
+                Register::H,
+                loaded_at(code, state.cells, ahead(address, 1)),
+            )
+            .with_byte(Register::L, loaded_at(code, state.cells, address)),
         Instr::Xchg => exchanged_pairs(state),
         Instr::Pop(pair) => popped_to(pair, known_word(state.words.first), state),
         Instr::Xthl => state.with_words(Pair::Hl, known_word(state.words.first)),

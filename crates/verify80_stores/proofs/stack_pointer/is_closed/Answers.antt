@@ -13,7 +13,7 @@ returns-then-sets_sp c = λ sets marked.
 pub returns-else-sets_sp : goal.returns-else-sets_sp
 returns-else-sets_sp c = λ leads marked.
     closed_leading c.args.code.now c.args.marks.now c.args.at c.in-Ok.found (sym c.fetch.ensures ∙ c.in-Ok.is) (sym c.uses_sp.ensures ∙ c.if-uses_sp.false)
-    (subst (λ (r : Areas). LeadsToMarked r c.args.marks.now c.args.at (flow c.in-Ok.found.instr) c.in-Ok.found.next) c.requires.regions (c.leads_to_marked.ensures leads))
+    (subst (λ (r : Areas). LeadsToMarked r c.args.marks.now c.args.at (flow c.in-Ok.found.instr) c.in-Ok.found.next) c.requires (c.leads_to_marked.ensures leads))
 
 pub returns-in-Err : goal.returns-in-Err
 returns-in-Err c = λ _ marked. closed_without c.args.code.now c.args.marks.now c.args.at c.in-Err.field-0 (sym c.fetch.ensures ∙ c.in-Err.is)
