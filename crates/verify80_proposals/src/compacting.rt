@@ -4,7 +4,7 @@ use crate::nodes::{NOWHERE, Node, Nodes, place_of};
 use crate::program::ReachedProgram;
 use crate::proposing::Proposal;
 use std::alloc::{AllocError, Global};
-use verify80_states::{CallReturns, Placed};
+use verify80_states::{APART, CallReturns, Placed};
 
 /// The hint of a way.
 fn hint_at(hints: &[u32], first: u32, number: usize) -> u32 {
@@ -80,17 +80,45 @@ fn append_state(
     places: &[u32],
     node: Node,
 ) -> Result<(), AllocError> {
-    let hint = place_of(proposal.hints.len());
-    if let Some(found) = program.at(node.at) {
-        for number in 0..program.count_ways(node.at, found.instr) {
-            let held = nodes.holder(hint_at(hints, node.hint, number));
-            proposal.hints.push(new_place(places, held))?;
+    let first = proposal.hints.len();
+    let ways = match program.at(node.at) {
+        Some(found) => program.count_ways(node.at, found.instr),
+        None => 0,
+    };
+    for _ in 0..ways {
+        proposal.hints.push(NOWHERE)?;
+    }
+    for number in 0..ways {
+        let hint = hint_at(hints, node.hint, number);
+        let new = if hint < APART || hint == NOWHERE {
+            new_place(places, nodes.holder(hint))
+        } else {
+            append_apart(proposal, nodes, hints, places, hint - APART)?
+        };
+        if let Some(place) = proposal.hints.get_mut(first.saturating_add(number)) {
+            *place = new;
         }
     }
     proposal.table.push(Placed {
         at: node.at,
         state: node.state,
-        hint,
+        hint: place_of(first),
     })?;
     Ok(())
+}
+
+/// Appends the places of states that tell A's bytes apart, and answers the hint of them.
+fn append_apart(
+    proposal: &mut Proposal,
+    nodes: &Nodes,
+    hints: &[u32],
+    places: &[u32],
+    from: u32,
+) -> Result<u32, AllocError> {
+    let first = proposal.hints.len();
+    for number in 0..hint_at(hints, from, 0) as usize {
+        let held = nodes.holder(hint_at(hints, from, number.saturating_add(1)));
+        proposal.hints.push(new_place(places, held))?;
+    }
+    Ok(APART.saturating_add(place_of(first)))
 }

@@ -5,8 +5,9 @@ use crate::landmarks::Landmarks;
 use crate::needs::Needs;
 use crate::nodes::{NOWHERE, Node, Nodes, place_of};
 use crate::program::ReachedProgram;
+use decode80::{Instr, Operand, Operation};
 use std::alloc::{AllocError, Global};
-use verify80_states::{CallReturns, Placed, State};
+use verify80_states::{APART, ByteSpan, CallReturns, Placed, State};
 
 /// A table of states, for each of their ways a place of the table, and the returns by which it was made. The first hint is that of the
 /// start.
@@ -16,6 +17,9 @@ pub struct Proposal {
     pub hints: Vec<u32>,
     pub returns: CallReturns,
 }
+
+/// How many bytes of A are told apart, at most.
+const MOST_APART: usize = 16;
 
 /// What a search may cost.
 #[derive(Clone, Copy)]
@@ -112,14 +116,47 @@ fn follow(
     } else {
         hint as usize
     };
+    let mut followed = ways;
     for number in 0..ways {
         let to = match program.way(at, found, state, number) {
-            Some((to, state)) => nodes.enter(alloc, to, state)?,
+            Some((to, after)) if tells_apart(found.instr, state, after) => {
+                followed = followed.saturating_add(MOST_APART);
+                enter_apart(alloc, nodes, hints, to, after)?
+            }
+            Some((to, after)) => nodes.enter(alloc, to, after)?,
             None => NOWHERE,
         };
         if let Some(hint) = hints.get_mut(first.saturating_add(number)) {
             *hint = to;
         }
     }
-    Ok(ways)
+    Ok(followed)
+}
+
+/// Whether the bytes of A are told apart on a way: few are left by ANI, or by a jump behind a comparison.
+fn tells_apart(instr: Instr, before: State, after: State) -> bool {
+    let count = usize::from(after.a.last.saturating_sub(after.a.first));
+    let asks = match instr {
+        Instr::Operate(Operation::And, Operand::Immediate(_)) => true,
+        Instr::JumpIf(_, _) => before.compared.is_some(),
+        _ => false,
+    };
+    asks && count > 0 && count < MOST_APART
+}
+
+/// Enters a state for each byte of A. The hint says where among the hints their number stands, and behind it their places.
+fn enter_apart(
+    alloc: Global,
+    nodes: &mut Nodes,
+    hints: &mut Vec<u32>,
+    to: u16,
+    state: State,
+) -> Result<u32, AllocError> {
+    let first = hints.len();
+    hints.push(u32::from(state.a.last.saturating_sub(state.a.first)) + 1)?;
+    for number in u32::from(state.a.first)..u32::from(state.a.last) + 1 {
+        let place = nodes.enter(alloc, to, state.cut(ByteSpan::alone(number as u8)))?;
+        hints.push(place)?;
+    }
+    Ok(APART.saturating_add(place_of(first)))
 }
