@@ -5,7 +5,8 @@ ghost use Rattle.std.specs.Char.{is_ascii_hexdigit};
 
 use loader80::SessionFault;
 use loader80_text::BundleFault;
-use plm80_console::{Console, explain_line, explain_regions};
+use plm80_console::Console;
+use plm80_files::{explain_line, explain_regions};
 use std::io::ErrorKind;
 
 /// The line between the regions and the inputs.

@@ -4,7 +4,6 @@ use Rattle.std.proofs.Common.{◌∙◌, ap, append-nil, inl, inr, subst, sym}
 use Rattle.std.proofs.lemmas.List.{append_assoc}
 use Rattle.plm80_console.specs.Answer.{AnswerValue, GaveUp, IsGivenUp, and_files, paths_of}
 use Rattle.plm80_console.specs.Answer.IsGivenUp.{within}
-use Rattle.plm80_console.specs.Drafts.{NotSettled}
 use Rattle.plm80_console.specs.Journal.{FileValue, Journal, OnlyReports, and_written}
 
 -- all of them are written then

@@ -1,24 +1,25 @@
--- Ranges in the words of lines.
-use Rattle.std.specs.Prelude.{◌≡◌, ℕ, List, ◌++◌, Option, Some, None, MatchOption, IfSome, codes}
+-- Ranges of the command line, one after another.
+use Rattle.std.specs.Prelude.{◌≡◌, ℕ, ◌+◌, ◌<◌, Bool, true, if◌then◌else◌, List, [], ◌∷◌, ◌++◌, length, map, take}
 use Rattle.std.specs.Borrow.{Bor}
-use Rattle.std.proofs.Common.{◌∙◌, ap, refl, inl, inr}
-use Rattle.plm80_console.specs.RangeWords.{IsBehindKeyword}
+use Rattle.std.proofs.Common.{◌∙◌, ap, get_or, subst, sym}
+use Rattle.std.proofs.lemmas.Bool.{cond-true}
+use Rattle.std.proofs.lemmas.List.{map-append, take_more}
+use Rattle.image80.specs.declared.range.Range.{Range}
+use Rattle.plm80_console.specs.Ranges.{AreRangesOf, IsRangeText}
+use Rattle.plm80_console.specs.Ranges.AreRangesOf.{more}
 
-pub behind_code : (line rest : List ℕ) → line ≡ codes "CODE " ++ rest → IsBehindKeyword line rest
-behind_code line rest is = record { keyword = codes "CODE "; is_keyword = inl refl; line_is = is }
+-- a push that went well
+pub pushed : {X : Type 0} (ok : Bool) (old longer new : List X) → new ≡ (if ok then longer else old) → ok ≡ true → new ≡ longer
+pushed ok old longer new is well = is ∙ cond-true ok longer old well
 
-pub behind_stack : (line rest : List ℕ) → line ≡ codes "STACK " ++ rest → IsBehindKeyword line rest
-behind_stack line rest is = record { keyword = codes "STACK "; is_keyword = inr (inl refl); line_is = is }
+abbrev text_of : Bor (List ℕ) → List ℕ
+text_of text = text.now
 
-behind_data : (line rest : List ℕ) → line ≡ codes "DATA " ++ rest → IsBehindKeyword line rest
-behind_data line rest is = record { keyword = codes "DATA "; is_keyword = inr (inr refl); line_is = is }
-
-pub data_behind : (N : Type 0) (line : List ℕ) (answer : Option (Bor (List ℕ))) → MatchOption answer N (λ x. line ≡ codes "DATA " ++ x.now)
-    → IfSome answer (λ extent. IsBehindKeyword line extent.now)
-data_behind N line (Some x) is = behind_data line x.now is
-data_behind N line None is = tt
-
--- the same line behind another spelling of the rest
-pub behind_same : (line extent rest : List ℕ) → IsBehindKeyword line extent → extent ≡ rest → IsBehindKeyword line rest
-behind_same line extent rest behind same =
-    record { keyword = behind.keyword; is_keyword = behind.is_keyword; line_is = behind.line_is ∙ ap (λ (t : List ℕ). behind.keyword ++ t) same }
+-- one range more
+pub ranges_more : (texts : List (Bor (List ℕ))) (i : ℕ) (d : Bor (List ℕ)) (ranges : List Range) (range : Range) → i < length texts
+    → AreRangesOf (map (λ t. t.now) (take i texts)) ranges → IsRangeText (get_or texts i d).now range
+    → AreRangesOf (map (λ t. t.now) (take (i + 1) texts)) (ranges ++ range ∷ [])
+ranges_more texts i d ranges range lt so_far one =
+    subst (λ (l : List (List ℕ)). AreRangesOf l (ranges ++ range ∷ []))
+    (sym (ap (map text_of) (take_more texts i d lt) ∙ map-append text_of (take i texts) (get_or texts i d ∷ [])))
+    (more (map text_of (take i texts)) (get_or texts i d).now ranges range so_far one)

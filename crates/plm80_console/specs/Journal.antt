@@ -1,6 +1,6 @@
 -- What a run did with the world outside: with files, standard input, standard output and standard error.
 -- (Which of it a command owes is this project's own.)
-use Rattle.std.specs.Prelude.{◌≡◌, ◌⊎◌, ℕ, ◌+◌, ◌<◌, List, [], ◌∷◌, ◌++◌, Option, IfSome, take, drop}
+use Rattle.std.specs.Prelude.{◌≡◌, ◌⊎◌, ℕ, ◌+◌, ◌<◌, List, [], ◌∷◌, ◌++◌, Option, IfSome, length, take, drop}
 
 -- a file: its path, and all of its bytes
 pub record FileValue : Type 0 where
@@ -9,7 +9,8 @@ pub record FileValue : Type 0 where
 
 -- Files that were read whole, in order; all bytes of standard input, if they were read; files that were written whole, in order; bytes
 -- that were printed on standard output; how many lines of faults were printed on standard error; the paths of files that may have
--- neither their old bytes nor their new ones, since writing them in place failed; and the paths under which copies of files were kept.
+-- neither their old bytes nor their new ones, since writing them in place failed; and the paths under which copies of files were kept,
+-- each with how many files had been written before it.
 pub record Journal : Type 0 where
   pub read : List FileValue
   pub input : List ℕ
@@ -17,7 +18,7 @@ pub record Journal : Type 0 where
   pub printed : List ℕ
   pub reported : ℕ
   pub spoiled : List (List ℕ)
-  pub copies : List (List ℕ)
+  pub copies : List (List ℕ × ℕ)
 
 abbrev pub nothing_done : Journal
 nothing_done = record { read = []; input = []; written = []; printed = []; reported = 0; spoiled = []; copies = [] }
@@ -43,7 +44,7 @@ abbrev pub and_spoiled : Journal → (path : List ℕ) → Journal
 and_spoiled journal path = record journal { spoiled = journal.spoiled ++ path ∷ [] }
 
 abbrev pub and_copied : Journal → (path : List ℕ) → Journal
-and_copied journal path = record journal { copies = journal.copies ++ path ∷ [] }
+and_copied journal path = record journal { copies = journal.copies ++ (path, length journal.written) ∷ [] }
 
 -- what was written to an output was printed: the bytes that are known of it
 abbrev pub IsTakenBack : (written : Option (List ℕ)) → (old new : Journal) → Type 0

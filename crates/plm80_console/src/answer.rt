@@ -3,7 +3,7 @@
 ghost use Rattle.std.specs.Prelude.{◌≡◌};
 ghost use Rattle.plm80_console.specs.Answer.{behind_file, file_of, prints, writes, writes_both};
 
-use crate::replacing::NewFile;
+use crate::new_file::NewFile;
 use std::alloc::Global;
 use std::marker::Model;
 

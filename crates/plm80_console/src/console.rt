@@ -1,38 +1,20 @@
 //! What a command runs on: files, standard input and output, and faults, each a line on standard error.
 
 ghost use Rattle.std.specs.Prelude.{◌≡◌, ◌<◌, ◌≤◌, ◌∷◌, ℕ, List, [], Ok, Some, IfErr, IfOk, IfSome, IsOkAnd, vec_len};
-ghost use Rattle.std.specs.Process.{exit_status};
 ghost use Rattle.stream80.specs.WholeText.{text_limit};
 ghost use Rattle.plm80_console.specs.Answer.{GaveUp, IsGiven, IsGivenUp, and_files, files_of};
-ghost use Rattle.plm80_console.specs.Drafts.{GaveUpKeeping, IsReplacedKeeping, new_file_value};
+ghost use Rattle.plm80_console.specs.Replaced.{GaveUpKeeping, IsReplacedKeeping, new_file_value};
 ghost use Rattle.plm80_console.specs.Journal.{IsTakenBack, Journal, OnlyReports, and_input, and_printed, and_read, and_reported, and_written};
 
 use crate::answer::{Answer, WrittenFiles};
+use crate::new_file::NewFile;
 use crate::pieces::TakePieces;
 use crate::read_file::ReadFile;
-use crate::replacing::NewFile;
+use crate::reported::Reported;
 use std::alloc::{AllocError, Global};
 use std::fmt::Display;
 use std::io::ErrorKind;
-use std::process::ExitCode;
 use stream80::{Failed, Sink, write_all};
-
-/// A fault has been reported on standard error. Only a console makes one, and nothing but an exit status comes of it.
-pub struct Reported(());
-
-impl Reported {
-    pub(crate) fn new() -> Reported {
-        Reported(())
-    }
-
-    /// The exit status of a fault.
-    pub fn status(self) -> ExitCode
-        ensures { exit_status result ≡ 2 }
-    {
-        let Reported(()) = self;
-        ExitCode::from(2)
-    }
-}
 
 /// What a command runs on. Its journal says what was done with it so far.
 pub trait Console {

@@ -58,7 +58,7 @@ fn has_plus(text: &[u8]) -> bool
 }
 
 /// Whether all bytes are hexadecimal digits, in either case.
-pub(crate) fn are_digits(bytes: &[u8]) -> bool
+pub fn are_digits(bytes: &[u8]) -> bool
     ensures { result ≡ list_all is_ascii_hexdigit bytes.now }
 {
     bytes.iter().all(|byte| is_digit(*byte))

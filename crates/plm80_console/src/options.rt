@@ -7,8 +7,9 @@ ghost use Rattle.plm80_console.specs.Journal.{OnlyReports, and_reported};
 ghost use Rattle.plm80_console.specs.NumberText.{IsByteText, IsCountText, IsLengthText, IsWordText, count_value, word_value};
 
 use crate::argument_texts::argument_text;
-use crate::console::{Console, Reported};
+use crate::console::Console;
 use crate::number_text::{byte_of_digits, count_of_digits, length_of_digits, word_of_digits};
+use crate::reported::Reported;
 use clap::ArgMatches;
 use omf_core::{Name, NameFault};
 

@@ -8,8 +8,8 @@ ghost use Rattle.plm80_console.specs.Kinds.{may_replace, names_no_file, shown_te
 ghost use Rattle.plm80_console.specs.Refusals.{IsConflict};
 ghost use Rattle.plm80_console.specs.SharedPaths.{IsWrittenBy};
 
+use crate::comparison::Comparison;
 use crate::console::Console;
-use crate::same_file::Comparison;
 use crate::syntax::{Argument, Kind, Syntax};
 use clap::error::ErrorKind;
 use clap::{ArgMatches, Error};

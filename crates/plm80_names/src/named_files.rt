@@ -11,10 +11,8 @@ ghost use Rattle.plm80_names.specs.Verdict.{IsProgramRead};
 use crate::names::Names;
 use clap::ArgMatches;
 use image80::Image;
-use plm80_console::{
-    Argument, Console, IMAGE, Kind, REGIONS, ReadFile, Reported, argument_text, image_of,
-    regions_of,
-};
+use plm80_console::{Argument, Console, Kind, ReadFile, Reported, argument_text};
+use plm80_files::{IMAGE, REGIONS, image_of, regions_of};
 
 /// The option by which names are printed.
 pub const NAMES: Argument<'static> = Argument {

@@ -3,7 +3,7 @@ use Rattle.std.specs.Prelude.{◌≡◌, ℕ, ◌+◌, ◌<◌, Bool, true, ◌&
 use Rattle.std.proofs.Common.{◌∙◌, ap, sym, subst, get_or, refl}
 use Rattle.std.proofs.lemmas.List.{take_more}
 use Rattle.rom80_find.specs.Dump.{DumpValue}
-use Rattle.plm80_console.specs.declared.link_feed.LinkFile.{LinkFile}
+use Rattle.plm80_files.specs.declared.link_feed.LinkFile.{LinkFile}
 use Rattle.plm80_objects.specs.Find.{PrintsFile, PrintsFiles, more, none}
 
 -- no file

@@ -3,8 +3,8 @@ use Rattle.std.specs.Prelude.{◌≡◌, ℕ, zero, suc, ◌+◌, ◌<◌, List,
 use Rattle.std.specs.Borrow.{Bor}
 use Rattle.std.specs.List.{repeat}
 use Rattle.std.proofs.Common.{◌∙◌, ap, sym, refl, add-one, append_assoc, length-append, arith}
-use Rattle.plm80_console.specs.declared.link_feed.LinkFile.{LinkFile}
-use Rattle.plm80_console.specs.declared.link_feed.LinkFile.TheVariants.{Modules, Library}
+use Rattle.plm80_files.specs.declared.link_feed.LinkFile.{LinkFile}
+use Rattle.plm80_files.specs.declared.link_feed.LinkFile.TheVariants.{Modules, Library}
 use Rattle.std.proofs.lemmas.List.{flat_map_more, take_more}
 use Rattle.plm80_objects.specs.Link.{paths_of, root_paths}
 use Rattle.plm80_objects.specs.declared.link.RootFile.{RootFile}

@@ -10,11 +10,11 @@ use Rattle.omf_module.specs.Spelled.{SpellsFile}
 use Rattle.rom80_find.specs.Dump.{DumpValue}
 use Rattle.plm80_console.specs.Answer.{AnswerValue, Gives, GivesUp, IsAnswered, IsGiven, IsGivenUp, paths_of}
 use Rattle.plm80_console.specs.Answer.IsGivenUp.{before as nothing, within as given_up}
-use Rattle.plm80_console.specs.Drafts.{GaveUpKeeping}
+use Rattle.plm80_console.specs.Replaced.{GaveUpKeeping}
 use Rattle.plm80_console.specs.NumberText.{word_value}
-use Rattle.plm80_console.specs.declared.link_feed.LinkFile.{LinkFile}
+use Rattle.plm80_files.specs.declared.link_feed.LinkFile.{LinkFile}
 use Rattle.plm80_console.specs.Journal.{FileValue, Journal, and_read, and_read_files, and_reported}
-use Rattle.plm80_console.specs.Pieces.{AreModulesRead, IsLinkFileRead}
+use Rattle.plm80_files.specs.LinkFiles.{AreModulesRead, IsLinkFileRead}
 use Rattle.plm80_objects.specs.declared.absolute.RomFile.{RomFile}
 use Rattle.plm80_objects.specs.declared.link.LinkFiles.{LinkFiles}
 use Rattle.plm80_objects.specs.declared.absolute.AbsoluteArguments.{AbsoluteArguments}

@@ -3,11 +3,11 @@
 use Rattle.std.specs.Prelude.{◌≡◌, ℕ, Bool, true, false, ◌&&◌, List, [], ◌∷◌, ◌++◌}
 use Rattle.rom80_find.specs.Dump.{DumpValue}
 use Rattle.rom80_find.specs.Found.{PrintsMembers, PrintsModules}
-use Rattle.plm80_console.specs.declared.link_feed.LinkFile.{LinkFile}
-use Rattle.plm80_console.specs.declared.link_feed.LinkFile.TheVariants.{Modules, Library}
+use Rattle.plm80_files.specs.declared.link_feed.LinkFile.{LinkFile}
+use Rattle.plm80_files.specs.declared.link_feed.LinkFile.TheVariants.{Modules, Library}
 use Rattle.plm80_console.specs.Answer.{AnswerValue, paths_of, prints}
 use Rattle.plm80_console.specs.Journal.{FileValue, Journal, and_read_files}
-use Rattle.plm80_console.specs.Pieces.{SpellsEither}
+use Rattle.plm80_files.specs.LinkFiles.{SpellsEither}
 use Rattle.plm80_console.specs.NumberText.{word_value}
 use Rattle.plm80_objects.specs.declared.find.FindArguments.{FindArguments}
 

@@ -12,9 +12,9 @@ use Rattle.link80_text.specs.Parts.{IsMade, modules_of, parts_text, unresolved_t
 use Rattle.link80_text.specs.Reasons.{PrintsReasons}
 use Rattle.plm80_console.specs.Answer.{AnswerValue, paths_of as paths_read, writes}
 use Rattle.plm80_console.specs.Journal.{FileValue, Journal, and_read_files}
-use Rattle.plm80_console.specs.Pieces.{SpellsEither}
-use Rattle.plm80_console.specs.declared.link_feed.LinkFile.{LinkFile}
-use Rattle.plm80_console.specs.declared.link_feed.LinkFile.TheVariants.{Modules, Library}
+use Rattle.plm80_files.specs.LinkFiles.{SpellsEither}
+use Rattle.plm80_files.specs.declared.link_feed.LinkFile.{LinkFile}
+use Rattle.plm80_files.specs.declared.link_feed.LinkFile.TheVariants.{Modules, Library}
 use Rattle.plm80_objects.specs.declared.link.LinkArguments.{LinkArguments}
 use Rattle.plm80_objects.specs.declared.link.LinkFiles.{LinkFiles}
 use Rattle.plm80_objects.specs.declared.link.RootFile.{RootFile}

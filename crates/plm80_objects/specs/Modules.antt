@@ -11,7 +11,7 @@ use Rattle.place80.specs.Layout.{layout_of}
 use Rattle.place80.specs.PlaceFault.{locate_fault}
 use Rattle.place80_text.specs.Map.{IsMap}
 use Rattle.plm80_console.specs.Answer.{AnswerValue, paths_of, prints}
-use Rattle.plm80_console.specs.Drafts.{GaveUpKeeping, IsReplacedKeeping}
+use Rattle.plm80_console.specs.Replaced.{GaveUpKeeping, IsReplacedKeeping}
 use Rattle.plm80_console.specs.Journal.{FileValue, Journal, OnlyReports, and_read_files}
 use Rattle.plm80_objects.specs.declared.library.LibraryArguments.{LibraryArguments}
 use Rattle.plm80_objects.specs.declared.locate.LocateArguments.{LocateArguments}

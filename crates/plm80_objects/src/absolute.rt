@@ -12,8 +12,8 @@ use clap::ArgMatches;
 use image80_file::write_image;
 use omf_core::Name;
 use plm80_console::{
-    Answer, Argument, Console, FaultOf, Kind, OptionText, ReadFile, Reported, Syntax,
-    argument_text, argument_values, word_of_digits,
+    Answer, Argument, Console, FaultOf, Kind, OptionText, ReadFile, Reported, Syntax, argument_text,
+    argument_values, word_of_digits,
 };
 use rom80::{Dumps, RomFault};
 use std::alloc::{AllocError, Global};

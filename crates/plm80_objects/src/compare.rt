@@ -13,9 +13,9 @@ use crate::helpers::rom_faults::report_rom_fault;
 use clap::ArgMatches;
 use image80::{Image, Range};
 use plm80_console::{
-    Answer, Argument, Console, FaultOf, IMAGE, Kind, OptionText, ReadFile, Reported, Syntax,
-    argument_text, image_of,
+    Answer, Argument, Console, FaultOf, Kind, OptionText, ReadFile, Reported, Syntax, argument_text,
 };
+use plm80_files::{IMAGE, image_of};
 use plm80_names::{NAMES, Names};
 use rom80::{RomFault, compare, no_regions};
 use std::alloc::Global;

@@ -9,9 +9,8 @@ ghost use Rattle.plm80_objects.specs.Absolute.{ExtractsFile};
 
 use clap::ArgMatches;
 use image80::Image;
-use plm80_console::{
-    Answer, Argument, Console, IMAGE, Kind, OptionText, Reported, Syntax, argument_text, image_of,
-};
+use plm80_console::{Answer, Argument, Console, Kind, OptionText, Reported, Syntax, argument_text};
+use plm80_files::{IMAGE, image_of};
 use rom80::{RomFault, bytes_over, no_regions, sum_text};
 use std::alloc::{AllocError, Global};
 

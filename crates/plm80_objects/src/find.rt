@@ -11,9 +11,10 @@ ghost use Rattle.plm80_objects.specs.RomFaults.{IsRefused};
 use crate::helpers::rom_faults::report_rom_fault;
 use clap::ArgMatches;
 use plm80_console::{
-    Answer, Argument, Console, FaultOf, Kind, LinkFile, OptionText, ReadFile, Reported, Syntax,
-    argument_text, argument_values, read_link_file,
+    Answer, Argument, Console, FaultOf, Kind, OptionText, ReadFile, Reported, Syntax, argument_text,
+    argument_values,
 };
+use plm80_files::{LinkFile, read_link_file};
 use rom80::RomFault;
 use rom80_find::{Dump, append_members, append_modules};
 use std::alloc::{AllocError, Global};

@@ -9,10 +9,8 @@ ghost use Rattle.plm80_objects.specs.Modules.{AreAllRead, GivesUpLibrary, Writes
 use clap::ArgMatches;
 use omf_library::{LibraryPutFault, write_library};
 use omf_module::Module;
-use plm80_console::{
-    Argument, Console, Kind, Reported, Syntax, append_modules, argument_text, argument_values,
-    read_modules,
-};
+use plm80_console::{Argument, Console, Kind, Reported, Syntax, argument_text, argument_values};
+use plm80_files::{append_modules, read_modules};
 use std::alloc::{AllocError, Global};
 
 /// The arguments of `lib`.

@@ -16,9 +16,9 @@ use omf_core::Name;
 use omf_library::Library;
 use omf_module::{Module, write_file};
 use plm80_console::{
-    Answer, Argument, Console, Kind, LinkFile, OptionText, Reported, Syntax, argument_text,
-    argument_values, read_link_file,
+    Answer, Argument, Console, Kind, OptionText, Reported, Syntax, argument_text, argument_values,
 };
+use plm80_files::{LinkFile, read_link_file};
 use std::alloc::{AllocError, Global};
 use std::slice;
 

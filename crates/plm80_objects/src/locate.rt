@@ -5,7 +5,7 @@ ghost use Rattle.image80.specs.RegionsText.{regions_text};
 ghost use Rattle.place80.specs.declared.place_fault.PlaceFault.TheVariants.{Memory};
 ghost use Rattle.plm80_console.specs.Answer.{Gives, GivesUp};
 ghost use Rattle.plm80_console.specs.Journal.{OnlyReports};
-ghost use Rattle.plm80_console.specs.Pieces.{AreModulesRead};
+ghost use Rattle.plm80_files.specs.LinkFiles.{AreModulesRead};
 ghost use Rattle.plm80_objects.specs.Arguments.{AreLocateArguments};
 ghost use Rattle.plm80_objects.specs.Locate.{IsImageOf, WritesProgram, fault_of, image_file};
 ghost use Rattle.plm80_objects.specs.Modules.{LocatesFile};
@@ -22,9 +22,8 @@ use image80_file::write_image;
 use omf_module::Module;
 use place80::{Options, PlaceFault, layout, locate, locate_with_restart};
 use place80_text::write_image_with_publics;
-use plm80_console::{
-    Answer, Argument, Console, Kind, Reported, Syntax, WrittenFile, argument_text, read_modules,
-};
+use plm80_console::{Answer, Argument, Console, Kind, Reported, Syntax, WrittenFile, argument_text};
+use plm80_files::read_modules;
 use std::alloc::{AllocError, Global};
 
 /// The arguments of `locate`.

@@ -9,9 +9,8 @@ ghost use Rattle.plm80_objects.specs.Modules.{AnswersModules, DescribesModules};
 use clap::ArgMatches;
 use omf_module::Module;
 use omf_text::append_module_text;
-use plm80_console::{
-    Answer, Argument, Console, Kind, Reported, Syntax, argument_text, read_modules,
-};
+use plm80_console::{Answer, Argument, Console, Kind, Reported, Syntax, argument_text};
+use plm80_files::read_modules;
 use std::alloc::{AllocError, Global};
 
 /// The arguments of `module`.

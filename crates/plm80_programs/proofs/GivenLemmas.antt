@@ -22,7 +22,7 @@ use Rattle.plm80_programs.specs.declared.stores.StoresArguments.{StoresArguments
 use Rattle.plm80_programs.specs.Arguments.{dump_of, run_paths}
 use Rattle.plm80_programs.specs.Cases.{AnswersCases, PrintsCases}
 use Rattle.plm80_programs.specs.Printed.{AnswersStores, PrintsStores}
-use Rattle.plm80_programs.specs.Ranges.{AreRangesOf}
+use Rattle.plm80_console.specs.Ranges.{AreRangesOf}
 use Rattle.plm80_programs.specs.Running.{AnswersRun, AnswersSession, AreLimitsOf, EndsRun, IsRunRead, RunsFiles, is_session}
 
 abbrev pub file_value : (path bytes : List ℕ) → FileValue

@@ -1,18 +1,15 @@
--- Words and ranges of the command line, one after another.
+-- Words of the command line, one after another.
 use Rattle.std.specs.Prelude.{◌≡◌, ◌≢◌, ℕ, ◌+◌, ◌<◌, List, [], ◌∷◌, ◌++◌, All, None, Option, Some, IfSome, unwrap_or, length, map, take, drop}
 use Rattle.std.specs.Borrow.{Bor}
 use Rattle.std.proofs.Common.{◌∙◌, ap, append-nil, get_or, refl, subst, sym}
 use Rattle.std.proofs.lemmas.Grind.{flat_map-append}
 use Rattle.std.proofs.lemmas.List.{drop_more, map-append, take-append-drop, take_more}
 use Rattle.std.proofs.lemmas.List.Elements.{All-push}
-use Rattle.image80.specs.declared.range.Range.{Range}
 use Rattle.loader80_text.specs.declared.inputs.repeated.Repeated.{Repeated}
 use Rattle.loader80_text.specs.Words.{word_of}
 use Rattle.plm80_programs.specs.InputWords.{FaultsFile, FaultsWords, IsFirstBadWord, IsGoodWord, inputs_named}
 use Rattle.plm80_programs.specs.declared.inputs.InputsFileFault.{InputsFileFault}
 use Rattle.plm80_programs.specs.declared.inputs.InputsFileFault.TheVariants.{BadInput, TooLong, Memory}
-use Rattle.plm80_programs.specs.Ranges.{AreRangesOf, IsRangeText}
-use Rattle.plm80_programs.specs.Ranges.AreRangesOf.{more}
 
 abbrev text_of : Bor (List ℕ) → List ℕ
 text_of text = text.now
@@ -73,11 +70,3 @@ pub of_words : (words : List (List ℕ)) (fault : InputsFileFault) → FaultsWor
 of_words words (BadInput word) first = first
 of_words words TooLong none = absurd none
 of_words words Memory any = tt
-
--- one range more
-pub ranges_more : (texts : List (Bor (List ℕ))) (i : ℕ) (d : Bor (List ℕ)) (ranges : List Range) (range : Range) → i < length texts
-    → AreRangesOf (map (λ t. t.now) (take i texts)) ranges → IsRangeText (get_or texts i d).now range
-    → AreRangesOf (map (λ t. t.now) (take (i + 1) texts)) (ranges ++ range ∷ [])
-ranges_more texts i d ranges range lt so_far one =
-    subst (λ (l : List (List ℕ)). AreRangesOf l (ranges ++ range ∷ [])) (sym (texts_more texts i d lt))
-    (more (map text_of (take i texts)) (get_or texts i d).now ranges range so_far one)

@@ -1,5 +1,4 @@
 pub mod Arguments
-pub mod Ranges
 pub mod Status
 pub mod Printed
 pub mod Running

@@ -36,7 +36,7 @@ use Rattle.plm80_names.specs.Printed.{named_refusal_line, named_refusal_report, 
 use Rattle.plm80_names.specs.Verdict.{AnswersProgram, AnswersVerdict, IsAccepted}
 use Rattle.plm80_names.specs.Arguments.{asks_names}
 use Rattle.plm80_programs.specs.declared.stores.StoresArguments.{StoresArguments}
-use Rattle.plm80_programs.specs.Ranges.{AreRangesOf}
+use Rattle.plm80_console.specs.Ranges.{AreRangesOf}
 use Rattle.plm80_programs.specs.Status.{stores_status}
 
 -- ---- check

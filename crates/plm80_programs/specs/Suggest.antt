@@ -13,7 +13,7 @@ use Rattle.plm80_console.specs.Answer.{AnswerValue, prints}
 use Rattle.plm80_console.specs.Journal.{FileValue}
 use Rattle.plm80_console.specs.Arguments.{argument_text, argument_values}
 use Rattle.plm80_programs.specs.declared.suggest.SuggestArguments.{SuggestArguments}
-use Rattle.plm80_programs.specs.Ranges.{AreRangesOf}
+use Rattle.plm80_console.specs.Ranges.{AreRangesOf}
 use Rattle.plm80_programs.specs.Status.{notes_status}
 
 -- the regions that an image suggests are printed; the status is that of the notes

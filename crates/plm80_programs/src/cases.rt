@@ -17,9 +17,8 @@ use clap::ArgMatches;
 use image80::{Case, Image, RegionsFault, case_lines};
 use loader80::TEXT_LIMIT;
 use loader80_trace::TraceFault;
-use plm80_console::{
-    Answer, Argument, Console, IMAGE, Kind, REGIONS, Reported, Syntax, argument_text,
-};
+use plm80_console::{Answer, Argument, Console, Kind, Reported, Syntax, argument_text};
+use plm80_files::{IMAGE, REGIONS};
 use plm80_names::ProgramTexts;
 use std::alloc::{AllocError, Global};
 use stream80::{Sink, write_all};

@@ -13,7 +13,8 @@ use image80::Image;
 use loader80::Vouched;
 use loader80_trace::{Limits, count_steps, cover};
 use machine80::Inputs;
-use plm80_console::{Answer, Console, IMAGE, REGIONS, Reported, Syntax};
+use plm80_console::{Answer, Console, Reported, Syntax};
+use plm80_files::{IMAGE, REGIONS};
 use plm80_names::{NAMES, Names, Verdict, judge};
 use std::alloc::{AllocError, Global};
 

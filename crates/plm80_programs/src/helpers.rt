@@ -1,7 +1,6 @@
 //! What several commands share.
 
 pub(crate) mod endings;
-pub(crate) mod ranges;
 pub(crate) mod run_arguments;
 pub(crate) mod session_files;
 pub(crate) mod watching;

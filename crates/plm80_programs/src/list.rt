@@ -13,7 +13,8 @@ use image80::Image;
 use image80_text::listing;
 use loader80::Vouched;
 use loader80_trace::list_reached;
-use plm80_console::{Answer, Argument, Console, IMAGE, Kind, REGIONS, Reported, Syntax};
+use plm80_console::{Answer, Argument, Console, Kind, Reported, Syntax};
+use plm80_files::{IMAGE, REGIONS};
 use plm80_names::{NAMES, NamedFiles, Names, Verdict, judge};
 use std::alloc::{AllocError, Global};
 

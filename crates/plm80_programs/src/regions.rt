@@ -10,8 +10,8 @@ use clap::ArgMatches;
 use image80::{RegionsFault, migrate_regions};
 use plm80_console::{
     Answer, Argument, Console, FaultOf, Kind, ReadFile, Reported, Syntax, argument_text,
-    report_regions,
 };
+use plm80_files::report_regions;
 use std::alloc::Global;
 
 /// The arguments of `regions`.

@@ -9,7 +9,8 @@ use crate::helpers::run_arguments::{INPUTS, LimitTexts, OUTPUTS, RunFiles, STEPS
 use crate::helpers::session_files::run_session;
 use crate::helpers::watching::{Watch, watch_run};
 use clap::ArgMatches;
-use plm80_console::{Argument, Console, IMAGE, Kind, OptionText, REGIONS, Reported, Syntax};
+use plm80_console::{Argument, Console, Kind, OptionText, Reported, Syntax};
+use plm80_files::{IMAGE, REGIONS};
 use plm80_names::NAMES;
 
 /// The arguments of `run`.

@@ -8,13 +8,13 @@ ghost use Rattle.plm80_programs.specs.Arguments.{AreStoresArguments};
 ghost use Rattle.plm80_programs.specs.Printed.{AnswersStores, ListsStores, PrintsStores};
 ghost use Rattle.plm80_programs.specs.Status.{stores_status};
 
-use crate::helpers::ranges::ranges_of;
 use clap::ArgMatches;
 use image80::{Image, Range, Regions};
 use loader80::Vouched;
 use plm80_console::{
-    Answer, Argument, Console, IMAGE, Kind, REGIONS, Reported, Syntax, argument_values,
+    Answer, Argument, Console, Kind, Reported, Syntax, argument_values, ranges_of,
 };
+use plm80_files::{IMAGE, REGIONS};
 use plm80_names::{NAMES, NamedFiles, Names, Verdict, judge};
 use std::alloc::{AllocError, Global};
 use verify80_stores::{

@@ -7,15 +7,15 @@ ghost use Rattle.plm80_console.specs.Journal.{OnlyReports};
 ghost use Rattle.plm80_programs.specs.Suggest.{AdvisesRegions, AnswersAdvice, AreSuggestArguments};
 
 use crate::cases::{notes_status, remark_notes};
-use crate::helpers::ranges::ranges_of;
 use clap::ArgMatches;
 use image80::{Image, Range, write_regions};
 use loader80::TEXT_LIMIT;
 use loader80_text::LengthFault;
 use plm80_console::{
-    Answer, Argument, Console, IMAGE, Kind, ReadFile, Reported, Syntax, argument_text,
-    argument_values, image_of, regions_of,
+    Answer, Argument, Console, Kind, ReadFile, Reported, Syntax, argument_text, argument_values,
+    ranges_of,
 };
+use plm80_files::{IMAGE, image_of, regions_of};
 use std::alloc::{AllocError, Global};
 use verify80::ImageCode;
 use verify80_cases::Search;

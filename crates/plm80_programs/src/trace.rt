@@ -14,9 +14,8 @@ use clap::ArgMatches;
 use loader80::{Ended, Vouched};
 use loader80_trace::{Limits, Span, TraceFault};
 use machine80::Inputs;
-use plm80_console::{
-    Answer, Argument, Console, IMAGE, Kind, OptionText, REGIONS, Reported, Syntax,
-};
+use plm80_console::{Answer, Argument, Console, Kind, OptionText, Reported, Syntax};
+use plm80_files::{IMAGE, REGIONS};
 use plm80_names::{NAMES, Names, Verdict, judge};
 use std::alloc::{AllocError, Global};
 use stream80::Sink;

@@ -356,7 +356,7 @@ impl Nodes {
                     places,
                     Units::ALL.difference(Units::numbered(part)),
                 )?;
-                counted.push((count, PARTS - part))?;
+                counted.push((count, PARTS.saturating_sub(part)))?;
             }
         }
         counted.sort_unstable();
@@ -364,7 +364,7 @@ impl Nodes {
             let Some((_, part)) = counted.pop() else {
                 break;
             };
-            joined = joined.union(Units::numbered(PARTS - part));
+            joined = joined.union(Units::numbered(PARTS.saturating_sub(part)));
             if self.count_apart(alloc, places, joined)? < most {
                 return Ok(joined);
             }

@@ -103,7 +103,7 @@ pub(crate) fn find_places(
             if let Some(place) = places.get_mut(number as usize) {
                 *place = next;
             }
-            next = (next + 1) % SLOTS;
+            next = next.wrapping_add(1) % SLOTS;
         }
     }
     Ok(places)

@@ -4,7 +4,6 @@
 ; data 2000 03C0
 ; stores 9
 ; case GO PEEK POKE FILL NONE
-; jump GO table in CODE, index bounded by CPI
 LAST:   EQU 2000H
 COUNTS: EQU 2010H
 AREA:   EQU 2100H

@@ -4,7 +4,6 @@
 ; data 2000 03C0
 ; stores 9
 ; case GO CASE0 CASE1 CASE2 CASE3
-; jump GO table in CODE, index bounded by AND
 COMMAND: EQU 2000H             ; DECLARE (COMMAND, MODE, LIMIT, FLAG) BYTE, TICKS ADDRESS
 MODE:   EQU 2001H
 LIMIT:  EQU 2002H

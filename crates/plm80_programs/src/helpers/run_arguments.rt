@@ -14,9 +14,8 @@ use image80::Image;
 use loader80::{InputsFault, SessionFault, read_inputs};
 use loader80_trace::Limits;
 use machine80::Inputs;
-use plm80_console::{
-    Argument, Console, Kind, OptionText, ReadFile, Reported, argument_text, explain_inputs,
-};
+use plm80_console::{Argument, Console, Kind, OptionText, ReadFile, Reported, argument_text};
+use plm80_files::explain_inputs;
 use plm80_names::{Names, ProgramTexts};
 
 /// The paths of an image, of its regions and of the inputs of its run.

@@ -11,9 +11,9 @@ use crate::helpers::run_arguments::{RunFiles, RunTexts};
 use crate::{explain_end, status_of};
 use loader80::{Outcome, SessionFault, session};
 use loader80_trace::Limits;
-use plm80_console::{
-    Console, ReadFile, Reported, explain_image, explain_inputs, explain_regions,
-    explain_regions_place, explain_unread_bytes,
+use plm80_console::{Console, ReadFile, Reported};
+use plm80_files::{
+    explain_image, explain_inputs, explain_regions, explain_regions_place, explain_unread_bytes,
 };
 use std::alloc::Global;
 use std::io::ErrorKind;

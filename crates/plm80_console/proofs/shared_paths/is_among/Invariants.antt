@@ -1,7 +1,7 @@
 use Rattle.std.proofs.Common.{◌≡◌, false, take}
 use Rattle.std.specs.List.{list_any}
 use Rattle.std.specs.Str.{bytes_eq}
-use Rattle.plm80_console.specs.declared.same_file.Comparison.TheVariants.{Letters}
+use Rattle.plm80_console.specs.declared.comparison.Comparison.TheVariants.{Letters}
 use Rattle.plm80_console.proofs.shared_paths.is_among.Given as goal
 
 -- the path is none of those so far

@@ -4,7 +4,7 @@ use Rattle.std.proofs.Common.{subst}
 use Rattle.image80.specs.declared.range.Range.{Range}
 use Rattle.plm80_names.specs.Arguments.{program_paths}
 use Rattle.plm80_programs.specs.Printed.{PrintsStores}
-use Rattle.plm80_programs.specs.Ranges.{AreRangesOf}
+use Rattle.plm80_console.specs.Ranges.{AreRangesOf}
 use Rattle.plm80_programs.proofs.GivenLemmas.{program_gives, program_read_on, stores_give}
 use Rattle.plm80_programs.proofs.stores.list_stores.Goals as goal
 

@@ -1,6 +1,6 @@
 use Rattle.std.specs.Prelude.{◌≡◌, ◌≢◌, ◌<◌, ℕ, slice_get, Some}
 use Rattle.plm80_console.specs.ApartPaths.{IsApartFrom}
-use Rattle.plm80_console.specs.declared.same_file.Comparison.TheVariants.{Letters}
+use Rattle.plm80_console.specs.declared.comparison.Comparison.TheVariants.{Letters}
 use Rattle.plm80_console.specs.declared.syntax.Argument.{Argument}
 use Rattle.plm80_console.proofs.syntax.Syntax.shared_by.Given as goal
 

@@ -1,7 +1,0 @@
-use Rattle.std.specs.Prelude.{ℕ, List}
-use Rattle.plm80_console.specs.UnreadBytes.{IsBehindEnd}
-use Rattle.plm80_console.proofs.unread_bytes.behind_end.Given as goal
-
--- what is behind the end record of the rest is behind that of all bytes
-abbrev pub invariant-loop : goal.invariant-loop
-invariant-loop l = (after : List ℕ) → IsBehindEnd l.rest after → IsBehindEnd l.bytes after

@@ -1,0 +1,4 @@
+mod LineLemmas
+mod PieceLemmas
+mod RangeLemmas
+mod UnreadLemmas

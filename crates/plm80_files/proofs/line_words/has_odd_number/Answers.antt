@@ -1,0 +1,12 @@
+use Rattle.std.specs.Prelude.{◌==◌, ℕ}
+use Rattle.std.proofs.Common.{rules, tests}
+use Rattle.std.proofs.lemmas.Iterator.Search.{any_from_yields_List}
+use Rattle.std.proofs.lemmas.Iterator.Splits.{YieldsList-from_slice_split}
+use Rattle.plm80_files.specs.Lines.{is_odd_number}
+use Rattle.plm80_files.proofs.line_words.has_odd_number.Goals as goal
+
+pub returns : goal.returns
+returns c =
+    any_from_yields_List is_odd_number _ _ c.any.result c.any.ensures.ran
+    (YieldsList-from_slice_split _ (λ (b : ℕ). b == 32) c.args.line.now c.split.ensures.rest c.split.ensures.done c.split.ensures.closure
+    (λ x b q k. search (rules, tests))) (λ x b q k. search (rules, tests))

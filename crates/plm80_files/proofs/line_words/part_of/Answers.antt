@@ -1,0 +1,11 @@
+use Rattle.std.specs.Prelude.{◌==◌, ℕ}
+use Rattle.std.proofs.Common.{rules, tests}
+use Rattle.std.proofs.lemmas.Iterator.Consumers.{nth_from_yields_List}
+use Rattle.std.proofs.lemmas.Iterator.Splits.{YieldsList-from_slice_split}
+use Rattle.plm80_files.proofs.line_words.part_of.Goals as goal
+
+pub returns : goal.returns
+returns c =
+    nth_from_yields_List _ _ c.args.index c.nth.ensures.ran
+    (YieldsList-from_slice_split _ (λ (b : ℕ). b == 10) c.args.text.now c.split.ensures.rest c.split.ensures.done c.split.ensures.closure
+    (λ x b q k. search (rules, tests)))

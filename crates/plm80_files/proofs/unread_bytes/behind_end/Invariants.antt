@@ -1,0 +1,7 @@
+use Rattle.std.specs.Prelude.{ℕ, List}
+use Rattle.plm80_files.specs.UnreadBytes.{IsBehindEnd}
+use Rattle.plm80_files.proofs.unread_bytes.behind_end.Given as goal
+
+-- what is behind the end record of the rest is behind that of all bytes
+abbrev pub invariant-loop : goal.invariant-loop
+invariant-loop l = (after : List ℕ) → IsBehindEnd l.rest after → IsBehindEnd l.bytes after

@@ -1,0 +1,69 @@
+-- What a file seems to be, by how it begins, and of which files it is said.
+-- (8080 Object Module Formats: the types of a module's and a library's header; Intel's hexadecimal object file format: a colon
+-- before each record; ELF: its first four bytes. Texts of regions and of inputs are this project's.)
+use Rattle.std.specs.Prelude.{ℕ, ◌==◌, nat_le, Bool, true, false, ◌&&◌, not, if◌then◌else◌, List, ◌∷◌, length, take, drop, codes, slice_index}
+use Rattle.std.specs.List.{list_all, starts_with}
+use Rattle.std.specs.Char.{is_ascii_hexdigit}
+use Rattle.plm80_files.specs.declared.file_kinds.FileKind.{FileKind}
+use Rattle.plm80_files.specs.declared.file_kinds.FileKind.TheVariants as kind
+use Rattle.plm80_files.specs.declared.file_kinds.FileRole.{FileRole}
+use Rattle.plm80_files.specs.declared.file_kinds.FileRole.TheVariants as role
+
+-- a given number of hexadecimal digits come first
+abbrev pub begins_with_digits : (count : ℕ) → List ℕ → Bool
+begins_with_digits count bytes = nat_le count (length bytes) && list_all is_ascii_hexdigit (take count bytes)
+
+-- a record of Intel's hexadecimal format: a colon, and the digits of its length, address and type
+abbrev pub is_intel_hex_start : List ℕ → Bool
+is_intel_hex_start bytes = not (length bytes == 0) && slice_index bytes 0 == 58 && begins_with_digits 8 (drop 1 bytes)
+
+-- a line of inputs: a port, a blank and a byte
+abbrev pub is_inputs_start : List ℕ → Bool
+is_inputs_start bytes =
+    nat_le 3 (length bytes) && begins_with_digits 2 bytes && slice_index bytes 2 == 32 && begins_with_digits 2 (drop 3 bytes)
+
+abbrev pub starts : (beginning bytes : List ℕ) → Bool
+starts beginning bytes = starts_with (λ one other. one == other) bytes beginning
+
+-- a file that begins with none of the bytes below: a text, or a file of another machine
+abbrev pub kind_of_text : List ℕ → FileKind
+kind_of_text bytes =
+    if starts (127 ∷ codes "ELF") bytes then kind.Elf
+    else if is_intel_hex_start bytes then kind.IntelHex
+    else if starts (codes "REGIONS") bytes then kind.Regions
+    else if is_inputs_start bytes then kind.Inputs
+    else kind.Unknown
+
+-- the first byte is that of a module's header or that of a library's
+abbrev pub kind_of : List ℕ → FileKind
+kind_of bytes =
+    if length bytes == 0 then kind.Empty
+    else if slice_index bytes 0 == 0x02 then kind.ObjectFile
+    else if slice_index bytes 0 == 0x2C then kind.Library
+    else kind_of_text bytes
+
+-- of which kinds it is said what the file seems to be: not of a file that may have the role, nor of one of which nothing is known
+abbrev pub is_explained : FileRole → FileKind → Bool
+is_explained role.ObjectFile kind.ObjectFile = false
+is_explained role.ObjectFile other = true
+is_explained role.Image kind.ObjectFile = false
+is_explained role.Image other = true
+is_explained role.Regions kind.Regions = false
+is_explained role.Regions kind.Unknown = false
+is_explained role.Regions other = true
+is_explained role.Inputs kind.Regions = true
+is_explained role.Inputs kind.ObjectFile = true
+is_explained role.Inputs other = false
+
+-- of which kinds it is said which path the role has: files that commands with that path read beside it. Of regions it is said after
+-- their other words.
+abbrev pub is_misplaced : FileRole → FileKind → Bool
+is_misplaced role.ObjectFile other = false
+is_misplaced role.Image kind.Regions = true
+is_misplaced role.Image kind.Inputs = true
+is_misplaced role.Image kind.Unknown = true
+is_misplaced role.Image other = false
+is_misplaced role.Regions other = false
+is_misplaced role.Inputs kind.ObjectFile = true
+is_misplaced role.Inputs kind.Regions = true
+is_misplaced role.Inputs other = false

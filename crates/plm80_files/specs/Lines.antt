@@ -1,0 +1,65 @@
+-- What is often wrong with a line of the program's texts, which is then said in words.
+-- (The texts of regions and of inputs are this project's: lines that end in LF alone, without comments.)
+use Rattle.std.specs.Prelude.{ℕ, zero, suc, ◌-◌, ◌%◌, ◌==◌, Option, Some, None, is_some, slice_get, codes, Bool, false, ◌&&◌, ◌||◌, not, if◌then◌else◌, List, [], ◌∷◌, length, take}
+use Rattle.std.specs.List.{list_all, list_any, ends_with, slice_split}
+use Rattle.std.specs.Char.{is_ascii_hexdigit, is_ascii_lowercase}
+use Rattle.plm80_files.specs.FileKinds.{starts}
+use Rattle.plm80_files.specs.declared.line_words.LineFlaw.{LineFlaw}
+use Rattle.plm80_files.specs.declared.line_words.LineFlaw.TheVariants.{CarriageReturn, ControlZ, NoLineFeed, Blank, Comment, OddDigits, LowerCase}
+
+-- what stands between line feeds, or between one and an end of the text, by its index
+abbrev pub part_at : (text : List ℕ) → (index : ℕ) → Option (List ℕ)
+part_at text index = slice_get (slice_split (λ byte. byte == 10) text) index
+
+-- such a part is a line if a line feed follows it or if it has bytes
+abbrev pub line_from : Option (List ℕ) → (is_ended : Bool) → Option (List ℕ × Bool)
+line_from None is_ended = None
+line_from (Some bytes) is_ended = if length bytes == 0 && not is_ended then None else Some (bytes, is_ended)
+
+-- the line of a number, counted from 1, and whether a line feed ends it
+abbrev pub line_at : (text : List ℕ) → (number : ℕ) → Option (List ℕ × Bool)
+line_at text zero = None
+line_at text (suc index) = line_from (part_at text index) (is_some (part_at text (suc index)))
+
+abbrev pub ends_in : (byte : ℕ) → List ℕ → Bool
+ends_in byte line = ends_with (λ one other. one == other) line (byte ∷ [])
+
+-- without a carriage return at its end
+abbrev pub without_return : List ℕ → List ℕ
+without_return line = if ends_in 13 line then take (length line - 1) line else line
+
+-- a blank or a tab
+abbrev pub ends_in_blank : List ℕ → Bool
+ends_in_blank line = ends_in 32 (without_return line) || ends_in 9 (without_return line)
+
+abbrev pub has_comment : List ℕ → Bool
+has_comment line = list_any (λ byte. byte == 59) line
+
+abbrev pub has_lower_case : List ℕ → Bool
+has_lower_case line = list_any is_ascii_lowercase line
+
+-- a word of hexadecimal digits, an odd number of them
+abbrev pub is_odd_number : List ℕ → Bool
+is_odd_number word = length word % 2 == 1 && list_all is_ascii_hexdigit word
+
+-- one of the words between blanks is such a number
+abbrev pub has_odd_number : List ℕ → Bool
+has_odd_number line = list_any is_odd_number (slice_split (λ byte. byte == 32) line)
+
+-- whether a line has a flaw
+abbrev pub has_flaw : LineFlaw → (line : List ℕ) → (is_ended : Bool) → Bool
+has_flaw CarriageReturn line is_ended = ends_in 13 line
+has_flaw ControlZ line is_ended = list_any (λ byte. byte == 0x1A) line
+has_flaw NoLineFeed line is_ended = not is_ended
+has_flaw Blank line is_ended = ends_in_blank line
+has_flaw Comment line is_ended = has_comment line
+has_flaw OddDigits line is_ended = not (has_comment line) && has_odd_number (without_return line)
+has_flaw LowerCase line is_ended = not (has_comment line) && has_lower_case line
+
+-- the line of this number is a CASE line in a text of version 1
+abbrev pub is_case_line : (text : List ℕ) → Option (List ℕ × Bool) → Bool
+is_case_line text None = false
+is_case_line text (Some line) = starts (codes "REGIONS 1\n") text && starts (codes "CASE ") line.0
+
+abbrev pub needs_version_2 : (text : List ℕ) → (number : ℕ) → Bool
+needs_version_2 text number = is_case_line text (line_at text number)

@@ -1,0 +1,241 @@
+//! What a file seems to be, in words, if a command takes it for another one.
+
+ghost use Rattle.std.specs.Prelude.{◌≡◌, is_some};
+ghost use Rattle.plm80_files.specs.FileKinds.{
+  begins_with_digits,
+  is_explained,
+  is_inputs_start,
+  is_intel_hex_start,
+  is_misplaced,
+  kind_of,
+  kind_of_text,
+};
+
+use crate::line_words::explain_line;
+use plm80_console::{Console, are_digits};
+
+/// The first byte of an object file, the type of a module header.
+const MODULE_HEADER: u8 = 0x02;
+
+/// The first byte of a library.
+const LIBRARY_HEADER: u8 = 0x2C;
+
+/// What a file seems to be, by how it begins.
+#[derive(Clone, Copy, Debug, PartialEq, Eq)]
+pub(crate) enum FileKind {
+    Empty,
+    ObjectFile,
+    Library,
+    Regions,
+    Inputs,
+    IntelHex,
+    Elf,
+    Unknown,
+}
+
+/// What a file was to be, by its place among the arguments.
+#[derive(Clone, Copy, Debug, PartialEq, Eq)]
+pub(crate) enum FileRole {
+    ObjectFile,
+    Image,
+    Regions,
+    Inputs,
+}
+
+impl FileKind {
+    /// The kind of the file with these bytes.
+    fn of(bytes: &[u8]) -> FileKind
+        ensures { result ≡ kind_of bytes.now }
+    {
+        if bytes.is_empty() {
+            FileKind::Empty
+        } else if bytes[0] == MODULE_HEADER {
+            FileKind::ObjectFile
+        } else if bytes[0] == LIBRARY_HEADER {
+            FileKind::Library
+        } else {
+            FileKind::of_text(bytes)
+        }
+    }
+
+    /// The kind of a file that begins with another byte.
+    fn of_text(bytes: &[u8]) -> FileKind
+        ensures { result ≡ kind_of_text bytes.now }
+    {
+        if bytes.starts_with(b"\x7FELF") {
+            FileKind::Elf
+        } else if is_intel_hex(bytes) {
+            FileKind::IntelHex
+        } else if bytes.starts_with(b"REGIONS") {
+            FileKind::Regions
+        } else if is_inputs(bytes) {
+            FileKind::Inputs
+        } else {
+            FileKind::Unknown
+        }
+    }
+
+    /// Words for the kind of a file that was to be an object file; none if it begins as one.
+    fn words_for_object(self) -> Option<&'static str>
+        ensures { is_some result ≡ is_explained FileRole.ObjectFile self }
+    {
+        match self {
+            FileKind::ObjectFile => None,
+            FileKind::Empty => Some("the file is empty"),
+            FileKind::Library => Some("this is a library, not an object file"),
+            FileKind::Regions => Some("this is a regions text, not an object file"),
+            FileKind::Inputs => Some("this is an inputs text, not an object file"),
+            FileKind::IntelHex => Some(
+                "this is Intel HEX, not an object file: absolute makes an image of the bytes that it stands for",
+            ),
+            FileKind::Elf => Some("this is an ELF file, not an object file of the 8080"),
+            FileKind::Unknown => Some("this isn't an object file, whose first byte is 02"),
+        }
+    }
+
+    /// Words for the kind of a file that was to be a text of regions; none if it begins as one, or as no file that is known.
+    fn words_for_regions(self) -> Option<&'static str>
+        ensures { is_some result ≡ is_explained FileRole.Regions self }
+    {
+        match self {
+            FileKind::Empty => Some("the file is empty: its first line is REGIONS 1 or REGIONS 2"),
+            FileKind::ObjectFile => Some("this is an object file, not a regions text"),
+            FileKind::Library => Some("this is a library, not a regions text"),
+            FileKind::Inputs => Some("this is an inputs text, not a regions text"),
+            FileKind::IntelHex => Some("this is Intel HEX, not a regions text"),
+            FileKind::Elf => Some("this is an ELF file, not a regions text"),
+            FileKind::Regions | FileKind::Unknown => None,
+        }
+    }
+
+    /// Words for the kind of a file that was to be a text of inputs; none unless it begins as another file of the same command.
+    fn words_for_inputs(self) -> Option<&'static str>
+        ensures { is_some result ≡ is_explained FileRole.Inputs self }
+    {
+        match self {
+            FileKind::Regions => Some("this is a regions text, not an inputs text"),
+            FileKind::ObjectFile => Some("this is an object file, not an inputs text"),
+            FileKind::Empty
+            | FileKind::Library
+            | FileKind::Inputs
+            | FileKind::IntelHex
+            | FileKind::Elf
+            | FileKind::Unknown => None,
+        }
+    }
+
+    /// Which path an image has, if a file of this kind seems to be another one of the command.
+    fn place_of_image(self) -> Option<&'static str>
+        ensures { is_some result ≡ is_misplaced FileRole.Image self }
+    {
+        match self {
+            FileKind::Regions | FileKind::Inputs | FileKind::Unknown => {
+                Some("IMAGE is the first path")
+            }
+            FileKind::Empty
+            | FileKind::ObjectFile
+            | FileKind::Library
+            | FileKind::IntelHex
+            | FileKind::Elf => None,
+        }
+    }
+
+    /// Which path inputs have, if a file of this kind seems to be another one of the command.
+    fn place_of_inputs(self) -> Option<&'static str>
+        ensures { is_some result ≡ is_misplaced FileRole.Inputs self }
+    {
+        match self {
+            FileKind::ObjectFile | FileKind::Regions => Some("INPUTS is the third path"),
+            FileKind::Empty
+            | FileKind::Library
+            | FileKind::Inputs
+            | FileKind::IntelHex
+            | FileKind::Elf
+            | FileKind::Unknown => None,
+        }
+    }
+}
+
+impl FileRole {
+    /// Words for the kind of a file that was to have this role; none if it may have it.
+    fn words(self, kind: FileKind) -> Option<&'static str>
+        ensures { is_some result ≡ is_explained self kind }
+    {
+        match self {
+            FileRole::ObjectFile | FileRole::Image => kind.words_for_object(),
+            FileRole::Regions => kind.words_for_regions(),
+            FileRole::Inputs => kind.words_for_inputs(),
+        }
+    }
+
+    /// Which path the file of this role has, if a file of this kind seems to be another one of the command. Of regions it is said
+    /// after the other words on them.
+    fn place(self, kind: FileKind) -> Option<&'static str>
+        ensures { is_some result ≡ is_misplaced self kind }
+    {
+        match self {
+            FileRole::ObjectFile | FileRole::Regions => None,
+            FileRole::Image => kind.place_of_image(),
+            FileRole::Inputs => kind.place_of_inputs(),
+        }
+    }
+}
+
+/// Whether the bytes begin as a record of Intel's hexadecimal format: a colon and digits.
+fn is_intel_hex(bytes: &[u8]) -> bool
+    ensures { result ≡ is_intel_hex_start bytes.now }
+{
+    !bytes.is_empty() && bytes[0] == b':' && begins_with_digits(&bytes[1..], 8)
+}
+
+/// Whether the bytes begin as a line of inputs: a port, a blank and a byte.
+fn is_inputs(bytes: &[u8]) -> bool
+    ensures { result ≡ is_inputs_start bytes.now }
+{
+    bytes.len() >= 3
+        && begins_with_digits(bytes, 2)
+        && bytes[2] == b' '
+        && begins_with_digits(&bytes[3..], 2)
+}
+
+/// Whether the bytes begin with a given number of hexadecimal digits.
+fn begins_with_digits(bytes: &[u8], count: usize) -> bool
+    ensures { result ≡ begins_with_digits count bytes.now }
+{
+    count <= bytes.len() && are_digits(&bytes[..count])
+}
+
+/// Says what these bytes seem to be, which were to be the file of this role, and which path it has, if that helps; whether it said
+/// what they seem to be.
+pub(crate) fn explain_file<C: Console>(console: &C, bytes: &[u8], role: FileRole) -> bool
+    ensures { result ≡ is_explained role (kind_of bytes.now) }
+{
+    let kind = FileKind::of(bytes);
+    let words = role.words(kind);
+    if let Some(words) = words {
+        console.explain(words);
+    }
+    if let Some(words) = role.place(kind) {
+        console.explain(words);
+    }
+    words.is_some()
+}
+
+/// Says which path is that of the regions, if this text, which isn't theirs, seems to be another file of the command.
+pub fn explain_regions_place<C: Console>(console: &C, text: &[u8]) {
+    if matches!(FileKind::of(text), FileKind::ObjectFile | FileKind::Inputs) {
+        console.explain("REGIONS is the second path");
+    }
+}
+
+/// Says what the file with these bytes seems to be, which was to be an image, unless it begins as one.
+pub fn explain_image<C: Console>(console: &C, bytes: &[u8]) {
+    explain_file(console, bytes, FileRole::Image);
+}
+
+/// Says what is wrong with the line of this number of a text that was to be that of inputs.
+pub fn explain_inputs<C: Console>(console: &C, text: &[u8], number: usize) {
+    if !explain_file(console, text, FileRole::Inputs) {
+        explain_line(console, text, number);
+    }
+}

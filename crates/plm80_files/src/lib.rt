@@ -1,0 +1,29 @@
+//! Files that commands read, and words on what is wrong with them.
+//!
+//! Proved: what was read is what the file's bytes spell, or its fault theirs; of which kinds of files and flaws of lines there are words.
+//!
+//! | Item | What it is |
+//! |---|---|
+//! | [`image_of`], [`regions_of`] | the image and the regions that several commands read |
+//! | [`read_link_file`], [`read_modules`], [`LinkFile`] | object files and libraries, read in pieces |
+//! | [`FileFault`] | why an object file or a library isn't read |
+//! | [`explain_image`], [`explain_regions`], [`explain_inputs`], [`explain_line`] | what is wrong with a file or a line, in words |
+#![tactic(auto)]
+
+mod file_fault;
+mod file_kinds;
+mod line_words;
+mod link_feed;
+mod object_files;
+mod program_files;
+mod regions_words;
+mod unread_bytes;
+
+pub use file_fault::FileFault;
+pub use file_kinds::{explain_image, explain_inputs, explain_regions_place};
+pub use line_words::explain_line;
+pub use link_feed::{LinkFeed, LinkFile, read_link_file};
+pub use object_files::{append_modules, read_modules};
+pub use program_files::{IMAGE, REGIONS, image_of, regions_of, report_regions};
+pub use regions_words::explain_regions;
+pub use unread_bytes::explain_unread_bytes;

@@ -1,0 +1,175 @@
+//! What is wrong with a line of a text, in words.
+
+ghost use Rattle.std.specs.Prelude.{◌≡◌, option_copied, option_map};
+ghost use Rattle.plm80_files.specs.Lines.{ends_in_blank, has_comment, has_flaw, has_lower_case, has_odd_number, is_odd_number, line_at, part_at, without_return};
+
+use plm80_console::{Console, are_digits};
+use thiserror::Error;
+
+/// The end of a text in CP/M, and the Ctrl-Z of other systems.
+const CONTROL_Z: u8 = 0x1A;
+
+/// What is often wrong with a line.
+#[derive(Clone, Copy, Debug, Error)]
+pub(crate) enum LineFlaw {
+    #[error("the line ends in CR LF: write LF alone")]
+    CarriageReturn,
+    #[error("the line has a Ctrl-Z (1A)")]
+    ControlZ,
+    #[error("the line has no line feed at its end")]
+    NoLineFeed,
+    #[error("the line ends in a blank")]
+    Blank,
+    #[error("the line has a ; but these texts have no comments")]
+    Comment,
+    #[error("the line has an odd number of digits")]
+    OddDigits,
+    #[error("the line has lower case: digits and words are of upper case")]
+    LowerCase,
+}
+
+/// What may be wrong with any line, in the order in which it is said.
+const FLAWS: &[LineFlaw] = &[
+    LineFlaw::CarriageReturn,
+    LineFlaw::ControlZ,
+    LineFlaw::NoLineFeed,
+    LineFlaw::Blank,
+    LineFlaw::Comment,
+    LineFlaw::OddDigits,
+];
+
+/// The same of a line whose words and digits are of upper case.
+pub(crate) const UPPER_FLAWS: &[LineFlaw] = &[
+    LineFlaw::CarriageReturn,
+    LineFlaw::ControlZ,
+    LineFlaw::NoLineFeed,
+    LineFlaw::Blank,
+    LineFlaw::Comment,
+    LineFlaw::OddDigits,
+    LineFlaw::LowerCase,
+];
+
+/// The same of a first line, whose digit stands alone.
+pub(crate) const VERSION_FLAWS: &[LineFlaw] = &[
+    LineFlaw::CarriageReturn,
+    LineFlaw::ControlZ,
+    LineFlaw::NoLineFeed,
+    LineFlaw::Blank,
+    LineFlaw::Comment,
+    LineFlaw::LowerCase,
+];
+
+/// A line without its line feed, and whether it has one.
+#[derive(Clone, Copy)]
+pub(crate) struct Line<'a> {
+    pub(crate) bytes: &'a [u8],
+    pub(crate) is_ended: bool,
+}
+
+/// Says what is wrong with the line of this number, counted from 1, if it has one of the forms that occur most: each in a line of its
+/// own.
+pub fn explain_line<C: Console>(console: &C, text: &[u8], number: usize) {
+    explain_flaws(console, text, number, FLAWS);
+}
+
+/// Says which of these flaws the line of this number has, each in a line of its own.
+pub(crate) fn explain_flaws<C: Console>(
+    console: &C,
+    text: &[u8],
+    number: usize,
+    flaws: &[LineFlaw],
+) {
+    if let Some(line) = line_of(text, number) {
+        for flaw in flaws {
+            if line.has(*flaw) {
+                console.explain(*flaw);
+            }
+        }
+    }
+}
+
+impl<'a> Line<'a> {
+    /// Whether the line has this flaw.
+    fn has(self, flaw: LineFlaw) -> bool
+        ensures { result ≡ has_flaw flaw self.entry.bytes.now self.entry.is_ended }
+    {
+        match flaw {
+            LineFlaw::CarriageReturn => self.bytes.ends_with(b"\r"),
+            LineFlaw::ControlZ => self.bytes.contains(&CONTROL_Z),
+            LineFlaw::NoLineFeed => !self.is_ended,
+            LineFlaw::Blank => ends_in_blank(self.bytes),
+            LineFlaw::Comment => self.has_comment(),
+            LineFlaw::OddDigits => {
+                !self.has_comment() && has_odd_number(without_return(self.bytes))
+            }
+            LineFlaw::LowerCase => !self.has_comment() && has_lower_case(self.bytes),
+        }
+    }
+
+    fn has_comment(self) -> bool
+        ensures { result ≡ has_comment self.entry.bytes.now }
+    {
+        self.bytes.contains(&b';')
+    }
+}
+
+/// The line of this number, counted from 1; `None` if the text has no such line. What follows the last line feed is a line if it has
+/// bytes.
+pub(crate) fn line_of(text: &[u8], number: usize) -> Option<Line<'_>>
+    ensures { option_map (λ line. (line.bytes.now, line.is_ended)) result ≡ line_at text.now number }
+{
+    let bytes = part_of(text, number.checked_sub(1)?)?;
+    let is_ended = part_of(text, number).is_some();
+    if bytes.is_empty() && !is_ended {
+        return None;
+    }
+    Some(Line { bytes, is_ended })
+}
+
+/// What stands between line feeds, or between one and an end of the text, by its index.
+fn part_of(text: &[u8], index: usize) -> Option<&[u8]>
+    ensures { option_copied result ≡ part_at text.now index }
+{
+    text.split(|byte| *byte == b'\n').nth(index)
+}
+
+/// The line without a carriage return at its end.
+fn without_return(line: &[u8]) -> &[u8]
+    ensures { result.now ≡ without_return line.now }
+{
+    if line.ends_with(b"\r") {
+        &line[..line.len() - 1]
+    } else {
+        line
+    }
+}
+
+/// Whether the line, without a carriage return at its end, ends in a blank or a tab.
+fn ends_in_blank(line: &[u8]) -> bool
+    ensures { result ≡ ends_in_blank line.now }
+{
+    let line = without_return(line);
+    line.ends_with(b" ") || line.ends_with(b"\t")
+}
+
+/// Whether the line has a letter of lower case.
+fn has_lower_case(line: &[u8]) -> bool
+    ensures { result ≡ has_lower_case line.now }
+{
+    line.iter().any(|byte| byte.is_ascii_lowercase())
+}
+
+/// Whether a word of the line is of hexadecimal digits, an odd number of them.
+fn has_odd_number(line: &[u8]) -> bool
+    ensures { result ≡ has_odd_number line.now }
+{
+    line.split(|byte| *byte == b' ')
+        .any(|word| is_odd_number(word))
+}
+
+/// Whether a word is of hexadecimal digits, an odd number of them.
+fn is_odd_number(word: &[u8]) -> bool
+    ensures { result ≡ is_odd_number word.now }
+{
+    word.len() % 2 == 1 && are_digits(word)
+}

@@ -1,0 +1,100 @@
+//! The files that `link` takes: object files and libraries, by their first byte.
+
+ghost use Rattle.std.specs.Prelude.{List, ℕ, IfOk, IfErr};
+ghost use Rattle.plm80_console.specs.Journal.{OnlyReports};
+ghost use Rattle.plm80_files.specs.LinkFiles.{FaultsEither, HasTakenEither, IsLinkFileRead, SpellsEither};
+
+use crate::file_fault::FileFault;
+use crate::unread_bytes::explain_unread;
+use omf_core::RecordKind;
+use omf_library::{Library, LibraryFeed};
+use omf_module::{FileFeed, Module};
+use plm80_console::{Console, Reported, TakePieces};
+use std::alloc::{AllocError, Global};
+
+/// The type of a library header, which no module begins with.
+const LIBRARY_HEADER: u8 = RecordKind::LibraryHeader as u8;
+
+/// An object file or a library that comes in pieces. Its first byte decides which it is.
+#[derive(Drop)]
+pub enum LinkFeed {
+    /// No byte has come.
+    Empty(Global),
+    ObjectFile(FileFeed),
+    Library(LibraryFeed),
+}
+
+/// What a file has.
+#[derive(Drop)]
+pub enum LinkFile {
+    /// The modules of an object file, in order.
+    Modules(Vec<Module>),
+    Library(Library),
+}
+
+impl TakePieces for LinkFeed {
+    ghost use Rattle.plm80_files.specs.LinkFiles.{HasTakenEither};
+
+    ghost has_taken = { HasTakenEither };
+
+    fn take(&mut self, piece: &[u8]) -> Result<(), AllocError> {
+        match self {
+            LinkFeed::Empty(alloc) => {
+                let begun = begun(*alloc, piece)?;
+                *self = begun;
+                Ok(())
+            }
+            LinkFeed::ObjectFile(feed) => feed.take(piece),
+            LinkFeed::Library(feed) => feed.take(piece),
+        }
+    }
+}
+
+/// The feed of a file that begins with this piece.
+fn begun(alloc: Global, piece: &[u8]) -> Result<LinkFeed, AllocError>
+    ensures { IfOk result (λ feed. HasTakenEither feed piece.now) }
+{
+    match piece.first() {
+        None => Ok(LinkFeed::Empty(alloc)),
+        Some(&LIBRARY_HEADER) => {
+            let mut feed = LibraryFeed::new(alloc);
+            feed.take(piece)?;
+            Ok(LinkFeed::Library(feed))
+        }
+        Some(_) => {
+            let mut feed = FileFeed::new(alloc);
+            feed.take(piece)?;
+            Ok(LinkFeed::ObjectFile(feed))
+        }
+    }
+}
+
+impl LinkFeed {
+    /// What the file has whose pieces were taken. A file without bytes is read as an object file.
+    fn finish(self) -> Result<LinkFile, FileFault>
+        ensures file { (text : List ℕ) → HasTakenEither self text → IfOk result (SpellsEither text) }
+        ensures fault { (text : List ℕ) → HasTakenEither self text → IfErr result (FaultsEither text) }
+    {
+        match self {
+            LinkFeed::Empty(alloc) => Ok(LinkFile::Modules(FileFeed::new(alloc).finish()?)),
+            LinkFeed::ObjectFile(feed) => Ok(LinkFile::Modules(feed.finish()?)),
+            LinkFeed::Library(feed) => Ok(LinkFile::Library(feed.finish()?)),
+        }
+    }
+}
+
+/// The object file or the library that the file of this path is, read in pieces.
+pub fn read_link_file<C: Console>(console: &mut C, path: &str) -> Result<LinkFile, Reported>
+    ensures read { IfOk result (IsLinkFileRead path.now (C.journal console.old) (C.journal console.new)) }
+    ensures fault { IfErr result (λ _. OnlyReports (C.journal console.old) (C.journal console.new)) }
+{
+    let mut feed = LinkFeed::Empty(console.alloc());
+    console.read_in_pieces(path, &mut feed)?;
+    match feed.finish() {
+        Ok(file) => {
+            explain_unread(console, path);
+            Ok(file)
+        }
+        Err(fault) => Err(fault.report(console, path)),
+    }
+}

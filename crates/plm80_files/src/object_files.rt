@@ -1,0 +1,43 @@
+//! The modules of object files, for the commands that take them.
+
+ghost use Rattle.std.specs.Prelude.{◌≡◌, ◌++◌, [], IfErr, IfOk, OnOk};
+ghost use Rattle.plm80_console.specs.Journal.{OnlyReports};
+ghost use Rattle.plm80_files.specs.LinkFiles.{AreModulesRead};
+
+use crate::file_fault::FileFault;
+use crate::unread_bytes::explain_unread;
+use omf_module::{FileFeed, Module};
+use plm80_console::{Console, Reported};
+
+/// The modules of the object file of this path, in order; also of one that begins as a library. It is read in pieces.
+pub fn read_modules<C: Console>(console: &mut C, path: &str) -> Result<Vec<Module>, Reported>
+    ensures read { IfOk result (λ modules. AreModulesRead path.now (C.journal console.old) (C.journal console.new) modules.items) }
+    ensures fault { IfErr result (λ _. OnlyReports (C.journal console.old) (C.journal console.new)) }
+{
+    let mut feed = FileFeed::new(console.alloc());
+    console.read_in_pieces(path, &mut feed)?;
+    match feed.finish() {
+        Ok(modules) => {
+            explain_unread(console, path);
+            Ok(modules)
+        }
+        Err(fault) => Err(FileFault::Module(fault).report(console, path)),
+    }
+}
+
+/// Appends modules that were read.
+pub fn append_modules<C: Console>(
+    console: &mut C,
+    modules: &mut Vec<Module>,
+    read: &mut Vec<Module>,
+) -> Result<(), Reported>
+    ensures appended { OnOk result (modules.new.items ≡ modules.old.items ++ read.old.items) }
+    ensures taken { OnOk result (read.new.items ≡ []) }
+    ensures unchanged { IfOk result (λ _. C.journal console.new ≡ C.journal console.old) }
+    ensures fault { IfErr result (λ _. OnlyReports (C.journal console.old) (C.journal console.new)) }
+{
+    match modules.append(read) {
+        Ok(()) => Ok(()),
+        Err(_) => Err(console.report_memory()),
+    }
+}

@@ -1,0 +1,86 @@
+//! The image and its regions, which several commands read.
+
+ghost use Rattle.std.specs.Prelude.{◌≡◌, IfErr, IfOk};
+ghost use Rattle.image80.specs.RegionsText.{Spells};
+ghost use Rattle.image80_file.specs.ImageFile.{SpellsImage, without_regions};
+ghost use Rattle.plm80_console.specs.Journal.{OnlyReports, and_reported};
+
+use crate::file_kinds::{FileRole, explain_file, explain_regions_place};
+use crate::regions_words::explain_regions;
+use crate::unread_bytes::explain_unread_bytes;
+use image80::{Image, Regions, RegionsFault, read_regions};
+use image80_file::{ImageFault, read_image};
+use plm80_console::{Argument, Console, Kind, Reported};
+
+/// The argument of an image that is read.
+pub const IMAGE: Argument<'static> = Argument {
+    name: "IMAGE",
+    kind: Kind::Path,
+    help: "The image, an absolute object file",
+};
+
+/// The argument of its regions.
+pub const REGIONS: Argument<'static> = Argument {
+    name: "REGIONS",
+    kind: Kind::Path,
+    help: "The text of its code, data and stack ranges",
+};
+
+/// The regions that the file's text spells.
+pub fn regions_of<C: Console>(console: &mut C, path: &str, text: &[u8]) -> Result<Regions, Reported>
+    ensures regions { IfOk result (Spells text.now) }
+    ensures unchanged { IfOk result (λ _. C.journal console.new ≡ C.journal console.old) }
+    ensures fault { IfErr result (λ _. OnlyReports (C.journal console.old) (C.journal console.new)) }
+{
+    match read_regions(console.alloc(), text) {
+        Ok(regions) => Ok(regions),
+        Err(fault) => {
+            let reported = report_regions(console, path, text, fault);
+            explain_regions_place(console, text);
+            Err(reported)
+        }
+    }
+}
+
+/// Reports why the text of the file of this path spells no regions.
+pub fn report_regions<C: Console>(
+    console: &mut C,
+    path: &str,
+    text: &[u8],
+    fault: RegionsFault,
+) -> Reported
+    ensures { C.journal console.new ≡ and_reported (C.journal console.old) }
+{
+    if let RegionsFault::Memory = fault {
+        return console.report_memory();
+    }
+    let reported = console.report_file(path, fault);
+    explain_regions(console, text, fault);
+    reported
+}
+
+/// The image that the file's bytes spell, with these regions.
+pub fn image_of<C: Console>(
+    console: &mut C,
+    path: &str,
+    bytes: &[u8],
+    regions: Regions,
+) -> Result<Image, Reported>
+    ensures image { IfOk result (λ image. SpellsImage bytes.now (without_regions image)) }
+    ensures regions { IfOk result (λ image. image.regions ≡ regions) }
+    ensures unchanged { IfOk result (λ _. C.journal console.new ≡ C.journal console.old) }
+    ensures fault { IfErr result (λ _. OnlyReports (C.journal console.old) (C.journal console.new)) }
+{
+    match read_image(console.alloc(), bytes, regions) {
+        Ok(image) => {
+            explain_unread_bytes(console, path, bytes);
+            Ok(image)
+        }
+        Err((_, ImageFault::Memory)) => Err(console.report_memory()),
+        Err((_, fault)) => {
+            let reported = console.report_file(path, fault);
+            explain_file(console, bytes, FileRole::Image);
+            Err(reported)
+        }
+    }
+}

@@ -1,0 +1,127 @@
+//! What is wrong with a text of regions, in words.
+
+ghost use Rattle.std.specs.Prelude.{◌≡◌, ◌≢◌, IfOk, IfSome};
+ghost use Rattle.plm80_files.specs.Lines.{needs_version_2};
+ghost use Rattle.plm80_files.specs.RangeWords.{IsBehindKeyword, IsInWords};
+
+use crate::file_kinds::{FileRole, explain_file};
+use crate::line_words::{UPPER_FLAWS, VERSION_FLAWS, explain_flaws, line_of};
+use image80::{Range, RegionsFault};
+use plm80_console::{Console, word_of_digits};
+use std::alloc::{AllocError, Global};
+use std::str;
+
+/// How many addresses there are.
+const ADDRESSES: usize = 65_536;
+
+/// No line has this number.
+const NO_LINE: usize = 0;
+
+/// Says what is wrong with the text of regions that has this fault.
+pub fn explain_regions<C: Console>(console: &C, text: &[u8], fault: RegionsFault) {
+    match fault {
+        RegionsFault::BadVersion => {
+            if !explain_file(console, text, FileRole::Regions) {
+                explain_flaws(console, text, 1, VERSION_FLAWS);
+            }
+        }
+        RegionsFault::BadLine(number) => {
+            if needs_version_2(text, number) {
+                console.explain("a CASE line needs REGIONS 2 as the first line");
+            }
+            explain_flaws(console, text, number, UPPER_FLAWS);
+        }
+        RegionsFault::RegionsOverlap => explain_overlap(console, text),
+        RegionsFault::NoStack | RegionsFault::Memory => {}
+    }
+}
+
+/// Says which two lines share an address. If memory runs out for that, it says nothing.
+fn explain_overlap<C: Console>(console: &C, text: &[u8]) {
+    if !console.explains() {
+        return;
+    }
+    if let Ok(Some((first, second))) = overlapping_lines(console.alloc(), text) {
+        explain_range_line(console, text, first);
+        explain_range_line(console, text, second);
+    }
+}
+
+/// Shows the line of this number.
+fn explain_range_line<C: Console>(console: &C, text: &[u8], number: usize) {
+    if let Some(line) = line_of(text, number) {
+        if let Ok(words) = str::from_utf8(line.bytes) {
+            console.explain(format_args!("line {number}: {words}"));
+        }
+    }
+}
+
+/// Whether the line of this number needs a text of version 2: a CASE line in one of version 1.
+fn needs_version_2(text: &[u8], number: usize) -> bool
+    ensures { result ≡ needs_version_2 text.now number }
+{
+    match line_of(text, number) {
+        Some(line) => text.starts_with(b"REGIONS 1\n") && line.bytes.starts_with(b"CASE "),
+        None => false,
+    }
+}
+
+/// The number of the first line that has an address of an earlier one, behind the number of that.
+fn overlapping_lines(alloc: Global, text: &[u8]) -> Result<Option<(usize, usize)>, AllocError>
+    ensures { IfOk result (λ found. IfSome found (λ lines. lines.0 ≢ NO_LINE)) }
+{
+    let mut owners = vec![in alloc; NO_LINE; ADDRESSES]?;
+    let mut number = NO_LINE;
+    for line in text.split(|byte| *byte == b'\n') {
+        number = number.saturating_add(1);
+        if let Some(range) = range_of(line) {
+            if let Some(earlier) = take_range(&mut owners, range, number) {
+                return Ok(Some((earlier, number)));
+            }
+        }
+    }
+    Ok(None)
+}
+
+/// Notes that the line of this number has the addresses of a range, up to the first one that an earlier line has; that line's number.
+fn take_range(owners: &mut Vec<usize>, range: Range, number: usize) -> Option<usize>
+    ensures { IfSome result (λ earlier. earlier ≢ NO_LINE) }
+{
+    let first = usize::from(range.first);
+    for address in first..first + usize::from(range.length) {
+        if let Some(owner) = owners.get_mut(address) {
+            if *owner != NO_LINE {
+                return Some(*owner);
+            }
+            *owner = number;
+        }
+    }
+    None
+}
+
+/// The range of a line CODE, STACK or DATA.
+fn range_of(line: &[u8]) -> Option<Range>
+    ensures { IfSome result (IsInWords line.now) }
+{
+    let Ok(words) = str::from_utf8(extent_of(line)?) else {
+        return None;
+    };
+    let (first, length) = words.split_once(' ')?;
+    Some(Range {
+        first: word_of_digits(first)?,
+        length: word_of_digits(length)?,
+    })
+}
+
+/// What stands behind the first word of such a line.
+fn extent_of(line: &[u8]) -> Option<&[u8]>
+    ensures { IfSome result (λ extent. IsBehindKeyword line.now extent.now) }
+{
+    if let Some(rest) = line.strip_prefix(b"CODE ") {
+        return Some(rest);
+    }
+    if let Some(rest) = line.strip_prefix(b"STACK ") {
+        return Some(rest);
+    }
+    line.strip_prefix(b"DATA ")
+}

@@ -1,0 +1,2 @@
+mod DraftLemmas
+pub mod Walks

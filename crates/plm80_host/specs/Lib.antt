@@ -1,0 +1,5 @@
+pub mod Noted
+-- what the crate's own functions promise one another: no public contract cites these
+pub mod Drafts
+pub mod PathParts
+pub mod Places

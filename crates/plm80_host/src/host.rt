@@ -1,0 +1,282 @@
+//! The console of the program, over its host.
+
+ghost use Rattle.std.specs.Prelude.{◌≡◌, [], IfOk};
+ghost use Rattle.plm80_console.specs.Journal.{and_reported, nothing_done};
+ghost use Rattle.plm80_host.specs.Noted.{noted};
+
+use crate::files::{LateFile, NotedReader};
+use crate::notes::{Note, Notes};
+use plm80_console::{Console, NewFile, Reported, TakePieces};
+use std::alloc::Global;
+use std::fmt::Display;
+use std::fs;
+use std::io::{ErrorKind, IsTerminal, Read, Write};
+use stream80::{Failed, ReadAllFault, Reading, Sink, TEXT_LIMIT, read_all};
+
+/// The console of the program. What is done with it is noted, so that a contract sees it.
+#[derive(Drop)]
+pub struct HostConsole<'a> {
+    pub(crate) rt: &'a HostRuntime,
+    why: bool,
+    pub(crate) notes: Notes,
+}
+
+impl<'a> HostConsole<'a> {
+    /// The console of the program, with which nothing was done; with `why`, words about a fault follow its line.
+    pub fn new(rt: &'a HostRuntime, why: bool) -> HostConsole<'a>
+        ensures { ⟦<HostConsole<'a> as Console>⟧.journal result ≡ nothing_done }
+    {
+        HostConsole {
+            rt,
+            why,
+            notes: Notes::new(),
+        }
+    }
+
+    /// Notes one thing that was done.
+    pub(crate) fn note(&mut self, note: &Note<'_>)
+        ensures { self.new.notes.journal ≡ noted self.old.notes.journal note.now }
+    {
+        self.notes = self.notes.with(note);
+    }
+}
+
+impl<'a> Console for HostConsole<'a> {
+    ghost journal = { λ console. console.notes.journal };
+
+    type Output = HostOutput<'a>;
+
+    fn alloc(&self) -> Global {
+        self.rt.alloc()
+    }
+
+    fn explains(&self) -> bool {
+        self.why
+    }
+
+    fn read(&mut self, path: &str) -> Result<Vec<u8>, Reported> {
+        let mut file = LateFile::new(self.rt, path);
+        let mut source = Reading::new(&mut file);
+        match read_all(self.rt.alloc(), &mut source, TEXT_LIMIT) {
+            Ok(bytes) => {
+                self.note(&Note::Read(path, &bytes));
+                Ok(bytes)
+            }
+            Err(fault) => Err(self.report_unread(path, fault, file.failure())),
+        }
+    }
+
+    fn read_input(&mut self, limit: usize) -> Result<Vec<u8>, Reported> {
+        if self.rt.stdin().is_terminal() {
+            self.remark("reads a bundle from standard input; plm80 --help lists the commands");
+        }
+        let mut input = NotedReader::new(self.rt.stdin());
+        let mut source = Reading::new(&mut input);
+        match read_all(self.rt.alloc(), &mut source, limit) {
+            Ok(bytes) => {
+                self.note(&Note::Input(&bytes));
+                Ok(bytes)
+            }
+            Err(fault) => Err(self.report_no_input(fault, input.failure())),
+        }
+    }
+
+    fn read_in_pieces<F: TakePieces>(&mut self, path: &str, feed: &mut F) -> Result<(), Reported> {
+        let mut file = LateFile::new(self.rt, path);
+        match hand_pieces(&mut file, feed) {
+            Ok(pieces) => {
+                self.note(&Note::ReadPieces(path, &pieces));
+                Ok(())
+            }
+            Err(fault) => Err(self.report_unread(path, fault, file.failure())),
+        }
+    }
+
+    fn replace(&mut self, path: &str, bytes: &[u8]) -> Result<(), Reported> {
+        self.replace_file(NewFile { path, bytes })
+    }
+
+    fn replace_both(&mut self, first: NewFile<'_>, second: NewFile<'_>) -> Result<(), Reported> {
+        self.replace_two(first, second)
+    }
+
+    fn replace_keeping_objects(&mut self, path: &str, bytes: &[u8]) -> Result<(), Reported> {
+        self.replace_keeping(NewFile { path, bytes })
+    }
+
+    fn output(&mut self) -> HostOutput<'a> {
+        HostOutput {
+            rt: self.rt,
+            failures: 0,
+            failure: None,
+            pieces: Notes::new(),
+        }
+    }
+
+    fn take_back(&mut self, output: HostOutput<'a>) -> Option<ErrorKind> {
+        let HostOutput {
+            rt: _,
+            failures: _,
+            failure,
+            pieces,
+        } = output;
+        self.note(&Note::Printed(&pieces));
+        failure
+    }
+
+    fn report<F: Display + Drop>(&mut self, fault: F) -> Reported {
+        let reported = Reported::print(self.rt, format_args!("plm80: {fault}\n"));
+        self.note(&Note::Reported);
+        reported
+    }
+
+    fn report_usage(&mut self, error: &clap::Error) -> Reported {
+        if error.kind() == clap::error::ErrorKind::OutOfMemory {
+            return self.report_memory();
+        }
+        let reported = Reported::print(self.rt, format_args!("{error}"));
+        self.note(&Note::Reported);
+        reported
+    }
+
+    fn explain_faults(&mut self) {
+        self.why = true;
+    }
+
+    fn explain<F: Display + Drop>(&self, words: F) {
+        if self.why {
+            let _ = eprintln!(self.rt; "  {words}");
+        }
+    }
+
+    fn remark<F: Display + Drop>(&self, words: F) {
+        let _ = eprintln!(self.rt; "plm80: {words}");
+    }
+
+    fn text_to_explain(&self, path: &str) -> Option<Vec<u8>> {
+        if !self.why {
+            return None;
+        }
+        match fs::metadata(self.rt, path) {
+            Ok(metadata) if metadata.is_file() => {}
+            _ => return None,
+        }
+        let mut source = Reading::new(LateFile::new(self.rt, path));
+        read_all(self.rt.alloc(), &mut source, TEXT_LIMIT).ok()
+    }
+
+    fn is_one_file(&self, first: &str, second: &str) -> bool {
+        self.is_one_place(first, second)
+    }
+}
+
+impl<'a> HostConsole<'a> {
+    /// Reports a fault of the system at the file of this path.
+    pub(crate) fn report_system(
+        &mut self,
+        path: &str,
+        fault: &str,
+        failure: Option<ErrorKind>,
+    ) -> Reported
+        ensures { self.new.notes.journal ≡ and_reported self.old.notes.journal }
+    {
+        let reported = self.report_file(path, fault);
+        self.explain_failure(failure);
+        reported
+    }
+
+    /// Reports why not all bytes of the file of this path were read.
+    fn report_unread(
+        &mut self,
+        path: &str,
+        fault: ReadAllFault,
+        failure: Option<ErrorKind>,
+    ) -> Reported
+        ensures { self.new.notes.journal ≡ and_reported self.old.notes.journal }
+    {
+        match fault {
+            ReadAllFault::Read => self.report_system(path, "Read", failure),
+            ReadAllFault::TooLong => self.report_file(path, "TooLong"),
+            ReadAllFault::Memory => self.report_memory(),
+        }
+    }
+}
+
+impl<'a> HostConsole<'a> {
+    /// Reports why not all bytes of standard input were read, which is the only text of a bundle.
+    fn report_no_input(&mut self, fault: ReadAllFault, failure: Option<ErrorKind>) -> Reported
+        ensures { self.new.notes.journal ≡ and_reported self.old.notes.journal }
+    {
+        match fault {
+            ReadAllFault::Read => {
+                let reported = self.report("Read 1");
+                self.explain_failure(failure);
+                reported
+            }
+            ReadAllFault::TooLong => self.report("TooLong 1"),
+            ReadAllFault::Memory => self.report_memory(),
+        }
+    }
+}
+
+/// How many bytes of a file are handed on at a time.
+const PIECE: usize = 512;
+
+/// Hands all bytes of a file, of which there are no more than a text may have, to the feed, in pieces; notes them.
+fn hand_pieces<R: Read, F: TakePieces>(file: &mut R, feed: &mut F) -> Result<Notes, ReadAllFault>
+    ensures { IfOk result (λ pieces. F.has_taken feed.old [] → F.has_taken feed.new pieces.journal.printed) }
+{
+    let mut pieces = Notes::new();
+    let mut taken = 0;
+    let mut piece = [0u8; PIECE];
+    'pieces: while taken <= TEXT_LIMIT {
+        let Ok(count) = file.read(&mut piece) else {
+            return Err(ReadAllFault::Read);
+        };
+        if count == 0 {
+            return Ok(pieces);
+        }
+        taken += count;
+        feed.take(&piece[..count])?;
+        pieces = pieces.with(&Note::Piece(&piece[..count]));
+    }
+    Err(ReadAllFault::TooLong)
+}
+
+/// Standard output. The pieces that it takes are noted.
+pub struct HostOutput<'a> {
+    rt: &'a HostRuntime,
+    failures: u64,
+    failure: Option<ErrorKind>,
+    pieces: Notes,
+}
+
+impl<'a> Sink for HostOutput<'a> {
+    ghost use Rattle.std.specs.Prelude.{Some};
+
+    ghost written = { λ output. Some output.pieces.journal.printed };
+
+    ghost failed = { λ output. output.failures };
+
+    fn failures(&self) -> u64 {
+        self.failures
+    }
+
+    fn write(&mut self, bytes: &[u8]) -> Result<usize, Failed> {
+        match self.rt.stdout().write(bytes) {
+            Ok(0) => {
+                self.failures += 1;
+                Ok(0)
+            }
+            Ok(count) => {
+                self.pieces = self.pieces.with(&Note::Piece(&bytes[..count]));
+                Ok(count)
+            }
+            Err(error) => {
+                self.failures += 1;
+                self.failure = Some(error.kind());
+                Err(Failed)
+            }
+        }
+    }
+}

@@ -1,0 +1,174 @@
+//! An object file in the place of a library that is written: a copy of it is kept under another name.
+
+ghost use Rattle.std.specs.Prelude.{◌≡◌, ℕ, IfErr, IfOk, string_bytes};
+ghost use Rattle.plm80_console.specs.Journal.{and_copied, and_reported};
+ghost use Rattle.plm80_console.specs.Replaced.{GaveUpKeeping, IsKept, IsReplacedKeeping, kept_text};
+
+use crate::host::HostConsole;
+use crate::notes::Note;
+use crate::path_parts::folder_and_name;
+use plm80_console::{Console, NewFile, Reported};
+use std::alloc::AllocError;
+use std::fs::{File, Permissions};
+use std::io::{ErrorKind, Read, Seek, SeekFrom};
+use std::os::unix::fs::PermissionsExt;
+use std::{fs, io};
+
+/// The first byte of an object file: the type of a module's header.
+const MODULE_HEADER: u8 = 0x02;
+
+impl<'a> HostConsole<'a> {
+    /// Replaces the file as [`Console::replace`] does. If the path names an object file now, by a symbolic link too, a copy of it
+    /// is kept beside the path: under the path with a tilde, and with a number behind it if there is such a file. Nothing is
+    /// replaced before the copy is whole.
+    pub(crate) fn replace_keeping(&mut self, file: NewFile<'_>) -> Result<(), Reported>
+        ensures written { IfOk result (λ _. IsReplacedKeeping file.entry.path.now file.entry.bytes.now
+            self.old.notes.journal self.new.notes.journal) }
+        ensures fault { IfErr result (λ _. GaveUpKeeping file.entry.path.now self.old.notes.journal self.new.notes.journal) }
+    {
+        let draft = self.draft(file)?;
+        match self.keep_object(file.path) {
+            Ok(()) => {
+                self.settle(draft)?;
+                self.note(&Note::Written(file.path, file.bytes));
+                Ok(())
+            }
+            Err(reported) => {
+                self.drop_draft(draft);
+                Err(reported)
+            }
+        }
+    }
+
+    /// Keeps a copy of the regular file that the path names, if that is an object file. One that can't be read may be one: it is a
+    /// fault.
+    fn keep_object(&mut self, path: &str) -> Result<(), Reported>
+        ensures kept { IfOk result (λ _. IsKept path.now self.old.notes.journal self.new.notes.journal) }
+        ensures fault { IfErr result (λ _. self.new.notes.journal ≡ and_reported self.old.notes.journal) }
+    {
+        match fs::metadata(self.rt, path) {
+            Ok(metadata) if metadata.is_file() => {}
+            Ok(_) => return Ok(()),
+            Err(error) if error.kind() == ErrorKind::NotFound => return Ok(()),
+            Err(error) => return Err(self.report_system(path, "Write", Some(error.kind()))),
+        }
+        match self.open_object(path) {
+            Ok(Some(object)) => self.keep(path, object),
+            Ok(None) => Ok(()),
+            Err(error) => Err(self.report_system(path, "Read", Some(error.kind()))),
+        }
+    }
+
+    /// The file of this path, if it begins as an object file does.
+    fn open_object(&self, path: &str) -> io::Result<Option<File>> {
+        let mut file = File::open(self.rt, path)?;
+        let mut first = [0u8; 1];
+        let count = file.read(&mut first)?;
+        if count == 0 || first[0] != MODULE_HEADER {
+            return Ok(None);
+        }
+        file.seek(SeekFrom::Start(0))?;
+        Ok(Some(file))
+    }
+
+    /// Copies the object file to the first name beside its path that no file has.
+    fn keep(&mut self, path: &str, object: File) -> Result<(), Reported>
+        ensures kept { IfOk result (λ _. IsKept path.now self.old.notes.journal self.new.notes.journal) }
+        ensures fault { IfErr result (λ _. self.new.notes.journal ≡ and_reported self.old.notes.journal) }
+    {
+        match self.new_copy(path) {
+            Ok((kept, copy)) => self.fill_copy(path, object, &kept, copy),
+            Err(CopyFault::Memory) => Err(self.report_memory()),
+            Err(CopyFault::System(kind)) => Err(self.report_system(path, "Write", Some(kind))),
+            Err(CopyFault::At(kept, kind)) => Err(self.report_unkept(path, &kept, kind)),
+        }
+    }
+
+    /// The first name beside a path that no file has, and a new file of this name.
+    fn new_copy(&self, path: &str) -> Result<(String, File), CopyFault>
+        ensures { IfOk result (λ made. (number : ℕ) × (string_bytes made.0 ≡ kept_text path.now number)) }
+    {
+        for number in 0..u32::MAX {
+            let kept = self.kept_path(path, number)?;
+            match File::create_new(self.rt, &kept) {
+                Ok(copy) => return Ok((kept, copy)),
+                Err(error) if error.kind() == ErrorKind::AlreadyExists => {}
+                Err(error) => return Err(CopyFault::At(kept, error.kind())),
+            }
+        }
+        Err(CopyFault::System(ErrorKind::AlreadyExists))
+    }
+
+    /// The path of this number under which a copy may be kept.
+    fn kept_path(&self, path: &str, number: u32) -> Result<String, AllocError>
+        ensures { IfOk result (λ kept. string_bytes kept ≡ kept_text path.now number) }
+    {
+        if number == 0 {
+            format!(in self.rt.alloc(); "{path}~")
+        } else {
+            format!(in self.rt.alloc(); "{path}~{number}")
+        }
+    }
+
+    /// Makes the new file a copy of the object file, or removes it.
+    fn fill_copy(
+        &mut self,
+        path: &str,
+        object: File,
+        kept: &str,
+        copy: File,
+    ) -> Result<(), Reported>
+        ensures kept { IfOk result (λ _. self.new.notes.journal ≡ and_copied self.old.notes.journal kept.now) }
+        ensures fault { IfErr result (λ _. self.new.notes.journal ≡ and_reported self.old.notes.journal) }
+    {
+        match copy_and_sync(object, copy) {
+            Ok(()) => {
+                // With its folder on the disk the file's name outlasts a crash of the system. Not every file system can do it.
+                let (folder, _) = folder_and_name(kept);
+                if let Ok(folder) = File::open(self.rt, folder) {
+                    let _ = folder.sync_all();
+                }
+                self.note(&Note::Copied(kept));
+                Ok(())
+            }
+            Err(error) => {
+                let _ = fs::remove_file(self.rt, kept);
+                Err(self.report_unkept(path, kept, error.kind()))
+            }
+        }
+    }
+
+    /// Reports that the object file of this path can't be kept under another name.
+    fn report_unkept(&mut self, path: &str, kept: &str, kind: ErrorKind) -> Reported
+        ensures { self.new.notes.journal ≡ and_reported self.old.notes.journal }
+    {
+        let reported = self.report_system(kept, "Write", Some(kind));
+        self.explain(format_args!("{path} is an object file, and was to be kept under that name"));
+        reported
+    }
+}
+
+/// Why there is no new file for a copy.
+#[derive(Drop)]
+enum CopyFault {
+    Memory,
+    System(ErrorKind),
+    /// The file of this name can't be made.
+    At(String, ErrorKind),
+}
+
+impl From<AllocError> for CopyFault {
+    fn from(_: AllocError) -> CopyFault
+        ensures { result ≡ CopyFault.Memory }
+    {
+        CopyFault::Memory
+    }
+}
+
+/// Writes all bytes of the object file to the copy and to the disk. The copy gets its permissions first.
+fn copy_and_sync(mut object: File, mut copy: File) -> io::Result<()> {
+    let mode = object.metadata()?.permissions().mode();
+    copy.set_permissions(Permissions::from_mode(mode & 0o777))?;
+    io::copy(&mut object, &mut copy)?;
+    copy.sync_all()
+}

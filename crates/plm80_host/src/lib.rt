@@ -1,0 +1,23 @@
+//! The program's console, over files and standard streams.
+//!
+//! Proved: where each thing is noted; names of drafts and of copies.
+//!
+//! That it does what it notes must be believed, and so must what replaces files here, and std below: no proof reads what a system does.
+//! Nothing else of the program reaches the system but [`Reported::print`](plm80_console::Reported::print) and the arguments.
+//!
+//! | Item | What it is |
+//! |---|---|
+//! | [`HostConsole`], [`HostOutput`] | the console of the program, and its standard output |
+//! | [`Notes`], [`Note`] | the journal of a run, which only proofs read; a thing that was done |
+#![tactic(auto)]
+
+mod files;
+mod host;
+mod keeping;
+mod notes;
+mod path_parts;
+mod replacing;
+mod same_file;
+
+pub use host::{HostConsole, HostOutput};
+pub use notes::{Note, Notes};

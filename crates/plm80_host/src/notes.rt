@@ -1,0 +1,61 @@
+//! The journal of a run, which only proofs read. It takes no memory, and its functions do nothing when they run.
+//!
+//! Its value is tied to nothing: that a note is made of what was done, where it was done, is to be seen in `host.rt` and below it.
+
+ghost use Rattle.std.specs.Prelude.{◌≡◌};
+ghost use Rattle.std.specs.Borrow.{ftrue};
+ghost use Rattle.plm80_console.specs.Journal.{Journal};
+
+use std::marker::Model;
+
+/// What was done so far.
+#[derive(Drop)]
+pub struct Notes {
+    pub ghost journal: { Journal },
+}
+
+impl Model for Notes {
+    ghost also_owns = { λ _. ftrue };
+}
+
+/// One thing that was done.
+#[derive(Clone, Copy)]
+pub enum Note<'a> {
+    /// The file of a path was read whole.
+    Read(&'a str, &'a [u8]),
+    /// It was read in pieces.
+    ReadPieces(&'a str, &'a Notes),
+    /// Standard input was read whole.
+    Input(&'a [u8]),
+    /// The file of a path was replaced by one with these bytes.
+    Written(&'a str, &'a [u8]),
+    /// A piece of a file or of an output.
+    Piece(&'a [u8]),
+    /// Pieces were printed.
+    Printed(&'a Notes),
+    /// A fault was reported.
+    Reported,
+    /// The file of a path was written in part.
+    Spoiled(&'a str),
+    /// A copy was kept under a path.
+    Copied(&'a str),
+}
+
+impl Notes {
+    ghost use Rattle.plm80_console.specs.Journal.{nothing_done};
+    ghost use Rattle.plm80_host.specs.Noted.{noted};
+
+    /// Nothing was done.
+    pub fn new() -> Notes
+        ensures { result.journal ≡ nothing_done }
+    {
+        Notes {}
+    }
+
+    /// One thing more.
+    pub fn with(&self, _note: &Note<'_>) -> Notes
+        ensures { result.journal ≡ noted self.now.journal _note.now }
+    {
+        Notes {}
+    }
+}
