@@ -180,28 +180,25 @@ pub still_keeps : (image : Located) (ground : Ground image.regions) (quiet : ℕ
     ((at : ℕ) → quiet at ≡ true → slice_index memory at ≡ slice_index w.machine.memory at) → KeepsToCalls image returns variables table w → KeepsToCalls image returns variables table (with_memory w memory)
 still_keeps image ground quiet returns variables table w memory knows quiet_variables leaves stays keeps = record {
   keeps = record {
-    place = k.place;
-    placed = k.placed;
-    there = k.there;
-    at = k.at;
+    place = keeps.keeps.place;
+    placed = keeps.keeps.placed;
+    there = keeps.keeps.there;
+    at = keeps.keeps.at;
     holds = record {
-      registers = k.holds.registers;
-      words = words_stay image.regions ground k.placed.state.words w.machine.memory memory w.machine.cpu.sp (λ a in_stack above filled. leaves.pushed a (record { in_stack = in_stack; above = above; filled = filled })) k.holds.words;
-      cells = cells_beside quiet w.machine.memory memory k.placed.state.cells stays leaves.bytes known.cells k.holds.cells;
-      source = source_beside quiet w.machine.memory memory k.placed.state.source w.machine.cpu.registers.a stays known.source k.holds.source;
+      registers = keeps.keeps.holds.registers;
+      words = words_stay image.regions ground keeps.keeps.placed.state.words w.machine.memory memory w.machine.cpu.sp (λ a in_stack above filled. leaves.pushed a (record { in_stack = in_stack; above = above; filled = filled })) keeps.keeps.holds.words;
+      cells = cells_beside quiet w.machine.memory memory keeps.keeps.placed.state.cells stays leaves.bytes known.cells keeps.keeps.holds.cells;
+      source = source_beside quiet w.machine.memory memory keeps.keeps.placed.state.source w.machine.cpu.registers.a stays known.source keeps.keeps.holds.source;
     };
-    code = λ address here. leaves.code address here ∙ k.code address here;
-    whole = leaves.size ∙ k.whole;
+    code = λ address here. leaves.code address here ∙ keeps.keeps.code address here;
+    whole = leaves.size ∙ keeps.keeps.whole;
   };
-  set = set_stays k.placed.state.set keeps.set;
+  set = set_stays keeps.keeps.placed.state.set keeps.set;
   owes = owes_stay returns (IsBehind variables table w.machine.memory) (IsBehind variables table memory) (returns.may w.machine.cpu.pc) (returns.known w.machine.cpu.pc) w.places
       (λ place there. record { set = there.set; holds = set_stays there.set there.holds; has = there.has }) keeps.owes;
 } where
-  abbrev k : KeepsTo image table w
-  k = keeps.keeps
-
-  known : IsQuietState quiet k.placed.state
-  known = known_there quiet table k.place k.placed knows k.there
+  known : IsQuietState quiet keeps.keeps.placed.state
+  known = known_there quiet table keeps.keeps.place keeps.keeps.placed knows keeps.keeps.there
 
   set_stays : (set : ℕ) → HoldsSet variables set w.machine.memory → HoldsSet variables set memory
   set_stays set holds v named = subst (λ n. ByteWithin v.bytes n) (sym (stays v.at (quiet_variables named.number v named.there))) (holds v named)
