@@ -33,6 +33,7 @@ pub(crate) fn compact(
             may_return: Vec::new(alloc),
             know_return: Vec::new(alloc),
         },
+        variables: Vec::new(alloc),
     };
     proposal
         .hints

@@ -185,7 +185,7 @@ fn words_of(bytes: ByteSpan) -> Span {
     }
 }
 
-/// A state with the flags, the comparison and the copy that both have.
+/// A state with the flags, the comparison, the copy and its byte of memory that both have.
 fn with_same_flags(old: State, new: State) -> State {
     State {
         copy: if old.copy == new.copy {
@@ -202,6 +202,11 @@ fn with_same_flags(old: State, new: State) -> State {
         sign: if old.sign == new.sign { old.sign } else { None },
         compared: if old.compared == new.compared {
             old.compared
+        } else {
+            None
+        },
+        source: if old.source == new.source {
+            old.source
         } else {
             None
         },

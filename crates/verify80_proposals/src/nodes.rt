@@ -226,7 +226,7 @@ impl Nodes {
         let mut place = self.group(at).first;
         for _ in 0..NEWEST {
             let node = self.get(place)?;
-            if state.is_inside(node.state) {
+            if state.is_inside(node.state, &[]) {
                 return Some(place);
             }
             place = node.next;

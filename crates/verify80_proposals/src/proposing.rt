@@ -7,15 +7,17 @@ use crate::nodes::{NOWHERE, Node, Nodes, place_of};
 use crate::program::ReachedProgram;
 use decode80::{Instr, Operand, Operation};
 use std::alloc::{AllocError, Global};
-use verify80_states::{APART, ByteSpan, CallReturns, Placed, State};
+use verify80_spans::ByteSpan;
+use verify80_states::{APART, CallReturns, Placed, State, Variable};
 
-/// A table of states, for each of their ways a place of the table, and the returns by which it was made. The first hint is that of the
-/// start.
+/// A table of states, for each of their ways a place of the table, and the returns and variables by which it was made. The first hint is
+/// that of the start.
 #[derive(Drop)]
 pub struct Proposal {
     pub table: Vec<Placed>,
     pub hints: Vec<u32>,
     pub returns: CallReturns,
+    pub variables: Vec<Variable>,
 }
 
 /// How many bytes of A are told apart, at most.

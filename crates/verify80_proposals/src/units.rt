@@ -123,7 +123,7 @@ impl Units {
 /// Whether two states agree in these parts.
 pub(crate) fn are_alike(one: State, other: State, parts: Units) -> bool {
     let keeps_a = parts.intersects(Units::A.union(Units::TEST));
-    (!keeps_a || one.a == other.a && one.copy == other.copy)
+    (!keeps_a || one.a == other.a && one.copy == other.copy && one.source == other.source)
         && are_pairs_alike(
             one.bc,
             other.bc,
@@ -184,6 +184,8 @@ pub(crate) fn reduced(state: State, parts: Units) -> State {
             parts.intersects(Units::L),
         ),
         copy: if keeps_a { state.copy } else { Register::A },
+        source: if keeps_a { state.source } else { None },
+        set: state.set,
         zero: if parts.intersects(Units::ZERO) {
             state.zero
         } else {

@@ -1,6 +1,7 @@
 -- What is known of bytes of memory, along stores and where it is read.
-use Rattle.std.specs.Prelude.{◌≡◌, ◌≢◌, ◌<◌, ◌&&◌, ℕ, ◌/◌, ◌%◌, Bool, true, false, List, [], ◌∷◌, Option, None, nat_le, length, slice_index, slice_set, refl, if◌then◌else◌}
+use Rattle.std.specs.Prelude.{◌≡◌, ◌≢◌, ◌<◌, ◌&&◌, ◌==◌, ℕ, ◌/◌, ◌%◌, Bool, true, false, List, [], ◌∷◌, Option, None, Some, nat_le, length, slice_index, slice_set, refl, if◌then◌else◌}
 use Rattle.std.proofs.Common.{subst, sym, ap, ◌∙◌, arith, get_or, inl, inr}
+use Rattle.std.proofs.lemmas.Bool.{eqb-true}
 use Rattle.std.proofs.lemmas.Bool.Decides.{nat_tests}
 use Rattle.std.proofs.lemmas.List.{get_or-set_same, length-set}
 use Rattle.decode80.specs.declared.instr.Instr.{Instr}
@@ -19,16 +20,18 @@ use Rattle.machine80.specs.Flags.{holds as holds_of}
 use Rattle.machine80.specs.Cpu.{hl_of, index_pair_of}
 use Rattle.machine80.specs.Effects.{byte_in, push_bytes, stores, stored}
 use Rattle.machine80.specs.Step.{guard, first_outside, ends_at}
-use Rattle.verify80_states.specs.declared.spans.span.Span.{Span}
-use Rattle.verify80_states.specs.declared.spans.byte_span.ByteSpan.{ByteSpan}
+use Rattle.verify80_spans.specs.declared.span.Span.{Span}
+use Rattle.verify80_spans.specs.declared.byte_span.ByteSpan.{ByteSpan}
 use Rattle.verify80_states.specs.declared.states.cells.Cell.{Cell}
 use Rattle.verify80_states.specs.declared.states.cells.Cells.{Cells}
+use Rattle.verify80_states.specs.declared.states.variables.Variable.{Variable}
 use Rattle.verify80_states.specs.declared.states.state.State.{State}
+use Rattle.verify80_states.specs.Variables.{HoldsSet}
 use Rattle.verify80_states.specs.Bytes.{HasBytes, AreBytes}
-use Rattle.verify80_states.specs.Span.{Within, ByteWithin, any_byte, byte_alone, word_alone, is_alone, next_byte, previous_byte}
-use Rattle.verify80_states.specs.Span.{high_of as high_bytes}
-use Rattle.verify80_states.specs.Cells.{HoldsCell, HoldsCells, IsCellInside, AreCellsInside, IsQuietCell, AreQuietCells, any_cell, no_cells, stored_cell, stored_cells}
-use Rattle.verify80_states.specs.State.{HoldsRegisters, byte_of}
+use Rattle.verify80_spans.specs.Span.{Within, ByteWithin, any_byte, byte_alone, word_alone, is_alone, next_byte, previous_byte, meet_bytes}
+use Rattle.verify80_spans.specs.Span.{high_of as high_bytes}
+use Rattle.verify80_states.specs.Cells.{HoldsCell, EachCell, HoldsCells, IsCellInside, AreCellsInside, IsQuietCell, AreQuietCells, any_cell, no_cells, map_cells, cut_cell, cut_cells, stored_cell, stored_cells}
+use Rattle.verify80_states.specs.State.{HoldsRegisters, HoldsSource, IsQuietSource, IsQuietState, anything, byte_of}
 use Rattle.verify80_states.specs.declared.fitting.fitting.Placed.{Placed}
 use Rattle.verify80_states.specs.Fitting.{KnowsQuiet}
 use Rattle.verify80_states.specs.Steps.{ReadsCode}
@@ -36,29 +39,45 @@ use Rattle.verify80_states.specs.Following.{loaded, index_words, cells_after}
 use Rattle.verify80_states.proofs.ByteLemmas.{byte_at as memory_byte, stored_bytes}
 use Rattle.verify80_states.proofs.RegisterBytes.{bc_is_word, de_is_word, hl_is_word}
 use Rattle.verify80_states.proofs.ArithmeticBounds.{ahead_is_word}
-use Rattle.verify80_states.proofs.SpanLemmas.{any_byte_within, alone_within, high_within, next_byte_within, previous_byte_within, byte_inside_within}
+use Rattle.verify80_states.proofs.SpanLemmas.{any_byte_within, alone_within, high_within, next_byte_within, previous_byte_within, byte_inside_within, meet_bytes_within}
 use Rattle.verify80_states.proofs.StepBytes.{one_store}
 use Rattle.verify80_states.proofs.StateLemmas.{byte_holds}
 use Rattle.verify80_states.proofs.FollowLemmas.{loaded_within, index_within}
 use Rattle.verify80_states.proofs.MemoryLemmas.{Ground, stack_apart, passed_two, one_stored, two_stored}
 
--- cells around others
-around : (c d : Cell) (memory : List ℕ) → HasBytes memory → IsCellInside c d → HoldsCell c memory → HoldsCell d memory
-around c d memory bytes (inl any) holds = subst (λ (s : ByteSpan). ByteWithin s (byte_in memory d.at)) (sym any) (any_byte_within (byte_in memory d.at) (memory_byte memory d.at bytes))
-around c d memory bytes (inr inside) holds =
-    subst (λ n. ByteWithin d.bytes (byte_in memory n)) inside.0 (byte_inside_within c.bytes d.bytes (byte_in memory c.at) inside.1 holds)
-
-pub cells_around : (cells others : Cells) (memory : List ℕ) → HasBytes memory → AreCellsInside cells others → HoldsCells cells memory → HoldsCells others memory
-cells_around cells others memory bytes inside holds = record {
-  first = around cells.first others.first memory bytes inside.first holds.first;
-  second = around cells.second others.second memory bytes inside.second holds.second;
-  third = around cells.third others.third memory bytes inside.third holds.third;
-  fourth = around cells.fourth others.fourth memory bytes inside.fourth holds.fourth;
-  fifth = around cells.fifth others.fifth memory bytes inside.fifth holds.fifth;
-  sixth = around cells.sixth others.sixth memory bytes inside.sixth holds.sixth;
-  seventh = around cells.seventh others.seventh memory bytes inside.seventh holds.seventh;
-  eighth = around cells.eighth others.eighth memory bytes inside.eighth holds.eighth;
+-- what holds of each cell holds of what becomes of it
+each_so : (P Q W : Cell → Type 0) (f : Cell → Cell) (cells : Cells) → ((c : Cell) → P c → Q c → W (f c)) → EachCell P cells → EachCell Q cells → EachCell W (map_cells f cells)
+each_so P Q W f cells so one two = record {
+  first = so cells.first one.first two.first;
+  second = so cells.second one.second two.second;
+  third = so cells.third one.third two.third;
+  fourth = so cells.fourth one.fourth two.fourth;
+  fifth = so cells.fifth one.fifth two.fifth;
+  sixth = so cells.sixth one.sixth two.sixth;
+  seventh = so cells.seventh one.seventh two.seventh;
+  eighth = so cells.eighth one.eighth two.eighth;
 }
+
+-- cells around others
+module _ (variables : List Variable) (set : ℕ) (memory : List ℕ) (bytes : HasBytes memory) (named : HoldsSet variables set memory) where
+  around : (c d : Cell) → IsCellInside variables set c d → HoldsCell c memory → HoldsCell d memory
+  around c d (inl any) holds = subst (λ (s : ByteSpan). ByteWithin s (byte_in memory d.at)) (sym any) (any_byte_within (byte_in memory d.at) (memory_byte memory d.at bytes))
+  around c d (inr (inl inside)) holds = subst (λ n. ByteWithin d.bytes (byte_in memory n)) inside.0 (byte_inside_within c.bytes d.bytes (byte_in memory c.at) inside.1 holds)
+  around c d (inr (inr said)) holds =
+      let v = said.variable in
+      subst (λ n. ByteWithin d.bytes (byte_in memory n)) said.at (byte_inside_within v.bytes d.bytes (byte_in memory v.at) said.inside (named v said.named))
+
+  pub cells_around : (cells others : Cells) → AreCellsInside variables set cells others → HoldsCells cells memory → HoldsCells others memory
+  cells_around cells others inside holds = record {
+    first = around cells.first others.first inside.first holds.first;
+    second = around cells.second others.second inside.second holds.second;
+    third = around cells.third others.third inside.third holds.third;
+    fourth = around cells.fourth others.fourth inside.fourth holds.fourth;
+    fifth = around cells.fifth others.fifth inside.fifth holds.fifth;
+    sixth = around cells.sixth others.sixth inside.sixth holds.sixth;
+    seventh = around cells.seventh others.seventh inside.seventh holds.seventh;
+    eighth = around cells.eighth others.eighth inside.eighth holds.eighth;
+  }
 
 pub any_cell_holds : (memory : List ℕ) → HasBytes memory → HoldsCell any_cell memory
 any_cell_holds memory bytes = any_byte_within (byte_in memory 0) (memory_byte memory 0 bytes)
@@ -74,36 +93,32 @@ beside quiet m m' c same bytes (inl any) holds = subst (λ (s : ByteSpan). ByteW
 beside quiet m m' c same bytes (inr here) holds = subst (λ n. ByteWithin c.bytes n) (sym (same c.at here)) holds
 
 pub cells_beside : (quiet : ℕ → Bool) (m m' : List ℕ) (cells : Cells) → ((at : ℕ) → quiet at ≡ true → slice_index m' at ≡ slice_index m at) → HasBytes m' → AreQuietCells quiet cells → HoldsCells cells m → HoldsCells cells m'
-cells_beside quiet m m' cells same bytes are holds = record {
-  first = beside quiet m m' cells.first same bytes are.first holds.first;
-  second = beside quiet m m' cells.second same bytes are.second holds.second;
-  third = beside quiet m m' cells.third same bytes are.third holds.third;
-  fourth = beside quiet m m' cells.fourth same bytes are.fourth holds.fourth;
-  fifth = beside quiet m m' cells.fifth same bytes are.fifth holds.fifth;
-  sixth = beside quiet m m' cells.sixth same bytes are.sixth holds.sixth;
-  seventh = beside quiet m m' cells.seventh same bytes are.seventh holds.seventh;
-  eighth = beside quiet m m' cells.eighth same bytes are.eighth holds.eighth;
-}
+cells_beside quiet m m' cells same bytes are holds = each_so (IsQuietCell quiet) (λ c. HoldsCell c m) (λ c. HoldsCell c m') (λ c. c) cells (λ c is at. beside quiet m m' c same bytes is at) are holds
 
 -- addresses that are quiet are others that are
 quieter : (quiet other : ℕ → Bool) (c : Cell) → ((at : ℕ) → quiet at ≡ true → other at ≡ true) → IsQuietCell quiet c → IsQuietCell other c
 quieter quiet other c more (inl any) = inl any
 quieter quiet other c more (inr here) = inr (more c.at here)
 
-pub cells_quieter : (quiet other : ℕ → Bool) (cells : Cells) → ((at : ℕ) → quiet at ≡ true → other at ≡ true) → AreQuietCells quiet cells → AreQuietCells other cells
-cells_quieter quiet other cells more are = record {
-  first = quieter quiet other cells.first more are.first;
-  second = quieter quiet other cells.second more are.second;
-  third = quieter quiet other cells.third more are.third;
-  fourth = quieter quiet other cells.fourth more are.fourth;
-  fifth = quieter quiet other cells.fifth more are.fifth;
-  sixth = quieter quiet other cells.sixth more are.sixth;
-  seventh = quieter quiet other cells.seventh more are.seventh;
-  eighth = quieter quiet other cells.eighth more are.eighth;
+source_quieter : (quiet other : ℕ → Bool) (o : Option ℕ) → ((at : ℕ) → quiet at ≡ true → other at ≡ true) → IsQuietSource quiet o → IsQuietSource other o
+source_quieter quiet other None more is = tt
+source_quieter quiet other (Some at) more is = more at is
+
+pub state_quieter : (quiet other : ℕ → Bool) (s : State) → ((at : ℕ) → quiet at ≡ true → other at ≡ true) → IsQuietState quiet s → IsQuietState other s
+state_quieter quiet other s more are = record {
+  cells = each_so (IsQuietCell quiet) (IsQuietCell quiet) (IsQuietCell other) (λ c. c) s.cells (λ c is same. quieter quiet other c more is) are.cells are.cells;
+  source = source_quieter quiet other s.source more are.source;
 }
 
-pub none_quiet : (quiet : ℕ → Bool) → AreQuietCells quiet no_cells
-none_quiet quiet = record { first = inl refl; second = inl refl; third = inl refl; fourth = inl refl; fifth = inl refl; sixth = inl refl; seventh = inl refl; eighth = inl refl }
+pub none_quiet : (quiet : ℕ → Bool) → IsQuietState quiet anything
+none_quiet quiet =
+    let any : IsQuietCell quiet any_cell = inl refl in
+    record { cells = record { first = any; second = any; third = any; fourth = any; fifth = any; sixth = any; seventh = any; eighth = any }; source = tt }
+
+-- what devices don't touch stays that of A
+pub source_beside : (quiet : ℕ → Bool) (m m' : List ℕ) (o : Option ℕ) (a : ℕ) → ((at : ℕ) → quiet at ≡ true → slice_index m' at ≡ slice_index m at) → IsQuietSource quiet o → HoldsSource o m a → HoldsSource o m' a
+source_beside quiet m m' None a same quiet_at is = tt
+source_beside quiet m m' (Some at) a same quiet_at is = same at quiet_at ∙ is
 
 -- a byte is stored
 by_cell : (c d : Cell) (m : List ℕ) → c ≡ d → HoldsCell d m → HoldsCell c m
@@ -112,7 +127,7 @@ by_cell c d m same holds = subst (λ (x : Cell). HoldsCell x m) (sym same) holds
 alone_at : (at : Span) (n b : ℕ) → (nat_le at.first n && nat_le n at.last) ≡ true → is_alone at ≡ true → Within at b → n ≡ b
 alone_at at n b inside alone there = let above = there.above in let below = there.below in grind (arith, nat_tests)
 
-apart_from : (at : Span) (n b : ℕ) → (nat_le at.first n && nat_le n at.last) ≡ false → Within at b → n ≢ b
+pub apart_from : (at : Span) (n b : ℕ) → (nat_le at.first n && nat_le n at.last) ≡ false → Within at b → n ≢ b
 apart_from at n b outside there = λ e. let above = there.above in let below = there.below in grind (arith, nat_tests)
 
 module _ (at : Span) (bytes : ByteSpan) (m : List ℕ) (b x : ℕ) (whole : length m ≡ 65536) (small : b < 65536) (held : HasBytes (stored m ((b, x) ∷ []))) (there : Within at b) (is : ByteWithin bytes x) where
@@ -132,29 +147,49 @@ module _ (at : Span) (bytes : ByteSpan) (m : List ℕ) (b x : ℕ) (whole : leng
   cell_is_stored c holds = cell_stored_by c (nat_le at.first c.at && nat_le c.at at.last) (is_alone at) refl refl holds
 
   cells_are_stored : (cells : Cells) → HoldsCells cells m → HoldsCells (stored_cells at bytes cells) (stored m ((b, x) ∷ []))
-  cells_are_stored cells holds = record {
-    first = cell_is_stored cells.first holds.first;
-    second = cell_is_stored cells.second holds.second;
-    third = cell_is_stored cells.third holds.third;
-    fourth = cell_is_stored cells.fourth holds.fourth;
-    fifth = cell_is_stored cells.fifth holds.fifth;
-    sixth = cell_is_stored cells.sixth holds.sixth;
-    seventh = cell_is_stored cells.seventh holds.seventh;
-    eighth = cell_is_stored cells.eighth holds.eighth;
-  }
+  cells_are_stored cells holds =
+      each_so (λ c. HoldsCell c m) (λ c. HoldsCell c m) (λ c. HoldsCell c (stored m ((b, x) ∷ []))) (stored_cell at bytes) cells (λ c is same. cell_is_stored c is) holds holds
 
-word_within : (n : ℕ) → Within (word_alone n) n
+-- a cell is cut
+module _ (at : ℕ) (bytes : ByteSpan) where
+  cell_cut_by : (m : List ℕ) (c : Cell) (b : Bool) → (c.at == at) ≡ b → ByteWithin bytes (byte_in m at) → HoldsCell c m → HoldsCell (cut_cell at bytes c) m
+  cell_cut_by m c true same inside holds =
+      by_cell (cut_cell at bytes c) (record { at = c.at; bytes = meet_bytes c.bytes bytes }) m (rw same refl)
+      (meet_bytes_within c.bytes bytes (byte_in m c.at) holds (subst (λ n. ByteWithin bytes (byte_in m n)) (sym (eqb-true c.at at same)) inside))
+  cell_cut_by m c false same inside holds = by_cell (cut_cell at bytes c) c m (rw same refl) holds
+
+  quiet_cut_by : (quiet : ℕ → Bool) (c : Cell) (b : Bool) → (c.at == at) ≡ b → quiet at ≡ true → IsQuietCell quiet c → IsQuietCell quiet (cut_cell at bytes c)
+  quiet_cut_by quiet c true same here is =
+      subst (IsQuietCell quiet) (sym (cut_true c same)) (inr (subst (λ n. quiet n ≡ true) (sym (eqb-true c.at at same)) here)) where
+        cut_true : (c : Cell) → (c.at == at) ≡ true → cut_cell at bytes c ≡ record { at = c.at; bytes = meet_bytes c.bytes bytes }
+        cut_true c same = rw same refl
+  quiet_cut_by quiet c false same here is = subst (IsQuietCell quiet) (sym (cut_false c same)) is where
+    cut_false : (c : Cell) → (c.at == at) ≡ false → cut_cell at bytes c ≡ c
+    cut_false c same = rw same refl
+
+pub cells_cut : (o : Option ℕ) (bytes : ByteSpan) (cells : Cells) (m : List ℕ) (a : ℕ) → HoldsSource o m a → ByteWithin bytes a → HoldsCells cells m → HoldsCells (cut_cells o bytes cells) m
+cells_cut None bytes cells m a is inside holds = holds
+cells_cut (Some at) bytes cells m a is inside holds =
+    each_so (λ c. HoldsCell c m) (λ c. HoldsCell c m) (λ c. HoldsCell c m) (cut_cell at bytes) cells
+    (λ c here same. cell_cut_by at bytes m c (c.at == at) refl (subst (λ n. ByteWithin bytes n) (sym is) inside) here) holds holds
+
+pub cells_cut_quiet : (quiet : ℕ → Bool) (o : Option ℕ) (bytes : ByteSpan) (cells : Cells) → IsQuietSource quiet o → AreQuietCells quiet cells → AreQuietCells quiet (cut_cells o bytes cells)
+cells_cut_quiet quiet None bytes cells is are = are
+cells_cut_quiet quiet (Some at) bytes cells is are =
+    each_so (IsQuietCell quiet) (IsQuietCell quiet) (IsQuietCell quiet) (cut_cell at bytes) cells (λ c here same. quiet_cut_by at bytes quiet c (c.at == at) refl is here) are are
+
+pub word_within : (n : ℕ) → Within (word_alone n) n
 word_within n = record { above = omega arith; below = omega arith }
 
-pointed_is_word : (r : Registers) (pair : IndexPair) → AreBytes r → index_pair_of r pair < 65536
+pub pointed_is_word : (r : Registers) (pair : IndexPair) → AreBytes r → index_pair_of r pair < 65536
 pointed_is_word r IndexBc bytes = bc_is_word r bytes
 pointed_is_word r IndexDe bytes = de_is_word r bytes
 
-counted_up : (s : ByteSpan) (byte : ℕ) (r : Registers) → byte < 256 → ByteWithin s byte → ByteWithin (next_byte s) (increment_answer byte r.flags).value
+pub counted_up : (s : ByteSpan) (byte : ℕ) (r : Registers) → byte < 256 → ByteWithin s byte → ByteWithin (next_byte s) (increment_answer byte r.flags).value
 unfolding increment_answer byte_answer
 counted_up s byte r small inside = next_byte_within s byte small inside
 
-counted_down : (s : ByteSpan) (byte : ℕ) (r : Registers) → byte < 256 → ByteWithin s byte → ByteWithin (previous_byte s) (decrement_answer byte r.flags).value
+pub counted_down : (s : ByteSpan) (byte : ℕ) (r : Registers) → byte < 256 → ByteWithin s byte → ByteWithin (previous_byte s) (decrement_answer byte r.flags).value
 unfolding decrement_answer byte_answer
 counted_down s byte r small inside = previous_byte_within s byte small inside
 
@@ -214,4 +249,4 @@ module _ (regions : Areas) (ground : Ground regions) (code : List (Option ℕ)) 
 
 -- a table that knows marked addresses alone knows quiet ones alone
 pub knows_quieter : (quiet other : ℕ → Bool) (table : List Placed) → ((at : ℕ) → quiet at ≡ true → other at ≡ true) → KnowsQuiet quiet table → KnowsQuiet other table
-knows_quieter quiet other table more knows = λ k d inside. cells_quieter quiet other (get_or table k d).state.cells more (knows k d inside)
+knows_quieter quiet other table more knows = λ k d inside. state_quieter quiet other (get_or table k d).state more (knows k d inside)

@@ -3,11 +3,11 @@ use Rattle.std.specs.Prelude.{◌≡◌, ◌==◌, ℕ, Bool, true, false, List,
 use Rattle.std.proofs.Common.{subst, sym}
 use Rattle.std.proofs.lemmas.Bool.{eqb-true}
 use Rattle.machine80.specs.Effects.{byte_in}
-use Rattle.verify80_states.specs.declared.spans.byte_span.ByteSpan.{ByteSpan}
+use Rattle.verify80_spans.specs.declared.byte_span.ByteSpan.{ByteSpan}
 use Rattle.verify80_states.specs.declared.states.cells.Cell.{Cell}
 use Rattle.verify80_states.specs.declared.states.cells.Cells.{Cells}
 use Rattle.verify80_states.specs.Bytes.{HasBytes}
-use Rattle.verify80_states.specs.Span.{ByteWithin, byte_alone}
+use Rattle.verify80_spans.specs.Span.{ByteWithin, byte_alone}
 use Rattle.verify80_states.specs.Cells.{HoldsCell, HoldsCells, cell_or, bytes_at}
 use Rattle.verify80_states.specs.Steps.{ReadsCode}
 use Rattle.verify80_states.specs.Following.{byte_at, code_or, loaded_at}
@@ -23,7 +23,7 @@ within_by c memory at otherwise false same holds other = by_span (cell_or c at o
 cell_within : (c : Cell) (memory : List ℕ) (at : ℕ) (otherwise : ByteSpan) → HoldsCell c memory → ByteWithin otherwise (byte_in memory at) → ByteWithin (cell_or c at otherwise) (byte_in memory at)
 cell_within c memory at otherwise holds other = within_by c memory at otherwise (c.at == at) refl holds other
 
-cells_within : (cells : Cells) (memory : List ℕ) (at : ℕ) → HoldsCells cells memory → HasBytes memory → ByteWithin (bytes_at cells at) (byte_in memory at)
+pub cells_within : (cells : Cells) (memory : List ℕ) (at : ℕ) → HoldsCells cells memory → HasBytes memory → ByteWithin (bytes_at cells at) (byte_in memory at)
 cells_within cells memory at holds bytes =
     cell_within cells.first memory at _ holds.first (cell_within cells.second memory at _ holds.second (cell_within cells.third memory at _ holds.third (cell_within cells.fourth memory at _ holds.fourth (cell_within cells.fifth memory at _ holds.fifth (cell_within cells.sixth memory at _ holds.sixth (cell_within cells.seventh memory at _ holds.seventh (cell_within cells.eighth memory at _ holds.eighth (any_byte_within (byte_in memory at) (memory_byte memory at bytes)))))))))
 

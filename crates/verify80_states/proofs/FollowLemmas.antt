@@ -28,12 +28,12 @@ use Rattle.machine80.specs.Flags.{bit_of, flags_of_result, flags_from}
 use Rattle.machine80.specs.Arithmetic.{byte_answer, sum_answer, difference_answer, operation_answer, increment_answer, decrement_answer, decimal_answer, rotation_answer, pair_sum, pair_sum_flags, complement_of, carry_set, carry_turned}
 use Rattle.machine80.specs.Cpu.{word, register_of, with_register, hl_of, pair_of, with_pair, index_pair_of}
 use Rattle.machine80.specs.Effects.{byte_in, word_in, operand_of, changed}
-use Rattle.verify80_states.specs.declared.spans.span.Span.{Span}
-use Rattle.verify80_states.specs.declared.spans.byte_span.ByteSpan.{ByteSpan}
-use Rattle.verify80_states.specs.declared.spans.byte_span.Outcome.{Outcome}
+use Rattle.verify80_spans.specs.declared.span.Span.{Span}
+use Rattle.verify80_spans.specs.declared.byte_span.ByteSpan.{ByteSpan}
+use Rattle.verify80_spans.specs.declared.byte_span.Outcome.{Outcome}
 use Rattle.verify80_states.specs.declared.states.state.State.{State}
 use Rattle.verify80_states.specs.Bytes.{HasBytes, AreBytes}
-use Rattle.verify80_states.specs.Span.{Within, ByteWithin, IsKnown, any_word, any_byte, word_alone, byte_alone, is_alone, is_byte_alone, next_span, previous_span, next_byte, previous_byte, sum_span, high_of, operated, doubled, rotated, complemented, uncarried}
+use Rattle.verify80_spans.specs.Span.{Within, ByteWithin, IsKnown, any_word, any_byte, word_alone, byte_alone, is_alone, is_byte_alone, next_span, previous_span, next_byte, previous_byte, sum_span, high_of, operated, doubled, rotated, complemented, uncarried}
 use Rattle.verify80_states.specs.State.{HoldsRegisters, HoldsWord, HoldsWords, Compares, compared_with, byte_of, words_of, with_byte, with_words, with_outcome}
 use Rattle.verify80_states.specs.Steps.{ReadsCode}
 use Rattle.verify80_states.specs.declared.states.cells.Cells.{Cells}
@@ -48,7 +48,7 @@ use Rattle.verify80_states.proofs.OutcomeLemmas.{Makes, result_of, carry_of, ope
 use Rattle.verify80_states.proofs.StateLemmas.{words_hold, byte_holds, with_byte_holds, bc_written_holds, de_written_holds, hl_written_holds, with_words_holds, outcome_holds, carry_holds, any_flags_hold, compared_holds, copy_holds}
 
 -- what is read
-word_first : (s : Span) (n : ℕ) → is_alone s ≡ true → Within s n → s.first ≡ n
+pub word_first : (s : Span) (n : ℕ) → is_alone s ≡ true → Within s n → s.first ≡ n
 word_first s n alone inside = grind (arith, nat_tests)
 
 loaded_go : (code : List (Option ℕ)) (cells : Cells) (memory : List ℕ) (s : Span) (n : ℕ) (b : Bool) → is_alone s ≡ b → ReadsCode code memory → HoldsCells cells memory → HasBytes memory → Within s n → ByteWithin (loaded code cells s) (byte_in memory n)
@@ -229,7 +229,7 @@ operates Or true s r t v bytes small holds inside same = rw (same refl) (itself_
 operates ExclusiveOr true s r t v bytes small holds inside same = rw (same refl) (itself_xor s r t bytes holds)
 operates Subtract true s r t v bytes small holds inside same = rw (same refl) (itself_subtract s r t bytes holds)
 
-is_itself : (operand : Operand) (memory : List ℕ) (r : Registers) → is_accumulator operand ≡ true → operand_of operand memory r ≡ r.a
+pub is_itself : (operand : Operand) (memory : List ℕ) (r : Registers) → is_accumulator operand ≡ true → operand_of operand memory r ≡ r.a
 is_itself (InRegister A) memory r is = refl
 is_itself operand memory r is = cc
 

@@ -10,25 +10,23 @@ use Rattle.image80.specs.Regions.{Areas}
 use Rattle.machine80.specs.declared.registers.Registers.{Registers}
 use Rattle.machine80.specs.Step.{Machine}
 use Rattle.machine80.specs.Flags.{holds as holds_of}
-use Rattle.verify80_states.specs.declared.spans.byte_span.ByteSpan.{ByteSpan}
-use Rattle.verify80_states.specs.declared.states.cells.Cells.{Cells}
+use Rattle.verify80_spans.specs.declared.byte_span.ByteSpan.{ByteSpan}
 use Rattle.verify80_states.specs.declared.states.state.Words.{Words}
 use Rattle.verify80_states.specs.declared.states.state.State.{State}
 use Rattle.verify80_states.specs.Bytes.{AreBytes}
-use Rattle.verify80_states.specs.Span.{ByteWithin, IsKnown, byte_alone, only, without, below, from}
-use Rattle.verify80_states.specs.Cells.{HoldsCells}
-use Rattle.verify80_states.specs.State.{Holds, HoldsRegisters, HoldsWords, Compares, cut, cut_copy}
-use Rattle.verify80_states.proofs.SpanLemmas.{alone_within}
+use Rattle.verify80_spans.specs.Span.{ByteWithin, IsKnown, byte_alone, only, without, below, from}
+use Rattle.verify80_states.specs.State.{Holds, HoldsRegisters, HoldsWords, HoldsSource, IsQuietSource, IsQuietState, Compares, cut, cut_copy}
 use Rattle.verify80_states.specs.Given.{if_same, zero_bytes, carry_bytes, cut_to, given_zero, given_carry, given_sign, given}
 use Rattle.verify80_states.proofs.StateLemmas.{cut_holds}
+use Rattle.verify80_states.proofs.CellLemmas.{cells_cut, cells_cut_quiet}
 
--- a state is left, it holds, and it has the words and the cells that it had
-pub record Leaves (o : Option State) (s : State) (r : Registers) : Type 0 where
+-- a state is left, it holds, and says something of quiet addresses alone
+pub record Leaves (quiet : ℕ → Bool) (regions : Areas) (m : Machine) (set : ℕ) (o : Option State) : Type 0 where
   pub left : State
   pub is : o ≡ Some left
-  pub holds : HoldsRegisters left r
-  pub words : left.words ≡ s.words
-  pub cells : left.cells ≡ s.cells
+  pub holds : Holds regions left m
+  pub are : IsQuietState quiet left
+  pub same : left.set ≡ set
 
 -- some bytes are left, and one is among them
 record LeavesByte (o : Option ByteSpan) (n : ℕ) : Type 0 where
@@ -81,48 +79,66 @@ flags_are : (s : State) (r : Registers) (z cy n : Option Bool) → HoldsRegister
 flags_are s r z cy n holds zero carry sign =
     record { a = holds.a; bc = holds.bc; de = holds.de; hl = holds.hl; copy = holds.copy; flags = record { zero = zero; carry = carry; sign = sign; compared = holds.flags.compared } }
 
-same_left : (known wanted truth : Bool) (s : State) (r : Registers) → HoldsRegisters s r → truth ≡ known → truth ≡ wanted → Leaves (if_same known wanted s) s r
-same_left true true truth s r holds one two = record { left = s; is = refl; holds = holds; words = refl; cells = refl }
-same_left false false truth s r holds one two = record { left = s; is = refl; holds = holds; words = refl; cells = refl }
-same_left known wanted truth s r holds one two = cc
+cut_keeps : (s : State) (copy : Register) (span : ByteSpan) → ((cut_copy s copy span).words ≡ s.words) × (((cut_copy s copy span).source ≡ s.source) × ((cut_copy s copy span).set ≡ s.set))
+cut_keeps s A span = (refl, (refl, refl))
+cut_keeps s copy span = (refl, (refl, refl))
 
-cut_keeps : (s : State) (copy : Register) (span : ByteSpan) → ((cut_copy s copy span).words ≡ s.words) × ((cut_copy s copy span).cells ≡ s.cells)
-cut_keeps s A span = (refl, refl)
-cut_keeps s copy span = (refl, refl)
+pub cut_set : (s : State) (span : ByteSpan) → (cut s span).set ≡ s.set
+cut_set s span = (cut_keeps s s.copy span).1.1
 
--- a state in which A has its byte alone
-pub cut_state : (regions : Areas) (s : State) (m : Machine) → AreBytes m.cpu.registers → Holds regions s m → Holds regions (cut s (byte_alone m.cpu.registers.a)) m
-cut_state regions s m bytes holds =
-    let span = byte_alone m.cpu.registers.a in
-    let keeps = cut_keeps s s.copy span in
-    record {
-      registers = cut_holds s m.cpu.registers span bytes holds.registers (alone_within m.cpu.registers.a);
-      words = subst (λ (w : Words). HoldsWords regions w m.memory m.cpu.sp) (sym keeps.0) holds.words;
-      cells = subst (λ (c : Cells). HoldsCells c m.memory) (sym keeps.1) holds.cells;
-    }
+module _ (quiet : ℕ → Bool) (regions : Areas) (m : Machine) (bytes : AreBytes m.cpu.registers) where
+  abbrev LeavesOf : (set : ℕ) → Option State → Type 0
+  LeavesOf set o = Leaves quiet regions m set o
 
-cut_left : (o : Option ByteSpan) (s t : State) (r : Registers) → AreBytes r → HoldsRegisters t r → t.words ≡ s.words → t.cells ≡ s.cells → LeavesByte o r.a → Leaves (cut_to o t) s r
-cut_left o s t r bytes holds words cells byte = record {
-  left = cut t byte.span;
-  is = ap (λ (x : Option ByteSpan). cut_to x t) byte.is;
-  holds = cut_holds t r byte.span bytes holds byte.inside;
-  words = (cut_keeps t t.copy byte.span).0 ∙ words;
-  cells = (cut_keeps t t.copy byte.span).1 ∙ cells;
-}
+  with_flags : (s : State) (z cy n : Option Bool) → Holds regions s m → IsKnown z m.cpu.registers.flags.zero → IsKnown cy m.cpu.registers.flags.carry → IsKnown n m.cpu.registers.flags.sign → Holds regions (record s { zero = z; carry = cy; sign = n }) m
+  with_flags s z cy n holds zero carry sign =
+      record { registers = flags_are s m.cpu.registers z cy n holds.registers zero carry sign; words = holds.words; cells = holds.cells; source = holds.source }
 
-zero_given : (known : Option Bool) (wanted : Bool) (s : State) (r : Registers) → AreBytes r → HoldsRegisters s r → IsKnown known r.flags.zero → r.flags.zero ≡ wanted → Leaves (given_zero known wanted s) s r
-zero_given (Some known) wanted s r bytes holds knows is = same_left known wanted r.flags.zero s r holds knows is
-zero_given None wanted s r bytes holds knows is =
-    cut_left (zero_bytes s.compared wanted s.a) s (record s { zero = Some wanted }) r bytes (flags_are s r (Some wanted) s.carry s.sign holds is holds.flags.carry holds.flags.sign) refl refl (zero_leaves s.compared wanted s r holds holds.flags.compared is)
+  same_left : (known wanted truth : Bool) (s : State) → Holds regions s m → IsQuietState quiet s → truth ≡ known → truth ≡ wanted → LeavesOf s.set (if_same known wanted s)
+  same_left true true truth s holds are one two = record { left = s; is = refl; holds = holds; are = are; same = refl }
+  same_left false false truth s holds are one two = record { left = s; is = refl; holds = holds; are = are; same = refl }
+  same_left known wanted truth s holds are one two = cc
 
-carry_given : (known : Option Bool) (wanted : Bool) (s : State) (r : Registers) → AreBytes r → HoldsRegisters s r → IsKnown known r.flags.carry → r.flags.carry ≡ wanted → Leaves (given_carry known wanted s) s r
-carry_given (Some known) wanted s r bytes holds knows is = same_left known wanted r.flags.carry s r holds knows is
-carry_given None wanted s r bytes holds knows is =
-    cut_left (carry_bytes s.compared wanted s.a) s (record s { carry = Some wanted }) r bytes (flags_are s r s.zero (Some wanted) s.sign holds holds.flags.zero is holds.flags.sign) refl refl (carry_leaves s.compared wanted s r holds holds.flags.compared is)
+  -- a state in which A has one of some bytes too
+  pub cut_state : (s : State) (span : ByteSpan) → Holds regions s m → ByteWithin span m.cpu.registers.a → Holds regions (cut s span) m
+  cut_state s span holds inside =
+      let keeps = cut_keeps s s.copy span in
+      record {
+        registers = cut_holds s m.cpu.registers span bytes holds.registers inside;
+        words = subst (λ (w : Words). HoldsWords regions w m.memory m.cpu.sp) (sym keeps.0) holds.words;
+        cells = cells_cut s.source span s.cells m.memory m.cpu.registers.a holds.source inside holds.cells;
+        source = subst (λ (o : Option ℕ). HoldsSource o m.memory m.cpu.registers.a) (sym keeps.1.0) holds.source;
+      }
 
-sign_given : (known : Option Bool) (wanted : Bool) (s : State) (r : Registers) → HoldsRegisters s r → IsKnown known r.flags.sign → r.flags.sign ≡ wanted → Leaves (given_sign known wanted s) s r
-sign_given (Some known) wanted s r holds knows is = same_left known wanted r.flags.sign s r holds knows is
-sign_given None wanted s r holds knows is = record { left = record s { sign = Some wanted }; is = refl; holds = flags_are s r s.zero s.carry (Some wanted) holds holds.flags.zero holds.flags.carry is; words = refl; cells = refl }
+  cut_are : (s : State) (span : ByteSpan) → IsQuietState quiet s → IsQuietState quiet (cut s span)
+  cut_are s span are = record {
+    cells = cells_cut_quiet quiet s.source span s.cells are.source are.cells;
+    source = subst (IsQuietSource quiet) (sym (cut_keeps s s.copy span).1.0) are.source;
+  }
+
+  cut_left : (o : Option ByteSpan) (t : State) → Holds regions t m → IsQuietState quiet t → LeavesByte o m.cpu.registers.a → LeavesOf t.set (cut_to o t)
+  cut_left o t holds are byte =
+      record { left = cut t byte.span; is = ap (λ (x : Option ByteSpan). cut_to x t) byte.is; holds = cut_state t byte.span holds byte.inside; are = cut_are t byte.span are; same = cut_set t byte.span }
+
+  zero_given : (known : Option Bool) (wanted : Bool) (s : State) → Holds regions s m → IsQuietState quiet s → IsKnown known m.cpu.registers.flags.zero → m.cpu.registers.flags.zero ≡ wanted → LeavesOf s.set (given_zero known wanted s)
+  zero_given (Some known) wanted s holds are knows is = same_left known wanted m.cpu.registers.flags.zero s holds are knows is
+  zero_given None wanted s holds are knows is =
+      let flags = holds.registers.flags in
+      cut_left (zero_bytes s.compared wanted s.a) (record s { zero = Some wanted }) (with_flags s (Some wanted) s.carry s.sign holds is flags.carry flags.sign) (record { cells = are.cells; source = are.source })
+      (zero_leaves s.compared wanted s m.cpu.registers holds.registers flags.compared is)
+
+  carry_given : (known : Option Bool) (wanted : Bool) (s : State) → Holds regions s m → IsQuietState quiet s → IsKnown known m.cpu.registers.flags.carry → m.cpu.registers.flags.carry ≡ wanted → LeavesOf s.set (given_carry known wanted s)
+  carry_given (Some known) wanted s holds are knows is = same_left known wanted m.cpu.registers.flags.carry s holds are knows is
+  carry_given None wanted s holds are knows is =
+      let flags = holds.registers.flags in
+      cut_left (carry_bytes s.compared wanted s.a) (record s { carry = Some wanted }) (with_flags s s.zero (Some wanted) s.sign holds flags.zero is flags.sign) (record { cells = are.cells; source = are.source })
+      (carry_leaves s.compared wanted s m.cpu.registers holds.registers flags.compared is)
+
+  sign_given : (known : Option Bool) (wanted : Bool) (s : State) → Holds regions s m → IsQuietState quiet s → IsKnown known m.cpu.registers.flags.sign → m.cpu.registers.flags.sign ≡ wanted → LeavesOf s.set (given_sign known wanted s)
+  sign_given (Some known) wanted s holds are knows is = same_left known wanted m.cpu.registers.flags.sign s holds are knows is
+  sign_given None wanted s holds are knows is =
+      let flags = holds.registers.flags in
+      record { left = record s { sign = Some wanted }; is = refl; holds = with_flags s s.zero s.carry (Some wanted) holds flags.zero flags.carry is; are = record { cells = are.cells; source = are.source }; same = refl }
 
 turned : (b c : Bool) → not b ≡ c → b ≡ not c
 turned true true h = cc
@@ -130,13 +146,13 @@ turned true false h = refl
 turned false true h = refl
 turned false false h = cc
 
-pub given_holds : (c : Condition) (wanted : Bool) (s : State) (r : Registers) → AreBytes r → HoldsRegisters s r → holds_of c r.flags ≡ wanted → Leaves (given c wanted s) s r
+pub given_holds : (quiet : ℕ → Bool) (regions : Areas) (m : Machine) (bytes : AreBytes m.cpu.registers) (c : Condition) (wanted : Bool) (s : State) → Holds regions s m → IsQuietState quiet s → holds_of c m.cpu.registers.flags ≡ wanted →
+    Leaves quiet regions m s.set (given c wanted s)
 unfolding holds_of
-given_holds Zero wanted s r bytes holds is = zero_given s.zero wanted s r bytes holds holds.flags.zero is
-given_holds NonZero wanted s r bytes holds is = zero_given s.zero (not wanted) s r bytes holds holds.flags.zero (turned r.flags.zero wanted is)
-given_holds Carry wanted s r bytes holds is = carry_given s.carry wanted s r bytes holds holds.flags.carry is
-given_holds NoCarry wanted s r bytes holds is = carry_given s.carry (not wanted) s r bytes holds holds.flags.carry (turned r.flags.carry wanted is)
-given_holds Minus wanted s r bytes holds is = sign_given s.sign wanted s r holds holds.flags.sign is
-given_holds Plus wanted s r bytes holds is = sign_given s.sign (not wanted) s r holds holds.flags.sign (turned r.flags.sign wanted is)
-given_holds ParityOdd wanted s r bytes holds is = record { left = s; is = refl; holds = holds; words = refl; cells = refl }
-given_holds ParityEven wanted s r bytes holds is = record { left = s; is = refl; holds = holds; words = refl; cells = refl }
+given_holds quiet regions m bytes Zero wanted s holds are is = zero_given quiet regions m bytes s.zero wanted s holds are holds.registers.flags.zero is
+given_holds quiet regions m bytes NonZero wanted s holds are is = zero_given quiet regions m bytes s.zero (not wanted) s holds are holds.registers.flags.zero (turned m.cpu.registers.flags.zero wanted is)
+given_holds quiet regions m bytes Carry wanted s holds are is = carry_given quiet regions m bytes s.carry wanted s holds are holds.registers.flags.carry is
+given_holds quiet regions m bytes NoCarry wanted s holds are is = carry_given quiet regions m bytes s.carry (not wanted) s holds are holds.registers.flags.carry (turned m.cpu.registers.flags.carry wanted is)
+given_holds quiet regions m bytes Minus wanted s holds are is = sign_given quiet regions m bytes s.sign wanted s holds are holds.registers.flags.sign is
+given_holds quiet regions m bytes Plus wanted s holds are is = sign_given quiet regions m bytes s.sign (not wanted) s holds are holds.registers.flags.sign (turned m.cpu.registers.flags.sign wanted is)
+given_holds quiet regions m bytes c wanted s holds are is = record { left = s; is = refl; holds = holds; are = are; same = refl }

@@ -1,20 +1,25 @@
 -- What a state says, one says that is around it.
-use Rattle.std.specs.Prelude.{◌≡◌, ℕ, Bool, List, Option, None, Some, refl}
-use Rattle.std.proofs.Common.{subst}
+use Rattle.std.specs.Prelude.{◌≡◌, ◌⊎◌, ℕ, Bool, true, List, Option, None, Some, refl}
+use Rattle.std.proofs.Common.{subst, inl, inr}
 use Rattle.decode80.specs.declared.register.Register.{Register}
 use Rattle.decode80.specs.declared.register.Register.TheVariants.{A}
 use Rattle.decode80.specs.Fetch.{ahead}
 use Rattle.image80.specs.Regions.{Areas}
 use Rattle.machine80.specs.declared.registers.Registers.{Registers}
 use Rattle.machine80.specs.Cpu.{word, register_of}
+use Rattle.machine80.specs.Effects.{byte_in}
 use Rattle.machine80.specs.Step.{Machine}
-use Rattle.verify80_states.specs.declared.spans.span.Span.{Span}
+use Rattle.verify80_spans.specs.declared.span.Span.{Span}
 use Rattle.verify80_states.specs.declared.states.state.PairSpan.{PairSpan}
 use Rattle.verify80_states.specs.declared.states.state.Words.{Words}
 use Rattle.verify80_states.specs.declared.states.state.State.{State}
+use Rattle.verify80_states.specs.declared.states.variables.Variable.{Variable}
+use Rattle.verify80_states.specs.Variables.{HoldsSet, is_bit}
+use Rattle.verify80_states.specs.Cells.{bytes_at}
+use Rattle.verify80_states.proofs.CellReads.{cells_within}
 use Rattle.verify80_states.specs.Bytes.{HasBytes}
-use Rattle.verify80_states.specs.Span.{IsKnown}
-use Rattle.verify80_states.specs.State.{Holds, HoldsPair, HoldsWord, HoldsWords, Compares, IsPairInside, IsFlagInside, IsComparisonInside, IsCopyInside, IsWordInside, AreWordsInside, IsStateInside}
+use Rattle.verify80_spans.specs.Span.{ByteWithin, IsByteInside, IsKnown}
+use Rattle.verify80_states.specs.State.{Holds, HoldsPair, HoldsWord, HoldsWords, HoldsSource, Compares, IsPairInside, IsFlagInside, IsComparisonInside, IsCopyInside, IsWordInside, AreWordsInside, IsStateInside}
 use Rattle.verify80_states.proofs.SpanLemmas.{inside_within, byte_inside_within}
 use Rattle.verify80_states.proofs.CellLemmas.{cells_around}
 
@@ -47,8 +52,12 @@ words_around regions w v memory sp inside holds = record {
   fourth = word_around regions w.fourth v.fourth memory sp (ahead sp 6) inside.fourth holds.fourth;
 }
 
-pub state_around : (regions : Areas) (s t : State) (m : Machine) → HasBytes m.memory → IsStateInside s t → Holds regions s m → Holds regions t m
-state_around regions s t m bytes inside holds =
+source_around : (o u : Option ℕ) (memory : List ℕ) (a : ℕ) → IsComparisonInside o u → HoldsSource o memory a → HoldsSource u memory a
+source_around o None memory a inside holds = tt
+source_around o (Some at) memory a inside holds = subst (λ (x : Option ℕ). HoldsSource x memory a) inside holds
+
+pub state_around : (regions : Areas) (variables : List Variable) (s t : State) (m : Machine) → HasBytes m.memory → IsStateInside variables s t → HoldsSet variables s.set m.memory → Holds regions s m → Holds regions t m
+state_around regions variables s t m bytes inside named holds =
     let r = m.cpu.registers in
     let h = holds.registers in
     record {
@@ -66,5 +75,13 @@ state_around regions s t m bytes inside holds =
         };
       };
       words = words_around regions s.words t.words m.memory m.cpu.sp inside.words holds.words;
-      cells = cells_around s.cells t.cells m.memory bytes inside.cells holds.cells;
+      cells = cells_around variables s.set m.memory bytes named s.cells t.cells inside.cells holds.cells;
+      source = source_around s.source t.source m.memory r.a inside.source holds.source;
     }
+
+-- variables that it names have their bytes
+pub set_around : (regions : Areas) (variables : List Variable) (s t : State) (m : Machine) → HasBytes m.memory → IsStateInside variables s t → HoldsSet variables s.set m.memory → Holds regions s m → HoldsSet variables t.set m.memory
+set_around regions variables s t m bytes inside named holds v of = by (inside.set of.number v of.there of.named) where
+  by : (is_bit s.set of.number ≡ true) ⊎ IsByteInside (bytes_at s.cells v.at) v.bytes → ByteWithin v.bytes (byte_in m.memory v.at)
+  by (inl so) = named v (record { number = of.number; there = of.there; named = so })
+  by (inr said) = byte_inside_within (bytes_at s.cells v.at) v.bytes (byte_in m.memory v.at) said (cells_within s.cells m.memory v.at holds.cells bytes)

@@ -11,6 +11,8 @@ mod CellReads
 mod FollowLemmas
 mod MemoryLemmas
 mod CellLemmas
+mod SourceLemmas
+mod VariableLemmas
 mod GivenLemmas
 mod InsideLemmas
 mod StepLemmas

@@ -22,10 +22,10 @@ use Rattle.machine80.specs.Flags.{holds as holds_of, flags_byte}
 use Rattle.machine80.specs.Cpu.{word, high_of, low_of}
 use Rattle.machine80.specs.Effects.{push_bytes, stores, stored, changed}
 use Rattle.machine80.specs.Step.{guard, first_outside, ends_at}
-use Rattle.verify80_states.specs.declared.spans.span.Span.{Span}
+use Rattle.verify80_spans.specs.declared.span.Span.{Span}
 use Rattle.verify80_states.specs.declared.states.state.Words.{Words}
 use Rattle.verify80_states.specs.declared.states.state.State.{State}
-use Rattle.verify80_states.specs.Span.{Within, word_alone}
+use Rattle.verify80_spans.specs.Span.{Within, word_alone}
 use Rattle.verify80_states.specs.State.{HoldsRegisters, HoldsWord, HoldsWords, IsOnStack, no_words, pushed, popped}
 use Rattle.verify80_states.specs.Following.{pushed_words, called, returned, words_after}
 use Rattle.verify80_states.specs.Steps.{is_taken}

@@ -9,9 +9,9 @@ use Rattle.decode80.specs.declared.operation.Operation.TheVariants.{Add, AddCarr
 use Rattle.machine80.specs.declared.flags.Flags.{Flags}
 use Rattle.machine80.specs.Flags.{bit_of}
 use Rattle.machine80.specs.Arithmetic.{byte_answer, operation_answer}
-use Rattle.verify80_states.specs.declared.spans.byte_span.ByteSpan.{ByteSpan}
-use Rattle.verify80_states.specs.declared.spans.byte_span.Outcome.{Outcome}
-use Rattle.verify80_states.specs.Span.{ByteWithin, IsKnown, any_byte, byte_alone, is_byte_alone, are_alone, carry_span, sum_of, difference_of, and_of, or_of, exclusive_or_of, operated}
+use Rattle.verify80_spans.specs.declared.byte_span.ByteSpan.{ByteSpan}
+use Rattle.verify80_spans.specs.declared.byte_span.Outcome.{Outcome}
+use Rattle.verify80_spans.specs.Span.{ByteWithin, IsKnown, any_byte, byte_alone, is_byte_alone, are_alone, carry_span, sum_of, difference_of, and_of, or_of, exclusive_or_of, operated}
 use Rattle.verify80_states.proofs.ArithmeticBounds.{operation_is_byte}
 use Rattle.verify80_states.proofs.SpanLemmas.{any_byte_within, alone_within, carry_within}
 

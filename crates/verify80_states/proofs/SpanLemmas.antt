@@ -4,9 +4,9 @@ use Rattle.std.proofs.Common.{arith, subst, sym}
 use Rattle.std.proofs.lemmas.Bool.Decides.{nat_tests}
 use Rattle.machine80.specs.Cpu.{word}
 use Rattle.machine80.specs.Flags.{bit_of}
-use Rattle.verify80_states.specs.declared.spans.span.Span.{Span}
-use Rattle.verify80_states.specs.declared.spans.byte_span.ByteSpan.{ByteSpan}
-use Rattle.verify80_states.specs.Span.{Within, ByteWithin, IsInside, IsByteInside, IsKnown, any_word, any_byte, byte_alone, next_span, previous_span, next_byte, previous_byte, sum_span, sum_carries, high_of, low_of, joined, meet, meet_bytes, carry_span}
+use Rattle.verify80_spans.specs.declared.span.Span.{Span}
+use Rattle.verify80_spans.specs.declared.byte_span.ByteSpan.{ByteSpan}
+use Rattle.verify80_spans.specs.Span.{Within, ByteWithin, IsInside, IsByteInside, IsKnown, any_word, any_byte, byte_alone, next_span, previous_span, next_byte, previous_byte, sum_span, sum_carries, high_of, low_of, joined, meet, meet_bytes, carry_span}
 
 pub high_within : (s : Span) (h l : ℕ) → l < 256 → Within s (word h l) → ByteWithin (high_of s) h
 high_within s h l small inside = record { above = omega arith; below = omega arith }

@@ -11,13 +11,14 @@ use Rattle.machine80.specs.declared.registers.Registers.{Registers}
 use Rattle.machine80.specs.declared.cpu.Cpu.{Cpu}
 use Rattle.machine80.specs.Flags.{flags_of_result}
 use Rattle.machine80.specs.Cpu.{word, register_of, with_register, with_pair}
-use Rattle.verify80_states.specs.declared.spans.span.Span.{Span}
-use Rattle.verify80_states.specs.declared.spans.byte_span.ByteSpan.{ByteSpan}
-use Rattle.verify80_states.specs.declared.spans.byte_span.Outcome.{Outcome}
+use Rattle.verify80_spans.specs.declared.span.Span.{Span}
+use Rattle.verify80_spans.specs.declared.byte_span.ByteSpan.{ByteSpan}
+use Rattle.verify80_spans.specs.declared.byte_span.Outcome.{Outcome}
+use Rattle.verify80_states.specs.declared.states.cells.Cells.{Cells}
 use Rattle.verify80_states.specs.declared.states.state.PairSpan.{PairSpan}
 use Rattle.verify80_states.specs.declared.states.state.State.{State}
 use Rattle.verify80_states.specs.Bytes.{AreBytes}
-use Rattle.verify80_states.specs.Span.{Within, ByteWithin, IsKnown, any_byte, high_of, joined, zero_of, sign_of}
+use Rattle.verify80_spans.specs.Span.{Within, ByteWithin, IsKnown, any_byte, high_of, joined, zero_of, sign_of}
 use Rattle.verify80_states.specs.State.{HoldsPair, HoldsRegisters, Compares, any_pair, anything, pair_of_words, pair_of_halves, byte_of, copy_without, copy_outside, with_byte, with_words, with_outcome, with_carry, with_any_flags, cut_high, cut_low, cut_copy, cut}
 use Rattle.verify80_states.proofs.SpanLemmas.{high_within, low_within, joined_within, any_word_within, any_byte_within, meet_within, meet_bytes_within, known_if}
 use Rattle.verify80_states.proofs.ArithmeticBounds.{word_of_bytes}
@@ -197,12 +198,12 @@ cut_copy_holds s r E span bytes holds inside = de_is s r (cut_low s.de span) hol
 cut_copy_holds s r H span bytes holds inside = hl_is s r (cut_high s.hl span) holds (cut_high_holds s.hl span r.h r.l bytes.l holds.hl inside)
 cut_copy_holds s r L span bytes holds inside = hl_is s r (cut_low s.hl span) holds (cut_low_holds s.hl span r.h r.l bytes.l holds.hl inside)
 
-a_is : (s : State) (r : Registers) (span : ByteSpan) → HoldsRegisters s r → ByteWithin span r.a → HoldsRegisters (record s { a = span }) r
-a_is s r span holds inside = record { a = inside; bc = holds.bc; de = holds.de; hl = holds.hl; copy = holds.copy; flags = holds.flags }
+a_is : (s : State) (r : Registers) (span : ByteSpan) (cells : Cells) → HoldsRegisters s r → ByteWithin span r.a → HoldsRegisters (record s { a = span; cells = cells }) r
+a_is s r span cells holds inside = record { a = inside; bc = holds.bc; de = holds.de; hl = holds.hl; copy = holds.copy; flags = holds.flags }
 
 pub cut_holds : (s : State) (r : Registers) (span : ByteSpan) → AreBytes r → HoldsRegisters s r → ByteWithin span r.a → HoldsRegisters (cut s span) r
 cut_holds s r span bytes holds inside =
-    a_is (cut_copy s s.copy span) r _ (cut_copy_holds s r s.copy span bytes holds (subst (λ n. ByteWithin span n) (sym holds.copy) inside))
+    a_is (cut_copy s s.copy span) r _ _ (cut_copy_holds s r s.copy span bytes holds (subst (λ n. ByteWithin span n) (sym holds.copy) inside))
     (meet_bytes_within s.a span r.a holds.a inside)
 
 -- bytes make registers of which anything holds

@@ -18,9 +18,8 @@ use Rattle.verify80_states.specs.declared.states.cells.Cells.{Cells}
 use Rattle.verify80_states.specs.declared.states.state.Words.{Words}
 use Rattle.verify80_states.specs.declared.states.state.State.{State}
 use Rattle.verify80_states.specs.Bytes.{AreBytes, HasBytes, HoldsBytes}
-use Rattle.verify80_states.specs.Span.{any_byte}
-use Rattle.verify80_states.specs.Cells.{AreQuietCells}
-use Rattle.verify80_states.specs.State.{Holds, HoldsRegisters, with_byte}
+use Rattle.verify80_spans.specs.Span.{any_byte}
+use Rattle.verify80_states.specs.State.{Holds, HoldsRegisters, IsQuietState, with_byte}
 use Rattle.verify80_states.specs.Following.{registers_after, state_after}
 use Rattle.verify80_states.specs.Steps.{ReadsCode, is_taken}
 use Rattle.verify80_states.proofs.SpanLemmas.{any_byte_within}
@@ -28,6 +27,7 @@ use Rattle.verify80_states.proofs.StateLemmas.{with_byte_holds}
 use Rattle.verify80_states.proofs.FollowLemmas.{changed_registers}
 use Rattle.verify80_states.proofs.MemoryLemmas.{Ground, code_kept, words_changed}
 use Rattle.verify80_states.proofs.CellLemmas.{cells_changed}
+use Rattle.verify80_states.proofs.SourceLemmas.{source_changed}
 
 machine_of : Machine → Turn → Machine
 machine_of otherwise (Next m) = m
@@ -50,18 +50,19 @@ pub passed : (regions : Areas) (refused : Bool) (m after : Machine) (found : Fet
 passed regions refused m after found fetched h =
     passed_by regions refused (guard regions found.instr m.cpu) found m after refl (sym (ap (λ (o : Option Fetched). step_on regions refused o m) fetched) ∙ h)
 
--- the registers of a state whose words and cells are others
-pub other_words : (s : State) (w : Words) (cells : Cells) (r : Registers) → HoldsRegisters s r → HoldsRegisters (record s { words = w; cells = cells }) r
-other_words s w cells r holds = record { a = holds.a; bc = holds.bc; de = holds.de; hl = holds.hl; copy = holds.copy; flags = holds.flags }
+-- the registers of a state in which all else is other
+pub other_words : (s : State) (w : Words) (cells : Cells) (source : Option ℕ) (set : ℕ) (r : Registers) → HoldsRegisters s r → HoldsRegisters (record s { words = w; cells = cells; source = source; set = set }) r
+other_words s w cells source set r holds = record { a = holds.a; bc = holds.bc; de = holds.de; hl = holds.hl; copy = holds.copy; flags = holds.flags }
 
 module _ (regions : Areas) (ground : Ground regions) (code : List (Option ℕ)) where
   -- what an instruction makes of a state holds of what it makes of a machine
-  proceeds : (i : Instr) (next : ℕ) (m : Machine) (s : State) → HasOperandInRange i → HoldsBytes m → length m.memory ≡ 65536 → ReadsCode code m.memory → AreQuietCells (in_data regions) s.cells → HasBytes (proceeded i next m).memory → guard regions i m.cpu ≡ None →
+  proceeds : (i : Instr) (next : ℕ) (m : Machine) (s : State) → HasOperandInRange i → HoldsBytes m → length m.memory ≡ 65536 → ReadsCode code m.memory → IsQuietState (in_data regions) s → HasBytes (proceeded i next m).memory → guard regions i m.cpu ≡ None →
       Holds regions s m → Holds regions (state_after code i (is_taken (flow i) m.cpu.registers.flags) next s) (proceeded i next m)
   proceeds i next m s small bytes whole reads are after pass holds = record {
-    registers = other_words (registers_after code i s) _ _ _ (changed_registers code m.memory reads bytes.memory regions i m.cpu s small bytes.registers holds.registers holds.words holds.cells);
+    registers = other_words (registers_after code i s) _ _ _ _ _ (changed_registers code m.memory reads bytes.memory regions i m.cpu s small bytes.registers holds.registers holds.words holds.cells);
     words = words_changed regions ground m.memory whole i next m.cpu s pass holds.registers holds.words;
-    cells = cells_changed regions ground code m.memory reads bytes.memory whole i next m.cpu s pass small bytes.registers after are holds.registers holds.cells;
+    cells = cells_changed regions ground code m.memory reads bytes.memory whole i next m.cpu s pass small bytes.registers after are.cells holds.registers holds.cells;
+    source = source_changed regions ground code m.memory whole i next m.cpu s pass small bytes.registers are.source holds.registers holds.source;
   }
 
   reads_on : (next port : ℕ) (m after : Machine) (s : State) (byte : Option ℕ) → HoldsBytes m → AreBytes after.cpu.registers → Holds regions s m → with_input m next port byte ≡ Next after →
@@ -72,22 +73,23 @@ module _ (regions : Areas) (ground : Ground regions) (code : List (Option ℕ)) 
       let small : byte < 256 = (subst (λ (n : Machine). AreBytes n.cpu.registers) (sym same) stay).a in
       subst (λ (n : Machine). Holds regions (state_after code (In port) false next s) n) same
       (record {
-        registers = other_words (with_byte s A any_byte) s.words s.cells _ (with_byte_holds s m.cpu.registers A any_byte byte bytes.registers holds.registers (any_byte_within byte small));
+        registers = other_words (with_byte s A any_byte) s.words s.cells None s.set _ (with_byte_holds s m.cpu.registers A any_byte byte bytes.registers holds.registers (any_byte_within byte small));
         words = holds.words;
         cells = holds.cells;
+        source = tt;
       })
 
   writes_on : (refused : Bool) (next port : ℕ) (m after : Machine) (s : State) → Holds regions s m → execute regions refused (Out port) next m ≡ Next after → Holds regions (state_after code (Out port) false next s) after
   writes_on true next port m after s holds h = cc
   writes_on false next port m after s holds h =
       subst (λ (n : Machine). Holds regions (state_after code (Out port) false next s) n) (next_in h)
-      (record { registers = other_words s s.words s.cells m.cpu.registers holds.registers; words = holds.words; cells = holds.cells })
+      (record { registers = other_words s s.words s.cells s.source s.set m.cpu.registers holds.registers; words = holds.words; cells = holds.cells; source = holds.source })
 
   jumps_on : (e : Option End) (next : ℕ) (m after : Machine) (t : State) → Holds regions t (proceeded Pchl next m) → turn_of e (proceeded Pchl next m) ≡ Next after → Holds regions t after
   jumps_on None next m after t holds h = subst (λ (n : Machine). Holds regions t n) (next_in h) holds
   jumps_on (Some e) next m after t holds h = cc
 
-  executes : (refused : Bool) (i : Instr) (next : ℕ) (m after : Machine) (s : State) → HasOperandInRange i → HoldsBytes m → HoldsBytes after → length m.memory ≡ 65536 → ReadsCode code m.memory → AreQuietCells (in_data regions) s.cells →
+  executes : (refused : Bool) (i : Instr) (next : ℕ) (m after : Machine) (s : State) → HasOperandInRange i → HoldsBytes m → HoldsBytes after → length m.memory ≡ 65536 → ReadsCode code m.memory → IsQuietState (in_data regions) s →
       guard regions i m.cpu ≡ None → Holds regions s m → execute regions refused i next m ≡ Next after → Holds regions (state_after code i (is_taken (flow i) m.cpu.registers.flags) next s) after
   executes refused Hlt next m after s small bytes stay whole reads are pass holds h = cc
   executes refused (In port) next m after s small bytes stay whole reads are pass holds h = reads_on next port m after s (next_input m.inputs port) bytes stay.registers holds h
@@ -98,7 +100,7 @@ module _ (regions : Areas) (ground : Ground regions) (code : List (Option ℕ)) 
       subst (λ (n : Machine). Holds regions (state_after code i (is_taken (flow i) m.cpu.registers.flags) next s) n) (next_in h)
       (proceeds i next m s small bytes whole reads are (subst (λ (n : Machine). HasBytes n.memory) (sym (next_in h)) stay.memory) pass holds)
 
-  pub step_state : (refused : Bool) (m after : Machine) (found : Fetched) (s : State) → HasOperandInRange found.instr → HoldsBytes m → HoldsBytes after → length m.memory ≡ 65536 → ReadsCode code m.memory → AreQuietCells (in_data regions) s.cells →
+  pub step_state : (refused : Bool) (m after : Machine) (found : Fetched) (s : State) → HasOperandInRange found.instr → HoldsBytes m → HoldsBytes after → length m.memory ≡ 65536 → ReadsCode code m.memory → IsQuietState (in_data regions) s →
       fetch regions m.memory m.cpu.pc ≡ Some found → step_of regions refused m ≡ Next after → Holds regions s m →
       Holds regions (state_after code found.instr (is_taken (flow found.instr) m.cpu.registers.flags) found.next s) after
   step_state refused m after found s small bytes stay whole reads are fetched h holds =
@@ -118,27 +120,24 @@ module _ (regions : Areas) (ground : Ground regions) (code : List (Option ℕ)) 
   jumps_keeps None next m after h = sym (ap (λ (n : Machine). n.memory) (next_in h))
   jumps_keeps (Some e) next m after h = cc
 
-  abbrev SameAt : ℕ → Machine → Machine → Type 0
-  SameAt a m after = slice_index after.memory a ≡ slice_index m.memory a
+  -- what holds of a byte, and of what an instruction may store there, holds of it after the step
+  executed_keeps : (P : ℕ → Type 0) (refused : Bool) (i : Instr) (next : ℕ) (m after : Machine) (a : ℕ) → execute regions refused i next m ≡ Next after → P (slice_index m.memory a) → P (slice_index (stored m.memory (stores i next m.memory m.cpu)) a) →
+      P (slice_index after.memory a)
+  executed_keeps P refused Hlt next m after a h before kept = cc
+  executed_keeps P refused (In port) next m after a h before kept = subst (λ (x : List ℕ). P (slice_index x a)) (sym (reads_keeps next port m after (next_input m.inputs port) h)) before
+  executed_keeps P refused (Out port) next m after a h before kept = subst (λ (x : List ℕ). P (slice_index x a)) (sym (writes_keeps refused next port m after h)) before
+  executed_keeps P refused Pchl next m after a h before kept =
+      subst (λ (x : List ℕ). P (slice_index x a)) (sym (jumps_keeps (jump_end (targets_at regions m.cpu.pc) (hl_of m.cpu.registers)) next m after h)) before
+  executed_keeps P refused i next m after a h before kept = subst (λ (n : Machine). P (slice_index n.memory a)) (next_in h) kept
 
-  executed_keeps : (refused : Bool) (i : Instr) (next : ℕ) (m after : Machine) (a : ℕ) → execute regions refused i next m ≡ Next after → slice_index (stored m.memory (stores i next m.memory m.cpu)) a ≡ slice_index m.memory a → SameAt a m after
-  executed_keeps refused Hlt next m after a h kept = cc
-  executed_keeps refused (In port) next m after a h kept = ap (λ (x : List ℕ). slice_index x a) (reads_keeps next port m after (next_input m.inputs port) h)
-  executed_keeps refused (Out port) next m after a h kept = ap (λ (x : List ℕ). slice_index x a) (writes_keeps refused next port m after h)
-  executed_keeps refused Pchl next m after a h kept =
-      ap (λ (x : List ℕ). slice_index x a) (jumps_keeps (jump_end (targets_at regions m.cpu.pc) (hl_of m.cpu.registers)) next m after h)
-  executed_keeps refused i next m after a h kept =
-      subst (λ (n : Machine). slice_index n.memory a ≡ slice_index m.memory a) (next_in h) kept
-
-  -- a byte stays along a step if its instruction doesn't store there
-  pub step_byte : (refused : Bool) (m after : Machine) (found : Fetched) (a : ℕ) → fetch regions m.memory m.cpu.pc ≡ Some found → step_of regions refused m ≡ Next after →
-      (guard regions found.instr m.cpu ≡ None → slice_index (stored m.memory (stores found.instr found.next m.memory m.cpu)) a ≡ slice_index m.memory a) → slice_index after.memory a ≡ slice_index m.memory a
-  step_byte refused m after found a fetched h kept =
+  pub step_byte : (P : ℕ → Type 0) (refused : Bool) (m after : Machine) (found : Fetched) (a : ℕ) → fetch regions m.memory m.cpu.pc ≡ Some found → step_of regions refused m ≡ Next after → P (slice_index m.memory a) →
+      (guard regions found.instr m.cpu ≡ None → P (slice_index (stored m.memory (stores found.instr found.next m.memory m.cpu)) a)) → P (slice_index after.memory a)
+  step_byte P refused m after found a fetched h before kept =
       let pass = passed regions refused m after found fetched h in
-      executed_keeps refused found.instr found.next m after a pass.executed (kept pass.guarded_so)
+      executed_keeps P refused found.instr found.next m after a pass.executed before (kept pass.guarded_so)
 
   -- code stays
   pub step_code : (refused : Bool) (m after : Machine) (found : Fetched) (a : ℕ) → fetch regions m.memory m.cpu.pc ≡ Some found → step_of regions refused m ≡ Next after → in_code regions a ≡ true →
       slice_index after.memory a ≡ slice_index m.memory a
   step_code refused m after found a fetched h here =
-      step_byte refused m after found a fetched h (λ pass. code_kept regions ground found.instr found.next m.memory m.cpu a pass here)
+      step_byte (λ n. n ≡ slice_index m.memory a) refused m after found a fetched h refl (λ pass. code_kept regions ground found.instr found.next m.memory m.cpu a pass here)

@@ -14,8 +14,8 @@ use Rattle.verify80.specs.Reached.{AreReached, IsReached, StandsOnWalk, found_at
 use Rattle.verify80_states.specs.declared.fitting.fitting.Placed.{Placed}
 use Rattle.verify80_states.specs.Bytes.{HoldsBytes, MemoryKeepsItsLength}
 use Rattle.verify80_states.specs.declared.states.state.State.{State}
-use Rattle.verify80_states.specs.Cells.{AreQuietCells}
-use Rattle.verify80_states.specs.State.{anything}
+use Rattle.verify80_states.specs.declared.states.variables.Variable.{Variable}
+use Rattle.verify80_states.specs.State.{IsQuietState, anything}
 use Rattle.verify80_states.specs.Steps.{HasCode}
 use Rattle.verify80_states.specs.Fitting.{Has, Covers, FitsBy, KnowsQuiet}
 use Rattle.verify80_states.specs.Calls.{ReturnFacts, never, no_returns}
@@ -46,11 +46,14 @@ module _ (code : Code) (reached : List (Option Fetched)) (are : AreReached code 
   there_if_reached : (at : ℕ) → IsReached code at → IsThere at
   there_if_reached at walk = found_or_not at (found_at reached at) refl walk
 
-pub fits_program : (image : Located) (quiet : ℕ → Bool) (reached : List (Option Fetched)) (bytes : List (Option ℕ)) (returns : ReturnFacts) (table : List Placed) → AreReached (code_of image) reached → length reached ≡ 65536 →
-    Has table image.start anything → AllFit image.regions bytes returns reached table → KnowsQuiet quiet table → Fits quiet (code_of image) bytes returns table
-fits_program image quiet reached bytes returns table are whole start fit knows = record {
+pub fits_program : (image : Located) (quiet : ℕ → Bool) (reached : List (Option Fetched)) (bytes : List (Option ℕ)) (returns : ReturnFacts) (variables : List Variable) (table : List Placed) → AreReached (code_of image) reached → length reached ≡ 65536 →
+    Has variables table image.start anything → AllFit image.regions bytes returns reached variables table → KnowsQuiet quiet table → ((number : ℕ) (v : Variable) → slice_get variables number ≡ Some v → quiet v.at ≡ true) →
+    Fits quiet (code_of image) bytes returns variables table
+fits_program image quiet reached bytes returns variables table are whole start fit knows quiet_variables = record {
   start = start;
   knows = knows;
+  quiet_variables = quiet_variables;
+  steady = λ place placed found there walk looked. fit.steady place placed found there (here placed.at found looked (there_if_reached (code_of image) reached are placed.at walk));
   entries = λ place placed found there walk looked. fit.entries place placed found there (here placed.at found looked (there_if_reached (code_of image) reached are placed.at walk));
   accounts = λ at found walk looked.
       let there = there_if_reached (code_of image) reached are at walk in
@@ -67,16 +70,17 @@ pub nothing_is_kept : (image : Located) (quiet : ℕ → Bool) (reached : List (
     ((at : ℕ) → at < 65536 → SaysNothingAt table at) → All (λ placed. placed.state ≡ anything) table → IsKept image quiet table
 nothing_is_kept image quiet reached table are whole ground length_stays everywhere nothing = record {
   returns = no_returns;
+  variables = [];
   starts = λ start pc code size held stands. here (world_of start) stands held code size;
   steps = λ refused w after known stands before now keeps step newer.
       here after stands now (code_stays image ground refused w.machine after.machine known.stands.found known.stands.fetched step keeps.keeps.code)
       (length_stays image.regions refused w.machine after.machine step ∙ keeps.keeps.whole);
-  disturbed = λ w memory leaves stays keeps. record { keeps = still_keeps image ground quiet table w memory knows leaves stays keeps.keeps; owes = keeps.owes };
+  disturbed = λ w memory leaves stays keeps. still_keeps image ground quiet no_returns [] table w memory knows (λ number v there. cc) leaves stays keeps;
 } where
   knows : KnowsQuiet quiet table
-  knows = λ k d inside. subst (λ (s : State). AreQuietCells quiet s.cells) (sym (nothing k d inside)) (none_quiet quiet)
+  knows = λ k d inside. subst (IsQuietState quiet) (sym (nothing k d inside)) (none_quiet quiet)
 
-  here : (w : World) → StandsOnWalk image w → HoldsBytes w.machine → HasCode image w.machine.memory → length w.machine.memory ≡ 65536 → KeepsToCalls image no_returns table w
+  here : (w : World) → StandsOnWalk image w → HoldsBytes w.machine → HasCode image w.machine.memory → length w.machine.memory ≡ 65536 → KeepsToCalls image no_returns [] table w
   here w stands held code size =
       let there = there_if_reached (code_of image) reached are w.machine.cpu.pc stands.reached in
       let says = everywhere w.machine.cpu.pc (omega (arith, there.within, whole)) in
@@ -86,10 +90,11 @@ nothing_is_kept image quiet reached table are whole ground length_stays everywhe
           placed = says.placed;
           there = says.there;
           at = says.here;
-          holds = rw says.nothing (nothing_holds image.regions ground w.machine held);
+          holds = rw says.nothing (nothing_holds image.regions ground 0 w.machine held);
           code = code;
           whole = size;
         };
+        set = λ v named. absurd (let there = named.there in cc there);
         owes = never false false w.places refl;
       }
 
@@ -109,11 +114,11 @@ nothing_more table e n below here nothing at less = go (split at n less) where
   go (inr now) = record { place = length table; placed = e; there = slice_get-last table e; here = here ∙ sym now; nothing = nothing }
 
 -- a flow that goes on to the next instruction
-pub goes_next : (targets : List ℕ) (table : List Placed) (after : Bool → State → State) (s : State) (next : ℕ) (w : Flow) → (w ≡ Continues) ⊎ ((w ≡ Pushes) ⊎ ((w ≡ Pops) ⊎ (w ≡ Exchanges))) →
-    Covers table next (after false s) → FitsBy targets table after s next w
-goes_next targets table after s next w is covers = by is where
-  by : (w ≡ Continues) ⊎ ((w ≡ Pushes) ⊎ ((w ≡ Pops) ⊎ (w ≡ Exchanges))) → FitsBy targets table after s next w
-  by (inl e) = subst (λ (f : Flow). FitsBy targets table after s next f) (sym e) covers
-  by (inr (inl e)) = subst (λ (f : Flow). FitsBy targets table after s next f) (sym e) covers
-  by (inr (inr (inl e))) = subst (λ (f : Flow). FitsBy targets table after s next f) (sym e) covers
-  by (inr (inr (inr e))) = subst (λ (f : Flow). FitsBy targets table after s next f) (sym e) covers
+pub goes_next : (targets : List ℕ) (variables : List Variable) (table : List Placed) (after : Bool → State → State) (s : State) (next : ℕ) (w : Flow) → (w ≡ Continues) ⊎ ((w ≡ Pushes) ⊎ ((w ≡ Pops) ⊎ (w ≡ Exchanges))) →
+    Covers variables table next (after false s) → FitsBy targets variables table after s next w
+goes_next targets variables table after s next w is covers = by is where
+  by : (w ≡ Continues) ⊎ ((w ≡ Pushes) ⊎ ((w ≡ Pops) ⊎ (w ≡ Exchanges))) → FitsBy targets variables table after s next w
+  by (inl e) = subst (λ (f : Flow). FitsBy targets variables table after s next f) (sym e) covers
+  by (inr (inl e)) = subst (λ (f : Flow). FitsBy targets variables table after s next f) (sym e) covers
+  by (inr (inr (inl e))) = subst (λ (f : Flow). FitsBy targets variables table after s next f) (sym e) covers
+  by (inr (inr (inr e))) = subst (λ (f : Flow). FitsBy targets variables table after s next f) (sym e) covers

@@ -5,12 +5,14 @@ use Rattle.decode80.specs.declared.flow.Flow.{Flow}
 use Rattle.decode80.specs.declared.flow.Flow.TheVariants.{Jumps, JumpsIf, JumpsToHl, Calls, CallsIf, Returns, ReturnsIf, Halts}
 use Rattle.decode80.specs.declared.fetching.Fetched.{Fetched}
 use Rattle.decode80.specs.Facts.{flow}
-use Rattle.verify80_states.specs.declared.spans.span.Span.{Span}
+use Rattle.verify80_spans.specs.declared.span.Span.{Span}
 use Rattle.verify80_states.specs.declared.fitting.calls.CallReturns.{CallReturns}
 use Rattle.verify80_states.specs.declared.fitting.fitting.Placed.{Placed}
 use Rattle.verify80_states.specs.declared.states.state.State.{State}
-use Rattle.verify80_states.specs.Span.{is_alone}
-use Rattle.verify80_states.specs.State.{anything}
+use Rattle.verify80_spans.specs.Span.{is_alone}
+use Rattle.verify80_states.specs.declared.states.variables.Variable.{Variable}
+use Rattle.verify80_states.specs.Variables.{HoldsSet}
+use Rattle.verify80_states.specs.State.{unknown_but}
 use Rattle.verify80_states.specs.Following.{state_after}
 use Rattle.verify80_states.specs.Given.{given}
 use Rattle.verify80_states.specs.Marks.{is_marked}
@@ -52,33 +54,38 @@ AccountsFor returns targets at next Halts = Unit {0}
 AccountsFor returns targets at next w = IsWithin returns at next
 
 -- a state knows where a return goes, and the table covers there what the return makes of it: `after` is that
-pub record KnowsReturn (table : List Placed) (after : State → State) (s : State) : Type 0 where
+pub record KnowsReturn (variables : List Variable) (table : List Placed) (after : State → State) (s : State) : Type 0 where
   pub span : Span
   pub first : s.words.first ≡ Some span
   pub alone : is_alone span ≡ true
-  pub covers : Covers table span.first (after s)
+  pub covers : Covers variables table span.first (after s)
 
-abbrev pub KnowsReturnIf : List Placed → (after : State → State) → Option State → Type 0
-KnowsReturnIf table after None = Unit {0}
-KnowsReturnIf table after (Some s) = KnowsReturn table after s
+abbrev pub KnowsReturnIf : List Variable → List Placed → (after : State → State) → Option State → Type 0
+KnowsReturnIf variables table after None = Unit {0}
+KnowsReturnIf variables table after (Some s) = KnowsReturn variables table after s
 
-abbrev pub KnowsReturnsOf : List Placed → (after : State → State) → State → Flow → Type 0
-KnowsReturnsOf table after s Returns = KnowsReturn table after s
-KnowsReturnsOf table after s (ReturnsIf condition) = KnowsReturnIf table after (given condition true s)
-KnowsReturnsOf table after s w = Unit {0}
+abbrev pub KnowsReturnsOf : List Variable → List Placed → (after : State → State) → State → Flow → Type 0
+KnowsReturnsOf variables table after s Returns = KnowsReturn variables table after s
+KnowsReturnsOf variables table after s (ReturnsIf condition) = KnowsReturnIf variables table after (given condition true s)
+KnowsReturnsOf variables table after s w = Unit {0}
 
--- if a state's instruction is a call whose callee may return, the table has a state that says nothing behind it, unless the callee's states
+-- if a state's instruction is a call whose callee may return, the table has a state that says nothing but of its variables behind it, unless the callee's states
 -- know where they return to; and if this state is to know that, it does
-pub record KeepsCalls (returns : ReturnFacts) (bytes : List (Option ℕ)) (table : List Placed) (at : ℕ) (s : State) (found : Fetched) : Type 0 where
+pub record KeepsCalls (returns : ReturnFacts) (bytes : List (Option ℕ)) (variables : List Variable) (table : List Placed) (at : ℕ) (s : State) (found : Fetched) : Type 0 where
   pub behind : (entry : ℕ) → CallsEntry (flow found.instr) entry → returns.may entry ≡ true → returns.known entry ≡ false →
-      Has table found.next anything
-  pub known : returns.known at ≡ true → KnowsReturnsOf table (λ t. state_after bytes found.instr true found.next t) s (flow found.instr)
+      Has variables table found.next (unknown_but s.set)
+  pub known : returns.known at ≡ true → KnowsReturnsOf variables table (λ t. state_after bytes found.instr true found.next t) s (flow found.instr)
 
--- What is owed to open calls, the newest first, where a return may still come or not, and its state knows where it goes or not: behind the
--- call the table has a state that says nothing, or it is known where the return goes; and so on for the older calls. If no return is to
--- come, nothing is owed.
-pub data Owes (returns : ReturnFacts) (table : List Placed) : (may known : Bool) → (places : List ℕ) → Type 0 where
-  never : (may known : Bool) (places : List ℕ) → may ≡ false → Owes returns table may known places
-  none : (may known : Bool) (places : List ℕ) → places ≡ [] → Owes returns table may known places
-  waits : (may known : Bool) (places : List ℕ) (place : ℕ) (older : List ℕ) → places ≡ place ∷ older → (known ≡ true) ⊎ Has table place anything →
-      Owes returns table (returns.may place) (returns.known place) older → Owes returns table may known places
+-- What is owed to open calls, the newest first, where a return may still come or not, and its state knows where it goes or not: it is known
+-- where the return goes, or what is wanted behind the call is there; and so on for the older calls. If no return is to come, nothing is owed.
+pub data Owes (returns : ReturnFacts) (behind : ℕ → Type 0) : (may known : Bool) → (places : List ℕ) → Type 0 where
+  never : (may known : Bool) (places : List ℕ) → may ≡ false → Owes returns behind may known places
+  none : (may known : Bool) (places : List ℕ) → places ≡ [] → Owes returns behind may known places
+  waits : (may known : Bool) (places : List ℕ) (place : ℕ) (older : List ℕ) → places ≡ place ∷ older → (known ≡ true) ⊎ behind place →
+      Owes returns behind (returns.may place) (returns.known place) older → Owes returns behind may known places
+
+-- behind a call the table has a state that says nothing but of variables, each of which has one of its bytes
+pub record IsBehind (variables : List Variable) (table : List Placed) (memory : List ℕ) (place : ℕ) : Type 0 where
+  pub set : ℕ
+  pub holds : HoldsSet variables set memory
+  pub has : Has variables table place (unknown_but set)

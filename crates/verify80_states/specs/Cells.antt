@@ -1,53 +1,52 @@
 -- What is known of bytes of memory, each at an address of its own, and what becomes of that when a byte is stored. (This project's own.)
-use Rattle.std.specs.Prelude.{◌≡◌, ◌⊎◌, ◌==◌, ◌&&◌, ℕ, Bool, true, List, nat_le, if◌then◌else◌}
+use Rattle.std.specs.Prelude.{◌≡◌, ◌⊎◌, ◌==◌, ◌&&◌, ℕ, Bool, true, List, Option, None, Some, nat_le, if◌then◌else◌}
 use Rattle.machine80.specs.Effects.{byte_in}
-use Rattle.verify80_states.specs.declared.spans.span.Span.{Span}
-use Rattle.verify80_states.specs.declared.spans.byte_span.ByteSpan.{ByteSpan}
+use Rattle.verify80_spans.specs.declared.span.Span.{Span}
+use Rattle.verify80_spans.specs.declared.byte_span.ByteSpan.{ByteSpan}
 use Rattle.verify80_states.specs.declared.states.cells.Cell.{Cell}
 use Rattle.verify80_states.specs.declared.states.cells.Cells.{Cells}
-use Rattle.verify80_states.specs.Span.{ByteWithin, IsByteInside, any_byte, is_alone}
+use Rattle.verify80_states.specs.declared.states.variables.Variable.{Variable}
+use Rattle.verify80_states.specs.Variables.{IsSaid}
+use Rattle.verify80_spans.specs.Span.{ByteWithin, IsByteInside, any_byte, is_alone, meet_bytes}
 
 -- the byte at a cell's address is one of its bytes
 abbrev pub HoldsCell : Cell → (memory : List ℕ) → Type 0
 HoldsCell c memory = ByteWithin c.bytes (byte_in memory c.at)
 
-pub record HoldsCells (cells : Cells) (memory : List ℕ) : Type 0 where
-  pub first : HoldsCell cells.first memory
-  pub second : HoldsCell cells.second memory
-  pub third : HoldsCell cells.third memory
-  pub fourth : HoldsCell cells.fourth memory
-  pub fifth : HoldsCell cells.fifth memory
-  pub sixth : HoldsCell cells.sixth memory
-  pub seventh : HoldsCell cells.seventh memory
-  pub eighth : HoldsCell cells.eighth memory
+-- something holds of each cell
+pub record EachCell (P : Cell → Type 0) (cells : Cells) : Type 0 where
+  pub first : P cells.first
+  pub second : P cells.second
+  pub third : P cells.third
+  pub fourth : P cells.fourth
+  pub fifth : P cells.fifth
+  pub sixth : P cells.sixth
+  pub seventh : P cells.seventh
+  pub eighth : P cells.eighth
 
--- a cell says nothing that another doesn't
-abbrev pub IsCellInside : (inner outer : Cell) → Type 0
-IsCellInside inner outer = (outer.bytes ≡ any_byte) ⊎ ((inner.at ≡ outer.at) × IsByteInside inner.bytes outer.bytes)
+abbrev pub HoldsCells : Cells → (memory : List ℕ) → Type 0
+HoldsCells cells memory = EachCell (λ c. HoldsCell c memory) cells
 
-pub record AreCellsInside (inner outer : Cells) : Type 0 where
-  pub first : IsCellInside inner.first outer.first
-  pub second : IsCellInside inner.second outer.second
-  pub third : IsCellInside inner.third outer.third
-  pub fourth : IsCellInside inner.fourth outer.fourth
-  pub fifth : IsCellInside inner.fifth outer.fifth
-  pub sixth : IsCellInside inner.sixth outer.sixth
-  pub seventh : IsCellInside inner.seventh outer.seventh
-  pub eighth : IsCellInside inner.eighth outer.eighth
+-- a cell says nothing that neither another does nor a variable that is named
+abbrev pub IsCellInside : List Variable → (set : ℕ) → (inner outer : Cell) → Type 0
+IsCellInside variables set inner outer = (outer.bytes ≡ any_byte) ⊎ (((inner.at ≡ outer.at) × IsByteInside inner.bytes outer.bytes) ⊎ IsSaid variables set outer)
+
+pub record AreCellsInside (variables : List Variable) (set : ℕ) (inner outer : Cells) : Type 0 where
+  pub first : IsCellInside variables set inner.first outer.first
+  pub second : IsCellInside variables set inner.second outer.second
+  pub third : IsCellInside variables set inner.third outer.third
+  pub fourth : IsCellInside variables set inner.fourth outer.fourth
+  pub fifth : IsCellInside variables set inner.fifth outer.fifth
+  pub sixth : IsCellInside variables set inner.sixth outer.sixth
+  pub seventh : IsCellInside variables set inner.seventh outer.seventh
+  pub eighth : IsCellInside variables set inner.eighth outer.eighth
 
 -- something is known only of addresses that are quiet
 abbrev pub IsQuietCell : (quiet : ℕ → Bool) → Cell → Type 0
 IsQuietCell quiet c = (c.bytes ≡ any_byte) ⊎ (quiet c.at ≡ true)
 
-pub record AreQuietCells (quiet : ℕ → Bool) (cells : Cells) : Type 0 where
-  pub first : IsQuietCell quiet cells.first
-  pub second : IsQuietCell quiet cells.second
-  pub third : IsQuietCell quiet cells.third
-  pub fourth : IsQuietCell quiet cells.fourth
-  pub fifth : IsQuietCell quiet cells.fifth
-  pub sixth : IsQuietCell quiet cells.sixth
-  pub seventh : IsQuietCell quiet cells.seventh
-  pub eighth : IsQuietCell quiet cells.eighth
+abbrev pub AreQuietCells : (quiet : ℕ → Bool) → Cells → Type 0
+AreQuietCells quiet cells = EachCell (IsQuietCell quiet) cells
 
 -- nothing is known
 abbrev pub any_cell : Cell
@@ -64,18 +63,30 @@ abbrev pub bytes_at : Cells → (at : ℕ) → ByteSpan
 bytes_at cells at =
     cell_or cells.first at (cell_or cells.second at (cell_or cells.third at (cell_or cells.fourth at (cell_or cells.fifth at (cell_or cells.sixth at (cell_or cells.seventh at (cell_or cells.eighth at any_byte)))))))
 
+-- each cell is changed
+abbrev pub map_cells : (Cell → Cell) → Cells → Cells
+map_cells f cells = record {
+  first = f cells.first;
+  second = f cells.second;
+  third = f cells.third;
+  fourth = f cells.fourth;
+  fifth = f cells.fifth;
+  sixth = f cells.sixth;
+  seventh = f cells.seventh;
+  eighth = f cells.eighth;
+}
+
+-- a cell at an address is known to have one of these bytes too, if an address is named
+abbrev pub cut_cell : (at : ℕ) → ByteSpan → Cell → Cell
+cut_cell at bytes c = if c.at == at then record { at = c.at; bytes = meet_bytes c.bytes bytes } else c
+
+abbrev pub cut_cells : Option ℕ → ByteSpan → Cells → Cells
+cut_cells None bytes cells = cells
+cut_cells (Some at) bytes cells = map_cells (cut_cell at bytes) cells
+
 -- one of these bytes is stored at one of these addresses: if that is one, a cell there has these bytes; if the cell's is one of them, any
 abbrev pub stored_cell : (at : Span) → ByteSpan → Cell → Cell
 stored_cell at bytes c = if nat_le at.first c.at && nat_le c.at at.last then record { at = c.at; bytes = if is_alone at then bytes else any_byte } else c
 
 abbrev pub stored_cells : (at : Span) → ByteSpan → Cells → Cells
-stored_cells at bytes cells = record {
-  first = stored_cell at bytes cells.first;
-  second = stored_cell at bytes cells.second;
-  third = stored_cell at bytes cells.third;
-  fourth = stored_cell at bytes cells.fourth;
-  fifth = stored_cell at bytes cells.fifth;
-  sixth = stored_cell at bytes cells.sixth;
-  seventh = stored_cell at bytes cells.seventh;
-  eighth = stored_cell at bytes cells.eighth;
-}
+stored_cells at bytes cells = map_cells (stored_cell at bytes) cells

@@ -6,47 +6,47 @@ use Rattle.decode80.specs.declared.flow.Flow.{Flow}
 use Rattle.decode80.specs.declared.flow.Flow.TheVariants.{Jumps, JumpsIf, JumpsToHl, Calls, CallsIf, Returns, ReturnsIf, Halts}
 use Rattle.decode80.specs.Facts.{flow}
 use Rattle.verify80_states.specs.declared.states.state.State.{State}
+use Rattle.verify80_states.specs.declared.states.variables.Variable.{Variable}
 use Rattle.verify80_states.specs.declared.fitting.fitting.Placed.{Placed}
-use Rattle.verify80_states.specs.Span.{Within, ByteWithin, byte_alone}
-use Rattle.verify80_states.specs.Cells.{AreQuietCells}
-use Rattle.verify80_states.specs.State.{IsStateInside, cut}
+use Rattle.verify80_spans.specs.Span.{Within, ByteWithin, byte_alone}
+use Rattle.verify80_states.specs.State.{IsStateInside, IsQuietState, cut}
 use Rattle.verify80_states.specs.Following.{state_after}
 use Rattle.verify80_states.specs.Given.{given}
 
 -- the table has a state at an address that says no more than this one
-pub record Has (table : List Placed) (to : ℕ) (s : State) : Type 0 where
+pub record Has (variables : List Variable) (table : List Placed) (to : ℕ) (s : State) : Type 0 where
   pub place : ℕ
   pub placed : Placed
   pub there : slice_get table place ≡ Some placed
   pub at : placed.at ≡ to
-  pub inside : IsStateInside s placed.state
+  pub inside : IsStateInside variables s placed.state
 
 -- the table has states at an address that together say no more than this one: one of them, or one for each byte that A may be
-pub record Covers (table : List Placed) (to : ℕ) (s : State) : Type 0 where
-  pub either : Has table to s ⊎ ((byte : ℕ) → ByteWithin s.a byte → Has table to (cut s (byte_alone byte)))
+pub record Covers (variables : List Variable) (table : List Placed) (to : ℕ) (s : State) : Type 0 where
+  pub either : Has variables table to s ⊎ ((byte : ℕ) → ByteWithin s.a byte → Has variables table to (cut s (byte_alone byte)))
 
 -- the same of what an instruction makes of a state, if there is one
-abbrev pub CoversAfter : List Placed → (to : ℕ) → (State → State) → Option State → Type 0
-CoversAfter table to after None = Unit {0}
-CoversAfter table to after (Some s) = Covers table to (after s)
+abbrev pub CoversAfter : List Variable → List Placed → (to : ℕ) → (State → State) → Option State → Type 0
+CoversAfter variables table to after None = Unit {0}
+CoversAfter variables table to after (Some s) = Covers variables table to (after s)
 
 -- what a state owes where an instruction leads: `after` is what the instruction makes of a state, its call or return taken or not
-abbrev pub FitsBy : (targets : List ℕ) → List Placed → (after : Bool → State → State) → State → (next : ℕ) → Flow → Type 0
-FitsBy targets table after s next (Jumps to) = Covers table to (after false s)
-FitsBy targets table after s next (JumpsIf condition to) =
-    CoversAfter table to (after true) (given condition true s) × CoversAfter table next (after false) (given condition false s)
-FitsBy targets table after s next JumpsToHl = (to : ℕ) → Contains targets to → Within s.hl.words to → Covers table to (after false s)
-FitsBy targets table after s next (Calls to) = Covers table to (after true s)
-FitsBy targets table after s next (CallsIf condition to) =
-    CoversAfter table to (after true) (given condition true s) × CoversAfter table next (after false) (given condition false s)
-FitsBy targets table after s next Returns = Unit {0}
-FitsBy targets table after s next (ReturnsIf condition) = CoversAfter table next (after false) (given condition false s)
-FitsBy targets table after s next Halts = Unit {0}
-FitsBy targets table after s next w = Covers table next (after false s)
+abbrev pub FitsBy : (targets : List ℕ) → List Variable → List Placed → (after : Bool → State → State) → State → (next : ℕ) → Flow → Type 0
+FitsBy targets variables table after s next (Jumps to) = Covers variables table to (after false s)
+FitsBy targets variables table after s next (JumpsIf condition to) =
+    CoversAfter variables table to (after true) (given condition true s) × CoversAfter variables table next (after false) (given condition false s)
+FitsBy targets variables table after s next JumpsToHl = (to : ℕ) → Contains targets to → Within s.hl.words to → Covers variables table to (after false s)
+FitsBy targets variables table after s next (Calls to) = Covers variables table to (after true s)
+FitsBy targets variables table after s next (CallsIf condition to) =
+    CoversAfter variables table to (after true) (given condition true s) × CoversAfter variables table next (after false) (given condition false s)
+FitsBy targets variables table after s next Returns = Unit {0}
+FitsBy targets variables table after s next (ReturnsIf condition) = CoversAfter variables table next (after false) (given condition false s)
+FitsBy targets variables table after s next Halts = Unit {0}
+FitsBy targets variables table after s next w = Covers variables table next (after false s)
 
 -- a state at an address fits the instruction there
-abbrev pub FitsAt : (code : List (Option ℕ)) → (targets : List ℕ) → List Placed → State → Fetched → Type 0
-FitsAt code targets table s found = FitsBy targets table (λ taken t. state_after code found.instr taken found.next t) s found.next (flow found.instr)
+abbrev pub FitsAt : (code : List (Option ℕ)) → (targets : List ℕ) → List Variable → List Placed → State → Fetched → Type 0
+FitsAt code targets variables table s found = FitsBy targets variables table (λ taken t. state_after code found.instr taken found.next t) s found.next (flow found.instr)
 
 -- a flow calls the procedure that begins at an address
 abbrev pub CallsEntry : Flow → ℕ → Type 0
@@ -56,4 +56,4 @@ CallsEntry w entry = ⊥
 
 -- a table knows bytes of quiet addresses alone
 abbrev pub KnowsQuiet : (quiet : ℕ → Bool) → List Placed → Type 0
-KnowsQuiet quiet table = All (λ placed. AreQuietCells quiet placed.state.cells) table
+KnowsQuiet quiet table = All (λ placed. IsQuietState quiet placed.state) table

@@ -1,7 +1,8 @@
 -- A table of states that fits a program: the runs of the program are followed along such a table. At the start nothing is known; wherever
 -- an instruction leads there is a state for what it makes of each of its states; and behind a call whose callee may return one for what
 -- its returns bring, or one that says nothing. (This project's own.)
-use Rattle.std.specs.Prelude.{◌≡◌, ◌<◌, ℕ, Bool, List, Option, Some, Ok, slice_get}
+use Rattle.std.specs.Prelude.{◌≡◌, ◌<◌, ℕ, Bool, true, List, Option, Some, Ok, slice_get}
+use Rattle.std.specs.List.{list_all}
 use Rattle.decode80.specs.declared.fetching.Fetched.{Fetched}
 use Rattle.decode80.specs.Facts.{flow}
 use Rattle.frames80.specs.Code.{Code}
@@ -9,28 +10,35 @@ use Rattle.image80.specs.Regions.{Areas}
 use Rattle.verify80.specs.Looking.{declared_targets}
 use Rattle.verify80.specs.Reached.{IsReached, found_at}
 use Rattle.verify80_states.specs.declared.fitting.fitting.Placed.{Placed}
+use Rattle.verify80_states.specs.declared.states.variables.Variable.{Variable}
 use Rattle.verify80_states.specs.State.{anything}
+use Rattle.verify80_states.specs.Following.{is_steady}
 use Rattle.verify80_states.specs.Fitting.{Has, FitsAt, KnowsQuiet}
 use Rattle.verify80_states.specs.Calls.{ReturnFacts, AccountsFor, KeepsCalls}
 
-pub record Fits (quiet : ℕ → Bool) (code : Code) (bytes : List (Option ℕ)) (returns : ReturnFacts) (table : List Placed) : Type 0 where
-  pub start : Has table code.start anything
+pub record Fits (quiet : ℕ → Bool) (code : Code) (bytes : List (Option ℕ)) (returns : ReturnFacts) (variables : List Variable) (table : List Placed) : Type 0 where
+  pub start : Has variables table code.start anything
   pub entries : (place : ℕ) (placed : Placed) (found : Fetched) → slice_get table place ≡ Some placed → IsReached code placed.at →
-      code.look placed.at ≡ Ok found → FitsAt bytes (code.targets placed.at) table placed.state found
+      code.look placed.at ≡ Ok found → FitsAt bytes (code.targets placed.at) variables table placed.state found
   pub knows : KnowsQuiet quiet table
+  pub quiet_variables : (number : ℕ) (v : Variable) → slice_get variables number ≡ Some v → quiet v.at ≡ true
+  pub steady : (place : ℕ) (placed : Placed) (found : Fetched) → slice_get table place ≡ Some placed → IsReached code placed.at →
+      code.look placed.at ≡ Ok found → list_all (is_steady bytes found.instr placed.state) variables ≡ true
   pub accounts : (at : ℕ) (found : Fetched) → IsReached code at → code.look at ≡ Ok found →
       AccountsFor returns (code.targets at) at found.next (flow found.instr)
   pub calls : (place : ℕ) (placed : Placed) (found : Fetched) → slice_get table place ≡ Some placed → IsReached code placed.at →
-      code.look placed.at ≡ Ok found → KeepsCalls returns bytes table placed.at placed.state found
+      code.look placed.at ≡ Ok found → KeepsCalls returns bytes variables table placed.at placed.state found
 
 -- the same of the instructions that are reached, by address
-pub record AllFit (regions : Areas) (bytes : List (Option ℕ)) (returns : ReturnFacts) (reached : List (Option Fetched)) (table : List Placed) : Type 0 where
+pub record AllFit (regions : Areas) (bytes : List (Option ℕ)) (returns : ReturnFacts) (reached : List (Option Fetched)) (variables : List Variable) (table : List Placed) : Type 0 where
   pub entries : (place : ℕ) (placed : Placed) (found : Fetched) → slice_get table place ≡ Some placed → found_at reached placed.at ≡ Some found →
-      FitsAt bytes (declared_targets regions placed.at) table placed.state found
+      FitsAt bytes (declared_targets regions placed.at) variables table placed.state found
   pub accounts : (at : ℕ) (found : Fetched) → at < 65536 → found_at reached at ≡ Some found →
       AccountsFor returns (declared_targets regions at) at found.next (flow found.instr)
   pub calls : (place : ℕ) (placed : Placed) (found : Fetched) → slice_get table place ≡ Some placed → found_at reached placed.at ≡ Some found →
-      KeepsCalls returns bytes table placed.at placed.state found
+      KeepsCalls returns bytes variables table placed.at placed.state found
+  pub steady : (place : ℕ) (placed : Placed) (found : Fetched) → slice_get table place ≡ Some placed → found_at reached placed.at ≡ Some found →
+      list_all (is_steady bytes found.instr placed.state) variables ≡ true
 
 -- the state at an address says nothing
 pub record SaysNothingAt (table : List Placed) (at : ℕ) : Type 0 where

@@ -1,6 +1,6 @@
 -- What becomes of a state at each instruction. (The registers and flags that each instruction writes are those of the Intel 8080
 -- Microcomputer Systems User's Manual, chapter 4; that spans are followed is this project's own.)
-use Rattle.std.specs.Prelude.{◌+◌, ◌*◌, ℕ, Bool, true, false, not, List, Option, None, Some, slice_get, if◌then◌else◌}
+use Rattle.std.specs.Prelude.{◌+◌, ◌*◌, ◌&&◌, ℕ, Bool, true, false, not, List, Option, None, Some, nat_le, slice_get, if◌then◌else◌}
 use Rattle.decode80.specs.declared.register.Register.{Register}
 use Rattle.decode80.specs.declared.register.Register.TheVariants.{A, B, C, D, E, H, L}
 use Rattle.decode80.specs.declared.pair.Pair.{Pair}
@@ -16,13 +16,15 @@ use Rattle.decode80.specs.declared.operation.Operation.TheVariants.{Add, AddCarr
 use Rattle.decode80.specs.declared.operation.Operand.{Operand}
 use Rattle.decode80.specs.declared.operation.Operand.TheVariants.{Register as InRegister, Memory, Immediate}
 use Rattle.decode80.specs.Fetch.{ahead}
-use Rattle.verify80_states.specs.declared.spans.span.Span.{Span}
-use Rattle.verify80_states.specs.declared.spans.byte_span.ByteSpan.{ByteSpan}
-use Rattle.verify80_states.specs.declared.spans.byte_span.Outcome.{Outcome}
+use Rattle.verify80_spans.specs.declared.span.Span.{Span}
+use Rattle.verify80_spans.specs.declared.byte_span.ByteSpan.{ByteSpan}
+use Rattle.verify80_spans.specs.declared.byte_span.Outcome.{Outcome}
 use Rattle.verify80_states.specs.declared.states.cells.Cells.{Cells}
 use Rattle.verify80_states.specs.declared.states.state.Words.{Words}
 use Rattle.verify80_states.specs.declared.states.state.State.{State}
-use Rattle.verify80_states.specs.Span.{any_word, any_byte, word_alone, byte_alone, is_alone, next_span, previous_span, next_byte, previous_byte, sum_span, sum_carries, high_of, operated, rotated, complemented, uncarried}
+use Rattle.verify80_spans.specs.Span.{any_word, any_byte, word_alone, byte_alone, is_alone, next_span, previous_span, next_byte, previous_byte, sum_span, sum_carries, high_of, operated, rotated, complemented, uncarried}
+use Rattle.verify80_states.specs.declared.states.variables.Variable.{Variable}
+use Rattle.verify80_states.specs.Variables.{takes}
 use Rattle.verify80_states.specs.Cells.{bytes_at, stored_cells}
 use Rattle.verify80_states.specs.State.{byte_of, words_of, with_byte, with_words, with_outcome, with_carry, with_any_flags, compared_with, no_words, pushed, popped}
 
@@ -193,6 +195,40 @@ cells_after code (Shld address) s =
     stored_cells (word_alone (ahead address 1)) (high_of s.hl.words) (stored_cells (word_alone address) s.hl.low s.cells)
 cells_after code instr s = s.cells
 
+-- an address, if it is the only one of a span; and one that is outside of it
+abbrev pub only_address : Span → Option ℕ
+only_address span = if is_alone span then Some span.first else None
+
+abbrev pub address_outside : Span → Option ℕ → Option ℕ
+address_outside span None = None
+address_outside span (Some at) = if nat_le span.first at && nat_le at span.last then None else Some at
+
+-- the address of a byte that A has after an instruction, given what is left of that when the registers are written
+abbrev pub source_after : Instr → State → Option ℕ → Option ℕ
+source_after (Lda address) s left = Some address
+source_after (Sta address) s left = Some address
+source_after (Load A) s left = only_address s.hl.words
+source_after (Store A) s left = only_address s.hl.words
+source_after (Store register) s left = address_outside s.hl.words left
+source_after (MviMemory byte) s left = address_outside s.hl.words left
+source_after InrMemory s left = address_outside s.hl.words left
+source_after DcrMemory s left = address_outside s.hl.words left
+source_after (Stax pair) s left = address_outside (index_words s pair) left
+source_after (Shld address) s left = address_outside (word_alone (ahead address 1)) (address_outside (word_alone address) left)
+source_after instr s left = left
+
 -- all of it
 abbrev pub state_after : (code : List (Option ℕ)) → Instr → (taken : Bool) → (next : ℕ) → State → State
-state_after code instr taken next s = record (registers_after code instr s) { words = words_after instr taken next s; cells = cells_after code instr s }
+state_after code instr taken next s =
+    record (registers_after code instr s) { words = words_after instr taken next s; cells = cells_after code instr s; source = source_after instr s (registers_after code instr s).source; set = s.set }
+
+-- whether what an instruction stores where a variable may be is one of the variable's bytes
+abbrev pub is_steady : (code : List (Option ℕ)) → Instr → State → Variable → Bool
+is_steady code (Store register) s v = takes v s.hl.words (byte_of s register)
+is_steady code (MviMemory byte) s v = takes v s.hl.words (byte_alone byte)
+is_steady code InrMemory s v = takes v s.hl.words (next_byte (loaded code s.cells s.hl.words))
+is_steady code DcrMemory s v = takes v s.hl.words (previous_byte (loaded code s.cells s.hl.words))
+is_steady code (Stax pair) s v = takes v (index_words s pair) s.a
+is_steady code (Sta address) s v = takes v (word_alone address) s.a
+is_steady code (Shld address) s v = takes v (word_alone address) s.hl.low && takes v (word_alone (ahead address 1)) (high_of s.hl.words)
+is_steady code instr s v = true

@@ -1,5 +1,5 @@
 pub mod Bytes
-pub mod Span
+pub mod Variables
 pub mod Cells
 pub mod State
 pub mod Following

@@ -15,7 +15,9 @@ use Rattle.verify80_states.specs.declared.fitting.fitting.Placed.{Placed}
 use Rattle.verify80_states.specs.Bytes.{HoldsBytes}
 use Rattle.verify80_states.specs.State.{Holds}
 use Rattle.verify80_states.specs.Steps.{AreCodeBytes, HasCode}
-use Rattle.verify80_states.specs.Calls.{ReturnFacts, Owes}
+use Rattle.verify80_states.specs.declared.states.variables.Variable.{Variable}
+use Rattle.verify80_states.specs.Variables.{HoldsSet}
+use Rattle.verify80_states.specs.Calls.{ReturnFacts, Owes, IsBehind}
 use Rattle.verify80_states.specs.FittingTable.{Fits}
 
 -- one of the states that the table has at a world's address holds, and the world's memory has the image's code
@@ -28,10 +30,11 @@ pub record KeepsTo (image : Located) (table : List Placed) (w : World) : Type 0 
   pub code : HasCode image w.machine.memory
   pub whole : length w.machine.memory ≡ 65536
 
--- the same, and what is owed to its open calls
-pub record KeepsToCalls (image : Located) (returns : ReturnFacts) (table : List Placed) (w : World) : Type 0 where
+-- the same, each variable that the state names has one of its bytes, and what is owed to open calls is there
+pub record KeepsToCalls (image : Located) (returns : ReturnFacts) (variables : List Variable) (table : List Placed) (w : World) : Type 0 where
   pub keeps : KeepsTo image table w
-  pub owes : Owes returns table (returns.may w.machine.cpu.pc) (returns.known w.machine.cpu.pc) w.places
+  pub set : HoldsSet variables keeps.placed.state.set w.machine.memory
+  pub owes : Owes returns (IsBehind variables table w.machine.memory) (returns.may w.machine.cpu.pc) (returns.known w.machine.cpu.pc) w.places
 
 -- so it is for each world of each run from power-on, whatever bytes are in the registers, in memory outside the code and at the
 -- ports
@@ -52,19 +55,20 @@ pub record IsKnown (image : Located) (w : World) : Type 0 where
 -- neither code nor pushed nor quiet
 pub record IsKept (image : Located) (quiet : ℕ → Bool) (table : List Placed) : Type 0 where
   pub returns : ReturnFacts
+  pub variables : List Variable
   pub starts : (start : Machine) → start.cpu.pc ≡ image.start → HasCode image start.memory → length start.memory ≡ 65536 → HoldsBytes start → StandsOnWalk image (world_of start) →
-      KeepsToCalls image returns table (world_of start)
+      KeepsToCalls image returns variables table (world_of start)
   pub steps : (refused : Bool) (w after : World) → IsKnown image w → StandsOnWalk image after → HoldsBytes w.machine →
-      HoldsBytes after.machine → KeepsToCalls image returns table w → step_of image.regions refused w.machine ≡ Next after.machine →
+      HoldsBytes after.machine → KeepsToCalls image returns variables table w → step_of image.regions refused w.machine ≡ Next after.machine →
       after.places ≡ places_then (fetched_by image.regions w) w.machine.cpu.registers.flags w.places →
-      KeepsToCalls image returns table after
+      KeepsToCalls image returns variables table after
   pub disturbed : (w : World) (memory : List ℕ) → LeavesProgram image.regions w.machine.cpu.sp w.machine.memory memory → ((at : ℕ) → quiet at ≡ true → slice_index memory at ≡ slice_index w.machine.memory at) →
-      KeepsToCalls image returns table w → KeepsToCalls image returns table (with_memory w memory)
+      KeepsToCalls image returns variables table w → KeepsToCalls image returns variables table (with_memory w memory)
 
 -- a table that fits is kept, and runs that stay on walks keep to a table that is
 abbrev pub FittingTablesAreKept : Type 0
-FittingTablesAreKept = (image : Located) (quiet : ℕ → Bool) (code : List (Option ℕ)) (returns : ReturnFacts) (table : List Placed) → AreRegions image.regions →
-    AreCodeBytes image code → ((at : ℕ) → quiet at ≡ true → in_data image.regions at ≡ true) → Fits quiet (code_of image) code returns table → IsKept image quiet table
+FittingTablesAreKept = (image : Located) (quiet : ℕ → Bool) (code : List (Option ℕ)) (returns : ReturnFacts) (variables : List Variable) (table : List Placed) → AreRegions image.regions →
+    AreCodeBytes image code → ((at : ℕ) → quiet at ≡ true → in_data image.regions at ≡ true) → Fits quiet (code_of image) code returns variables table → IsKept image quiet table
 
 abbrev pub RunsKeepToKeptTables : Type 0
 RunsKeepToKeptTables = (image : Located) (bytes : ℕ) (quiet : ℕ → Bool) (table : List Placed) → NeverGoesWrongFromPowerOn image bytes →

@@ -1,7 +1,7 @@
 -- What is known of a machine at an instruction: what its registers may hold, some of its flags, what was compared last, the words on top
 -- of its stack, and bytes of memory; and what becomes of that when registers, flags and words are written. (The registers and flags are those of the
 -- Intel 8080 Microcomputer Systems User's Manual, chapter 4; that they are followed by spans is this project's own.)
-use Rattle.std.specs.Prelude.{◌≡◌, ◌≢◌, ◌≤◌, ◌==◌, ℕ, Bool, true, List, Option, None, Some, nat_lt, if◌then◌else◌}
+use Rattle.std.specs.Prelude.{◌≡◌, ◌≢◌, ◌≤◌, ◌==◌, ◌⊎◌, ℕ, Bool, true, List, Option, None, Some, nat_lt, slice_get, if◌then◌else◌}
 use Rattle.decode80.specs.declared.register.Register.{Register}
 use Rattle.decode80.specs.declared.register.Register.TheVariants.{A, B, C, D, E, H, L}
 use Rattle.decode80.specs.declared.pair.Pair.{Pair}
@@ -12,16 +12,18 @@ use Rattle.image80.specs.Regions.{Areas, top_of}
 use Rattle.machine80.specs.declared.flags.Flags.{Flags}
 use Rattle.machine80.specs.declared.registers.Registers.{Registers}
 use Rattle.machine80.specs.Cpu.{word, register_of}
-use Rattle.machine80.specs.Effects.{word_in}
+use Rattle.machine80.specs.Effects.{byte_in, word_in}
 use Rattle.machine80.specs.Step.{Machine}
-use Rattle.verify80_states.specs.declared.spans.span.Span.{Span}
-use Rattle.verify80_states.specs.declared.spans.byte_span.ByteSpan.{ByteSpan}
-use Rattle.verify80_states.specs.declared.spans.byte_span.Outcome.{Outcome}
+use Rattle.verify80_spans.specs.declared.span.Span.{Span}
+use Rattle.verify80_spans.specs.declared.byte_span.ByteSpan.{ByteSpan}
+use Rattle.verify80_spans.specs.declared.byte_span.Outcome.{Outcome}
 use Rattle.verify80_states.specs.declared.states.state.PairSpan.{PairSpan}
 use Rattle.verify80_states.specs.declared.states.state.Words.{Words}
 use Rattle.verify80_states.specs.declared.states.state.State.{State}
-use Rattle.verify80_states.specs.Span.{Within, ByteWithin, IsInside, IsByteInside, IsKnown, any_word, any_byte, is_byte_alone, meet, meet_bytes, high_of, low_of, joined, zero_of, sign_of}
-use Rattle.verify80_states.specs.Cells.{HoldsCells, AreCellsInside, no_cells}
+use Rattle.verify80_spans.specs.Span.{Within, ByteWithin, IsInside, IsByteInside, IsKnown, any_word, any_byte, is_byte_alone, meet, meet_bytes, high_of, low_of, joined, zero_of, sign_of}
+use Rattle.verify80_states.specs.declared.states.variables.Variable.{Variable}
+use Rattle.verify80_states.specs.Variables.{is_bit}
+use Rattle.verify80_states.specs.Cells.{HoldsCells, AreCellsInside, AreQuietCells, bytes_at, no_cells, cut_cells}
 
 -- the word of a pair is one of its words, and its low byte one of its low bytes
 pub record HoldsPair (p : PairSpan) (h l : ℕ) : Type 0 where
@@ -68,11 +70,17 @@ pub record HoldsWords (regions : Areas) (w : Words) (memory : List ℕ) (sp : �
   pub third : HoldsWord regions w.third memory sp (ahead sp 4)
   pub fourth : HoldsWord regions w.fourth memory sp (ahead sp 6)
 
+-- a byte of memory is that of A, if one is named
+abbrev pub HoldsSource : Option ℕ → (memory : List ℕ) → (a : ℕ) → Type 0
+HoldsSource None memory a = Unit {0}
+HoldsSource (Some at) memory a = byte_in memory at ≡ a
+
 -- what a state says of a machine
 pub record Holds (regions : Areas) (s : State) (m : Machine) : Type 0 where
   pub registers : HoldsRegisters s m.cpu.registers
   pub words : HoldsWords regions s.words m.memory m.cpu.sp
   pub cells : HoldsCells s.cells m.memory
+  pub source : HoldsSource s.source m.memory m.cpu.registers.a
 
 -- a state says nothing that another doesn't
 pub record IsPairInside (inner outer : PairSpan) : Type 0 where
@@ -108,7 +116,12 @@ pub record AreRegistersInside (inner outer : State) : Type 0 where
   pub de : IsPairInside inner.de outer.de
   pub hl : IsPairInside inner.hl outer.hl
 
-pub record IsStateInside (inner outer : State) : Type 0 where
+-- each variable that it names is named by the other, or said by its cells
+abbrev pub IsSetInside : List Variable → (inner outer : State) → Type 0
+IsSetInside variables inner outer = (number : ℕ) (v : Variable) → slice_get variables number ≡ Some v → is_bit outer.set number ≡ true →
+    (is_bit inner.set number ≡ true) ⊎ IsByteInside (bytes_at inner.cells v.at) v.bytes
+
+pub record IsStateInside (variables : List Variable) (inner outer : State) : Type 0 where
   pub registers : AreRegistersInside inner outer
   pub copy : IsCopyInside inner.copy outer.copy
   pub zero : IsFlagInside inner.zero outer.zero
@@ -116,7 +129,18 @@ pub record IsStateInside (inner outer : State) : Type 0 where
   pub sign : IsFlagInside inner.sign outer.sign
   pub compared : IsComparisonInside inner.compared outer.compared
   pub words : AreWordsInside inner.words outer.words
-  pub cells : AreCellsInside inner.cells outer.cells
+  pub cells : AreCellsInside variables inner.set inner.cells outer.cells
+  pub set : IsSetInside variables inner outer
+  pub source : IsComparisonInside inner.source outer.source
+
+-- it says something of quiet addresses alone
+abbrev pub IsQuietSource : (quiet : ℕ → Bool) → Option ℕ → Type 0
+IsQuietSource quiet None = Unit {0}
+IsQuietSource quiet (Some at) = quiet at ≡ true
+
+pub record IsQuietState (quiet : ℕ → Bool) (s : State) : Type 0 where
+  pub cells : AreQuietCells quiet s.cells
+  pub source : IsQuietSource quiet s.source
 
 -- nothing is known
 abbrev pub any_pair : PairSpan
@@ -138,7 +162,13 @@ anything = record {
   compared = None;
   words = no_words;
   cells = no_cells;
+  source = None;
+  set = 0;
 }
+
+-- nothing is known but of these variables
+abbrev pub unknown_but : (set : ℕ) → State
+unknown_but set = record anything { set = set }
 
 -- a pair of these words, and one of these halves
 abbrev pub pair_of_words : Span → PairSpan
@@ -186,7 +216,7 @@ copy_outside pair copy = copy
 
 -- a register is written: the other half of its pair stays
 abbrev pub with_byte : State → Register → ByteSpan → State
-with_byte s A byte = record s { a = byte; copy = A; compared = None }
+with_byte s A byte = record s { a = byte; copy = A; compared = None; source = None }
 with_byte s B byte = record s { bc = pair_of_halves byte s.bc.low; copy = copy_without B s.copy }
 with_byte s C byte = record s { bc = pair_of_halves (high_of s.bc.words) byte; copy = copy_without C s.copy }
 with_byte s D byte = record s { de = pair_of_halves byte s.de.low; copy = copy_without D s.copy }
@@ -233,9 +263,9 @@ cut_copy s E byte = record s { de = cut_low s.de byte }
 cut_copy s H byte = record s { hl = cut_high s.hl byte }
 cut_copy s L byte = record s { hl = cut_low s.hl byte }
 
--- A is known to hold one of these bytes too, and so is the register that has its byte
+-- A is known to hold one of these bytes too, and so are the register and the byte of memory that have its byte
 abbrev pub cut : State → ByteSpan → State
-cut s byte = record (cut_copy s s.copy byte) { a = meet_bytes s.a byte }
+cut s byte = record (cut_copy s s.copy byte) { a = meet_bytes s.a byte; cells = cut_cells s.source byte s.cells }
 
 -- a word is pushed, and one is popped
 abbrev pub pushed : Words → Option Span → Words

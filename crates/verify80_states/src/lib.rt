@@ -6,6 +6,7 @@
 //! |---|---|
 //! | [`Span`], [`ByteSpan`] | the words, and the bytes, from a first to a last one |
 //! | [`State`], [`PairSpan`], [`Words`], [`Cells`], [`Cell`] | what registers, flags, the words on top of the stack and some bytes of memory may be |
+//! | [`Variable`], [`is_bit`] | a byte of memory that stays inside a span once it is there, and whether a state says that it is |
 //! | [`state_after`] | what they may be after an instruction |
 //! | [`given`] | what a condition says of them |
 //! | [`Placed`] | a state at an address: a table is a list of these |
@@ -17,13 +18,16 @@
 //! | [`bytes_stay_bytes`] | a machine's registers and memory hold bytes, as a contract |
 #![tactic(auto)]
 
+mod bytes;
 mod fitting;
-mod spans;
 mod states;
 
+pub use bytes::bytes_stay_bytes;
 pub use fitting::{
     APART, CallReturns, Placed, anything, fits, fitting_states_hold, is_marked, reached_at,
     targets_at,
 };
-pub use spans::{ByteSpan, Span, bytes_stay_bytes};
-pub use states::{Cell, Cells, PairSpan, State, Words, given, index_words, state_after};
+pub use states::{
+    Cell, Cells, PairSpan, State, Variable, Words, given, index_words, is_bit, state_after,
+};
+pub use verify80_spans::{ByteSpan, Span};

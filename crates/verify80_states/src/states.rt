@@ -4,6 +4,7 @@
 //! |---|---|
 //! | [`State`] | what registers, flags, the words on top of the stack and some bytes of memory may be |
 //! | [`Cells`] | what some bytes of memory may be |
+//! | [`Variable`] | a byte of memory that stays inside a span once it is there |
 //! | [`state_after`] | what they may be after an instruction |
 //! | [`given`] | what a condition says of them |
 
@@ -11,8 +12,11 @@ mod cells;
 mod conditions;
 mod following;
 mod state;
+mod variables;
 
 pub use cells::{Cell, Cells};
 pub use conditions::given;
+pub(crate) use following::is_steady;
 pub use following::{index_words, state_after};
 pub use state::{PairSpan, State, Words};
+pub use variables::{Variable, is_bit};

@@ -19,7 +19,7 @@ use Rattle.verify80.specs.Starts.{IsStart, NeverGoesWrongFromPowerOn}
 use Rattle.verify80.specs.Reached.{StandsOnWalk, StaysOnWalks}
 use Rattle.verify80.specs.Boards.{Disturbs, fetched_anywhere, StaysInside, Executes, OnBoard, with_respected_pointer, respected_pointer, begins, disturbed, executed, Anywhere, KeepsPromise, MayStart}
 use Rattle.verify80.specs.Reached.{AreReached}
-use Rattle.verify80_states.specs.declared.spans.span.Span.{Span}
+use Rattle.verify80_spans.specs.declared.span.Span.{Span}
 use Rattle.verify80_states.specs.declared.fitting.fitting.Placed.{Placed}
 use Rattle.verify80_states.specs.Bytes.{HoldsBytes, BytesStayBytes}
 use Rattle.verify80_states.specs.Runs.{KeepsTo, KeepsToCalls, RunsKeepTo, IsKnown}
@@ -37,19 +37,19 @@ stands_so : (image : Located) (m : Machine) (places : List ℕ) (inputs : List (
     StandsOnWalk image (record { machine = m; places = places })
 stands_so image m places inputs outputs s = record { reached = s.reached; found = s.found; looked = s.looked; fetched = s.fetched }
 
-keeps_so : (image : Located) (table : List Placed) (m : Machine) (places : List ℕ) (inputs : List (List ℕ)) (outputs : List (ℕ × ℕ)) → KeepsTo image table (record { machine = m; places = places }) →
+abbrev keeps_so : (image : Located) (table : List Placed) (m : Machine) (places : List ℕ) (inputs : List (List ℕ)) (outputs : List (ℕ × ℕ)) → KeepsTo image table (record { machine = m; places = places }) →
     KeepsTo image table (record { machine = record m { inputs = inputs; outputs = outputs }; places = places })
 keeps_so image table m places inputs outputs k = record {
   place = k.place;
   placed = k.placed;
   there = k.there;
   at = k.at;
-  holds = record { registers = k.holds.registers; words = k.holds.words; cells = k.holds.cells };
+  holds = record { registers = k.holds.registers; words = k.holds.words; cells = k.holds.cells; source = k.holds.source };
   code = k.code;
   whole = k.whole;
 }
 
-keeps_with : (image : Located) (table : List Placed) (w : World) (inputs : List (List ℕ)) → KeepsTo image table w → KeepsTo image table (record { machine = record w.machine { inputs = inputs }; places = w.places })
+abbrev keeps_with : (image : Located) (table : List Placed) (w : World) (inputs : List (List ℕ)) → KeepsTo image table w → KeepsTo image table (record { machine = record w.machine { inputs = inputs }; places = w.places })
 keeps_with image table w inputs k = keeps_so image table w.machine w.places inputs w.machine.outputs k
 
 -- a machine on which a run may begin is one with SP at the stack's top, but for SP
@@ -99,14 +99,14 @@ module _ (image : Located) (bytes : ℕ) (quiet : ℕ → Bool) (reached : List 
     (known : AreKnown image bytes) (stay : BytesStayBytes) where
   -- what a world of the board keeps to: each table, and what is owed to open calls
   abbrev Keeps : KeptTable image quiet → World → Type 0
-  Keeps t w = KeepsToCalls image t.kept.returns t.table w
+  Keeps t w = KeepsToCalls image t.kept.returns t.kept.variables t.table w
 
   keeps_now : (t : KeptTable image quiet) (w : World) (inputs : List (List ℕ)) → Keeps t w → Keeps t (record { machine = record w.machine { inputs = inputs }; places = w.places })
-  keeps_now t w inputs k = record { keeps = keeps_with image t.table w inputs k.keeps; owes = k.owes }
+  keeps_now t w inputs k = record { keeps = keeps_with image t.table w inputs k.keeps; set = k.set; owes = k.owes }
 
   keeps_then : (t : KeptTable image quiet) (w : World) (inputs : List (List ℕ)) (outputs : List (ℕ × ℕ)) (m : Machine) (places : List ℕ) → Keeps t (record { machine = m; places = places }) →
       Keeps t (record { machine = record m { inputs = inputs; outputs = outputs }; places = places })
-  keeps_then t w inputs outputs m places k = record { keeps = keeps_so image t.table m places inputs outputs k.keeps; owes = k.owes }
+  keeps_then t w inputs outputs m places k = record { keeps = keeps_so image t.table m places inputs outputs k.keeps; set = k.set; owes = k.owes }
 
   abbrev Listed : ℕ → Type 0
   Listed at = IsListedAt stores open_jumps at

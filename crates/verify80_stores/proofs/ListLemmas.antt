@@ -4,7 +4,7 @@ use Rattle.std.proofs.Common.{subst, sym, ap, ◌∙◌, inl, inr, arith, get_or
 use Rattle.std.proofs.lemmas.List.Elements.{Contains-get_or, Contains-append_left, Contains-push, Contains-push_cases, All-contains, All-nil, All-push, All-weaker}
 use Rattle.std.proofs.lemmas.List.Quantifiers.{all_pairs_push}
 use Rattle.decode80.specs.declared.fetching.Fetched.{Fetched}
-use Rattle.verify80_states.specs.declared.spans.span.Span.{Span}
+use Rattle.verify80_spans.specs.declared.span.Span.{Span}
 use Rattle.verify80_stores.specs.declared.stores.OpenStore.{OpenStore}
 use Rattle.verify80_states.specs.Following.{entry_in}
 use Rattle.verify80_stores.specs.Pointers.{stores_by_pair}

@@ -25,11 +25,11 @@ use Rattle.verify80.specs.Looking.{code_of, declared_targets, is_pchl}
 use Rattle.verify80.specs.Starts.{IsStart, IsWorldFrom, NeverGoesWrongFromPowerOn}
 use Rattle.verify80.specs.Reached.{StandsOnWalk, StaysOnWalks}
 use Rattle.verify80.specs.Reached.{AreReached}
-use Rattle.verify80_states.specs.declared.spans.span.Span.{Span}
+use Rattle.verify80_spans.specs.declared.span.Span.{Span}
 use Rattle.verify80_states.specs.declared.states.state.State.{State}
 use Rattle.verify80_states.specs.declared.fitting.fitting.Placed.{Placed}
 use Rattle.verify80_states.specs.Bytes.{HoldsBytes}
-use Rattle.verify80_states.specs.Span.{Within}
+use Rattle.verify80_spans.specs.Span.{Within}
 use Rattle.verify80_states.specs.State.{HoldsRegisters}
 use Rattle.verify80_states.specs.Following.{entry_in}
 use Rattle.verify80_states.specs.Marks.{is_marked}

@@ -7,9 +7,9 @@ use Rattle.decode80.specs.declared.fetching.Fetched.{Fetched}
 use Rattle.image80.specs.Regions.{Areas, in_code}
 use Rattle.image80.specs.Image.{Located, memory_of}
 use Rattle.verify80.specs.Looking.{declared_targets}
-use Rattle.verify80_states.specs.declared.spans.span.Span.{Span}
+use Rattle.verify80_spans.specs.declared.span.Span.{Span}
 use Rattle.verify80_states.specs.declared.fitting.fitting.Placed.{Placed}
-use Rattle.verify80_states.specs.Span.{IsInside}
+use Rattle.verify80_spans.specs.Span.{IsInside}
 use Rattle.verify80_states.specs.Following.{entry_in}
 use Rattle.verify80_states.specs.Steps.{AreCodeBytes, code_in}
 use Rattle.verify80_states.specs.Marks.{is_marked}

@@ -10,10 +10,10 @@ use Rattle.verify80.specs.Starts.{NeverGoesWrongFromPowerOn}
 use Rattle.verify80.specs.Boards.{Anywhere, Executes, IsGuarded, KeepsPromise, KeepsToWalks, MayStart, OnBoard, with_respected_pointer, sets_sp}
 use Rattle.verify80.specs.Reached.{StaysOnWalks, found_at}
 use Rattle.verify80.specs.Looking.{declared_targets}
-use Rattle.verify80_states.specs.declared.spans.span.Span.{Span}
+use Rattle.verify80_spans.specs.declared.span.Span.{Span}
 use Rattle.verify80_states.specs.declared.fitting.fitting.Placed.{Placed}
 use Rattle.verify80_stores.specs.declared.stores.OpenStore.{OpenStore}
-use Rattle.verify80_states.specs.Span.{IsInside}
+use Rattle.verify80_spans.specs.Span.{IsInside}
 use Rattle.verify80_states.specs.Following.{entry_in}
 use Rattle.verify80_states.specs.Marks.{is_marked}
 use Rattle.verify80_stores.specs.Pointers.{stores_by_pair}

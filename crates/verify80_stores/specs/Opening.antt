@@ -7,9 +7,9 @@ use Rattle.decode80.specs.declared.storing.Storing.TheVariants.{Nowhere, Byte, W
 use Rattle.decode80.specs.Facts.{storing}
 use Rattle.image80.specs.Regions.{Areas, in_data}
 use Rattle.verify80.specs.Looking.{is_pchl}
-use Rattle.verify80_states.specs.declared.spans.span.Span.{Span}
+use Rattle.verify80_spans.specs.declared.span.Span.{Span}
 use Rattle.verify80_states.specs.declared.states.state.State.{State}
-use Rattle.verify80_states.specs.Span.{Within, hull}
+use Rattle.verify80_spans.specs.Span.{Within, hull}
 use Rattle.verify80_states.specs.Following.{index_words}
 
 -- where an instruction may store by a pair, if it does

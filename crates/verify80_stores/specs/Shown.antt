@@ -5,7 +5,7 @@ use Rattle.image80.specs.Image.{Located}
 use Rattle.image80.specs.Regions.{Areas}
 use Rattle.verify80.specs.Looking.{declared_targets}
 use Rattle.verify80.specs.Reached.{found_at}
-use Rattle.verify80_states.specs.declared.spans.span.Span.{Span}
+use Rattle.verify80_spans.specs.declared.span.Span.{Span}
 use Rattle.verify80_states.specs.declared.fitting.fitting.Placed.{Placed}
 use Rattle.verify80_states.specs.Marks.{is_marked}
 use Rattle.verify80_stores.specs.Opening.{StaysIn}

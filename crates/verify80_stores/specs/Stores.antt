@@ -15,7 +15,7 @@ use Rattle.verify80.specs.Looking.{code_of, is_pchl}
 use Rattle.verify80.specs.Starts.{IsStart, IsWorldFrom}
 use Rattle.verify80.specs.Reached.{IsReached}
 use Rattle.verify80_states.specs.Bytes.{HasBytes, HoldsBytes}
-use Rattle.verify80_states.specs.Span.{Within}
+use Rattle.verify80_spans.specs.Span.{Within}
 use Rattle.verify80_stores.specs.declared.stores.OpenStore.{OpenStore}
 use Rattle.verify80_stores.specs.Pointers.{stores_by_pair}
 

@@ -4,8 +4,8 @@ ghost use Rattle.std.specs.Prelude.{◌≡◌, ◌⊎◌, ◌+◌, ◌<◌, ℕ,
 ghost use Rattle.image80.specs.Regions.{in_data};
 ghost use Rattle.verify80.specs.Looking.{declared_targets, is_pchl};
 ghost use Rattle.verify80.specs.Reached.{found_at};
-ghost use Rattle.verify80_states.specs.declared.spans.span.Span.{Span};
-ghost use Rattle.verify80_states.specs.Span.{Within};
+ghost use Rattle.verify80_spans.specs.declared.span.Span.{Span};
+ghost use Rattle.verify80_spans.specs.Span.{Within};
 ghost use Rattle.verify80_states.specs.Following.{entry_in};
 ghost use Rattle.verify80_stores.specs.DataReach.{AreDataEnds};
 ghost use Rattle.verify80_states.specs.Marks.{is_marked};

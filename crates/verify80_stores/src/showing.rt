@@ -204,8 +204,11 @@ fn fitting_table(
         table,
         hints,
         returns,
+        variables,
     } = found?;
-    if fits(image, &table, &hints, &returns, code, reached, marks) {
+    if fits(
+        image, &table, &hints, &returns, &variables, code, reached, marks,
+    ) {
         Some(table)
     } else {
         None

@@ -1,5 +1,6 @@
 //! Whether a table of states fits a program.
 
+ghost use Rattle.std.specs.List.{list_all};
 ghost use Rattle.std.specs.Prelude.{◌≡◌, ◌<◌, ℕ, Bool, true, false, Contains, IfOk, Some, length, slice_get};
 ghost use Rattle.decode80.specs.declared.fetching.Fetched.{Fetched};
 ghost use Rattle.decode80.specs.Facts.{flow};
@@ -7,9 +8,9 @@ ghost use Rattle.image80.specs.Regions.{AreRegions, in_data};
 ghost use Rattle.verify80.specs.Looking.{code_of, declared_targets};
 ghost use Rattle.verify80.specs.Reached.{AreReached, found_at};
 ghost use Rattle.verify80_states.specs.declared.fitting.fitting.Placed.{Placed};
-ghost use Rattle.verify80_states.specs.Span.{Within, ByteWithin, byte_alone};
-ghost use Rattle.verify80_states.specs.State.{anything, cut};
-ghost use Rattle.verify80_states.specs.Following.{state_after};
+ghost use Rattle.verify80_spans.specs.Span.{Within, ByteWithin, byte_alone};
+ghost use Rattle.verify80_states.specs.State.{anything, cut, unknown_but};
+ghost use Rattle.verify80_states.specs.Following.{is_steady, state_after};
 ghost use Rattle.verify80_states.specs.Marks.{is_marked};
 ghost use Rattle.verify80_states.specs.Steps.{AreCodeBytes};
 ghost use Rattle.verify80_states.specs.Fitting.{CallsEntry, Has, Covers, CoversAfter, FitsAt, KnowsQuiet};
@@ -17,14 +18,15 @@ ghost use Rattle.verify80_states.specs.Calls.{AccountsFor, KeepsCalls, KnowsRetu
 ghost use Rattle.verify80_states.specs.FittingTable.{AllFit};
 ghost use Rattle.verify80_states.specs.Runs.{IsKept};
 
+use crate::bytes::bytes_stay_bytes;
 use crate::fitting::calls::CallReturns;
 use crate::fitting::laws::fitting_states_hold;
-use crate::spans::{ByteSpan, Span, bytes_stay_bytes};
-use crate::states::{State, given, state_after};
-use decode80::{Fetched, Flow};
+use crate::states::{State, Variable, given, is_steady, state_after};
+use decode80::{Fetched, Flow, Instr};
 use image80::laws::code_data_and_stack_are_apart;
 use image80::{Image, Regions};
 use std::alloc::{AllocError, Global};
+use verify80_spans::{ByteSpan, Span};
 
 /// The hints from here on name no place: less this, each says where those of A's bytes begin, one for each that A may be.
 pub const APART: u32 = 0x8000_0000;
@@ -47,6 +49,8 @@ pub(crate) struct Fit<'a> {
     pub hints: &'a [u32],
     /// Whether procedures return, and know where to.
     pub returns: &'a CallReturns,
+    /// The variables that its states name.
+    pub variables: &'a [Variable],
     /// By address the bytes of code.
     pub code: &'a [Option<u8>],
     /// The regions, with the targets of each PCHL.
@@ -58,27 +62,27 @@ pub(crate) struct Fit<'a> {
 impl Fit<'_> {
     /// Whether the state at the place that a hint names stands at an address, and says no more than this one.
     fn has(&self, hint: u32, to: u16, state: State) -> bool
-        ensures { result ≡ true → Has self.now.table.now to state }
+        ensures { result ≡ true → Has self.now.variables.now self.now.table.now to state }
     {
         let Some(place) = self.hints.get(hint as usize) else {
             return false;
         };
         match self.table.get(*place as usize) {
-            Some(placed) => placed.at == to && state.is_inside(placed.state),
+            Some(placed) => placed.at == to && state.is_inside(placed.state, self.variables),
             None => false,
         }
     }
 
     /// Whether the states that a hint names stand at an address, and together say no more than this one.
     fn covers(&self, hint: u32, to: u16, state: State) -> bool
-        ensures { result ≡ true → Covers self.now.table.now to state }
+        ensures { result ≡ true → Covers self.now.variables.now self.now.table.now to state }
     {
         self.has(hint, to, state) || self.has_each(hint, to, state)
     }
 
     /// Whether a hint names a state for each byte that A may be.
     fn has_each(&self, hint: u32, to: u16, state: State) -> bool
-        ensures { result ≡ true → (byte : ℕ) → ByteWithin state.a byte → Has self.now.table.now to (cut state (byte_alone byte)) }
+        ensures { result ≡ true → (byte : ℕ) → ByteWithin state.a byte → Has self.now.variables.now self.now.table.now to (cut state (byte_alone byte)) }
     {
         let Some(first) = self.hints.get(hint as usize) else {
             return false;
@@ -105,7 +109,7 @@ impl Fit<'_> {
         taken: bool,
         left: Option<State>,
     ) -> bool
-        ensures { result ≡ true → CoversAfter self.now.table.now to (λ t. state_after self.now.code.now found.instr taken found.next t) left }
+        ensures { result ≡ true → CoversAfter self.now.variables.now self.now.table.now to (λ t. state_after self.now.code.now found.instr taken found.next t) left }
     {
         match left {
             None => true,
@@ -122,7 +126,7 @@ impl Fit<'_> {
 
     /// Whether the table covers a state at each of these targets that HL may be.
     fn has_at_each(&self, hint: u32, targets: &[u16], hl: Span, state: State) -> bool
-        ensures { result ≡ true → (to : ℕ) → Contains targets.now to → Within hl to → Covers self.now.table.now to state }
+        ensures { result ≡ true → (to : ℕ) → Contains targets.now to → Within hl to → Covers self.now.variables.now self.now.table.now to state }
     {
         let mut next = hint;
         for to in targets {
@@ -136,7 +140,7 @@ impl Fit<'_> {
 
     /// Whether a state fits the instruction there.
     fn state_fits(&self, targets: &[u16], placed: Placed, found: Fetched) -> bool
-        ensures { result ≡ true → FitsAt self.now.code.now targets.now self.now.table.now placed.state found }
+        ensures { result ≡ true → FitsAt self.now.code.now targets.now self.now.variables.now self.now.table.now placed.state found }
     {
         let Placed { at: _, state, hint } = placed;
         let Fetched { instr, next } = found;
@@ -194,10 +198,12 @@ impl Fit<'_> {
     fn all_fit(&self) -> bool
         ensures entries { result ≡ true → (place : ℕ) (placed : Placed) (found : Fetched) → slice_get self.now.table.now place ≡ Some placed →
             found_at self.now.reached.now placed.at ≡ Some found →
-            FitsAt self.now.code.now (declared_targets self.now.regions.now placed.at) self.now.table.now placed.state found }
+            FitsAt self.now.code.now (declared_targets self.now.regions.now placed.at) self.now.variables.now self.now.table.now placed.state found }
         ensures calls { result ≡ true → (place : ℕ) (placed : Placed) (found : Fetched) → slice_get self.now.table.now place ≡ Some placed →
             found_at self.now.reached.now placed.at ≡ Some found →
-            KeepsCalls (returns_of self.now.returns.now) self.now.code.now self.now.table.now placed.at placed.state found }
+            KeepsCalls (returns_of self.now.returns.now) self.now.code.now self.now.variables.now self.now.table.now placed.at placed.state found }
+        ensures steady { result ≡ true → (place : ℕ) (placed : Placed) (found : Fetched) → slice_get self.now.table.now place ≡ Some placed →
+            found_at self.now.reached.now placed.at ≡ Some found → list_all (is_steady self.now.code.now found.instr placed.state) self.now.variables.now ≡ true }
     {
         for placed in self.table {
             if !self.placed_fits(*placed) {
@@ -210,9 +216,11 @@ impl Fit<'_> {
     /// Whether one state does, if an instruction is reached there.
     fn placed_fits(&self, placed: Placed) -> bool
         ensures entries { result ≡ true → (found : Fetched) → found_at self.now.reached.now placed.at ≡ Some found →
-            FitsAt self.now.code.now (declared_targets self.now.regions.now placed.at) self.now.table.now placed.state found }
+            FitsAt self.now.code.now (declared_targets self.now.regions.now placed.at) self.now.variables.now self.now.table.now placed.state found }
         ensures calls { result ≡ true → (found : Fetched) → found_at self.now.reached.now placed.at ≡ Some found →
-            KeepsCalls (returns_of self.now.returns.now) self.now.code.now self.now.table.now placed.at placed.state found }
+            KeepsCalls (returns_of self.now.returns.now) self.now.code.now self.now.variables.now self.now.table.now placed.at placed.state found }
+        ensures steady { result ≡ true → (found : Fetched) → found_at self.now.reached.now placed.at ≡ Some found →
+            list_all (is_steady self.now.code.now found.instr placed.state) self.now.variables.now ≡ true }
     {
         match reached_at(self.reached, placed.at) {
             Some(found) => {
@@ -220,6 +228,9 @@ impl Fit<'_> {
                     return false;
                 }
                 if !self.keeps_behind(placed, found) {
+                    return false;
+                }
+                if !self.are_steady(placed.state, found.instr) {
                     return false;
                 }
                 self.keeps_returns(placed, found)
@@ -231,7 +242,7 @@ impl Fit<'_> {
     /// Whether a state knows where a return goes, and the table covers there what the return makes of it, if the states at its address are to.
     fn keeps_returns(&self, placed: Placed, found: Fetched) -> bool
         ensures { result ≡ true → (returns_of self.now.returns.now).known placed.at ≡ true →
-            KnowsReturnsOf self.now.table.now (λ t. state_after self.now.code.now found.instr true found.next t) placed.state (flow found.instr) }
+            KnowsReturnsOf self.now.variables.now self.now.table.now (λ t. state_after self.now.code.now found.instr true found.next t) placed.state (flow found.instr) }
     {
         if !self.returns.know_return(placed.at) {
             return true;
@@ -248,7 +259,7 @@ impl Fit<'_> {
 
     /// Whether a state does at a return that is taken.
     fn knows_return(&self, hint: u32, found: Fetched, state: State) -> bool
-        ensures { result ≡ true → KnowsReturn self.now.table.now (λ t. state_after self.now.code.now found.instr true found.next t) state }
+        ensures { result ≡ true → KnowsReturn self.now.variables.now self.now.table.now (λ t. state_after self.now.code.now found.instr true found.next t) state }
     {
         match state.words.first {
             Some(span) => {
@@ -258,37 +269,53 @@ impl Fit<'_> {
         }
     }
 
-    /// Whether behind a call whose callee may return, to where its states don't know, the table has a state that says nothing.
+    /// Whether behind a call whose callee may return, to where its states don't know, the table has a state that says nothing but of its
+    /// variables.
     fn keeps_behind(&self, placed: Placed, found: Fetched) -> bool
         ensures { result ≡ true → (entry : ℕ) → CallsEntry (flow found.instr) entry → (returns_of self.now.returns.now).may entry ≡ true →
-            (returns_of self.now.returns.now).known entry ≡ false → Has self.now.table.now found.next anything }
+            (returns_of self.now.returns.now).known entry ≡ false → Has self.now.variables.now self.now.table.now found.next (unknown_but placed.state.set) }
     {
         let Fetched { instr, next } = found;
+        let Placed { at: _, state, hint } = placed;
         match instr.flow() {
-            Flow::Calls(entry) => self.has_behind(placed.hint.saturating_add(1), entry, next),
-            Flow::CallsIf(_, entry) => self.has_behind(placed.hint.saturating_add(2), entry, next),
+            Flow::Calls(entry) => {
+                self.has_behind(hint.saturating_add(1), entry, next, state.set)
+            }
+            Flow::CallsIf(_, entry) => {
+                self.has_behind(hint.saturating_add(2), entry, next, state.set)
+            }
             _ => true,
         }
     }
 
     /// Whether it has one behind a call of the procedure at `entry`.
-    fn has_behind(&self, hint: u32, entry: u16, next: u16) -> bool
+    fn has_behind(&self, hint: u32, entry: u16, next: u16, set: u64) -> bool
         ensures { result ≡ true → (returns_of self.now.returns.now).may entry ≡ true → (returns_of self.now.returns.now).known entry ≡ false →
-            Has self.now.table.now next anything }
+            Has self.now.variables.now self.now.table.now next (unknown_but set) }
     {
         !self.returns.may_return(entry)
             || self.returns.know_return(entry)
-            || self.has(hint, next, State::ANY)
+            || self.has(hint, next, State { set, ..State::ANY })
+    }
+
+    /// Whether what an instruction stores in a state where a variable may be is one of its bytes, for each variable.
+    fn are_steady(&self, state: State, instr: Instr) -> bool
+        ensures { result ≡ list_all (is_steady self.now.code.now instr state) self.now.variables.now }
+    {
+        self.variables
+            .iter()
+            .all(|variable| is_steady(self.code, instr, state, *variable))
     }
 }
 
 /// Whether a table of states fits an image whose walks reach these instructions, and whose procedures return so; something is known of the
-/// bytes at quiet addresses alone. The first of the hints is that of the start. Then all runs keep to the table.
+/// bytes at quiet addresses alone, and of variables there. The first of the hints is that of the start. Then all runs keep to the table.
 pub fn fits(
     image: &Image,
     table: &[Placed],
     hints: &[u32],
     returns: &CallReturns,
+    variables: &[Variable],
     code: &[Option<u8>],
     reached: &[Option<Fetched>],
     quiet: &[bool],
@@ -305,11 +332,15 @@ pub fn fits(
         table,
         hints,
         returns,
+        variables,
         code,
         regions: &image.regions,
         reached,
     };
     if !all_know_quiet(table, quiet) {
+        return false;
+    }
+    if !are_quiet(variables, quiet) {
         return false;
     }
     if !fit.has(0, image.start, State::ANY) {
@@ -348,16 +379,25 @@ pub fn anything(
     Ok(table)
 }
 
-/// Whether a table knows bytes of quiet addresses alone.
+/// Whether a table says something of quiet addresses alone.
 fn all_know_quiet(table: &[Placed], quiet: &[bool]) -> bool
     ensures { result ≡ true → KnowsQuiet (is_marked quiet.now) table.now }
 {
     for placed in table {
-        if !placed.state.cells.are_quiet(quiet) {
+        if !placed.state.is_quiet(quiet) {
             return false;
         }
     }
     true
+}
+
+/// Whether each variable is at a quiet address.
+fn are_quiet(variables: &[Variable], quiet: &[bool]) -> bool
+    ensures { result ≡ list_all (λ v. is_marked quiet.now v.at) variables.now }
+{
+    variables
+        .iter()
+        .all(|variable| is_marked(quiet, variable.at))
 }
 
 /// The instruction that is reached at an address.

@@ -2,7 +2,7 @@
 
 ghost use Rattle.verify80_states.specs.Runs.{FittingTablesAreKept, RunsHoldBytesFromPowerOn, RunsKeepToKeptTables};
 
-use crate::bytes_stay_bytes;
+use crate::bytes::bytes_stay_bytes;
 use image80::laws::code_data_and_stack_are_apart;
 
 /// A table of states that fits an image is kept by each of its starts and by each step of a world of which the verifier knows. So from

@@ -4,7 +4,8 @@ ghost use Rattle.std.specs.Prelude.{◌≡◌, true};
 ghost use Rattle.verify80_states.specs.Marks.{is_marked};
 
 use crate::fitting::is_marked;
-use crate::spans::{ByteSpan, Span};
+use crate::states::variables::{Variable, is_said};
+use verify80_spans::{ByteSpan, Span};
 
 /// What the byte at an address may be.
 #[derive(Clone, Copy, Debug, PartialEq, Eq)]
@@ -14,7 +15,7 @@ pub struct Cell {
 }
 
 impl Cell {
-    ghost use Rattle.verify80_states.specs.Cells.{IsCellInside, IsQuietCell, cell_or, stored_cell};
+    ghost use Rattle.verify80_states.specs.Cells.{IsCellInside, IsQuietCell, cell_or, cut_cell, stored_cell};
 
     /// Nothing is known.
     pub const ANY: Cell = Cell {
@@ -22,11 +23,13 @@ impl Cell {
         bytes: ByteSpan::ANY,
     };
 
-    /// Whether this cell says all that another does.
-    fn is_inside(self, other: Cell) -> bool
-        ensures { result ≡ true → IsCellInside self other }
+    /// Whether this cell, or a variable that a set names, says all that another cell does.
+    fn is_inside(self, other: Cell, variables: &[Variable], set: u64) -> bool
+        ensures { result ≡ true → IsCellInside variables.now set self other }
     {
-        other.bytes == ByteSpan::ANY || self.at == other.at && self.bytes.is_inside(other.bytes)
+        other.bytes == ByteSpan::ANY
+            || self.at == other.at && self.bytes.is_inside(other.bytes)
+            || is_said(variables, set, other)
     }
 
     /// Whether it says nothing, or its address is marked as quiet.
@@ -41,6 +44,20 @@ impl Cell {
         ensures { result ≡ cell_or self at otherwise }
     {
         if self.at == at { self.bytes } else { otherwise }
+    }
+
+    /// The cell when the byte at an address is one of these too.
+    fn cut(self, at: u16, bytes: ByteSpan) -> Cell
+        ensures { result ≡ cut_cell at bytes self }
+    {
+        if self.at == at {
+            Cell {
+                at: self.at,
+                bytes: self.bytes.meet(bytes),
+            }
+        } else {
+            self
+        }
     }
 
     /// The cell when one of these bytes is stored at one of these addresses.
@@ -73,7 +90,7 @@ pub struct Cells {
 }
 
 impl Cells {
-    ghost use Rattle.verify80_states.specs.Cells.{AreCellsInside, AreQuietCells, bytes_at, stored_cells};
+    ghost use Rattle.verify80_states.specs.Cells.{AreCellsInside, AreQuietCells, bytes_at, cut_cells, stored_cells};
 
     /// Nothing is known.
     pub const ANY: Cells = Cells {
@@ -87,18 +104,18 @@ impl Cells {
         eighth: Cell::ANY,
     };
 
-    /// Whether these cells say all that others do.
-    pub fn are_inside(self, other: Cells) -> bool
-        ensures { result ≡ true → AreCellsInside self other }
+    /// Whether these cells, and the variables that a set names, say all that others do.
+    pub(crate) fn are_inside(self, other: Cells, variables: &[Variable], set: u64) -> bool
+        ensures { result ≡ true → AreCellsInside variables.now set self other }
     {
-        self.first.is_inside(other.first)
-            && self.second.is_inside(other.second)
-            && self.third.is_inside(other.third)
-            && self.fourth.is_inside(other.fourth)
-            && self.fifth.is_inside(other.fifth)
-            && self.sixth.is_inside(other.sixth)
-            && self.seventh.is_inside(other.seventh)
-            && self.eighth.is_inside(other.eighth)
+        self.first.is_inside(other.first, variables, set)
+            && self.second.is_inside(other.second, variables, set)
+            && self.third.is_inside(other.third, variables, set)
+            && self.fourth.is_inside(other.fourth, variables, set)
+            && self.fifth.is_inside(other.fifth, variables, set)
+            && self.sixth.is_inside(other.sixth, variables, set)
+            && self.seventh.is_inside(other.seventh, variables, set)
+            && self.eighth.is_inside(other.eighth, variables, set)
     }
 
     /// Whether something is known only of addresses that are marked as quiet.
@@ -127,6 +144,25 @@ impl Cells {
         let bytes = self.third.or(at, bytes);
         let bytes = self.second.or(at, bytes);
         self.first.or(at, bytes)
+    }
+
+    /// The cells when the byte at an address, if one is named, is one of these too.
+    pub fn cut(self, at: Option<u16>, bytes: ByteSpan) -> Cells
+        ensures { result ≡ cut_cells at bytes self }
+    {
+        match at {
+            None => self,
+            Some(at) => Cells {
+                first: self.first.cut(at, bytes),
+                second: self.second.cut(at, bytes),
+                third: self.third.cut(at, bytes),
+                fourth: self.fourth.cut(at, bytes),
+                fifth: self.fifth.cut(at, bytes),
+                sixth: self.sixth.cut(at, bytes),
+                seventh: self.seventh.cut(at, bytes),
+                eighth: self.eighth.cut(at, bytes),
+            },
+        }
     }
 
     /// The cells when one of these bytes is stored at one of these addresses.

@@ -3,9 +3,9 @@
 ghost use Rattle.std.specs.Prelude.{◌≡◌};
 ghost use Rattle.verify80_states.specs.Given.{if_same, zero_bytes, carry_bytes, cut_to, given_zero, given_carry, given_sign, given};
 
-use crate::spans::ByteSpan;
 use crate::states::state::State;
 use decode80::Condition;
+use verify80_spans::ByteSpan;
 
 /// A state that is left if a known flag is as it is wanted.
 fn if_same(known: bool, wanted: bool, state: State) -> Option<State>

@@ -1,14 +1,15 @@
 //! What becomes of a state at an instruction.
 
 ghost use Rattle.std.specs.Prelude.{◌≡◌};
-ghost use Rattle.verify80_states.specs.Following.{byte_at, known_word, loaded_at, loaded, moved, counted, resulted, tested, operand_bytes, after_operation, added_carry, turned, exchanged_pairs, index_words, popped_to, registers_after, pushed_words, called, returned, words_after, cells_after, state_after};
-ghost use Rattle.verify80_states.specs.Span.{uncarried};
+ghost use Rattle.verify80_states.specs.Following.{byte_at, known_word, loaded_at, loaded, moved, counted, resulted, tested, operand_bytes, after_operation, added_carry, turned, exchanged_pairs, index_words, popped_to, registers_after, pushed_words, called, returned, words_after, cells_after, only_address, address_outside, source_after, is_steady, state_after};
+ghost use Rattle.verify80_spans.specs.Span.{uncarried};
 ghost use Rattle.verify80_states.specs.State.{compared_with, with_outcome};
 
-use crate::spans::{ByteSpan, Outcome, Span, operated, rotated};
 use crate::states::cells::Cells;
 use crate::states::state::{State, Words};
+use crate::states::variables::Variable;
 use decode80::{IndexPair, Instr, Operand, Operation, Pair, Register, StackPair, ahead};
+use verify80_spans::{ByteSpan, Outcome, Span, operated, rotated};
 
 /// The byte of code at an address, if code is there.
 fn byte_at(code: &[Option<u8>], at: u16) -> Option<u8>
@@ -275,10 +276,7 @@ fn registers_after(code: &[Option<u8>], instr: Instr, state: State) -> State
         }
         Instr::In(_) => state.with_byte(Register::A, ByteSpan::ANY),
         Instr::Lhld(address) => state
-            .with_byte(
-                Register::H,
-                loaded_at(code, state.cells, ahead(address, 1)),
-            )
+            .with_byte(Register::H, loaded_at(code, state.cells, ahead(address, 1)))
             .with_byte(Register::L, loaded_at(code, state.cells, address)),
         Instr::Xchg => exchanged_pairs(state),
         Instr::Pop(pair) => popped_to(pair, known_word(state.words.first), state),
@@ -363,6 +361,47 @@ fn cells_after(code: &[Option<u8>], instr: Instr, state: State) -> Cells
     }
 }
 
+/// An address, if it is the only one of a span.
+fn only_address(span: Span) -> Option<u16>
+    ensures { result ≡ only_address span }
+{
+    if span.is_alone() {
+        Some(span.first)
+    } else {
+        None
+    }
+}
+
+/// An address that is outside of a span.
+fn address_outside(span: Span, address: Option<u16>) -> Option<u16>
+    ensures { result ≡ address_outside span address }
+{
+    match address {
+        Some(at) if span.first <= at && at <= span.last => None,
+        other => other,
+    }
+}
+
+/// The address of a byte that A has after an instruction, given what is left of that when the registers are written.
+fn source_after(instr: Instr, state: State, left: Option<u16>) -> Option<u16>
+    ensures { result ≡ source_after instr state left }
+{
+    let pointed = state.hl.words;
+    match instr {
+        Instr::Lda(address) | Instr::Sta(address) => Some(address),
+        Instr::Load(Register::A) | Instr::Store(Register::A) => only_address(pointed),
+        Instr::Store(_) | Instr::MviMemory(_) | Instr::InrMemory | Instr::DcrMemory => {
+            address_outside(pointed, left)
+        }
+        Instr::Stax(pair) => address_outside(index_words(state, pair), left),
+        Instr::Shld(address) => address_outside(
+            Span::alone(ahead(address, 1)),
+            address_outside(Span::alone(address), left),
+        ),
+        _ => left,
+    }
+}
+
 /// What is known after an instruction, given what is known before it, the bytes of code by address, and whether its call or return is
 /// taken; `next` is the address after it.
 ///
@@ -370,9 +409,33 @@ fn cells_after(code: &[Option<u8>], instr: Instr, state: State) -> Cells
 pub fn state_after(code: &[Option<u8>], instr: Instr, taken: bool, next: u16, state: State) -> State
     ensures { result ≡ state_after code.now instr taken next state }
 {
+    let after = registers_after(code, instr, state);
     State {
         words: words_after(instr, taken, next, state),
         cells: cells_after(code, instr, state),
-        ..registers_after(code, instr, state)
+        source: source_after(instr, state, after.source),
+        set: state.set,
+        ..after
+    }
+}
+
+/// Whether what an instruction stores where a variable may be is one of the variable's bytes.
+pub(crate) fn is_steady(code: &[Option<u8>], instr: Instr, state: State, variable: Variable) -> bool
+    ensures { result ≡ is_steady code.now instr state variable }
+{
+    let cells = state.cells;
+    let pointed = state.hl.words;
+    match instr {
+        Instr::Store(register) => variable.takes(pointed, state.byte(register)),
+        Instr::MviMemory(byte) => variable.takes(pointed, ByteSpan::alone(byte)),
+        Instr::InrMemory => variable.takes(pointed, loaded(code, cells, pointed).next()),
+        Instr::DcrMemory => variable.takes(pointed, loaded(code, cells, pointed).previous()),
+        Instr::Stax(pair) => variable.takes(index_words(state, pair), state.a),
+        Instr::Sta(address) => variable.takes(Span::alone(address), state.a),
+        Instr::Shld(address) => {
+            variable.takes(Span::alone(address), state.hl.low)
+                && variable.takes(Span::alone(ahead(address, 1)), state.hl.high())
+        }
+        _ => true,
     }
 }

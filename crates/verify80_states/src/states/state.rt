@@ -1,8 +1,10 @@
 //! What is known of a machine at an instruction.
 
-use crate::spans::{ByteSpan, Outcome, Span};
+use crate::fitting::is_marked;
 use crate::states::cells::Cells;
+use crate::states::variables::{Variable, is_bit};
 use decode80::{Pair, Register};
+use verify80_spans::{ByteSpan, Outcome, Span};
 
 /// What a pair may be: its words, and its low bytes, which may be fewer than those of the words.
 #[derive(Clone, Copy, Debug, PartialEq, Eq)]
@@ -13,7 +15,7 @@ pub struct PairSpan {
 
 impl PairSpan {
     ghost use Rattle.std.specs.Prelude.{◌≡◌, ◌↔◌, true};
-    ghost use Rattle.verify80_states.specs.Span.{high_of};
+    ghost use Rattle.verify80_spans.specs.Span.{high_of};
     ghost use Rattle.verify80_states.specs.State.{pair_of_words, pair_of_halves, cut_high, cut_low, IsPairInside};
 
     /// Any word.
@@ -164,6 +166,10 @@ pub struct State {
     pub compared: Option<u8>,
     pub words: Words,
     pub cells: Cells,
+    /// The address of a byte of memory that A has, if one is known.
+    pub source: Option<u16>,
+    /// The variables that have one of their bytes: a bit for each.
+    pub set: u64,
 }
 
 ghost use Rattle.std.specs.Prelude.{◌≡◌, true};
@@ -218,6 +224,17 @@ fn is_comparison_inside(inner: Option<u8>, outer: Option<u8>) -> bool
     }
 }
 
+/// Whether what is known of the byte of memory that A has does.
+fn is_source_inside(inner: Option<u16>, outer: Option<u16>) -> bool
+    ensures { result ≡ true → IsComparisonInside inner outer }
+{
+    match (inner, outer) {
+        (_, None) => true,
+        (Some(inner), Some(outer)) => inner == outer,
+        (None, Some(_)) => false,
+    }
+}
+
 /// Whether what is known of a copy does.
 fn is_copy_inside(inner: Register, outer: Register) -> bool
     ensures { result ≡ true → IsCopyInside inner outer }
@@ -235,8 +252,13 @@ fn is_copy_inside(inner: Register, outer: Register) -> bool
 }
 
 impl State {
-    ghost use Rattle.std.specs.Prelude.{◌≡◌, true};
-    ghost use Rattle.verify80_states.specs.State.{byte_of, words_of, with_byte, with_words, with_outcome, with_carry, with_any_flags, cut, cut_copy, AreRegistersInside, IsStateInside};
+    ghost use Rattle.std.specs.Prelude.{◌≡◌, ◌⊎◌, true, Some, slice_get};
+    ghost use Rattle.verify80_spans.specs.Span.{IsByteInside};
+    ghost use Rattle.verify80_states.specs.declared.states.variables.Variable.{Variable};
+    ghost use Rattle.verify80_states.specs.Variables.{is_bit};
+    ghost use Rattle.verify80_states.specs.Cells.{bytes_at};
+    ghost use Rattle.verify80_states.specs.State.{byte_of, words_of, with_byte, with_words, with_outcome, with_carry, with_any_flags, cut, cut_copy, AreRegistersInside, IsSetInside, IsStateInside, IsQuietState};
+    ghost use Rattle.verify80_states.specs.Marks.{is_marked};
 
     /// Nothing is known.
     pub const ANY: State = State {
@@ -251,11 +273,13 @@ impl State {
         compared: None,
         words: Words::NONE,
         cells: Cells::ANY,
+        source: None,
+        set: 0,
     };
 
-    /// Whether this state says all that another does.
-    pub fn is_inside(self, other: State) -> bool
-        ensures { result ≡ true → IsStateInside self other }
+    /// Whether this state says all that another does, given the variables that they name.
+    pub fn is_inside(self, other: State, variables: &[Variable]) -> bool
+        ensures { result ≡ true → IsStateInside variables.now self other }
     {
         self.are_registers_inside(other)
             && is_copy_inside(self.copy, other.copy)
@@ -264,7 +288,35 @@ impl State {
             && is_flag_inside(self.sign, other.sign)
             && is_comparison_inside(self.compared, other.compared)
             && self.words.are_inside(other.words)
-            && self.cells.are_inside(other.cells)
+            && self.cells.are_inside(other.cells, variables, self.set)
+            && self.is_set_inside(other, variables)
+            && is_source_inside(self.source, other.source)
+    }
+
+    /// Whether it names each variable that another state names, or its cells say as much.
+    fn is_set_inside(self, other: State, variables: &[Variable]) -> bool
+        ensures { result ≡ true → IsSetInside variables.now self other }
+    {
+        for number in 0..variables.len() {
+            if is_bit(other.set, number) && !self.has_variable(variables, number) {
+                return false;
+            }
+        }
+        true
+    }
+
+    /// Whether it names the variable with a number, or its cells say as much.
+    fn has_variable(self, variables: &[Variable], number: usize) -> bool
+        ensures { result ≡ true → (v : Variable) → slice_get variables.now number ≡ Some v →
+            (is_bit self.set number ≡ true) ⊎ IsByteInside (bytes_at self.cells v.at) v.bytes }
+    {
+        if is_bit(self.set, number) {
+            return true;
+        }
+        match variables.get(number) {
+            Some(variable) => self.cells.bytes_at(variable.at).is_inside(variable.bytes),
+            None => true,
+        }
     }
 
     /// Whether the registers say all that those of another state do.
@@ -314,6 +366,7 @@ impl State {
                 a: byte,
                 copy: Register::A,
                 compared: None,
+                source: None,
                 ..self
             },
             Register::B => State {
@@ -445,13 +498,25 @@ impl State {
         }
     }
 
-    /// The state in which A holds one of these bytes, and so does the register that has its byte.
+    /// The state in which A holds one of these bytes, and so do the register and the byte of memory that have its byte.
     pub fn cut(self, byte: ByteSpan) -> State
         ensures { result ≡ cut self byte }
     {
         State {
             a: self.a.meet(byte),
+            cells: self.cells.cut(self.source, byte),
             ..self.cut_copy(byte)
         }
+    }
+
+    /// Whether it says something of addresses alone that are marked as quiet.
+    pub fn is_quiet(self, quiet: &[bool]) -> bool
+        ensures { result ≡ true → IsQuietState (is_marked quiet.now) self }
+    {
+        self.cells.are_quiet(quiet)
+            && match self.source {
+                None => true,
+                Some(at) => is_marked(quiet, at),
+            }
     }
 }

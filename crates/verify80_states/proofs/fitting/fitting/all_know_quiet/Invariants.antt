@@ -2,8 +2,8 @@ use Rattle.std.proofs.Common.{◌≡◌, ℕ, ◌<◌, Some}
 use Rattle.std.specs.Prelude.{slice_get}
 use Rattle.verify80_states.specs.declared.fitting.fitting.Placed.{Placed}
 use Rattle.verify80_states.specs.Marks.{is_marked}
-use Rattle.verify80_states.specs.Cells.{AreQuietCells}
+use Rattle.verify80_states.specs.State.{IsQuietState}
 use Rattle.verify80_states.proofs.fitting.fitting.all_know_quiet.Given as goal
 
 abbrev pub invariant-loop-placed : goal.invariant-loop-placed
-invariant-loop-placed l = (k : ℕ) → k < l.placed-index → (placed : Placed) → slice_get l.table k ≡ Some placed → AreQuietCells (is_marked l.quiet) placed.state.cells
+invariant-loop-placed l = (k : ℕ) → k < l.placed-index → (placed : Placed) → slice_get l.table k ≡ Some placed → IsQuietState (is_marked l.quiet) placed.state

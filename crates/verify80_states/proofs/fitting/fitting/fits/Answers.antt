@@ -1,12 +1,14 @@
-use Rattle.std.proofs.Common.{refl, ap, subst}
+use Rattle.std.proofs.Common.{◌∙◌, refl, ap, sym, subst}
 use Rattle.image80.specs.Image.{Located}
 use Rattle.image80.specs.Regions.{Areas}
+use Rattle.verify80_states.specs.declared.states.variables.Variable.{Variable}
 use Rattle.verify80_states.specs.State.{anything}
 use Rattle.verify80_states.specs.Marks.{is_marked}
 use Rattle.verify80_states.specs.Fitting.{Has}
 use Rattle.verify80_states.specs.Calls.{returns_of}
 use Rattle.verify80_states.specs.FittingTable.{AllFit}
 use Rattle.verify80_states.proofs.CellLemmas.{knows_quieter}
+use Rattle.verify80_states.proofs.VariableLemmas.{tested_of}
 use Rattle.verify80_states.proofs.TableLemmas.{fits_program}
 use Rattle.verify80_states.proofs.fitting.fitting.fits.Goals as goal
 
@@ -16,9 +18,11 @@ returns c fitting quiet marked in_data =
     let code = c.args.code.now in
     let returns = returns_of c.args.returns.now in
     let reached = c.args.reached.now in
+    let variables = c.args.variables.now in
     let table = c.args.table.now in
-    let start : Has table image.start anything = subst (λ (i : Located). Has table i.start anything) c.image.view_is (c.if-not-has.ensures refl) in
-    let fit : AllFit c.image.inside.regions code returns reached table = record { entries = c.all_fit.ensures.entries fitting; accounts = c.if-not-all_account.ensures refl; calls = c.all_fit.ensures.calls fitting } in
-    let fit_here : AllFit image.regions code returns reached table = subst (λ (r : Areas). AllFit r code returns reached table) (ap (λ (i : Located). i.regions) c.image.view_is) fit in
-    c.fitting_states_hold.ensures.kept image quiet code returns table c.requires.rules c.requires.code in_data
-    (fits_program image quiet reached code returns table c.requires.reached c.requires.whole start fit_here (knows_quieter (is_marked c.args.quiet.now) quiet table marked (c.if-not-all_know_quiet.ensures refl)))
+    let start : Has variables table image.start anything = subst (λ (i : Located). Has variables table i.start anything) c.image.view_is (c.if-not-has.ensures refl) in
+    let fit : AllFit c.image.inside.regions code returns reached variables table = record { entries = c.all_fit.ensures.entries fitting; accounts = c.if-not-all_account.ensures refl; calls = c.all_fit.ensures.calls fitting; steady = c.all_fit.ensures.steady fitting } in
+    let fit_here : AllFit image.regions code returns reached variables table = subst (λ (r : Areas). AllFit r code returns reached variables table) (ap (λ (i : Located). i.regions) c.image.view_is) fit in
+    c.fitting_states_hold.ensures.kept image quiet code returns variables table c.requires.rules c.requires.code in_data
+    (fits_program image quiet reached code returns variables table c.requires.reached c.requires.whole start fit_here (knows_quieter (is_marked c.args.quiet.now) quiet table marked (c.if-not-all_know_quiet.ensures refl))
+    (λ number v there. marked v.at (tested_of (λ (x : Variable). is_marked c.args.quiet.now x.at) variables number v (sym c.are_quiet.ensures ∙ c.if-not-are_quiet.false) there)))

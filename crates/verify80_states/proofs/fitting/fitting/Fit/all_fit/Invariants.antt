@@ -1,9 +1,11 @@
-use Rattle.std.proofs.Common.{◌≡◌, ℕ, ◌<◌, Some}
+use Rattle.std.proofs.Common.{◌≡◌, ℕ, ◌<◌, Some, true}
+use Rattle.std.specs.List.{list_all}
 use Rattle.std.specs.Prelude.{slice_get}
 use Rattle.decode80.specs.declared.fetching.Fetched.{Fetched}
 use Rattle.verify80.specs.Looking.{declared_targets}
 use Rattle.verify80_states.specs.declared.fitting.fitting.Placed.{Placed}
 use Rattle.verify80_states.specs.Fitting.{FitsAt}
+use Rattle.verify80_states.specs.Following.{is_steady}
 use Rattle.verify80_states.specs.Calls.{KeepsCalls, returns_of}
 use Rattle.verify80.specs.Reached.{found_at}
 use Rattle.verify80_states.proofs.fitting.fitting.Fit.all_fit.Given as goal
@@ -11,7 +13,9 @@ use Rattle.verify80_states.proofs.fitting.fitting.Fit.all_fit.Given as goal
 abbrev pub invariant-loop-placed : goal.invariant-loop-placed
 invariant-loop-placed l = record {
   entries : (place : ℕ) → place < l.placed-index → (placed : Placed) (found : Fetched) → slice_get l.self.table.now place ≡ Some placed → found_at l.self.reached.now placed.at ≡ Some found →
-      FitsAt l.self.code.now (declared_targets l.self.regions.now placed.at) l.self.table.now placed.state found;
+      FitsAt l.self.code.now (declared_targets l.self.regions.now placed.at) l.self.variables.now l.self.table.now placed.state found;
   calls : (place : ℕ) → place < l.placed-index → (placed : Placed) (found : Fetched) → slice_get l.self.table.now place ≡ Some placed → found_at l.self.reached.now placed.at ≡ Some found →
-      KeepsCalls (returns_of l.self.returns.now) l.self.code.now l.self.table.now placed.at placed.state found;
+      KeepsCalls (returns_of l.self.returns.now) l.self.code.now l.self.variables.now l.self.table.now placed.at placed.state found;
+  steady : (place : ℕ) → place < l.placed-index → (placed : Placed) (found : Fetched) → slice_get l.self.table.now place ≡ Some placed → found_at l.self.reached.now placed.at ≡ Some found →
+      list_all (is_steady l.self.code.now found.instr placed.state) l.self.variables.now ≡ true;
 }

@@ -1,13 +1,13 @@
 use Rattle.std.proofs.Common.{◌≡◌, ◌∙◌, refl, sym, arith, subst, below_more, get_or}
 use Rattle.std.proofs.lemmas.Grind.{get_or_default_zero}
-use Rattle.verify80_states.specs.Span.{Within}
+use Rattle.verify80_spans.specs.Span.{Within}
 use Rattle.verify80_states.specs.Fitting.{Covers}
 use Rattle.verify80_states.proofs.fitting.fitting.Fit.has_at_each.Goals as goal
 use Rattle.verify80_states.proofs.fitting.fitting.Fit.has_at_each.Goals.{else-hl-to-via-then-hl-to+then-to-hl+else-not-covers, else-hl-to-via-then-hl-to+else-to-hl, else-hl-to-via-else-hl-to}
 
 pub loop-to-preserved : goal.loop-to-preserved
 loop-to-preserved c =
-    below_more (λ k. Within c.args.hl (get_or c.args.targets.now k 0) → Covers c.args.self.now.table.now (get_or c.args.targets.now k 0) c.args.state)
+    below_more (λ k. Within c.args.hl (get_or c.args.targets.now k 0) → Covers c.args.self.now.variables.now c.args.self.now.table.now (get_or c.args.targets.now k 0) c.args.state)
     c.loop-to.to-index c.loop-to.invariant
     (λ within.
     elim c.else-hl-to.branch [
@@ -19,5 +19,5 @@ loop-to-preserved c =
 pub returns : goal.returns
 returns c is to (k, inside, same) within =
     let it : get_or c.args.targets.now k 0 ≡ to = sym (get_or_default_zero c.args.targets.now k to inside) ∙ same in
-    subst (λ n. Covers c.args.self.now.table.now n c.args.state) it
+    subst (λ n. Covers c.args.self.now.variables.now c.args.self.now.table.now n c.args.state) it
     (c.loop-to.invariant k (let enough = c.loop-to-test.false in omega (arith, enough, inside)) (subst (λ n. Within c.args.hl n) (sym it) within))

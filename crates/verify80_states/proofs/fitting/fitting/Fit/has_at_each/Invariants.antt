@@ -1,7 +1,7 @@
 use Rattle.std.proofs.Common.{ℕ, ◌<◌, get_or}
-use Rattle.verify80_states.specs.Span.{Within}
+use Rattle.verify80_spans.specs.Span.{Within}
 use Rattle.verify80_states.specs.Fitting.{Covers}
 use Rattle.verify80_states.proofs.fitting.fitting.Fit.has_at_each.Given as goal
 
 abbrev pub invariant-loop-to : goal.invariant-loop-to
-invariant-loop-to l = (k : ℕ) → k < l.to-index → Within l.hl (get_or l.targets k 0) → Covers l.self.table.now (get_or l.targets k 0) l.state
+invariant-loop-to l = (k : ℕ) → k < l.to-index → Within l.hl (get_or l.targets k 0) → Covers l.self.variables.now l.self.table.now (get_or l.targets k 0) l.state

@@ -1,9 +1,9 @@
 use Rattle.std.proofs.Common.{ℕ, ◌<◌}
 use Rattle.std.specs.Prelude.{◌≤◌}
-use Rattle.verify80_states.specs.Span.{byte_alone}
+use Rattle.verify80_spans.specs.Span.{byte_alone}
 use Rattle.verify80_states.specs.State.{cut}
 use Rattle.verify80_states.specs.Fitting.{Has}
 use Rattle.verify80_states.proofs.fitting.fitting.Fit.has_each.Given as goal
 
 abbrev pub invariant-loop-number : goal.invariant-loop-number
-invariant-loop-number l = (byte : ℕ) → l.state.a.first ≤ byte → byte < l.number → Has l.self.table.now l.to (cut l.state (byte_alone byte))
+invariant-loop-number l = (byte : ℕ) → l.state.a.first ≤ byte → byte < l.number → Has l.self.variables.now l.self.table.now l.to (cut l.state (byte_alone byte))

@@ -11,4 +11,6 @@ returns-then-are_inside c is = record {
   compared = search rules;
   words = search rules;
   cells = search rules;
+  source = search rules;
+  set = search rules;
 }

@@ -1,7 +1,7 @@
 //! Spans of bytes, and what the operations of the accumulator make of them.
 
 ghost use Rattle.std.specs.Prelude.{◌≡◌};
-ghost use Rattle.verify80_states.specs.Span.{carry_span, operated, rotated};
+ghost use Rattle.verify80_spans.specs.Span.{carry_span, operated, rotated};
 
 use decode80::{Operation, Rotation};
 
@@ -20,7 +20,7 @@ pub struct Outcome {
 }
 
 impl Outcome {
-    ghost use Rattle.verify80_states.specs.Span.{uncarried};
+    ghost use Rattle.verify80_spans.specs.Span.{uncarried};
 
     /// Bytes without a carry.
     pub fn uncarried(value: ByteSpan) -> Outcome
@@ -41,7 +41,7 @@ impl Outcome {
 
 impl ByteSpan {
     ghost use Rattle.std.specs.Prelude.{◌≡◌, ◌↔◌, true};
-    ghost use Rattle.verify80_states.specs.Span.{any_byte, byte_alone, is_byte_alone, meet_bytes, next_byte, previous_byte, sum_of, difference_of, and_of, or_of, exclusive_or_of, doubled, complemented, zero_of, sign_of, only, without, below, from, IsByteInside};
+    ghost use Rattle.verify80_spans.specs.Span.{any_byte, byte_alone, is_byte_alone, meet_bytes, next_byte, previous_byte, sum_of, difference_of, and_of, or_of, exclusive_or_of, doubled, complemented, zero_of, sign_of, only, without, below, from, IsByteInside};
 
     /// Any byte.
     pub const ANY: ByteSpan = ByteSpan {

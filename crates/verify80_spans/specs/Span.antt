@@ -5,9 +5,9 @@ use Rattle.decode80.specs.declared.operation.Operation.{Operation}
 use Rattle.decode80.specs.declared.operation.Operation.TheVariants.{Add, AddCarry, Subtract, SubtractBorrow, And, ExclusiveOr, Or, Compare}
 use Rattle.decode80.specs.declared.rotation.Rotation.{Rotation}
 use Rattle.decode80.specs.declared.rotation.Rotation.TheVariants.{Left, Right, LeftThroughCarry, RightThroughCarry}
-use Rattle.verify80_states.specs.declared.spans.span.Span.{Span}
-use Rattle.verify80_states.specs.declared.spans.byte_span.ByteSpan.{ByteSpan}
-use Rattle.verify80_states.specs.declared.spans.byte_span.Outcome.{Outcome}
+use Rattle.verify80_spans.specs.declared.span.Span.{Span}
+use Rattle.verify80_spans.specs.declared.byte_span.ByteSpan.{ByteSpan}
+use Rattle.verify80_spans.specs.declared.byte_span.Outcome.{Outcome}
 
 -- a number is one of a span
 pub record Within (span : Span) (n : ℕ) : Type 0 where

@@ -1,6 +1,6 @@
 //! Spans of words.
 
-use crate::spans::byte_span::ByteSpan;
+use crate::byte_span::ByteSpan;
 
 /// The words from a first to a last one, both among them.
 #[derive(Clone, Copy, Debug, PartialEq, Eq)]
@@ -11,7 +11,7 @@ pub struct Span {
 
 impl Span {
     ghost use Rattle.std.specs.Prelude.{◌≡◌, ◌↔◌, true, IsTrue};
-    ghost use Rattle.verify80_states.specs.Span.{any_word, word_alone, is_alone, next_span, previous_span, sum_span, sum_carries, high_of, low_of, joined, hull, meet, IsInside};
+    ghost use Rattle.verify80_spans.specs.Span.{any_word, word_alone, is_alone, next_span, previous_span, sum_span, sum_carries, high_of, low_of, joined, hull, meet, IsInside};
 
     /// Any word.
     pub const ANY: Span = Span {

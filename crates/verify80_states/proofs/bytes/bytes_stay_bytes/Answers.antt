@@ -1,7 +1,7 @@
 use Rattle.verify80_states.proofs.FetchBounds.{operands_bounded}
 use Rattle.verify80_states.proofs.StepBytes.{bytes_stay, addresses_stay, length_stays}
 use Rattle.verify80_states.proofs.RunBytes.{runs_hold_bytes, runs_have_addresses}
-use Rattle.verify80_states.proofs.spans.bytes.bytes_stay_bytes.Goals as goal
+use Rattle.verify80_states.proofs.bytes.bytes_stay_bytes.Goals as goal
 
 pub returns-clause-bytes : goal.returns-clause-bytes
 returns-clause-bytes c = bytes_stay (operands_bounded c.spelling_laws.ensures.decoded_in_range)
