@@ -115,7 +115,7 @@ impl Landmarks {
         }
     }
 
-    fn grown_bytes(&self, old: ByteSpan, new: ByteSpan, growths: u32) -> ByteSpan {
+    pub fn grown_bytes(&self, old: ByteSpan, new: ByteSpan, growths: u32) -> ByteSpan {
         let words = grown(&self.bytes, words_of(old), words_of(new), growths);
         ByteSpan {
             first: words.first.min(255) as u8,
@@ -210,6 +210,7 @@ fn with_same_flags(old: State, new: State) -> State {
         } else {
             None
         },
+        set: old.set & new.set,
         ..old
     }
 }

@@ -82,7 +82,7 @@ impl<'a> ReachedProgram<'a> {
             Flow::CallsIf(condition, to) => match number {
                 0 => self.left(found, true, to, given(condition, true, state)),
                 1 => self.left(found, false, next, given(condition, false, state)),
-                _ => self.returned(to, next),
+                _ => self.returned(to, next, state.set),
             },
             Flow::ReturnsIf(condition) => match number {
                 0 => self.left(found, false, next, given(condition, false, state)),
@@ -90,7 +90,7 @@ impl<'a> ReachedProgram<'a> {
             },
             Flow::Calls(to) => match number {
                 0 => Some((to, self.after(found, true, state))),
-                _ => self.returned(to, next),
+                _ => self.returned(to, next, state.set),
             },
             Flow::JumpsToHl => {
                 let to = *self.targets(at).get(number)?;
@@ -103,10 +103,10 @@ impl<'a> ReachedProgram<'a> {
         }
     }
 
-    /// Where a callee returns to, if it may return and its states don't know where to: then nothing is known there.
-    fn returned(self, entry: u16, next: u16) -> Option<(u16, State)> {
+    /// Where a callee returns to, if it may return and its states don't know where to: then its variables alone are known there.
+    fn returned(self, entry: u16, next: u16, set: u64) -> Option<(u16, State)> {
         if self.returns.may_return(entry) && !self.returns.know_return(entry) {
-            Some((next, State::ANY))
+            Some((next, State { set, ..State::ANY }))
         } else {
             None
         }

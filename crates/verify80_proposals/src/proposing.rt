@@ -5,6 +5,7 @@ use crate::landmarks::Landmarks;
 use crate::needs::Needs;
 use crate::nodes::{NOWHERE, Node, Nodes, place_of};
 use crate::program::ReachedProgram;
+use crate::variables::Variables;
 use decode80::{Instr, Operand, Operation};
 use std::alloc::{AllocError, Global};
 use verify80_spans::ByteSpan;
@@ -23,6 +24,9 @@ pub struct Proposal {
 /// How many bytes of A are told apart, at most.
 const MOST_APART: usize = 16;
 
+/// How often the search begins anew without variables that aren't steady.
+const ROUNDS: usize = 6;
+
 /// What a search may cost.
 #[derive(Clone, Copy)]
 pub(crate) struct Limits {
@@ -32,6 +36,8 @@ pub(crate) struct Limits {
     pub ways: usize,
     /// How many are followed then, if each address has one state.
     pub late_ways: usize,
+    /// Whether bytes of memory are variables.
+    pub keeps_variables: bool,
 }
 
 /// What is known at each address that the program may reach, or `None` if too many ways would have to be followed. What the limits leave
@@ -46,9 +52,40 @@ pub(crate) fn propose(
     program: ReachedProgram<'_>,
     limits: Limits,
 ) -> Result<Option<Proposal>, AllocError> {
-    let needs = Needs::of(alloc, program)?;
+    let mut is_steady = Vec::from_slice(alloc, program.quiet)?;
+    for _ in 0..ROUNDS {
+        let steady = ReachedProgram {
+            quiet: &is_steady,
+            ..program
+        };
+        let Some((nodes, proposal)) = propose_once(alloc, steady, limits)? else {
+            return Ok(None);
+        };
+        if !nodes.unmark_unsteady(program, &mut is_steady) {
+            return Ok(Some(Proposal {
+                variables: nodes.into_variables(),
+                ..proposal
+            }));
+        }
+    }
+    Ok(None)
+}
+
+/// The same, with the states from which it is made, if each variable is taken to be steady.
+fn propose_once(
+    alloc: Global,
+    program: ReachedProgram<'_>,
+    limits: Limits,
+) -> Result<Option<(Nodes, Proposal)>, AllocError> {
+    let needs = Needs::of(alloc, program, limits.keeps_variables)?;
     let landmarks = Landmarks::new(alloc, program)?;
-    let mut nodes = Nodes::new(alloc, needs, landmarks, limits.states)?;
+    let addresses = if limits.keeps_variables {
+        needs.addresses(alloc)?
+    } else {
+        Vec::new(alloc)
+    };
+    let variables = Variables::new(alloc, &addresses)?;
+    let mut nodes = Nodes::new(alloc, needs, landmarks, variables, limits.states)?;
     let mut hints = Vec::new(alloc);
     let start = nodes.enter(alloc, program.start, State::ANY)?;
     if !follow_all(alloc, &mut nodes, &mut hints, program, limits.ways)? {
@@ -57,7 +94,8 @@ pub(crate) fn propose(
             return Ok(None);
         }
     }
-    Ok(Some(compact(alloc, &nodes, &hints, program, start)?))
+    let proposal = compact(alloc, &nodes, &hints, program, start)?;
+    Ok(Some((nodes, proposal)))
 }
 
 /// Follows states until none waits, but no more ways than these, and says whether none waits.
@@ -118,6 +156,7 @@ fn follow(
     } else {
         hint as usize
     };
+    nodes.note_stored(found.instr, state)?;
     let mut followed = ways;
     for number in 0..ways {
         let to = match program.way(at, found, state, number) {

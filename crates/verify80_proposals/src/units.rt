@@ -38,6 +38,8 @@ bitflags! {
         const FOURTH = 0x0000_4000;
         /// The words on the stack.
         const WORDS = 0x0000_7800;
+        /// The bytes of memory.
+        const CELLS = 0x007F_8000;
         /// All parts. Those above the words are bytes of memory: a bit for each place that a cell may have.
         const ALL = 0x007F_FFFF;
     }

@@ -21,6 +21,7 @@ ghost use Rattle.verify80_states.specs.Runs.{IsKept};
 use crate::bytes::bytes_stay_bytes;
 use crate::fitting::calls::CallReturns;
 use crate::fitting::laws::fitting_states_hold;
+use crate::fitting::marks::is_marked;
 use crate::states::{State, Variable, given, is_steady, state_after};
 use decode80::{Fetched, Flow, Instr};
 use image80::laws::code_data_and_stack_are_apart;
