@@ -31,7 +31,7 @@ impl Slots {
 
     /// Whether an address has a place.
     pub fn has(self, address: u16) -> bool {
-        self.0.contains(&address)
+        address != NONE && self.0.contains(&address)
     }
 
     /// These, and an address at a place, if that is free or has a greater one.
