@@ -13,6 +13,8 @@ const STATES: [u32; 4] = [MOST_STATES, 256, 32, 8];
 const TRIALS: usize = 3;
 /// How many ways are followed on trial, each as often as its state grows.
 const TRIAL_WAYS: usize = 120_000;
+/// How many are followed in all trials of a table.
+const TRIALS_WAYS: usize = 480_000;
 /// How many are followed if calls aren't told apart, before the search hurries.
 const WAYS: usize = 400_000;
 /// How many are followed then, at most.
@@ -50,8 +52,9 @@ fn propose_told_apart(
     groups: &Groups,
     keeps_variables: bool,
 ) -> Result<Option<Proposal>, AllocError> {
+    let mut left = TRIALS_WAYS;
     for most in &STATES {
-        let found = try_told_apart(alloc, program, groups, keeps_variables, *most)?;
+        let found = try_told_apart(alloc, program, groups, keeps_variables, *most, &mut left)?;
         if found.is_some() {
             return Ok(found);
         }
@@ -69,6 +72,7 @@ fn try_told_apart(
     groups: &Groups,
     keeps_variables: bool,
     most: u32,
+    left: &mut usize,
 ) -> Result<Option<Proposal>, AllocError> {
     let mut knows = groups.called(alloc)?;
     let limits = Limits {
@@ -81,7 +85,7 @@ fn try_told_apart(
         if !knows.contains(&true) {
             break;
         }
-        let Some(proposal) = propose_with(alloc, program, groups, &knows, limits)? else {
+        let Some(proposal) = propose_with(alloc, program, groups, &knows, limits, left)? else {
             break;
         };
         if !groups.take_marks(program, &proposal.table, &mut knows) {
@@ -103,7 +107,8 @@ fn propose_joined(
         late_ways: LATE_WAYS,
         keeps_variables: false,
     };
-    propose_with(alloc, program, groups, &[], limits)
+    let mut left = WAYS.saturating_add(LATE_WAYS);
+    propose_with(alloc, program, groups, &[], limits, &mut left)
 }
 
 /// A table in which the marked groups know where they return to.
@@ -113,6 +118,7 @@ fn propose_with(
     groups: &Groups,
     knows: &[bool],
     limits: Limits,
+    left: &mut usize,
 ) -> Result<Option<Proposal>, AllocError> {
     let returns = groups.returns(alloc, knows)?;
     let found = propose(
@@ -123,6 +129,7 @@ fn propose_with(
             ..program
         },
         limits,
+        left,
     )?;
     match found {
         Some(proposal) => Ok(Some(Proposal {

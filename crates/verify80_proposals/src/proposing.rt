@@ -40,8 +40,8 @@ pub(crate) struct Limits {
     pub keeps_variables: bool,
 }
 
-/// What is known at each address that the program may reach, or `None` if too many ways would have to be followed. What the limits leave
-/// is lessened by the ways that were followed.
+/// What is known at each address that the program may reach, or `None` if too many ways would have to be followed: more than the limits say,
+/// or than are left, which become fewer.
 ///
 /// At the start nothing is, and behind a call nothing, unless the callee's states know where they return to.
 ///
@@ -51,6 +51,7 @@ pub(crate) fn propose(
     alloc: Global,
     program: ReachedProgram<'_>,
     limits: Limits,
+    left: &mut usize,
 ) -> Result<Option<Proposal>, AllocError> {
     let mut is_steady = Vec::from_slice(alloc, program.quiet)?;
     for _ in 0..ROUNDS {
@@ -58,10 +59,13 @@ pub(crate) fn propose(
             quiet: &is_steady,
             ..program
         };
-        let Some((nodes, proposal)) = propose_once(alloc, steady, limits)? else {
+        let mut hints = Vec::new(alloc);
+        let Some((nodes, start)) = follow_from_start(alloc, &mut hints, steady, limits, left)?
+        else {
             return Ok(None);
         };
         if !nodes.unmark_unsteady(program, &mut is_steady) {
+            let proposal = compact(alloc, &nodes, &hints, program, start)?;
             return Ok(Some(Proposal {
                 variables: nodes.into_variables(),
                 ..proposal
@@ -71,12 +75,14 @@ pub(crate) fn propose(
     Ok(None)
 }
 
-/// The same, with the states from which it is made, if each variable is taken to be steady.
-fn propose_once(
+/// The states of a program whose variables are all steady, and the place of the one at the start; `None` if there are too many ways.
+fn follow_from_start(
     alloc: Global,
+    hints: &mut Vec<u32>,
     program: ReachedProgram<'_>,
     limits: Limits,
-) -> Result<Option<(Nodes, Proposal)>, AllocError> {
+    left: &mut usize,
+) -> Result<Option<(Nodes, u32)>, AllocError> {
     let needs = Needs::of(alloc, program, limits.keeps_variables)?;
     let landmarks = Landmarks::new(alloc, program)?;
     let addresses = if limits.keeps_variables {
@@ -86,16 +92,14 @@ fn propose_once(
     };
     let variables = Variables::new(alloc, &addresses)?;
     let mut nodes = Nodes::new(alloc, needs, landmarks, variables, limits.states)?;
-    let mut hints = Vec::new(alloc);
     let start = nodes.enter(alloc, program.start, State::ANY)?;
-    if !follow_all(alloc, &mut nodes, &mut hints, program, limits.ways)? {
+    if !follow_all(alloc, &mut nodes, hints, program, limits.ways, left)? {
         nodes.hurry();
-        if !follow_all(alloc, &mut nodes, &mut hints, program, limits.late_ways)? {
+        if !follow_all(alloc, &mut nodes, hints, program, limits.late_ways, left)? {
             return Ok(None);
         }
     }
-    let proposal = compact(alloc, &nodes, &hints, program, start)?;
-    Ok(Some((nodes, proposal)))
+    Ok(Some((nodes, start)))
 }
 
 /// Follows states until none waits, but no more ways than these, and says whether none waits.
@@ -105,17 +109,20 @@ fn follow_all(
     hints: &mut Vec<u32>,
     program: ReachedProgram<'_>,
     most: usize,
+    left: &mut usize,
 ) -> Result<bool, AllocError> {
-    let mut left = most;
+    let mut waiting = most.min(*left);
+    *left = left.saturating_sub(waiting);
     for _ in 0..most {
         let Some(place) = nodes.next_waiting() else {
+            *left = left.saturating_add(waiting);
             return Ok(true);
         };
         let ways = follow(alloc, nodes, hints, program, place)?;
-        if ways > left {
+        if ways > waiting {
             return Ok(false);
         }
-        left = left.saturating_sub(ways);
+        waiting = waiting.saturating_sub(ways);
     }
     Ok(false)
 }
