@@ -267,49 +267,55 @@ pub(crate) fn cell_parts(slots: Slots) -> Units {
 
 /// The cells of these addresses, by cells and variables: what is known of others is forgotten.
 pub(crate) fn placed_cells(cells: Cells, slots: Slots, variables: &Variables, set: u64) -> Cells {
-    let placed = |cell: Cell, place: usize| match slots.at(place) {
+    Cells {
+        first: placed_cell(cells.first, slots.at(0), variables, set),
+        second: placed_cell(cells.second, slots.at(1), variables, set),
+        third: placed_cell(cells.third, slots.at(2), variables, set),
+        fourth: placed_cell(cells.fourth, slots.at(3), variables, set),
+        fifth: placed_cell(cells.fifth, slots.at(4), variables, set),
+        sixth: placed_cell(cells.sixth, slots.at(5), variables, set),
+        seventh: placed_cell(cells.seventh, slots.at(6), variables, set),
+        eighth: placed_cell(cells.eighth, slots.at(7), variables, set),
+    }
+}
+
+/// A cell of an address, if there is one.
+fn placed_cell(cell: Cell, address: Option<u16>, variables: &Variables, set: u64) -> Cell {
+    match address {
         None => Cell::ANY,
         Some(at) if cell.at == at && cell.bytes != ByteSpan::ANY => cell,
         Some(at) => Cell {
             at,
             bytes: variables.bytes_at(set, at),
         },
-    };
-    Cells {
-        first: placed(cells.first, 0),
-        second: placed(cells.second, 1),
-        third: placed(cells.third, 2),
-        fourth: placed(cells.fourth, 3),
-        fifth: placed(cells.fifth, 4),
-        sixth: placed(cells.sixth, 5),
-        seventh: placed(cells.seventh, 6),
-        eighth: placed(cells.eighth, 7),
     }
 }
 
 /// Cells of which that of an address may be these bytes too.
 pub(crate) fn widened_cells(cells: Cells, address: u16, bytes: ByteSpan) -> Cells {
-    let widened = |cell: Cell| {
-        if cell.at == address {
-            Cell {
-                at: address,
-                bytes: ByteSpan {
-                    first: cell.bytes.first.min(bytes.first),
-                    last: cell.bytes.last.max(bytes.last),
-                },
-            }
-        } else {
-            cell
-        }
-    };
     Cells {
-        first: widened(cells.first),
-        second: widened(cells.second),
-        third: widened(cells.third),
-        fourth: widened(cells.fourth),
-        fifth: widened(cells.fifth),
-        sixth: widened(cells.sixth),
-        seventh: widened(cells.seventh),
-        eighth: widened(cells.eighth),
+        first: widened_cell(cells.first, address, bytes),
+        second: widened_cell(cells.second, address, bytes),
+        third: widened_cell(cells.third, address, bytes),
+        fourth: widened_cell(cells.fourth, address, bytes),
+        fifth: widened_cell(cells.fifth, address, bytes),
+        sixth: widened_cell(cells.sixth, address, bytes),
+        seventh: widened_cell(cells.seventh, address, bytes),
+        eighth: widened_cell(cells.eighth, address, bytes),
+    }
+}
+
+/// The cell, or if it has the address one with these bytes too.
+fn widened_cell(cell: Cell, address: u16, bytes: ByteSpan) -> Cell {
+    if cell.at == address {
+        Cell {
+            at: address,
+            bytes: ByteSpan {
+                first: cell.bytes.first.min(bytes.first),
+                last: cell.bytes.last.max(bytes.last),
+            },
+        }
+    } else {
+        cell
     }
 }
