@@ -115,7 +115,7 @@ impl Landmarks {
         }
     }
 
-    fn grown_bytes(&self, old: ByteSpan, new: ByteSpan, growths: u32) -> ByteSpan {
+    pub fn grown_bytes(&self, old: ByteSpan, new: ByteSpan, growths: u32) -> ByteSpan {
         let old = Span {
             first: u16::from(old.first),
             last: u16::from(old.last),

@@ -28,6 +28,7 @@ mod proposals;
 mod proposing;
 mod slots;
 mod units;
+mod variables;
 
 pub use groups::Groups;
 pub use program::ReachedProgram;

@@ -2,9 +2,14 @@
 
 use crate::landmarks::Landmarks;
 use crate::needs::Needs;
+use crate::program::ReachedProgram;
+use crate::slots::widened_cells;
 use crate::units::{PARTS, Units, are_alike, value_of};
+use crate::variables::{Variables, stored_bytes};
+use decode80::Instr;
 use std::alloc::{AllocError, Global};
-use verify80_states::State;
+use verify80_spans::ByteSpan;
+use verify80_states::{State, Variable};
 
 /// No state.
 pub(crate) const NOWHERE: u32 = u32::MAX;
@@ -63,6 +68,11 @@ pub(crate) struct Nodes {
     waiting: Vec<u32>,
     needs: Needs,
     landmarks: Landmarks,
+    variables: Variables,
+    /// Which addresses of instructions name each byte.
+    readers: Vec<(u16, u16)>,
+    /// The parts by which states are never told apart.
+    never: Units,
     /// Whether each address is to have one state from now on.
     is_late: bool,
     /// How many states an address has, at most.
@@ -78,13 +88,20 @@ impl Nodes {
         alloc: Global,
         needs: Needs,
         landmarks: Landmarks,
+        variables: Variables,
         most: u32,
     ) -> Result<Nodes, AllocError> {
+        let never = if variables.list().is_empty() {
+            Units::NONE
+        } else {
+            Units::CELLS
+        };
         let none = Group {
             first: NOWHERE,
             count: 0,
-            joined: Units::NONE,
+            joined: never,
         };
+        let readers = needs.readers(alloc)?;
         Ok(Nodes {
             nodes: Vec::new(alloc),
             groups: vec![in alloc; none; 65_536]?,
@@ -92,6 +109,9 @@ impl Nodes {
             waiting: Vec::new(alloc),
             needs,
             landmarks,
+            variables,
+            readers,
+            never,
             is_late: false,
             most,
         })
@@ -155,7 +175,7 @@ impl Nodes {
     /// # Errors
     /// `AllocError` if memory runs out.
     pub fn enter(&mut self, alloc: Global, at: u16, state: State) -> Result<u32, AllocError> {
-        let state = self.needs.needed(at, state);
+        let state = self.needs.needed(at, state, &self.variables);
         if let Some(place) = self.find_around(at, state) {
             return Ok(place);
         }
@@ -179,7 +199,7 @@ impl Nodes {
 
     /// How many states an address has now, at most.
     fn most(&self, at: u16) -> u32 {
-        if self.is_late || self.nodes.len() >= MANY || self.group(at).joined != Units::NONE {
+        if self.is_late || self.nodes.len() >= MANY || self.group(at).joined != self.never {
             self.most_joined()
         } else {
             self.most
@@ -223,7 +243,7 @@ impl Nodes {
             let Some(node) = self.get(place) else {
                 break;
             };
-            if node.at == at && state.is_inside(node.state, &[]) {
+            if node.at == at && state.is_inside(node.state, self.variables.list()) {
                 return Some(self.holder(place));
             }
             place = node.next_listed;
@@ -231,7 +251,7 @@ impl Nodes {
         let mut place = self.group(at).first;
         for _ in 0..NEWEST {
             let node = self.get(place)?;
-            if state.is_inside(node.state, &[]) {
+            if state.is_inside(node.state, self.variables.list()) {
                 return Some(place);
             }
             place = node.next;
@@ -289,6 +309,79 @@ impl Nodes {
         );
         self.waiting.push(place)?;
         Ok(place)
+    }
+
+    /// Notes what an instruction stores in a state: variables grow, and so do the states that name them.
+    pub fn note_stored(&mut self, instr: Instr, state: State) -> Result<(), AllocError> {
+        for stored in &stored_bytes(instr, state) {
+            if let Some((at, bytes)) = stored {
+                if at.is_alone() && self.variables.grow(&self.landmarks, at.first, *bytes) {
+                    self.widen(at.first)?;
+                }
+            }
+        }
+        Ok(())
+    }
+
+    /// Widens the states that name a variable.
+    fn widen(&mut self, address: u16) -> Result<(), AllocError> {
+        for number in 0..self.readers.len() {
+            match self.readers.get(number) {
+                Some((read, at)) if *read == address => {
+                    let at = *at;
+                    self.widen_at(at, address)?;
+                }
+                _ => {}
+            }
+        }
+        Ok(())
+    }
+
+    /// Widens the states at an address.
+    fn widen_at(&mut self, at: u16, address: u16) -> Result<(), AllocError> {
+        let mut place = self.group(at).first;
+        for _ in 0..self.nodes.len() {
+            let Some(node) = self.nodes.get_mut(place as usize) else {
+                break;
+            };
+            let set = node.state.set;
+            let bytes = self.variables.bytes_at(set, address);
+            let cells = widened_cells(node.state.cells, address, bytes);
+            if bytes != ByteSpan::ANY && cells != node.state.cells {
+                node.state.cells = cells;
+                if !node.is_waiting {
+                    node.is_waiting = true;
+                    self.waiting.push(place)?;
+                }
+            }
+            place = node.next;
+        }
+        Ok(())
+    }
+
+    /// Takes the marks of the variables that aren't steady, and says whether one had it.
+    pub fn unmark_unsteady(&self, program: ReachedProgram<'_>, is_steady: &mut [bool]) -> bool {
+        let mut is_changed = false;
+        for number in 0..self.nodes.len() {
+            if let Some(node) = self.get(place_of(number)) {
+                if let (Some(found), true) = (
+                    program.at(node.at),
+                    node.taken_by == place_of(number),
+                ) {
+                    for stored in &stored_bytes(found.instr, node.state) {
+                        if let Some((at, bytes)) = stored {
+                            is_changed |= self.variables.unmark_unsteady(is_steady, *at, *bytes);
+                        }
+                    }
+                }
+            }
+        }
+        is_changed
+    }
+
+    /// The variables.
+    pub fn into_variables(self) -> Vec<Variable> {
+        self.variables.into_list()
     }
 
     /// A state takes in another, and others have to be followed from it again.

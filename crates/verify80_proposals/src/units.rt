@@ -38,6 +38,8 @@ bitflags! {
         const FOURTH = 0x0000_4000;
         /// The words on the stack.
         const WORDS = 0x0000_7800;
+        /// The bytes of memory.
+        const CELLS = 0x007F_8000;
         /// All parts. Those above the words are bytes of memory: a bit for each place that a cell may have.
         const ALL = 0x007F_FFFF;
     }
@@ -117,7 +119,11 @@ impl Units {
 
 /// Whether two states agree in these parts.
 pub(crate) fn are_alike(one: State, other: State, parts: Units) -> bool {
-    reduced(one, parts) == reduced(other, parts)
+    reduced(one, parts)
+        == State {
+            set: one.set,
+            ..reduced(other, parts)
+        }
 }
 
 /// A state of which only these parts are known.
