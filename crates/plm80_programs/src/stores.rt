@@ -18,7 +18,7 @@ use plm80_files::{IMAGE, REGIONS};
 use plm80_names::{NAMES, NamedFiles, Names, Verdict, judge};
 use std::alloc::{AllocError, Global};
 use verify80_stores::{
-    Cause, Reason, Setter, Stores, find_causes, find_stores, first_outside_data, stores_text,
+    Cause, Setter, Stores, find_causes, find_stores, first_outside_data, stores_text,
 };
 
 const ABOUT: &str = "Verifies an image, and prints its stores that may leave data";
@@ -198,7 +198,7 @@ fn stores_of(
     let text = names.name(alloc, code, b"STORE ", text)?;
     let text = names.name(alloc, code, b"JUMP ", text)?;
     let causes = if explains {
-        find_causes(alloc, vouched, &stores, quiet)?
+        find_causes(alloc, vouched, &stores)?
     } else {
         Vec::new(alloc)
     };
@@ -222,21 +222,6 @@ fn explain_causes<C: Console>(console: &C, causes: &[Cause]) {
             }
             Setter::Nothing => console.explain(format_args!("{at:04X}: nothing sets {pair}")),
         }
-        explain_reason(console, cause);
-    }
-}
-
-/// Says why what is set isn't known, if a reason is seen.
-fn explain_reason<C: Console>(console: &C, cause: &Cause) {
-    let at = cause.at;
-    match cause.reason {
-        Some(Reason::NotQuiet(address)) => {
-            console.explain(format_args!("{at:04X}: nothing known of {address:04X}: not quiet"))
-        }
-        Some(Reason::NotCode(address)) => {
-            console.explain(format_args!("{at:04X}: a table at {address:04X} isn't CODE"))
-        }
-        None => {}
     }
 }
 

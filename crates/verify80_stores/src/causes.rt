@@ -1,14 +1,12 @@
 //! What sets the pair of a store or a jump that isn't shown to stay inside. This is advice: nothing is promised of it.
 
-use crate::quiet::mark_quiet;
-use crate::setters::PairSetters;
+use crate::setters::Setters;
 use crate::stores::Stores;
-use decode80::{IndexPair, Instr, Pair, Register, Storing};
-use image80::Range;
+use decode80::{IndexPair, Pair, Storing};
 use std::alloc::{AllocError, Global};
 use verify80::{Vouched, find_reached};
 use verify80_proposals::{Groups, ReachedProgram};
-use verify80_states::{CallReturns, is_marked};
+use verify80_states::CallReturns;
 
 /// What sets the pair of an open store or jump.
 #[derive(Clone, Copy, Debug, PartialEq, Eq)]
@@ -18,8 +16,6 @@ pub struct Cause {
     /// Its pair.
     pub pair: Pair,
     pub setter: Setter,
-    /// Why what is set there isn't known, if a reason is seen.
-    pub reason: Option<Reason>,
 }
 
 impl Cause {
@@ -45,15 +41,6 @@ pub enum Setter {
     Nothing,
 }
 
-/// Why a byte that is read isn't known.
-#[derive(Clone, Copy, Debug, PartialEq, Eq)]
-pub enum Reason {
-    /// The byte of data at an address isn't quiet.
-    NotQuiet(u16),
-    /// The byte, or the table, at an address is neither code nor data.
-    NotCode(u16),
-}
-
 /// For each open store and each open jump the nearest instruction that sets its pair to what isn't known: on some way to it, and in
 /// procedures that return before. An LXI is named only if nothing else is found; so is an instruction that counts the pair.
 ///
@@ -63,7 +50,6 @@ pub fn find_causes(
     alloc: Global,
     vouched: &Vouched,
     stores: &Stores,
-    quiet: &[Range],
 ) -> Result<Vec<Cause>, AllocError> {
     let image = vouched.image();
     let found = find_reached(alloc, vouched)?;
@@ -71,7 +57,6 @@ pub fn find_causes(
         may_return: Vec::new(alloc),
         know_return: Vec::new(alloc),
     };
-    let marks = mark_quiet(alloc, &image.regions, quiet)?;
     let program = ReachedProgram {
         code: &[],
         instructions: found.instructions(),
@@ -79,125 +64,31 @@ pub fn find_causes(
         groups: &[],
         start: image.start,
         regions: &image.regions,
-        quiet: &marks,
+        quiet: &[],
     };
     let groups = Groups::new(alloc, program, vouched.rows())?;
-    let setters = Setters {
-        bc: PairSetters::of(alloc, program, &groups, Pair::Bc)?,
-        de: PairSetters::of(alloc, program, &groups, Pair::De)?,
-        hl: PairSetters::of(alloc, program, &groups, Pair::Hl)?,
-    };
+    let bc = Setters::of(alloc, program, &groups, Pair::Bc)?;
+    let de = Setters::of(alloc, program, &groups, Pair::De)?;
+    let hl = Setters::of(alloc, program, &groups, Pair::Hl)?;
     let mut causes = Vec::new(alloc);
     for open in &stores.open {
-        if let Some(pair) = pointer_of(open.instr) {
-            causes.push(setters.cause(program, open.at, pair))?;
-        }
+        let (pair, setters) = match open.instr.storing() {
+            Storing::Through(IndexPair::Bc) => (Pair::Bc, &bc),
+            Storing::Through(IndexPair::De) => (Pair::De, &de),
+            _ => (Pair::Hl, &hl),
+        };
+        causes.push(Cause {
+            at: open.at,
+            pair,
+            setter: setters.setter(open.at),
+        })?;
     }
     for at in &stores.open_jumps {
-        causes.push(setters.cause(program, *at, Pair::Hl))?;
+        causes.push(Cause {
+            at: *at,
+            pair: Pair::Hl,
+            setter: hl.setter(*at),
+        })?;
     }
     Ok(causes)
-}
-
-/// The pair by which an instruction stores.
-fn pointer_of(instr: Instr) -> Option<Pair> {
-    match instr.storing() {
-        Storing::ThroughHl => Some(Pair::Hl),
-        Storing::Through(pair) => Some(pair_of(pair)),
-        Storing::Nowhere | Storing::Byte(_) | Storing::Word(_) => None,
-    }
-}
-
-fn pair_of(pair: IndexPair) -> Pair {
-    match pair {
-        IndexPair::Bc => Pair::Bc,
-        IndexPair::De => Pair::De,
-    }
-}
-
-/// The setters of each pair.
-#[derive(Drop)]
-struct Setters {
-    bc: PairSetters,
-    de: PairSetters,
-    hl: PairSetters,
-}
-
-impl Setters {
-    fn of_pair(&self, pair: Pair) -> &PairSetters {
-        match pair {
-            Pair::Bc => &self.bc,
-            Pair::De => &self.de,
-            Pair::Hl | Pair::Sp => &self.hl,
-        }
-    }
-
-    /// What sets a pair before the instruction at an address.
-    fn cause(&self, program: ReachedProgram<'_>, at: u16, pair: Pair) -> Cause {
-        let setter = self.of_pair(pair).setter(at);
-        let reason = match setter {
-            Setter::Instruction(by) => self.reason(program, by),
-            Setter::Count(_) | Setter::Nothing => None,
-        };
-        Cause {
-            at,
-            pair,
-            setter,
-            reason,
-        }
-    }
-
-    /// Why what an instruction reads isn't known; of MOV r,A what the one before it reads.
-    fn reason(&self, program: ReachedProgram<'_>, at: u16) -> Option<Reason> {
-        let instr = match program.at(at)?.instr {
-            Instr::Mov(_, Register::A) => {
-                let loads = loads_before(program, at)?;
-                return self.reason(program, loads);
-            }
-            instr => instr,
-        };
-        match instr {
-            Instr::Lhld(address) | Instr::Lda(address) => reason_at(program, address),
-            Instr::Load(_) => reason_at(program, self.hl.table(program, at)?),
-            Instr::Ldax(pair) => reason_at(
-                program,
-                self.of_pair(pair_of(pair)).table(program, at)?,
-            ),
-            _ => None,
-        }
-    }
-}
-
-/// The instruction right before another, if it loads A.
-fn loads_before(program: ReachedProgram<'_>, at: u16) -> Option<u16> {
-    for length in 1..4_u16 {
-        let before = at.wrapping_sub(length);
-        if let Some(found) = program.at(before) {
-            if found.next == at
-                && matches!(
-                    found.instr,
-                    Instr::Lda(_) | Instr::Ldax(_) | Instr::Load(Register::A)
-                )
-            {
-                return Some(before);
-            }
-        }
-    }
-    None
-}
-
-/// Why the byte at an address isn't known, if it isn't.
-fn reason_at(program: ReachedProgram<'_>, address: u16) -> Option<Reason> {
-    let regions = program.regions;
-    if regions.in_data(address) {
-        if is_marked(program.quiet, address) {
-            None
-        } else {
-            Some(Reason::NotQuiet(address))
-        }
-    } else if regions.in_code(address) || regions.stack().contains(address) {
-        None
-    } else {
-        Some(Reason::NotCode(address))
-    }
 }

@@ -30,7 +30,7 @@ mod showing;
 mod stack_pointer;
 mod stores;
 
-pub use causes::{Cause, Reason, Setter, find_causes};
+pub use causes::{Cause, Setter, find_causes};
 pub use finding::find_stores;
 pub use laws::watched_runs_go_as_listed;
 pub use lines::stores_text;

@@ -7,7 +7,7 @@ use verify80_proposals::{Groups, ReachedProgram};
 
 /// By address the nearest instruction before it, of each kind, that sets a pair: 65,536 places each.
 #[derive(Drop)]
-pub(crate) struct PairSetters {
+pub(crate) struct Setters {
     /// To what isn't known.
     unknown: Vec<Option<u16>>,
     /// INX and DCX.
@@ -16,7 +16,7 @@ pub(crate) struct PairSetters {
     loaded: Vec<Option<u16>>,
 }
 
-impl PairSetters {
+impl Setters {
     /// Those of a program.
     ///
     /// # Errors
@@ -26,8 +26,8 @@ impl PairSetters {
         program: ReachedProgram<'_>,
         groups: &Groups,
         pair: Pair,
-    ) -> Result<PairSetters, AllocError> {
-        Ok(PairSetters {
+    ) -> Result<Setters, AllocError> {
+        Ok(Setters {
             unknown: spread(alloc, program, groups, pair, Kind::Unknown)?,
             counted: spread(alloc, program, groups, pair, Kind::Counted)?,
             loaded: spread(alloc, program, groups, pair, Kind::Loaded)?,
@@ -44,18 +44,6 @@ impl PairSetters {
             Setter::Instruction(by)
         } else {
             Setter::Nothing
-        }
-    }
-
-    /// The word by which a table is read at an address: that of the nearest LXI, if need be before what is added to it.
-    pub fn table(&self, program: ReachedProgram<'_>, at: u16) -> Option<u16> {
-        let by = match self.setter(at) {
-            Setter::Instruction(by) if matches!(program.at(by)?.instr, Instr::Dad(_)) => by,
-            _ => at,
-        };
-        match program.at(found_at(&self.loaded, by)?)?.instr {
-            Instr::Lxi(_, word) => Some(word),
-            _ => None,
         }
     }
 }
