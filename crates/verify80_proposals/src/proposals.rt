@@ -20,7 +20,7 @@ const WAYS: usize = 400_000;
 /// How many are followed then, at most.
 const LATE_WAYS: usize = 1_000_000;
 
-/// The table of a number from 0 to 4, if there is one: calls told apart or joined, then both once more as if no address were quiet, and one
+/// The table of a number from 0 to 5, if there is one: calls told apart or joined, then both once more as if no address were quiet, and both
 /// with variables.
 ///
 /// # Errors
@@ -37,11 +37,12 @@ pub fn propose_table(
     };
     match number {
         0 => propose_told_apart(alloc, program, groups, false),
-        1 => propose_joined(alloc, program, groups),
+        1 => propose_joined(alloc, program, groups, false),
         _ if !program.quiet.contains(&true) => Ok(None),
         2 => propose_told_apart(alloc, unquiet, groups, false),
-        3 => propose_joined(alloc, unquiet, groups),
-        _ => propose_told_apart(alloc, program, groups, true),
+        3 => propose_joined(alloc, unquiet, groups, false),
+        4 => propose_told_apart(alloc, program, groups, true),
+        _ => propose_joined(alloc, program, groups, true),
     }
 }
 
@@ -100,12 +101,13 @@ fn propose_joined(
     alloc: Global,
     program: ReachedProgram<'_>,
     groups: &Groups,
+    keeps_variables: bool,
 ) -> Result<Option<Proposal>, AllocError> {
     let limits = Limits {
         states: MOST_STATES,
         ways: WAYS,
         late_ways: LATE_WAYS,
-        keeps_variables: false,
+        keeps_variables,
     };
     let mut left = WAYS.saturating_add(LATE_WAYS);
     propose_with(alloc, program, groups, &[], limits, &mut left)
