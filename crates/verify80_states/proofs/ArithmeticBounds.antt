@@ -8,7 +8,7 @@ use Rattle.decode80.specs.declared.operation.Operation.TheVariants.{Add, AddCarr
 use Rattle.decode80.specs.declared.rotation.Rotation.{Rotation}
 use Rattle.decode80.specs.declared.rotation.Rotation.TheVariants.{Left, Right, LeftThroughCarry, RightThroughCarry}
 use Rattle.decode80.specs.declared.restart.Restart.{Restart}
-use Rattle.decode80.specs.declared.restart.Restart.TheVariants.{Vector0, Vector1, Vector2, Vector3, Vector4, Vector5, Vector6, Vector7}
+use Rattle.decode80.specs.declared.restart.Restart.TheVariants.{Vector0}
 use Rattle.decode80.specs.Restart.{restart_number}
 use Rattle.decode80.specs.Fetch.{ahead, behind}
 use Rattle.machine80.specs.declared.flags.Flags.{Flags}

@@ -4,7 +4,7 @@ use Rattle.std.proofs.Common.{arith, sym, ap}
 use Rattle.std.proofs.lemmas.Bool.Decides.{nat_tests}
 use Rattle.std.specs.Int.Bits.{and_self, or_self, xor_self}
 use Rattle.decode80.specs.declared.register.Register.{Register}
-use Rattle.decode80.specs.declared.register.Register.TheVariants.{A, B, C, D, E, H, L}
+use Rattle.decode80.specs.declared.register.Register.TheVariants.{A, H, L}
 use Rattle.decode80.specs.declared.pair.Pair.{Pair}
 use Rattle.decode80.specs.declared.pair.Pair.TheVariants.{Bc, De, Hl, Sp}
 use Rattle.decode80.specs.declared.pair.StackPair.TheVariants.{Bc as StackBc, De as StackDe, Hl as StackHl, Psw}
@@ -26,7 +26,7 @@ use Rattle.machine80.specs.declared.registers.Registers.{Registers}
 use Rattle.machine80.specs.declared.cpu.Cpu.{Cpu}
 use Rattle.machine80.specs.Flags.{bit_of, flags_of_result, flags_from}
 use Rattle.machine80.specs.Arithmetic.{byte_answer, sum_answer, difference_answer, operation_answer, increment_answer, decrement_answer, decimal_answer, rotation_answer, pair_sum, pair_sum_flags, complement_of, carry_set, carry_turned}
-use Rattle.machine80.specs.Cpu.{word, register_of, with_register, hl_of, pair_of, with_pair, index_pair_of}
+use Rattle.machine80.specs.Cpu.{register_of, with_register, hl_of, pair_of, with_pair, index_pair_of}
 use Rattle.machine80.specs.Effects.{byte_in, word_in, operand_of, changed}
 use Rattle.verify80_spans.specs.declared.span.Span.{Span}
 use Rattle.verify80_spans.specs.declared.byte_span.ByteSpan.{ByteSpan}

@@ -6,7 +6,7 @@ use Rattle.std.proofs.lemmas.List.Elements.{All-contains, Contains-append_left, 
 use Rattle.std.proofs.lemmas.Bool.Decides.{nat_tests}
 use Rattle.decode80.specs.declared.instr.Instr.{Instr}
 use Rattle.decode80.specs.declared.instr.Instr.TheVariants.{Store, MviMemory, InrMemory, DcrMemory, Stax, Sta, Shld, Push, Pop, Call, CallIf, Ret, ReturnIf, Rst, Xthl, Lxi, Inx, Dcx, Sphl}
-use Rattle.decode80.specs.declared.pair.Pair.TheVariants.{Bc, De, Hl, Sp}
+use Rattle.decode80.specs.declared.pair.Pair.TheVariants.{Sp}
 use Rattle.decode80.specs.declared.pair.StackPair.{StackPair}
 use Rattle.decode80.specs.declared.pair.StackPair.TheVariants.{Bc as StackBc, De as StackDe, Hl as StackHl, Psw}
 use Rattle.decode80.specs.Facts.{flow}

@@ -1,5 +1,5 @@
 -- Variables stay inside their spans.
-use Rattle.std.specs.Prelude.{◌≡◌, ◌⊎◌, ◌≢◌, ◌<◌, ◌&&◌, ◌||◌, ℕ, zero, suc, ◌/◌, ◌%◌, Bool, true, false, not, List, [], ◌∷◌, Option, None, Some, length, slice_get, slice_index, slice_set, refl, if◌then◌else◌}
+use Rattle.std.specs.Prelude.{◌≡◌, ◌⊎◌, ◌≢◌, ◌<◌, ◌&&◌, ℕ, zero, suc, ◌/◌, ◌%◌, Bool, true, false, List, [], ◌∷◌, Option, None, Some, length, slice_get, slice_index, slice_set, refl, if◌then◌else◌}
 use Rattle.std.specs.List.{list_all}
 use Rattle.std.proofs.Common.{subst, sym, ap, ◌∙◌, arith, inl, inr}
 use Rattle.std.proofs.lemmas.Bool.Decides.{nat_tests}
@@ -24,7 +24,7 @@ use Rattle.verify80_spans.specs.Span.{high_of as high_bytes}
 use Rattle.verify80_states.specs.declared.states.variables.Variable.{Variable}
 use Rattle.verify80_states.specs.declared.states.state.State.{State}
 use Rattle.verify80_states.specs.Bytes.{HasBytes, AreBytes}
-use Rattle.verify80_states.specs.Variables.{IsNamed, HoldsSet, is_bit, takes}
+use Rattle.verify80_states.specs.Variables.{HoldsSet, is_bit, takes}
 use Rattle.verify80_states.specs.Cells.{HoldsCells}
 use Rattle.verify80_states.specs.State.{HoldsRegisters, byte_of}
 use Rattle.verify80_states.specs.Steps.{ReadsCode}

@@ -1,9 +1,6 @@
 -- Variables: bytes of quiet memory, each of which stays inside a span once it is there. A state names those of which it says that they
 -- are. (This project's own.)
-use Rattle.std.specs.Prelude.{◌≡◌, ◌==◌, ◌&&◌, ◌||◌, ◌/◌, ◌%◌, ◌^◌, ℕ, Bool, true, not, List, Option, Some, nat_le, nat_lt, slice_get}
-use Rattle.decode80.specs.declared.instr.Instr.{Instr}
-use Rattle.decode80.specs.declared.instr.Instr.TheVariants.{Store, MviMemory, InrMemory, DcrMemory, Stax, Sta, Shld}
-use Rattle.decode80.specs.Fetch.{ahead}
+use Rattle.std.specs.Prelude.{◌≡◌, ◌==◌, ◌&&◌, ◌||◌, ◌/◌, ◌%◌, ◌^◌, ℕ, Bool, true, not, List, Some, nat_le, nat_lt, slice_get}
 use Rattle.machine80.specs.Effects.{byte_in}
 use Rattle.verify80_spans.specs.declared.span.Span.{Span}
 use Rattle.verify80_spans.specs.declared.byte_span.ByteSpan.{ByteSpan}

@@ -14,7 +14,7 @@ use Rattle.image80.specs.Range.{in_range}
 use Rattle.image80.specs.Regions.{Areas, in_data, targets_at}
 use Rattle.image80.specs.Image.{Located}
 use Rattle.machine80.specs.declared.end.End.{End}
-use Rattle.machine80.specs.declared.end.End.TheVariants.{Halt, InputEnd, OutputRefused, StoreOutside, JumpOutside, Fetch, Stack, Direct}
+use Rattle.machine80.specs.declared.end.End.TheVariants.{InputEnd, OutputRefused, StoreOutside, JumpOutside, Fetch, Stack, Direct}
 use Rattle.machine80.specs.declared.registers.Registers.{Registers}
 use Rattle.machine80.specs.Cpu.{hl_of, index_pair_of}
 use Rattle.machine80.specs.Ports.{next_input}
