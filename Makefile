@@ -82,6 +82,7 @@ test: need-rt need-python3
 	@tests/examples/run
 	@tools/crates --check
 	@tools/clauses --check
+	@tools/statements --check
 	@tools/gate
 	@tests/commands/run $(PROGRAM)
 	@tests/commands/migrated $(PROGRAM)
@@ -95,7 +96,7 @@ test: need-rt need-python3
 	@tests/commands/replaced $(PROGRAM)
 	@tests/commands/completion $(PROGRAM)
 	@tests/commands/fault_page
-	@tests/commands/hex
+	@tests/commands/hex $(PROGRAM)
 	@tests/package/run $(PROGRAM)
 	@tests/package/try
 	@tests/package/build
@@ -116,7 +117,7 @@ commands: need-python3 build
 	@tests/commands/replaced $(PROGRAM)
 	@tests/commands/completion $(PROGRAM)
 	@tests/commands/fault_page
-	@tests/commands/hex
+	@tests/commands/hex $(PROGRAM)
 
 # FAULTS=".." tries that alone, as FAULTS="program", FAULTS="tests_runs" or FAULTS="tests_links=1..20".
 faults: need-cc build

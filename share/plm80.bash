@@ -23,7 +23,7 @@ _plm80() {
     fi
     case ${COMP_WORDS[1]} in
         link) options='--name --out --map --reasons --why -h --help' ;;
-        locate) options='--code --stack --common --data --memory --stack-size --memory-size --restart --publics --why -h --help' ;;
+        locate) options='--code --stack --common --data --memory --stack-size --memory-size --rom-range --ram-range --restart --publics --why -h --help' ;;
         map) options='--code --stack --common --data --memory --stack-size --memory-size --why -h --help' ;;
         run) options='--steps --outputs --last --dump --names --why -h --help' ;;
         trace) options='--from --count --steps --outputs --names --why -h --help' ;;
@@ -34,7 +34,8 @@ _plm80() {
         suggest) options='--rom-range --ram-range --why -h --help' ;;
         find) options='--first --why -h --help' ;;
         lib | regions | inputs | module) options='--why -h --help' ;;
-        check | explain) options='--names --why -h --help' ;;
+        check) options='--names --why -h --help' ;;
+        explain) options='--all --names --why -h --help' ;;
         stores) options='--names --quiet-ram --why -h --help' ;;
         list) options='--reached --names --why -h --help' ;;
         cases) options='--out --why -h --help' ;;

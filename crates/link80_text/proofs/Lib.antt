@@ -2,10 +2,7 @@ mod LaidLemmas
 mod TextLemmas
 mod StartLemmas
 mod NeedLemmas
-mod SearchLemmas
-mod EdgeLemmas
 mod LinkedLemmas
 mod ProviderLemmas
 mod ReasonLemmas
-mod ReadLemmas
 mod LineLemmas

@@ -1,18 +1,26 @@
 -- The modules that are linked: the roots, and those at the places that were taken.
 use Rattle.std.specs.Prelude.{◌≡◌, ℕ, zero, suc, ◌+◌, ◌-◌, ◌<◌, ◌≤◌, ◌⊎◌, Option, Some, List, [], ◌∷◌, ◌++◌, filter_map, length, slice_get, Contains, refl}
-use Rattle.std.specs.List.{cons_option}
+use Rattle.std.specs.List.{AllByRecursion, cons_option}
 use Rattle.std.proofs.Common.{◌∙◌, ap, sym, subst, arith, inl, inr}
-use Rattle.std.proofs.lemmas.Bool.{cases_lt, cases_order}
-use Rattle.std.proofs.lemmas.List.{length-append}
+use Rattle.std.proofs.lemmas.Bool.{cases_lt}
 use Rattle.std.proofs.lemmas.Option.{none-some, same_Some, slice_get_within, get_or_from_slice_get}
 use Rattle.omf_model.specs.Modules.{ModuleValue}
 use Rattle.link80_select.specs.declared.chosen.Chosen.{Chosen}
 use Rattle.link80_select.specs.Selected.{module_at, IsBefore, Needs, IsChosen, by_root, by_member, AreAscending}
 use Rattle.link80.specs.Selection.{IsSelection, modules_with}
 use Rattle.link80_text.specs.Reasons.{IsSoughtAt}
-use Rattle.link80_text.proofs.EdgeLemmas.{all_at, at_right}
 
 -- ---- lists
+
+at_right : {A : Type 0} (xs ys : List A) (k : ℕ) → slice_get (xs ++ ys) (length xs + k) ≡ slice_get ys k
+at_right [] ys k = ap (slice_get ys) (omega arith)
+at_right (x ∷ xs) ys k = let e : length (x ∷ xs) + k ≡ suc (length xs + k) = omega arith in ap (slice_get (x ∷ (xs ++ ys))) e
+    ∙ at_right xs ys k
+
+all_at : {A : Type 0} (P : A → Type 0) (xs : List A) (k : ℕ) (x : A) → AllByRecursion P xs → slice_get xs k ≡ Some x → P x
+all_at P [] k x all at = absurd (none-some x at)
+all_at P (y ∷ xs) zero x all at = subst P (same_Some y x at) all.0
+all_at P (y ∷ xs) (suc k) x all at = all_at P xs k x all.1 at
 
 pub has_at : {A : Type 0} (xs : List A) (i : ℕ) (x : A) → slice_get xs i ≡ Some x → Contains xs x
 has_at xs i x at = (i, slice_get_within xs i x at, get_or_from_slice_get xs i x x at)
@@ -75,19 +83,6 @@ ascending_order (x ∷ ps) zero (suc k) p q up less at_j at_k =
 ascending_order (x ∷ ps) (suc j) zero p q up less at_j at_k = absurd (omega (arith, less))
 ascending_order (x ∷ ps) (suc j) (suc k) p q up less at_j at_k = ascending_order ps j k p q up.1 (omega arith) at_j at_k
 
-not_before_itself : (p : Chosen) → IsBefore p p → ⊥
-not_before_itself p (inl less) = omega (arith, less)
-not_before_itself p (inr same) = let less = same.1 in omega (arith, less)
-
-pub one_number : (ps : List Chosen) (j k : ℕ) (p : Chosen) → AreAscending ps → slice_get ps j ≡ Some p → slice_get ps k ≡ Some p → j ≡ k
-one_number ps j k p up at_j at_k = elim (cases_order j k) [
-  | inl same ↦ same
-  | inr differ ↦ elim differ [
-    | inl less ↦ absurd (not_before_itself p (ascending_order ps j k p p up less at_j at_k))
-    | inr more ↦ absurd (not_before_itself p (ascending_order ps k j p p up more at_k at_j))
-  ]
-]
-
 -- ---- the modules that are linked
 
 module _ (roots : List ModuleValue) (libraries : List (List ModuleValue)) (taken : List Chosen)
@@ -137,8 +132,3 @@ module _ (roots : List ModuleValue) (libraries : List (List ModuleValue)) (taken
     in_no_root = sought.in_no_root;
     first = sought.first;
   }
-
-  -- as many as the roots and the places
-  pub linked_length : length (modules_with roots libraries taken) ≡ length roots + length taken
-  linked_length = length-append roots (filter_map (module_at libraries) taken)
-      ∙ ap (λ n. length roots + n) (gives_length (module_at libraries) taken each_module)

@@ -14,7 +14,7 @@ use Rattle.link80_select.specs.declared.chosen.Chosen.{Chosen}
 use Rattle.link80_select.specs.Selected.{module_at, IsFirstProvider}
 use Rattle.link80_text.specs.Reasons.{IsSoughtAt}
 use Rattle.link80.specs.Selection.{IsSelection, modules_with}
-use Rattle.link80_text.specs.Edges.{number_of, target}
+use Rattle.link80_text.specs.Linked.{number_of, target}
 use Rattle.link80_text.proofs.LinkedLemmas.{ascending_order, root_module, member_module, linked_is, linked_takes, needs_for}
 
 -- ---- the first that passes
@@ -177,14 +177,6 @@ some_provider libraries name q m there declares_it = by (first_place_from 0 libr
 
 -- ---- roots
 
-none_passes : {A : Type 0} (test : A → Bool) (xs : List A) → list_any test xs ≡ false → (i : ℕ) (x : A) → slice_get xs i ≡ Some x
-    → test x ≡ false
-none_passes test xs none = no_first test 0 xs (nothing (position_from test 0 xs) (passes_first test 0 xs ∙ none))
-  where
-    nothing : (o : Option ℕ) → is_some o ≡ false → o ≡ None
-    nothing None is = refl
-    nothing (Some x) is = absurd (false≢true (sym is))
-
 none_any : {A : Type 0} (test : A → Bool) (xs : List A) → ((i : ℕ) (x : A) → slice_get xs i ≡ Some x → test x ≡ false)
     → list_any test xs ≡ false
 none_any test [] each = refl
@@ -203,12 +195,6 @@ number_is roots n t is = elim (cases_lt n roots) [
       let same : n - roots ≡ t = same_Some (n - roots) t (sym (ap (λ b. cond b None (Some (n - roots))) test) ∙ is) in
       omega (arith, same, more)
 ]
-
-is_number : (roots t : ℕ) → number_of roots (roots + t) ≡ Some t
-is_number roots t =
-    let test : nat_lt (roots + t) roots ≡ false = grind (arith, nat_tests) in
-    let same : roots + t - roots ≡ t = omega arith in
-    ap (λ b. cond b None (Some (roots + t - roots))) test ∙ ap (λ n. Some n) same
 
 module _ (roots : List ModuleValue) (libraries : List (List ModuleValue)) (taken : List Chosen)
     (selection : IsSelection roots libraries taken) where
@@ -258,44 +244,3 @@ module _ (roots : List ModuleValue) (libraries : List (List ModuleValue)) (taken
             at_q,
             record { in_no_root = in_no_root; first = is_it k_is first other.2.0 at_q other.2.2 in_no_root },
           )
-
-  is_target_at : (name : List ℕ) (p : Chosen) (t : ℕ) → IsSoughtAt roots libraries name p → slice_get taken t ≡ Some p
-      → target (length roots) modules name ≡ Some t
-  is_target_at name p t sought at = by (first_provider modules name) refl
-    where
-      there : slice_get modules (length roots + t) ≡ Some sought.first.provider
-      there = member_module roots libraries taken selection t p sought.first.provider at sought.first.there
-
-      -- no root declares it, and nothing that is taken from an earlier place does
-      none_earlier : (k : ℕ) → k < length roots + t → (one : ModuleValue) → declares name one ≡ true
-          → ((k < length roots) × Contains roots one)
-          ⊎ ((j : ℕ) × (k ≡ length roots + j) × ((q : Chosen) × (slice_get taken j ≡ Some q) × (module_at libraries q ≡ Some one))) → ⊥
-      none_earlier k less one passes (inl root) =
-          let r = at_has roots one root.1 in
-          false≢true (sym (none_passes (declares name) roots sought.in_no_root r.0 one r.1) ∙ passes)
-      none_earlier k less one passes (inr other) =
-          false≢true (sym (sought.first.none_before other.2.0 one (ascending_order taken other.0 t other.2.0 p selection.ascending
-          (omega (arith, less, other.1)) other.2.1 at) other.2.2) ∙ passes)
-
-      number : (k : ℕ) → IsFirst (declares name) modules k → number_of (length roots) k ≡ Some t
-      number k first = elim (cases_order k (length roots + t)) [
-        | inl same ↦ ap (number_of (length roots)) same ∙ is_number (length roots) t
-        | inr differ ↦ elim differ [
-          | inl less ↦ absurd (none_earlier k less first.one first.passes
-              (linked_is roots libraries taken selection k first.one first.there))
-          | inr more ↦ absurd (false≢true (sym (first.before (length roots + t) sought.first.provider more there)
-              ∙ sought.first.declares_it))
-        ]
-      ]
-
-      by : (o : Option ℕ) → first_provider modules name ≡ o → target (length roots) modules name ≡ Some t
-      by None none = absurd (false≢true (sym (no_first (declares name) 0 modules none (length roots + t) sought.first.provider there)
-          ∙ sought.first.declares_it))
-      by (Some k) found =
-          ap (option_and_then (number_of (length roots))) found ∙ number k (is_first (declares name) k modules found)
-
-  pub is_target : (name : List ℕ) (p : Chosen) → IsSoughtAt roots libraries name p → Contains taken p
-      → (t : ℕ) × (target (length roots) modules name ≡ Some t) × (slice_get taken t ≡ Some p)
-  is_target name p sought has =
-      let at = at_has taken p has in
-      (at.0, is_target_at name p at.0 sought at.1, at.1)

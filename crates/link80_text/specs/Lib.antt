@@ -6,6 +6,5 @@ pub mod Reasons
 pub mod Words
 pub mod Ends
 pub mod Needs
-pub mod Edges
-pub mod Search
-pub mod Searched
+pub mod Linked
+pub mod Found

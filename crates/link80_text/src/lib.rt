@@ -1,6 +1,6 @@
 //! What LINK prints: parts of a linked module, why modules are taken, and where the cause of a fault is.
 //!
-//! Proved: each part once; BY needs the name, is nearest to the roots, and leads to one; the causes are those of the fault.
+//! Proved: each part once; BY needs the name, and leads to a root; the causes are those of the fault.
 //!
 //! | Item | What it is |
 //! |---|---|

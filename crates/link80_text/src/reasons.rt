@@ -1,7 +1,7 @@
-//! Why a link takes modules from its libraries: for each the name that is needed, and the nearest module that needs it. Reasons
-//! are defined in `specs/Reasons.antt`.
+//! Why a link takes modules from its libraries: for each a name that is needed, and a module that needs it, the nearest to the roots.
+//! Reasons are defined in `specs/Reasons.antt`; that the nearest is found is tested.
 
-mod edges;
+mod checked;
 mod linked;
 mod reason_lines;
 mod search;

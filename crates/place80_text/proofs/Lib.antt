@@ -1,1 +1,2 @@
+mod BoardLemmas
 mod OrderLemmas

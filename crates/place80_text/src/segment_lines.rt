@@ -27,7 +27,11 @@ pub(crate) fn append_segments(
 }
 
 /// Appends the line of a segment. An empty one at the end of memory is shown at 0000, as regions have it.
-fn append_segment(text: &mut Vec<u8>, commons: &[Common], placed: Placed) -> Result<(), AllocError>
+pub(crate) fn append_segment(
+    text: &mut Vec<u8>,
+    commons: &[Common],
+    placed: Placed,
+) -> Result<(), AllocError>
     requires { placed.length < 65536 }
     ensures { OnOk result (text.new.items ≡ text.old.items ++ segment_line commons.now placed) }
 {

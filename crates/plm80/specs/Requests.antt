@@ -6,8 +6,10 @@ use Rattle.clap.specs.Matches.{found_of, subcommand_name_of}
 use Rattle.clap.specs.Simple.{subcommand_rows_of}
 use Rattle.clap.specs.Walk.{rows_of}
 use Rattle.plm80_console.specs.Answer.{Gives, GivesUp}
+use Rattle.plm80_console.specs.ApartPaths.{AreApart}
 use Rattle.plm80_console.specs.Arguments.{argument_text}
 use Rattle.plm80_console.specs.Journal.{Journal, OnlyReports, and_reported}
+use Rattle.plm80_console.specs.declared.syntax.Syntax.{Syntax}
 use Rattle.plm80_names.specs.Arguments.{AreNamedFiles, asks_names, program_paths}
 use Rattle.plm80_names.specs.Verdict.{AnswersProgram}
 use Rattle.plm80_objects.specs.Absolute.{ExtractsFile, GivesDumps, GivesUpDumps}
@@ -16,10 +18,11 @@ use Rattle.plm80_objects.specs.Compare.{ComparesFiles}
 use Rattle.plm80_objects.specs.Find.{FindsModules}
 use Rattle.plm80_objects.specs.Link.{LinksFiles}
 use Rattle.plm80_objects.specs.Modules.{AnswersModules, DescribesModules, GivesUpLibrary, LocatesFile, MapsFile, WritesLibrary}
-use Rattle.plm80_programs.specs.Arguments.{AreCallsArguments, AreCasesArguments, AreCoverArguments, AreListArguments, AreRegionsArguments, AreRunArguments, AreStoresArguments, AreTraceArguments, cases_path, run_paths}
+use Rattle.plm80_programs.specs.Arguments.{AreCallsArguments, AreCasesArguments, AreCoverArguments, AreExplainArguments, AreListArguments, AreRegionsArguments, AreRunArguments, AreStoresArguments, AreTraceArguments, cases_path, run_paths}
 use Rattle.plm80_programs.specs.Cases.{AnswersCases}
 use Rattle.plm80_programs.specs.InputWords.{AnswersWords, AreInputsArguments}
-use Rattle.plm80_programs.specs.Printed.{AnswersStores, PrintsCalls, PrintsExplanation, PrintsListing, PrintsReport}
+use Rattle.plm80_programs.specs.Explanations.{PrintsExplanation}
+use Rattle.plm80_programs.specs.Printed.{AnswersStores, PrintsCalls, PrintsListing, PrintsReport}
 use Rattle.plm80_programs.specs.Running.{CoversFiles, RunsFiles, TracesFiles}
 use Rattle.plm80_programs.specs.Suggest.{AnswersAdvice, AreSuggestArguments}
 use Rattle.plm80_programs.specs.Written.{AnswersRegions}
@@ -33,7 +36,7 @@ command_name (request.Locate arguments) = codes "locate"
 command_name (request.Run arguments) = codes "run"
 command_name (request.List arguments) = codes "list"
 command_name (request.Check files) = codes "check"
-command_name (request.Explain files) = codes "explain"
+command_name (request.Explain arguments) = codes "explain"
 command_name (request.Library arguments) = codes "lib"
 command_name (request.Regions arguments) = codes "regions"
 command_name (request.Cases arguments) = codes "cases"
@@ -57,7 +60,7 @@ AreArgumentsOf matches (request.Locate arguments) = AreLocateArguments matches a
 AreArgumentsOf matches (request.Run arguments) = AreRunArguments matches arguments
 AreArgumentsOf matches (request.List arguments) = AreListArguments matches arguments
 AreArgumentsOf matches (request.Check arguments) = AreNamedFiles matches arguments
-AreArgumentsOf matches (request.Explain arguments) = AreNamedFiles matches arguments
+AreArgumentsOf matches (request.Explain arguments) = AreExplainArguments matches arguments
 AreArgumentsOf matches (request.Library arguments) = AreLibraryArguments matches arguments
 AreArgumentsOf matches (request.Regions arguments) = AreRegionsArguments matches arguments
 AreArgumentsOf matches (request.Cases arguments) = AreCasesArguments matches arguments
@@ -74,12 +77,15 @@ AreArgumentsOf matches (request.Module arguments) = arguments.object.now ≡ arg
 AreArgumentsOf matches (request.Find arguments) = AreFindArguments matches arguments
 AreArgumentsOf matches (request.Suggest arguments) = AreSuggestArguments matches arguments
 
--- it is the one that clap has read
+-- it is the one that clap has read, by a table of its command; no argument has the path of one that is written
 pub record IsRequestOf (matches : ArgMatches) (request : Request) : Type 0 where
   pub arguments : ArgMatches
   pub name : subcommand_name_of matches ≡ Some (command_name request)
   pub rows : Some (rows_of (found_of arguments)) ≡ option_map (λ p. p.1) (subcommand_rows_of matches)
   pub are : AreArgumentsOf arguments request
+  pub table : Syntax
+  pub named : bytes_eq table.name.now (command_name request) ≡ true
+  pub apart : AreApart arguments table.arguments.now
 
 -- it is done: its files were read, its answer was given, and the status is the answer's
 abbrev pub IsPerformed : Request → (old new : Journal) → (status : ℕ) → Type 0
@@ -88,7 +94,7 @@ IsPerformed (request.Locate arguments) old new status = Gives (LocatesFile argum
 IsPerformed (request.Run arguments) old new status = Gives (RunsFiles arguments) (run_paths arguments.files) old new status
 IsPerformed (request.List arguments) old new status = Gives (AnswersProgram (PrintsListing arguments.reached) (asks_names arguments.files)) (program_paths arguments.files) old new status
 IsPerformed (request.Check files) old new status = Gives (AnswersProgram PrintsReport (asks_names files)) (program_paths files) old new status
-IsPerformed (request.Explain files) old new status = Gives (AnswersProgram PrintsExplanation (asks_names files)) (program_paths files) old new status
+IsPerformed (request.Explain arguments) old new status = Gives (AnswersProgram (PrintsExplanation arguments.all) (asks_names arguments.files)) (program_paths arguments.files) old new status
 IsPerformed (request.Library arguments) old new status = WritesLibrary arguments old new status
 IsPerformed (request.Regions arguments) old new status = Gives (AnswersRegions arguments.new.now) (arguments.old.now ∷ []) old new status
 IsPerformed (request.Cases arguments) old new status = Gives (AnswersCases (cases_path arguments)) (arguments.image.now ∷ arguments.regions.now ∷ []) old new status
@@ -112,7 +118,7 @@ IsFailed (request.Locate arguments) old new = GivesUp (LocatesFile arguments) (a
 IsFailed (request.Run arguments) old new = GivesUp (RunsFiles arguments) (run_paths arguments.files) old new
 IsFailed (request.List arguments) old new = OnlyReports old new
 IsFailed (request.Check files) old new = OnlyReports old new
-IsFailed (request.Explain files) old new = OnlyReports old new
+IsFailed (request.Explain arguments) old new = OnlyReports old new
 IsFailed (request.Library arguments) old new = GivesUpLibrary arguments.library.now old new
 IsFailed (request.Regions arguments) old new = GivesUp (AnswersRegions arguments.new.now) (arguments.old.now ∷ []) old new
 IsFailed (request.Cases arguments) old new = GivesUp (AnswersCases (cases_path arguments)) (arguments.image.now ∷ arguments.regions.now ∷ []) old new

@@ -12,6 +12,9 @@ use std::io::ErrorKind;
 /// The line between the regions and the inputs.
 const INPUTS: &[u8] = b"INPUTS\n";
 
+/// What is said if the image goes on behind the first line.
+const SEVERAL_LINES: &str = "the hexadecimal is on several lines: write the image on one line";
+
 /// Says what is wrong with the bundle that was read, whose fault was reported; `output` is why writing its transcript failed.
 pub fn explain_bundle<C: Console>(
     console: &C,
@@ -22,7 +25,9 @@ pub fn explain_bundle<C: Console>(
     match fault {
         BundleFault::Session(SessionFault::Write) => console.explain_failure(output),
         BundleFault::Session(SessionFault::Regions(fault)) => {
-            explain_second_line(console, text);
+            if begins_with_digits(after_line(text)) {
+                console.explain(SEVERAL_LINES);
+            }
             explain_regions(console, after_line(text), fault);
         }
         BundleFault::Session(SessionFault::Inputs(number)) => {
@@ -30,19 +35,14 @@ pub fn explain_bundle<C: Console>(
         }
         BundleFault::BadBundle => {
             explain_line(console, text, 1);
-            explain_second_line(console, text);
+            if begins_with_digits(after_line(text)) {
+                console.explain(SEVERAL_LINES);
+            }
             if after_inputs_line(text).is_empty() && !text.ends_with(INPUTS) {
                 console.explain("there is no line INPUTS");
             }
         }
         BundleFault::Session(_) => {}
-    }
-}
-
-/// Says that the image goes on behind the first line, if it does.
-fn explain_second_line<C: Console>(console: &C, text: &[u8]) {
-    if begins_with_digits(after_line(text)) {
-        console.explain("the hexadecimal is on several lines: write the image on one line");
     }
 }
 

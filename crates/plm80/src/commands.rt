@@ -67,11 +67,11 @@ fn perform<C: Console>(console: &mut C, request: Request<'_>) -> Result<u8, Repo
 {
     match request {
         Request::Link(arguments) => link_files(console, &arguments),
-        Request::Locate(arguments) => locate_file(console, arguments),
+        Request::Locate(arguments) => locate_file(console, &arguments),
         Request::Run(arguments) => run_files(console, arguments),
         Request::List(arguments) => list_files(console, arguments),
         Request::Check(files) => check_files(console, files),
-        Request::Explain(files) => explain_files(console, files),
+        Request::Explain(arguments) => explain_files(console, arguments),
         Request::Library(arguments) => write_library_file(console, &arguments),
         Request::Regions(arguments) => migrate_file(console, arguments),
         Request::Cases(arguments) => suggest_for_files(console, arguments),

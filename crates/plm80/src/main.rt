@@ -28,7 +28,7 @@ use plm80_host::HostConsole;
 use plm80_programs::{explain_end, status_of};
 use std::alloc::{AllocError, Global};
 use std::env;
-use std::io::ErrorKind;
+use std::io::{ErrorKind, IsTerminal};
 use std::process::ExitCode;
 use stream80::{Reading, Sink};
 
@@ -43,7 +43,7 @@ const OUTPUTS: usize = 65_536;
 ///
 /// The exit status is 0 if the run halted or a command is done, 1 if the image is refused, 2 at a fault, 3 if the run ended at a
 /// port, a store outside data or a jump outside its declared targets, and 4 if its steps were used up. A fault is one line on
-/// standard error; with `--why`, or if the environment has `PLM80_WHY`, words about it follow.
+/// standard error; with `--why`, at a terminal, or if the environment has `PLM80_WHY`, words about it follow.
 fn main(rt: HostRuntime) -> ExitCode {
     let mut console = HostConsole::new(&rt, is_explained(&rt));
     let arguments = match env::args(&rt) {
@@ -57,11 +57,11 @@ fn main(rt: HostRuntime) -> ExitCode {
     }
 }
 
-/// Whether words about every fault are asked for: the variable is set, and neither empty nor 0.
+/// Whether words about every fault are printed: if the variable is set and not empty, unless it is 0; else if standard error is a terminal.
 fn is_explained(rt: &HostRuntime) -> bool {
     match env::var(rt, "PLM80_WHY") {
-        Ok(value) => !matches!(value.as_str(), "" | "0"),
-        Err(_) => false,
+        Ok(value) if !value.is_empty() => value.as_str() != "0",
+        _ => rt.stderr().is_terminal(),
     }
 }
 
@@ -109,7 +109,9 @@ fn transcribe<C: Console>(console: &mut C) -> Result<u8, Reported>
     let failure = console.take_back(output);
     match bundle_status(answer) {
         Ok(status) => {
-            explain_outcome(console, answer);
+            if let Ok(outcome) = answer {
+                explain_end(console, outcome.end, outcome.at);
+            }
             Ok(status)
         }
         Err(fault) => {
@@ -138,12 +140,5 @@ fn bundle_status(answer: Result<Outcome, BundleFault>) -> Result<u8, BundleFault
         Ok(outcome) => Ok(status_of(outcome.end)),
         Err(BundleFault::Session(SessionFault::Refused(_))) => Ok(1),
         Err(fault) => Err(fault),
-    }
-}
-
-/// Says how a run ended, if it ran.
-fn explain_outcome<C: Console>(console: &C, answer: Result<Outcome, BundleFault>) {
-    if let Ok(outcome) = answer {
-        explain_end(console, outcome.end, outcome.at);
     }
 }

@@ -1,24 +1,16 @@
 -- What becomes of a feed by a piece, and by all pieces.
-use Rattle.std.proofs.Common.{◌≡◌, ◌≢◌, inl, inr, ℕ, ◌<◌, List, [], ◌++◌, Option, Some, None, Result, Ok, Err, refl, sym, ap, subst, ◌∙◌, arith, get_or, Fits, w8}
-use Rattle.std.specs.Prelude.{OnOk, IfErr, Bool, false, ◌==◌, ◌∷◌, slice_get}
-use Rattle.std.proofs.lemmas.Option.{same_Some, none-some}
-use Rattle.std.proofs.lemmas.Bool.Decides.{nat_tests}
-use Rattle.omf_core.specs.Kind.{kind_byte}
-use Rattle.omf_core.specs.declared.kind.RecordKind.TheVariants.{LibraryHeader}
+use Rattle.std.proofs.Common.{◌≡◌, ◌≢◌, inl, inr, ℕ, ◌<◌, List, ◌++◌, Option, Some, None, Result, Ok, Err, refl, sym, ap, subst, ◌∙◌, arith, get_or, Fits, w8}
+use Rattle.std.specs.Prelude.{OnOk, IfErr}
 use Rattle.std.specs.List.{All}
-use Rattle.std.proofs.lemmas.List.{append-nil, get_or_default}
-use Rattle.std.proofs.lemmas.List.Elements.{All-nil}
+use Rattle.std.proofs.lemmas.List.{get_or_default}
 use Rattle.omf_module.specs.declared.fault.ModuleFault.{ModuleFault}
 use Rattle.omf_module.specs.Fault.{no_memory}
 use Rattle.omf_module.specs.FileFeed.{FileFeedValue, LastingFileFault}
 use Rattle.omf_module.specs.FileFeedLaws.{LastingFileFaultsLast}
 use Rattle.omf_module.specs.Reading.{OrNoMemory}
-use Rattle.omf_module.specs.Spelled.{FaultsFile}
 use Rattle.omf_library.specs.declared.fault.LibraryFault.{LibraryFault}
 use Rattle.omf_library.specs.declared.fault.LibraryFault.TheVariants.{Memory}
-use Rattle.omf_library.specs.Fault.{OrNoMemory as OrNoLibraryMemory}
 use Rattle.omf_library.specs.FeedLaws.{LastingFaultsLast}
-use Rattle.omf_library.specs.Spelled.{FaultsLibrary}
 use Rattle.omf_library.specs.LibraryFeed.{LibraryFeedValue, LastingLibraryFault}
 use Rattle.plm80_console.specs.Pieces.{HasTaken, HasTakenFile, HasTakenLibrary}
 

@@ -1,4 +1,3 @@
-mod LineLemmas
 mod PieceLemmas
 mod RangeLemmas
 mod UnreadLemmas

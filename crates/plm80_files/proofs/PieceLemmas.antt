@@ -59,10 +59,6 @@ library_refused feed text f answered faults h = refused LastingLibraryFault (λ 
 pub begun_kind : (is_library : Bool) (bytes : List ℕ) → HasBegun is_library bytes → begins_library bytes ≡ is_library
 begun_kind is_library bytes h = ap begins_library h.is ∙ h.kind
 
--- more bytes leave it the first
-pub begun_more : (is_library : Bool) (bytes more : List ℕ) → HasBegun is_library bytes → HasBegun is_library (bytes ++ more)
-begun_more is_library bytes more h = record { first = h.first; rest = h.rest ++ more; is = ap (λ b. b ++ more) h.is; kind = h.kind }
-
 pub begun_by : (is_library : Bool) (bytes : List ℕ) (first : ℕ) → slice_get bytes 0 ≡ Some first → (first == kind_byte LibraryHeader) ≡ is_library → HasBegun is_library bytes
 begun_by is_library [] first is kind = absurd (none-some first is)
 begun_by is_library (byte ∷ bytes) first is kind = record { first = byte; rest = bytes; is = refl; kind = ap (λ b. b == kind_byte LibraryHeader) (same_Some byte first is) ∙ kind }

@@ -17,8 +17,3 @@ pub data_behind : (N : Type 0) (line : List ℕ) (answer : Option (Bor (List ℕ
     → IfSome answer (λ extent. IsBehindKeyword line extent.now)
 data_behind N line (Some x) is = behind_data line x.now is
 data_behind N line None is = tt
-
--- the same line behind another spelling of the rest
-pub behind_same : (line extent rest : List ℕ) → IsBehindKeyword line extent → extent ≡ rest → IsBehindKeyword line rest
-behind_same line extent rest behind same =
-    record { keyword = behind.keyword; is_keyword = behind.is_keyword; line_is = behind.line_is ∙ ap (λ (t : List ℕ). behind.keyword ++ t) same }

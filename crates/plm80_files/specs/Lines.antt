@@ -1,11 +1,11 @@
 -- What is often wrong with a line of the program's texts, which is then said in words.
 -- (The texts of regions and of inputs are this project's: lines that end in LF alone, without comments.)
-use Rattle.std.specs.Prelude.{ℕ, zero, suc, ◌-◌, ◌%◌, ◌==◌, Option, Some, None, is_some, slice_get, codes, Bool, false, ◌&&◌, ◌||◌, not, if◌then◌else◌, List, [], ◌∷◌, length, take}
+use Rattle.std.specs.Prelude.{ℕ, zero, suc, ◌-◌, ◌%◌, ◌==◌, Option, Some, None, is_some, slice_get, codes, Bool, false, ◌&&◌, ◌||◌, nat_lt, not, if◌then◌else◌, List, [], ◌∷◌, length, take}
 use Rattle.std.specs.List.{list_all, list_any, ends_with, slice_split}
 use Rattle.std.specs.Char.{is_ascii_hexdigit, is_ascii_lowercase}
 use Rattle.plm80_files.specs.FileKinds.{starts}
 use Rattle.plm80_files.specs.declared.line_words.LineFlaw.{LineFlaw}
-use Rattle.plm80_files.specs.declared.line_words.LineFlaw.TheVariants.{CarriageReturn, ControlZ, NoLineFeed, Blank, Comment, OddDigits, LowerCase}
+use Rattle.plm80_files.specs.declared.line_words.LineFlaw.TheVariants.{NotAscii, CarriageReturn, ControlZ, NoLineFeed, Blank, Comment, OddDigits, LowerCase}
 
 -- what stands between line feeds, or between one and an end of the text, by its index
 abbrev pub part_at : (text : List ℕ) → (index : ℕ) → Option (List ℕ)
@@ -35,6 +35,10 @@ ends_in_blank line = ends_in 32 (without_return line) || ends_in 9 (without_retu
 abbrev pub has_comment : List ℕ → Bool
 has_comment line = list_any (λ byte. byte == 59) line
 
+-- a byte that is none of ASCII's, as UTF-16 and byte order marks have them
+abbrev pub has_other_bytes : List ℕ → Bool
+has_other_bytes line = list_any (λ byte. byte == 0 || nat_lt 0x7E byte) line
+
 abbrev pub has_lower_case : List ℕ → Bool
 has_lower_case line = list_any is_ascii_lowercase line
 
@@ -48,6 +52,7 @@ has_odd_number line = list_any is_odd_number (slice_split (λ byte. byte == 32) 
 
 -- whether a line has a flaw
 abbrev pub has_flaw : LineFlaw → (line : List ℕ) → (is_ended : Bool) → Bool
+has_flaw NotAscii line is_ended = has_other_bytes line
 has_flaw CarriageReturn line is_ended = ends_in 13 line
 has_flaw ControlZ line is_ended = list_any (λ byte. byte == 0x1A) line
 has_flaw NoLineFeed line is_ended = not is_ended

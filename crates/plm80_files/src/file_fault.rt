@@ -8,6 +8,9 @@ use omf_library::LibraryFault;
 use omf_module::{Cause, ModuleFault};
 use plm80_console::{Console, Reported};
 
+/// Where the faults of a file that begins as an object file are explained, in words.
+pub(crate) const OBJECT_WORDS: &str = "docs/FAULTS.md says what to look for there ('Object files')";
+
 /// Why an object file or a library isn't read.
 #[derive(Clone, Copy, Debug)]
 pub enum FileFault {
@@ -52,9 +55,18 @@ impl FileFault {
                 _ => report_module(console, path, fault),
             },
             FileFault::Library(LibraryFault::Memory) => console.report_memory(),
-            FileFault::Library(fault) => console.report_file(path, fault),
+            FileFault::Library(fault) => report_library(console, path, fault),
         }
     }
+}
+
+/// Reports why a file is no library.
+fn report_library<C: Console>(console: &mut C, path: &str, fault: LibraryFault) -> Reported
+    ensures { C.journal console.new ≡ and_reported (C.journal console.old) }
+{
+    let reported = console.report_file(path, fault);
+    console.explain("docs/FAULTS.md says what to look for there ('Libraries', 'Object files')");
+    reported
 }
 
 /// Reports why a file is no object file, and what it seems to be.
@@ -63,7 +75,9 @@ fn report_module<C: Console>(console: &mut C, path: &str, fault: ModuleFault) ->
 {
     let reported = console.report_file(path, fault);
     if let Some(bytes) = console.text_to_explain(path) {
-        explain_file(console, &bytes, FileRole::ObjectFile);
+        if !explain_file(console, &bytes, FileRole::ObjectFile) {
+            console.explain(OBJECT_WORDS);
+        }
     }
     reported
 }

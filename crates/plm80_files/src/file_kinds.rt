@@ -11,7 +11,7 @@ ghost use Rattle.plm80_files.specs.FileKinds.{
   kind_of_text,
 };
 
-use crate::line_words::explain_line;
+use crate::line_words::{FLAWS, explain_flaws};
 use plm80_console::{Console, are_digits};
 
 /// The first byte of an object file, the type of a module header.
@@ -19,6 +19,10 @@ const MODULE_HEADER: u8 = 0x02;
 
 /// The first byte of a library.
 const LIBRARY_HEADER: u8 = 0x2C;
+
+/// The form of a line of inputs, in words.
+const INPUTS_LINE: &str =
+    "a line is a port, a blank and bytes without blanks between them, as 02 41FF";
 
 /// What a file seems to be, by how it begins.
 #[derive(Clone, Copy, Debug, PartialEq, Eq)]
@@ -86,7 +90,7 @@ impl FileKind {
             FileKind::Regions => Some("this is a regions text, not an object file"),
             FileKind::Inputs => Some("this is an inputs text, not an object file"),
             FileKind::IntelHex => Some(
-                "this is Intel HEX, not an object file: absolute makes an image of the bytes that it stands for",
+                "this is Intel HEX, not an object file: objcopy -I ihex -O binary makes bytes of it, and absolute an image of these",
             ),
             FileKind::Elf => Some("this is an ELF file, not an object file of the 8080"),
             FileKind::Unknown => Some("this isn't an object file, whose first byte is 02"),
@@ -235,7 +239,9 @@ pub fn explain_image<C: Console>(console: &C, bytes: &[u8]) {
 
 /// Says what is wrong with the line of this number of a text that was to be that of inputs.
 pub fn explain_inputs<C: Console>(console: &C, text: &[u8], number: usize) {
-    if !explain_file(console, text, FileRole::Inputs) {
-        explain_line(console, text, number);
+    if !explain_file(console, text, FileRole::Inputs)
+        && !explain_flaws(console, text, number, FLAWS)
+    {
+        console.explain(INPUTS_LINE);
     }
 }

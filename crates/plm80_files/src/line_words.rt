@@ -1,7 +1,7 @@
 //! What is wrong with a line of a text, in words.
 
 ghost use Rattle.std.specs.Prelude.{◌≡◌, option_copied, option_map};
-ghost use Rattle.plm80_files.specs.Lines.{ends_in_blank, has_comment, has_flaw, has_lower_case, has_odd_number, is_odd_number, line_at, part_at, without_return};
+ghost use Rattle.plm80_files.specs.Lines.{ends_in_blank, has_comment, has_flaw, has_lower_case, has_odd_number, has_other_bytes, is_odd_number, line_at, part_at, without_return};
 
 use plm80_console::{Console, are_digits};
 use thiserror::Error;
@@ -12,6 +12,8 @@ const CONTROL_Z: u8 = 0x1A;
 /// What is often wrong with a line.
 #[derive(Clone, Copy, Debug, Error)]
 pub(crate) enum LineFlaw {
+    #[error("the line has bytes that aren't ASCII: write the text without UTF-16 and without a byte order mark")]
+    NotAscii,
     #[error("the line ends in CR LF: write LF alone")]
     CarriageReturn,
     #[error("the line has a Ctrl-Z (1A)")]
@@ -24,12 +26,13 @@ pub(crate) enum LineFlaw {
     Comment,
     #[error("the line has an odd number of digits")]
     OddDigits,
-    #[error("the line has lower case: digits and words are of upper case")]
+    #[error("the line has lower case: digits and words are of upper case, and numbers have no h")]
     LowerCase,
 }
 
 /// What may be wrong with any line, in the order in which it is said.
-const FLAWS: &[LineFlaw] = &[
+pub(crate) const FLAWS: &[LineFlaw] = &[
+    LineFlaw::NotAscii,
     LineFlaw::CarriageReturn,
     LineFlaw::ControlZ,
     LineFlaw::NoLineFeed,
@@ -40,6 +43,7 @@ const FLAWS: &[LineFlaw] = &[
 
 /// The same of a line whose words and digits are of upper case.
 pub(crate) const UPPER_FLAWS: &[LineFlaw] = &[
+    LineFlaw::NotAscii,
     LineFlaw::CarriageReturn,
     LineFlaw::ControlZ,
     LineFlaw::NoLineFeed,
@@ -51,12 +55,12 @@ pub(crate) const UPPER_FLAWS: &[LineFlaw] = &[
 
 /// The same of a first line, whose digit stands alone.
 pub(crate) const VERSION_FLAWS: &[LineFlaw] = &[
+    LineFlaw::NotAscii,
     LineFlaw::CarriageReturn,
     LineFlaw::ControlZ,
     LineFlaw::NoLineFeed,
     LineFlaw::Blank,
     LineFlaw::Comment,
-    LineFlaw::LowerCase,
 ];
 
 /// A line without its line feed, and whether it has one.
@@ -72,20 +76,23 @@ pub fn explain_line<C: Console>(console: &C, text: &[u8], number: usize) {
     explain_flaws(console, text, number, FLAWS);
 }
 
-/// Says which of these flaws the line of this number has, each in a line of its own.
+/// Says which of these flaws the line of this number has, each in a line of its own; whether it has one.
 pub(crate) fn explain_flaws<C: Console>(
     console: &C,
     text: &[u8],
     number: usize,
     flaws: &[LineFlaw],
-) {
+) -> bool {
+    let mut is_explained = false;
     if let Some(line) = line_of(text, number) {
         for flaw in flaws {
             if line.has(*flaw) {
                 console.explain(*flaw);
+                is_explained = true;
             }
         }
     }
+    is_explained
 }
 
 impl<'a> Line<'a> {
@@ -94,6 +101,7 @@ impl<'a> Line<'a> {
         ensures { result ≡ has_flaw flaw self.entry.bytes.now self.entry.is_ended }
     {
         match flaw {
+            LineFlaw::NotAscii => has_other_bytes(self.bytes),
             LineFlaw::CarriageReturn => self.bytes.ends_with(b"\r"),
             LineFlaw::ControlZ => self.bytes.contains(&CONTROL_Z),
             LineFlaw::NoLineFeed => !self.is_ended,
@@ -150,6 +158,13 @@ fn ends_in_blank(line: &[u8]) -> bool
 {
     let line = without_return(line);
     line.ends_with(b" ") || line.ends_with(b"\t")
+}
+
+/// Whether the line has a byte that is none of ASCII's, or a 00.
+fn has_other_bytes(line: &[u8]) -> bool
+    ensures { result ≡ has_other_bytes line.now }
+{
+    line.iter().any(|byte| *byte == 0 || *byte > 0x7E)
 }
 
 /// Whether the line has a letter of lower case.

@@ -1,10 +1,11 @@
 //! The image and its regions, which several commands read.
 
-ghost use Rattle.std.specs.Prelude.{◌≡◌, IfErr, IfOk};
+ghost use Rattle.std.specs.Prelude.{◌≡◌, ◌↔◌, None, IfErr, IfOk};
 ghost use Rattle.image80.specs.RegionsText.{Spells};
 ghost use Rattle.image80_file.specs.ImageFile.{SpellsImage, without_regions};
 ghost use Rattle.plm80_console.specs.Journal.{OnlyReports, and_reported};
 
+use crate::file_fault::OBJECT_WORDS;
 use crate::file_kinds::{FileRole, explain_file, explain_regions_place};
 use crate::regions_words::explain_regions;
 use crate::unread_bytes::explain_unread_bytes;
@@ -79,8 +80,29 @@ pub fn image_of<C: Console>(
         Err((_, ImageFault::Memory)) => Err(console.report_memory()),
         Err((_, fault)) => {
             let reported = console.report_file(path, fault);
-            explain_file(console, bytes, FileRole::Image);
+            if !explain_file(console, bytes, FileRole::Image) {
+                if let Some(words) = words_for(fault) {
+                    console.explain(words);
+                }
+            }
             Err(reported)
         }
+    }
+}
+
+/// Words for a fault of a file that begins as an image does; none if memory ran out.
+fn words_for(fault: ImageFault) -> Option<&'static str>
+    ensures { (result ≡ None) ↔ (fault ≡ ImageFault.Memory) }
+{
+    match fault {
+        ImageFault::NotOneModule => Some(
+            "it has several modules: plm80 link makes one of them, and locate an image",
+        ),
+        ImageFault::NotAbsolute => Some("it isn't located: plm80 locate makes an image of it"),
+        ImageFault::NoStart => Some(
+            "it has no start: link the main program, which ends with END and a label",
+        ),
+        ImageFault::Module(_) => Some(OBJECT_WORDS),
+        ImageFault::Memory => None,
     }
 }

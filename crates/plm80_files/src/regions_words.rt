@@ -14,6 +14,10 @@ use std::str;
 /// How many addresses there are.
 const ADDRESSES: usize = 65_536;
 
+/// The form of a line of regions, in words.
+const RANGE_LINE: &str =
+    "a line is CODE, DATA or (once) STACK, a first address and a length up to FFFF, as CODE 3000 009B; or CASE and addresses";
+
 /// No line has this number.
 const NO_LINE: usize = 0;
 
@@ -22,17 +26,26 @@ pub fn explain_regions<C: Console>(console: &C, text: &[u8], fault: RegionsFault
     match fault {
         RegionsFault::BadVersion => {
             if !explain_file(console, text, FileRole::Regions) {
-                explain_flaws(console, text, 1, VERSION_FLAWS);
+                let wanted = "the first line is REGIONS 1 or REGIONS 2, in upper case";
+                if !explain_flaws(console, text, 1, VERSION_FLAWS) {
+                    console.explain(wanted);
+                }
             }
         }
         RegionsFault::BadLine(number) => {
             if needs_version_2(text, number) {
                 console.explain("a CASE line needs REGIONS 2 as the first line");
+            } else if !explain_flaws(console, text, number, UPPER_FLAWS) {
+                console.explain(RANGE_LINE);
             }
-            explain_flaws(console, text, number, UPPER_FLAWS);
         }
         RegionsFault::RegionsOverlap => explain_overlap(console, text),
-        RegionsFault::NoStack | RegionsFault::Memory => {}
+        RegionsFault::NoStack => {
+            console.explain(
+                "a line such as STACK 3100 0010 is missing; an empty stack is STACK 0000 0000",
+            );
+        }
+        RegionsFault::Memory => {}
     }
 }
 
@@ -41,17 +54,14 @@ fn explain_overlap<C: Console>(console: &C, text: &[u8]) {
     if !console.explains() {
         return;
     }
-    if let Ok(Some((first, second))) = overlapping_lines(console.alloc(), text) {
-        explain_range_line(console, text, first);
-        explain_range_line(console, text, second);
-    }
-}
-
-/// Shows the line of this number.
-fn explain_range_line<C: Console>(console: &C, text: &[u8], number: usize) {
-    if let Some(line) = line_of(text, number) {
-        if let Ok(words) = str::from_utf8(line.bytes) {
-            console.explain(format_args!("line {number}: {words}"));
+    let Ok(Some((first, second))) = overlapping_lines(console.alloc(), text) else {
+        return;
+    };
+    for number in [first, second] {
+        if let Some(line) = line_of(text, number) {
+            if let Ok(words) = str::from_utf8(line.bytes) {
+                console.explain(format_args!("line {number}: {words}"));
+            }
         }
     }
 }

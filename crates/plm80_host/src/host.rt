@@ -55,6 +55,9 @@ impl<'a> Console for HostConsole<'a> {
     }
 
     fn read(&mut self, path: &str) -> Result<Vec<u8>, Reported> {
+        if path == DASH {
+            return Err(self.report_dash("Read"));
+        }
         let mut file = LateFile::new(self.rt, path);
         let mut source = Reading::new(&mut file);
         match read_all(self.rt.alloc(), &mut source, TEXT_LIMIT) {
@@ -82,6 +85,9 @@ impl<'a> Console for HostConsole<'a> {
     }
 
     fn read_in_pieces<F: TakePieces>(&mut self, path: &str, feed: &mut F) -> Result<(), Reported> {
+        if path == DASH {
+            return Err(self.report_dash("Read"));
+        }
         let mut file = LateFile::new(self.rt, path);
         match hand_pieces(&mut file, feed) {
             Ok(pieces) => {
@@ -93,14 +99,23 @@ impl<'a> Console for HostConsole<'a> {
     }
 
     fn replace(&mut self, path: &str, bytes: &[u8]) -> Result<(), Reported> {
+        if path == DASH {
+            return Err(self.report_dash("Write"));
+        }
         self.replace_file(NewFile { path, bytes })
     }
 
     fn replace_both(&mut self, first: NewFile<'_>, second: NewFile<'_>) -> Result<(), Reported> {
+        if first.path == DASH || second.path == DASH {
+            return Err(self.report_dash("Write"));
+        }
         self.replace_two(first, second)
     }
 
     fn replace_keeping_objects(&mut self, path: &str, bytes: &[u8]) -> Result<(), Reported> {
+        if path == DASH {
+            return Err(self.report_dash("Write"));
+        }
         self.replace_keeping(NewFile { path, bytes })
     }
 
@@ -170,7 +185,21 @@ impl<'a> Console for HostConsole<'a> {
     }
 }
 
+/// The path by which other programs name standard input or output.
+const DASH: &str = "-";
+
 impl<'a> HostConsole<'a> {
+    /// Reports that a hyphen alone names no file.
+    fn report_dash(&mut self, fault: &str) -> Reported
+        ensures { self.new.notes.journal ≡ and_reported self.old.notes.journal }
+    {
+        let reported = self.report_file(DASH, fault);
+        self.explain(
+            "standard input is /dev/stdin, standard output /dev/stdout, and a file of this name ./-",
+        );
+        reported
+    }
+
     /// Reports a fault of the system at the file of this path.
     pub(crate) fn report_system(
         &mut self,
@@ -196,7 +225,11 @@ impl<'a> HostConsole<'a> {
     {
         match fault {
             ReadAllFault::Read => self.report_system(path, "Read", failure),
-            ReadAllFault::TooLong => self.report_file(path, "TooLong"),
+            ReadAllFault::TooLong => {
+                let reported = self.report_file(path, "TooLong");
+                self.explain("it has more than 1048576 bytes");
+                reported
+            }
             ReadAllFault::Memory => self.report_memory(),
         }
     }

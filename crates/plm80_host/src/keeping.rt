@@ -129,6 +129,7 @@ impl<'a> HostConsole<'a> {
                     let _ = folder.sync_all();
                 }
                 self.note(&Note::Copied(kept));
+                self.explain(format_args!("{path} is an object file: a copy of it is {kept}"));
                 Ok(())
             }
             Err(error) => {

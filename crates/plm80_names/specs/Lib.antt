@@ -1,3 +1,5 @@
 pub mod Printed
 pub mod Verdict
 pub mod Arguments
+-- what the crate's own functions promise one another: no public contract cites these
+pub mod Places

@@ -9,6 +9,7 @@ ghost use Rattle.plm80_console.specs.Journal.{OnlyReports, and_read};
 ghost use Rattle.plm80_names.specs.Verdict.{IsProgramRead};
 
 use crate::names::Names;
+use crate::refusal_words::explain_refusal;
 use clap::ArgMatches;
 use image80::Image;
 use plm80_console::{Argument, Console, Kind, ReadFile, Reported, argument_text};
@@ -60,6 +61,13 @@ impl<'a> NamedFiles<'a> {
     {
         let texts = ProgramTexts::read(console, self.image, self.regions)?;
         texts.program(console, self.names)
+    }
+}
+
+impl<'a> NamedFiles<'a> {
+    /// Says what is at the address of the program's refusal, if a command has given the status of one and words are asked for.
+    pub fn explain_refusal<C: Console>(self, console: &C, given: &Result<u8, Reported>) {
+        explain_refusal(console, given, self.image, self.regions);
     }
 }
 

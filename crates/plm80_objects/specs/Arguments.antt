@@ -51,6 +51,8 @@ pub record AreLocateArguments (matches : ArgMatches) (arguments : LocateArgument
   pub image : arguments.image.now ≡ argument_text matches (codes "IMAGE")
   pub regions : arguments.regions.now ≡ argument_text matches (codes "REGIONS")
   pub options : AreLocateTexts matches arguments.options
+  pub rom : map (λ range. range.now) arguments.rom.items ≡ argument_values matches (codes "rom-range")
+  pub ram : map (λ range. range.now) arguments.ram.items ≡ argument_values matches (codes "ram-range")
   pub restart : IsFlag matches (codes "restart") arguments.restart
   pub publics : IsFlag matches (codes "publics") arguments.publics
 

@@ -1,6 +1,6 @@
 -- What `link` writes and prints, and what `lib` writes.
 -- (ISIS-II User's Guide, LINK and LIB. The form of the lines is this project's own.)
-use Rattle.std.specs.Prelude.{◌≡◌, ℕ, Bool, true, false, Option, Some, None, List, [], ◌∷◌, ◌++◌, length, map, codes}
+use Rattle.std.specs.Prelude.{◌≡◌, ◌⊎◌, ℕ, Bool, true, false, Option, Some, None, List, [], ◌∷◌, ◌++◌, length, map, codes}
 use Rattle.std.specs.List.{flat_map, repeat}
 use Rattle.omf_model.specs.Modules.{ModuleValue}
 use Rattle.omf_module.specs.Writing.{file_bytes}
@@ -88,10 +88,11 @@ abbrev pub rest_text : (map : Bool) → List ModuleValue → Linked → List ℕ
 rest_text true modules made = map_text modules
 rest_text false modules made = names_text made.unresolved.items
 
--- the lines of the modules that were taken, each with its reason if reasons are asked for
+-- the lines of the modules that were taken; each with its reason if reasons are asked for, and the search finds them
 abbrev pub PrintsTaken : (reasons : Bool) → (roots : List ModuleValue) → (libraries : List (List ModuleValue))
     → (paths : List (List ℕ)) → (taken : List Chosen) → (text : List ℕ) → Type 0
-PrintsTaken true roots libraries paths taken text = PrintsReasons roots libraries taken paths taken [] text
+PrintsTaken true roots libraries paths taken text =
+    PrintsReasons roots libraries taken paths taken [] text ⊎ (text ≡ taken_text libraries taken)
 PrintsTaken false roots libraries paths taken text = text ≡ taken_text libraries taken
 
 -- the lines of a link: of the modules that were taken; and of what is unresolved, with the parts if the map is asked for

@@ -4,6 +4,7 @@ use Rattle.std.specs.Prelude.{◌≡◌, ℕ, List, [], ◌∷◌, ◌++◌, Non
 use Rattle.std.specs.List.{flat_map}
 use Rattle.omf_model.specs.Modules.{ModuleValue}
 use Rattle.omf_module.specs.Spelled.{SpellsFile}
+use Rattle.image80.specs.declared.range.Range.{Range}
 use Rattle.omf_library.specs.Writing.{library_bytes}
 use Rattle.omf_text.specs.ModuleText.{module_text}
 use Rattle.place80.specs.declared.options.Options.{Options}
@@ -11,13 +12,14 @@ use Rattle.place80.specs.Layout.{layout_of}
 use Rattle.place80.specs.PlaceFault.{locate_fault}
 use Rattle.place80_text.specs.Map.{IsMap}
 use Rattle.plm80_console.specs.Answer.{AnswerValue, paths_of, prints}
+use Rattle.plm80_console.specs.Ranges.{AreRangesOf}
 use Rattle.plm80_console.specs.Replaced.{GaveUpKeeping, IsReplacedKeeping}
 use Rattle.plm80_console.specs.Journal.{FileValue, Journal, OnlyReports, and_read_files}
 use Rattle.plm80_objects.specs.declared.library.LibraryArguments.{LibraryArguments}
 use Rattle.plm80_objects.specs.declared.locate.LocateArguments.{LocateArguments}
 use Rattle.plm80_objects.specs.declared.map.MapArguments.{MapArguments}
 use Rattle.plm80_objects.specs.Arguments.{AreNumbersOf}
-use Rattle.plm80_objects.specs.Locate.{WritesProgram}
+use Rattle.plm80_objects.specs.Locate.{WritesProgram, unmapped_of}
 
 -- an answer to the modules of one object file
 pub record AnswersModules (Answers : List ModuleValue → AnswerValue → Type 0) (files : List FileValue) (answer : AnswerValue) : Type 0 where
@@ -48,15 +50,20 @@ pub record MapsFile (arguments : MapArguments) (files : List FileValue) (answer 
   pub are_options : AreNumbersOf arguments.options options
   pub answers : AnswersModules (OfProgram (PrintsMap options)) files answer
 
--- the image of a program and its regions are written
-abbrev pub WritesLocated : LocateArguments → Options → ModuleValue → AnswerValue → Type 0
-WritesLocated arguments options program answer =
-    WritesProgram arguments.image.now arguments.regions.now arguments.restart arguments.publics options program answer
+-- the image of a program, for which the board has memory if it is named, and its regions are written
+pub record WritesLocated (arguments : LocateArguments) (options : Options) (rom ram : List Range) (program : ModuleValue)
+    (answer : AnswerValue) : Type 0 where
+  pub on_board : unmapped_of rom ram arguments.restart options program ≡ None
+  pub writes : WritesProgram arguments.image.now arguments.regions.now arguments.restart arguments.publics options program answer
 
 pub record LocatesFile (arguments : LocateArguments) (files : List FileValue) (answer : AnswerValue) : Type 0 where
   pub options : Options
   pub are_options : AreNumbersOf arguments.options options
-  pub answers : AnswersModules (OfProgram (WritesLocated arguments options)) files answer
+  pub rom : List Range
+  pub is_rom : AreRangesOf (map (λ range. range.now) arguments.rom.items) rom
+  pub ram : List Range
+  pub is_ram : AreRangesOf (map (λ range. range.now) arguments.ram.items) ram
+  pub answers : AnswersModules (OfProgram (WritesLocated arguments options rom ram)) files answer
 
 -- ---- lib
 

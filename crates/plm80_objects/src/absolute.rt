@@ -7,13 +7,14 @@ ghost use Rattle.plm80_objects.specs.Absolute.{AreDumpsRead, AreRomFiles, GivesD
 ghost use Rattle.plm80_objects.specs.Arguments.{AreAbsoluteArguments};
 ghost use Rattle.plm80_objects.specs.RomFaults.{IsRefusedWith};
 
+use crate::helpers::dump_words::explain_dump;
 use crate::helpers::rom_faults::report_rom_fault;
 use clap::ArgMatches;
 use image80_file::write_image;
 use omf_core::Name;
 use plm80_console::{
-    Answer, Argument, Console, FaultOf, Kind, OptionText, ReadFile, Reported, Syntax, argument_text,
-    argument_values, word_of_digits,
+    Answer, Argument, Console, FaultOf, Kind, OptionText, ReadFile, Reported, Syntax,
+    argument_text, argument_values, word_of_digits,
 };
 use rom80::{Dumps, RomFault};
 use std::alloc::{AllocError, Global};
@@ -108,8 +109,27 @@ struct RomFile<'a> {
     path: &'a str,
 }
 
-/// Writes the image of the bytes. No file is created or changed before every other fault is excluded.
+/// Writes the image of the bytes. No file is created or changed before every other fault is excluded. Then it says what the dumps seem to
+/// be, if that is asked for.
 pub fn write_absolute<C: Console>(
+    console: &mut C,
+    arguments: &AbsoluteArguments<'_>,
+) -> Result<u8, Reported>
+    ensures done { IfOk result (GivesDumps arguments.now (C.journal console.old) (C.journal console.new)) }
+    ensures fault { IfErr result (λ _. GivesUpDumps arguments.now (C.journal console.old) (C.journal console.new)) }
+{
+    let done = write_dumps(console, arguments);
+    explain_dump(console, arguments.bytes);
+    for further in &arguments.further {
+        if let Some((_, path)) = further.split_once('=') {
+            explain_dump(console, path);
+        }
+    }
+    done
+}
+
+/// Writes the image, without words on the dumps.
+fn write_dumps<C: Console>(
     console: &mut C,
     arguments: &AbsoluteArguments<'_>,
 ) -> Result<u8, Reported>
@@ -120,11 +140,12 @@ pub fn write_absolute<C: Console>(
     let files = files_of(console, arguments)?;
     let name = arguments.name.module_name(console)?;
     let (dumps, has_start) = read_dumps(console, &files, start)?;
-    if !has_start {
+    let answer = answer(console.alloc(), arguments.image, dumps, name, start);
+    let given = console.give_if_made(answer);
+    if given.is_ok() && !has_start {
         console.explain(format_args!("no byte is at the start, {start:04X}"));
     }
-    let answer = answer(console.alloc(), arguments.image, dumps, name, start);
-    console.give_if_made(answer)
+    given
 }
 
 /// The files of the arguments with their addresses, in order.

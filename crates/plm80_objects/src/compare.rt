@@ -9,6 +9,7 @@ ghost use Rattle.plm80_objects.specs.Compare.{ComparesFiles, PrintsDifferences};
 ghost use Rattle.plm80_objects.specs.RomFaults.{IsRefused};
 
 use crate::extract::{FILL, fill_of};
+use crate::helpers::dump_words::explain_dump;
 use crate::helpers::rom_faults::report_rom_fault;
 use clap::ArgMatches;
 use image80::{Image, Range};
@@ -85,8 +86,28 @@ impl<'a> CompareArguments<'a> {
     }
 }
 
-/// Prints where the image and the dump differ; the status is 1 if they do. Both files are read before either is checked.
+/// Prints where the image and the dump differ; the status is 1 if they do. Both files are read before either is checked. Then it says what
+/// the dump seems to be, if that is asked for.
 pub fn compare_files<C: Console>(
+    console: &mut C,
+    arguments: CompareArguments<'_>,
+) -> Result<u8, Reported>
+    ensures done { IfOk result (Gives (ComparesFiles arguments.entry) (arguments.entry.image.now ∷ arguments.entry.dump.now ∷ [])
+        (C.journal console.old) (C.journal console.new)) }
+    ensures fault { IfErr result (λ _. OnlyReports (C.journal console.old) (C.journal console.new)) }
+{
+    let done = print_differences(console, arguments);
+    if matches!(done, Ok(1)) && arguments.fill.text() == "00" {
+        console.explain(
+            "where the image has no byte, 00 was compared; --fill FF compares what an erased PROM has",
+        );
+    }
+    explain_dump(console, arguments.dump);
+    done
+}
+
+/// The same, without words on the dump.
+fn print_differences<C: Console>(
     console: &mut C,
     arguments: CompareArguments<'_>,
 ) -> Result<u8, Reported>

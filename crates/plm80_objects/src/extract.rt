@@ -3,7 +3,7 @@
 ghost use Rattle.std.specs.Prelude.{◌≡◌, ◌+◌, ◌<◌, ◌↔◌, ◌∷◌, [], if◌then◌else◌, IfErr, IfOk, IsErrOf, codes};
 ghost use Rattle.rom80.specs.Rom.{bytes_over, sum_line};
 ghost use Rattle.plm80_console.specs.Answer.{Gives, GivesUp, writes};
-ghost use Rattle.plm80_console.specs.Journal.{OnlyReports};
+ghost use Rattle.plm80_console.specs.Journal.{OnlyReports, and_reported};
 ghost use Rattle.plm80_objects.specs.Arguments.{AreExtractArguments, IsExtentOf, fill_text};
 ghost use Rattle.plm80_objects.specs.Absolute.{ExtractsFile};
 
@@ -35,7 +35,8 @@ that 10000 is all of memory, and FILL two, in either case, without h or 0x. The
 range ends at FFFF at the latest. --sum prints SUM and the sum of the bytes
 modulo 65536, as SUM 1A2B.
 
-Example: plm80 extract readings.img readings.bin --first 3000 --length 0800
+Example: plm80 extract readings.img readings.bin --first 3000 --length 0800 \\
+             --fill FF
 
 Faults and what to do: docs/FAULTS.md (installed: share/doc/plm80), man plm80.";
 
@@ -126,8 +127,19 @@ pub fn extract_file<C: Console>(
     let image = image_of(console, file.path, &file.bytes, none)?;
     match extracted(console.alloc(), arguments, extent, &image) {
         Ok(answer) => console.give(answer),
-        Err(fault) => Err(console.report(fault)),
+        Err(fault) => Err(report_range(console, fault)),
     }
+}
+
+/// Reports why there are no bytes of a range.
+fn report_range<C: Console>(console: &mut C, fault: RomFault) -> Reported
+    ensures { C.journal console.new ≡ and_reported (C.journal console.old) }
+{
+    let reported = console.report(fault);
+    if let RomFault::PastMemory = fault {
+        console.explain("--first and --length go past FFFF: 10000 is all of memory from 0 on");
+    }
+    reported
 }
 
 /// The numbers of the arguments.

@@ -8,11 +8,13 @@ ghost use Rattle.plm80_objects.specs.Arguments.{AreFindArguments};
 ghost use Rattle.plm80_objects.specs.Find.{AreFilesRead, FindsIn, FindsModules, PrintsFile, PrintsFound};
 ghost use Rattle.plm80_objects.specs.RomFaults.{IsRefused};
 
+use crate::helpers::dump_words::explain_dump;
 use crate::helpers::rom_faults::report_rom_fault;
 use clap::ArgMatches;
+use omf_core::RecordKind;
 use plm80_console::{
-    Answer, Argument, Console, FaultOf, Kind, OptionText, ReadFile, Reported, Syntax, argument_text,
-    argument_values,
+    Answer, Argument, Console, FaultOf, Kind, OptionText, ReadFile, Reported, Syntax,
+    argument_text, argument_values,
 };
 use plm80_files::{LinkFile, read_link_file};
 use rom80::RomFault;
@@ -82,11 +84,39 @@ impl<'a> FindArguments<'a> {
 }
 
 /// Prints where the modules of the files lie in the dump, and gives the exit status. The dump is checked before another file is
-/// opened, and each of these before the next one.
+/// opened, and each of these before the next one. Then it says what the dump seems to be, if that is asked for.
 pub fn find_modules<C: Console>(
     console: &mut C,
     arguments: &FindArguments<'_>,
 ) -> Result<u8, Reported>
+    ensures done { IfOk result (Gives (FindsModules arguments.now) (arguments.now.dump.now ∷ map (λ path. path.now) arguments.now.files.items)
+        (C.journal console.old) (C.journal console.new)) }
+    ensures fault { IfErr result (λ _. OnlyReports (C.journal console.old) (C.journal console.new)) }
+{
+    let done = find_in_dump(console, arguments);
+    explain_dump(console, arguments.dump);
+    explain_libraries(console, &arguments.files);
+    done
+}
+
+/// The first byte of a library.
+const LIBRARY_HEADER: u8 = RecordKind::LibraryHeader as u8;
+
+/// Says of libraries that short modules count as not found.
+fn explain_libraries<C: Console>(console: &C, paths: &[&str]) {
+    for path in paths {
+        if let Some(bytes) = console.text_to_explain(path) {
+            if bytes.first() == Some(&LIBRARY_HEADER) {
+                console.explain(format_args!(
+                    "MISSING of {path} counts modules with fewer than four bytes outside fixups, too"
+                ));
+            }
+        }
+    }
+}
+
+/// The same, without words on the dump.
+fn find_in_dump<C: Console>(console: &mut C, arguments: &FindArguments<'_>) -> Result<u8, Reported>
     ensures done { IfOk result (Gives (FindsModules arguments.now) (arguments.now.dump.now ∷ map (λ path. path.now) arguments.now.files.items)
         (C.journal console.old) (C.journal console.new)) }
     ensures fault { IfErr result (λ _. OnlyReports (C.journal console.old) (C.journal console.new)) }

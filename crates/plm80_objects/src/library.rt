@@ -81,7 +81,11 @@ pub fn write_library_file<C: Console>(
             Ok(0)
         }
         Err(LibraryPutFault::Memory) => Err(console.report_memory()),
-        Err(fault) => Err(console.report(fault)),
+        Err(fault) => {
+            let reported = console.report(fault);
+            console.explain("it has too many modules, names or bytes for one library: make two");
+            Err(reported)
+        }
     }
 }
 

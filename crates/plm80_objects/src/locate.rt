@@ -4,13 +4,14 @@ ghost use Rattle.std.specs.Prelude.{◌≡◌, ◌⊎◌, ◌∷◌, None, Some,
 ghost use Rattle.image80.specs.RegionsText.{regions_text};
 ghost use Rattle.place80.specs.declared.place_fault.PlaceFault.TheVariants.{Memory};
 ghost use Rattle.plm80_console.specs.Answer.{Gives, GivesUp};
-ghost use Rattle.plm80_console.specs.Journal.{OnlyReports};
+ghost use Rattle.plm80_console.specs.Journal.{OnlyReports, and_reported};
 ghost use Rattle.plm80_files.specs.LinkFiles.{AreModulesRead};
 ghost use Rattle.plm80_objects.specs.Arguments.{AreLocateArguments};
-ghost use Rattle.plm80_objects.specs.Locate.{IsImageOf, WritesProgram, fault_of, image_file};
+ghost use Rattle.plm80_objects.specs.Locate.{IsImageOf, IsLocateFault, WritesProgram, fault_of, image_file, unmapped_of};
 ghost use Rattle.plm80_objects.specs.Modules.{LocatesFile};
 
-use crate::helpers::causes::report_place_fault;
+use crate::helpers::board_options::{RAM_RANGE, ROM_RANGE, unmapped_of};
+use crate::helpers::causes::{report_place_fault, report_unmapped};
 use crate::helpers::empty_segments::explain_empty_segments;
 use crate::helpers::locate_options::{
     CODE_BASE, COMMON_BASE, DATA_BASE, LocateTexts, MEMORY_BASE, MEMORY_SIZE, STACK_BASE,
@@ -21,18 +22,25 @@ use image80::{Image, write_regions};
 use image80_file::write_image;
 use omf_module::Module;
 use place80::{Options, PlaceFault, layout, locate, locate_with_restart};
-use place80_text::write_image_with_publics;
-use plm80_console::{Answer, Argument, Console, Kind, Reported, Syntax, WrittenFile, argument_text};
+use place80_text::{Board, Unmapped, write_image_with_publics};
+use plm80_console::{
+    Answer, Argument, Console, Kind, Reported, Syntax, WrittenFile, argument_text, argument_values,
+    ranges_of,
+};
 use plm80_files::read_modules;
 use std::alloc::{AllocError, Global};
 
 /// The arguments of `locate`.
-#[derive(Clone, Copy)]
+#[derive(Drop)]
 pub struct LocateArguments<'a> {
     object: &'a str,
     image: &'a str,
     regions: &'a str,
     options: LocateTexts<'a>,
+    /// Ranges of the board's ROM, each as `ffff:llll`.
+    rom: Vec<&'a str>,
+    /// Ranges of its RAM.
+    ram: Vec<&'a str>,
     restart: bool,
     publics: bool,
 }
@@ -47,6 +55,9 @@ Segments are placed in the order CODE, STACK, named commons, unnamed common,
 DATA, MEMORY. One with a base is placed there; any other begins where the one
 before it ends, rounded up to a multiple of 100h if it is paged. Relocations add
 the base of their segment; those to STACK add the address after its last byte.
+
+--rom-range and --ram-range name the board's memory, as suggest takes them: CODE
+must then lie in ROM or RAM, and every other segment in RAM.
 
 --restart puts a JMP to the program's start at address 0, where the processor
 begins; nothing else may occupy 0000 to 0002.
@@ -86,6 +97,8 @@ pub const LOCATE: Syntax<'static> = Syntax {
         MEMORY_BASE,
         STACK_SIZE,
         MEMORY_SIZE,
+        ROM_RANGE,
+        RAM_RANGE,
         Argument {
             name: "restart",
             kind: Kind::Flag,
@@ -101,17 +114,19 @@ pub const LOCATE: Syntax<'static> = Syntax {
 
 impl<'a> LocateArguments<'a> {
     /// The arguments as clap has read them.
-    pub fn of(matches: &ArgMatches<'a>) -> LocateArguments<'a>
-        ensures { AreLocateArguments matches.now result }
+    pub fn of(alloc: Global, matches: &ArgMatches<'a>) -> Result<LocateArguments<'a>, AllocError>
+        ensures { IfOk result (AreLocateArguments matches.now) }
     {
-        LocateArguments {
+        Ok(LocateArguments {
             object: argument_text(matches, "IN"),
             image: argument_text(matches, "IMAGE"),
             regions: argument_text(matches, "REGIONS"),
             options: LocateTexts::of(matches),
+            rom: argument_values(alloc, matches, "rom-range")?,
+            ram: argument_values(alloc, matches, "ram-range")?,
             restart: matches.get_flag("restart"),
             publics: matches.get_flag("publics"),
-        }
+        })
     }
 }
 
@@ -119,38 +134,96 @@ impl<'a> LocateArguments<'a> {
 /// other fault is excluded.
 pub fn locate_file<C: Console>(
     console: &mut C,
-    arguments: LocateArguments<'_>,
+    arguments: &LocateArguments<'_>,
 ) -> Result<u8, Reported>
-    ensures done { IfOk result (Gives (LocatesFile arguments.entry) (arguments.entry.object.now ∷ [])
+    ensures done { let asked = arguments.now in IfOk result (Gives (LocatesFile asked) (asked.object.now ∷ [])
         (C.journal console.old) (C.journal console.new)) }
-    ensures fault { IfErr result (λ _. GivesUp (LocatesFile arguments.entry) (arguments.entry.object.now ∷ [])
+    ensures fault { let asked = arguments.now in IfErr result (λ _. GivesUp (LocatesFile asked) (asked.object.now ∷ [])
         (C.journal console.old) (C.journal console.new)) }
 {
     let options = arguments.options.numbers(console)?;
+    let rom = ranges_of(console, ROM_RANGE.name, &arguments.rom)?;
+    let ram = ranges_of(console, RAM_RANGE.name, &arguments.ram)?;
+    let board = Board {
+        rom: &rom,
+        ram: &ram,
+    };
     let modules = read_program(console, arguments.object)?;
     let program = &modules[0];
-    match located(console.alloc(), arguments, program, &options) {
+    match located(console.alloc(), arguments, program, &options, board) {
         Ok(answer) => {
-            explain_empty_segments(console, program, &options, arguments.options);
-            console.give(answer)
+            let given = console.give(answer);
+            if given.is_ok() {
+                explain_empty_segments(console, program, &options, arguments.options);
+            }
+            given
         }
-        Err(fault) => Err(report_place_fault(console, program, &options, fault)),
+        Err(fault) => Err(report_fault(console, program, &options, fault)),
+    }
+}
+
+/// Why a program isn't located.
+#[derive(Drop)]
+enum LocateFault {
+    /// Its segments can't be placed.
+    Place(PlaceFault),
+    /// The board has no memory for one of them.
+    Unmapped(Unmapped),
+}
+
+impl From<PlaceFault> for LocateFault {
+    ghost use Rattle.plm80_objects.specs.declared.locate.LocateFault.TheVariants.{Place};
+
+    ghost from_gives = { λ given fault. fault ≡ Place given };
+
+    fn from(fault: PlaceFault) -> LocateFault {
+        LocateFault::Place(fault)
+    }
+}
+
+impl From<AllocError> for LocateFault {
+    ghost use Rattle.plm80_objects.specs.declared.locate.LocateFault.TheVariants.{Place};
+
+    ghost from_gives = { λ _ fault. fault ≡ Place Memory };
+
+    fn from(_: AllocError) -> LocateFault {
+        LocateFault::Place(PlaceFault::Memory)
+    }
+}
+
+/// Reports why a program isn't located, and says where the cause is if that is asked for.
+fn report_fault<C: Console>(
+    console: &mut C,
+    program: &Module,
+    options: &Options,
+    fault: LocateFault,
+) -> Reported
+    ensures { C.journal console.new ≡ and_reported (C.journal console.old) }
+{
+    match fault {
+        LocateFault::Place(fault) => report_place_fault(console, program, options, fault),
+        LocateFault::Unmapped(found) => report_unmapped(console, program, options, found),
     }
 }
 
 /// The files of a program at its places, with a restart and with its publics if they are asked for.
 fn located<'a>(
     alloc: Global,
-    arguments: LocateArguments<'a>,
+    arguments: &LocateArguments<'a>,
     program: &Module,
     options: &Options,
-) -> Result<Answer<'a>, PlaceFault>
-    ensures files { let asked = arguments.entry in IfOk result
+    board: Board<'_>,
+) -> Result<Answer<'a>, LocateFault>
+    ensures files { let asked = arguments.now in IfOk result
         (WritesProgram asked.image.now asked.regions.now asked.restart asked.publics options.now program.now) }
-    ensures none { OnOk result (fault_of arguments.entry.restart options.now program.now ≡ None) }
-    ensures fault { IfErr result (λ fault. (fault ≡ Memory) ⊎ (fault_of arguments.entry.restart options.now program.now ≡ Some fault)) }
+    ensures none { OnOk result (fault_of arguments.now.restart options.now program.now ≡ None) }
+    ensures on_board { OnOk result (unmapped_of board.entry.rom.now board.entry.ram.now arguments.now.restart options.now program.now ≡ None) }
+    ensures fault { IfErr result (IsLocateFault board.entry.rom.now board.entry.ram.now arguments.now.restart options.now program.now) }
 {
     let image = image_of(alloc, arguments.restart, program, options)?;
+    if let Some(found) = unmapped_of(alloc, program, options, arguments.restart, board)? {
+        return Err(LocateFault::Unmapped(found));
+    }
     let bytes = file_of(alloc, arguments.publics, &image, program, options)?;
     let text = text_of(alloc, &image)?;
     let file = WrittenFile {
@@ -230,6 +303,8 @@ pub fn read_program<C: Console>(console: &mut C, path: &str) -> Result<Vec<Modul
     if modules.len() == 1 {
         Ok(modules)
     } else {
-        Err(console.report_file(path, "NotOneModule"))
+        let reported = console.report_file(path, "NotOneModule");
+        console.explain("plm80 link makes one module of its modules");
+        Err(reported)
     }
 }

@@ -4,14 +4,17 @@ ghost use Rattle.std.specs.Prelude.{◌≡◌, ◌∷◌, [], IfErr, IfOk, codes
 ghost use Rattle.plm80_console.specs.Answer.{Gives};
 ghost use Rattle.plm80_console.specs.Arguments.{argument_text};
 ghost use Rattle.plm80_console.specs.Journal.{OnlyReports};
+ghost use Rattle.plm80_files.specs.LinkFiles.{AreModulesRead};
 ghost use Rattle.plm80_objects.specs.Modules.{AnswersModules, DescribesModules};
 
 use clap::ArgMatches;
+use omf_library::read_library;
 use omf_module::Module;
 use omf_text::append_module_text;
 use plm80_console::{Answer, Argument, Console, Kind, Reported, Syntax, argument_text};
 use plm80_files::read_modules;
 use std::alloc::{AllocError, Global};
+use std::str;
 
 /// The arguments of `module`.
 #[derive(Clone, Copy)]
@@ -65,9 +68,37 @@ pub fn describe_file<C: Console>(
         (C.journal console.old) (C.journal console.new)) }
     ensures fault { IfErr result (λ _. OnlyReports (C.journal console.old) (C.journal console.new)) }
 {
-    let modules = read_modules(console, arguments.object)?;
+    let modules = read_described(console, arguments.object)?;
     let answer = described(console.alloc(), &modules);
     console.give_if_made(answer)
+}
+
+/// The modules of an object file. If it is a library in its place, the names of its modules are said.
+fn read_described<C: Console>(console: &mut C, path: &str) -> Result<Vec<Module>, Reported>
+    ensures read { IfOk result (λ modules. AreModulesRead path.now (C.journal console.old) (C.journal console.new) modules.items) }
+    ensures fault { IfErr result (λ _. OnlyReports (C.journal console.old) (C.journal console.new)) }
+{
+    let read = read_modules(console, path);
+    explain_library(console, read.is_ok(), path);
+    read
+}
+
+/// Says which modules a library has, unless it was read as an object file.
+fn explain_library<C: Console>(console: &C, is_read: bool, path: &str) {
+    if is_read {
+        return;
+    }
+    let Some(bytes) = console.text_to_explain(path) else {
+        return;
+    };
+    let Ok(library) = read_library(console.alloc(), &bytes) else {
+        return;
+    };
+    for member in &library.modules {
+        if let Ok(name) = str::from_utf8(member.name().bytes()) {
+            console.explain(format_args!("it has the module {name}"));
+        }
+    }
 }
 
 /// The lines of all modules, in order.

@@ -84,13 +84,6 @@ pub lines_more : (cases one after : List DeclaredCase) (lines new : List ℕ) �
 lines_more cases one after lines new so_far added after_is =
     added ∙ ap (λ (l : List ℕ). l ++ cases_text one) so_far ∙ sym (cases_more cases one) ∙ ap cases_text (sym after_is)
 
--- what is found of a PCHL
-pub finding_of : (image : Located) (reached taken : List Bool) (at : ℕ) (found : Option SuggestedCase) (said : Option Note)
-    → IfSome found (λ found. IsSuggestedCase image reached taken found × (found.case.at ≡ at)) → IsNote at found said
-    → IsFinding image reached taken (record { at = at; found = found; note = said })
-finding_of image reached taken at None said suggested noted = record { found = tt; at = tt; note = noted }
-finding_of image reached taken at (Some found) said suggested noted = record { found = suggested.0; at = suggested.1; note = noted }
-
 -- what is found of the PCHLs below 65536
 pub finds_cases : (image : Located) (reached taken : List Bool) (limit : ℕ) (cases : List DeclaredCase) (notes : List Note)
     → IsSearched image reached taken → limit ≡ 65536 → AreFoundBelow image reached taken limit cases notes → FindsCases image cases notes

@@ -1,12 +1,16 @@
 -- What is printed of a refusal.
-use Rattle.std.specs.Prelude.{◌≡◌, ◌≢◌, ℕ, List, Some}
-use Rattle.std.proofs.Common.{subst}
+use Rattle.std.specs.Prelude.{◌≡◌, ◌≢◌, ℕ, ◌+◌, List, ◌++◌, All, Bool, Some, length}
+use Rattle.std.specs.List.{flat_map}
+use Rattle.std.proofs.Common.{◌∙◌, ap, subst}
 use Rattle.verify80_flow.specs.declared.refusal.Refusal.{Refusal}
 use Rattle.verify80_flow.specs.declared.refusal.Refusal.TheVariants.{Memory}
 use Rattle.omf_model.specs.declared.symbols.Public.{Public}
 use Rattle.image80.specs.Image.{Located}
 use Rattle.verify80_explain.specs.Printed.{GoesOnWithChain, GoesOnWithWays}
-use Rattle.plm80_programs.specs.Printed.{needed_stack}
+use Rattle.verify80.specs.Looking.{code_of}
+use Rattle.verify80_explain.specs.Shows.{IsShown}
+use Rattle.verify80_explain.specs.declared.explaining_all.ShownRefusal.{ShownRefusal}
+use Rattle.plm80_programs.specs.Explanations.{ShowsAll, ShowsRest, count_line, limit_line, needed_stack, shown_lines}
 
 -- a refusal that compares bytes of stack isn't out of memory
 pub no_memory : (refusal : Refusal) (need : ℕ) → Some need ≡ needed_stack refusal → refusal ≢ Memory
@@ -27,3 +31,23 @@ pub same_ways : (image : Located) (publics p : List Public) (refusal : Refusal) 
 same_ways image publics p refusal before t text is_p is_t on =
     subst (λ (v : List Public). GoesOnWithWays image v refusal before text) is_p
     (subst (λ (v : List ℕ). GoesOnWithWays image p refusal v text) is_t on)
+
+-- all that is shown, one text behind another
+pub all_shown : (image : Located) (publics : List Public) (refusal : Refusal) (shown first second : List ShownRefusal) (are_all : Bool)
+    (further count : ℕ) (begun limited lines text : List ℕ) → All (IsShown (code_of image)) shown → first ≡ shown
+    → begun ≡ flat_map (shown_lines image publics) first → limited ≡ begun ++ limit_line are_all → second ≡ shown
+    → ShowsRest image publics refusal second further limited lines → count ≡ length shown → text ≡ lines ++ count_line (count + further)
+    → ShowsAll image publics refusal text
+all_shown image publics refusal shown first second are_all further count begun limited lines text each is_first begins limits is_second rest counted ends =
+    let before : limited ≡ flat_map (shown_lines image publics) shown ++ limit_line are_all =
+    limits ∙ ap (λ (t : List ℕ). t ++ limit_line are_all) (begins ∙ ap (flat_map (shown_lines image publics)) is_first) in
+    record {
+      shown = shown;
+      are_all = are_all;
+      further = further;
+      lines = lines;
+      each = each;
+      rest = subst (λ (b : List ℕ). ShowsRest image publics refusal shown further b lines) before
+          (subst (λ (s : List ShownRefusal). ShowsRest image publics refusal s further limited lines) is_second rest);
+      text_is = ends ∙ ap (λ (n : ℕ). lines ++ count_line (n + further)) counted;
+    }

@@ -28,19 +28,110 @@ use Rattle.plm80_programs.specs.Running.{AnswersRun, AnswersSession, AreLimitsOf
 abbrev pub file_value : (path bytes : List ℕ) → FileValue
 file_value path bytes = record { path = path; bytes = bytes }
 
--- ---- nothing but reading came before
+-- ---- files that were read
 
-reports_after_two : (old new : Journal) (p f q t : List ℕ) → OnlyReports (and_read (and_read old p f) q t) new → OnlyReports old new
-reports_after_two old new p f q t is = record { reported = is.reported; written = is.written; spoiled = is.spoiled; copies = is.copies }
+-- the same was done but for reading
+record IsUntouched (old new : Journal) : Type 0 where
+  reported : new.reported ≡ old.reported
+  written : new.written ≡ old.written
+  spoiled : new.spoiled ≡ old.spoiled
+  copies : new.copies ≡ old.copies
 
-reports_after_three : (old new : Journal) (p f q t u v : List ℕ) → OnlyReports (and_read (and_read (and_read old p f) q t) u v) new → OnlyReports old new
-reports_after_three old new p f q t u v is = record { reported = is.reported; written = is.written; spoiled = is.spoiled; copies = is.copies }
+only_read : (old : Journal) (files : List FileValue) → IsUntouched old (and_read_files old files)
+only_read old [] = record { reported = refl; written = refl; spoiled = refl; copies = refl }
+only_read old (file ∷ files) =
+    let so = only_read (and_read old file.path file.bytes) files in
+    record { reported = so.reported; written = so.written; spoiled = so.spoiled; copies = so.copies }
+
+pub only_reports : (old between new : Journal) (files : List FileValue) → between ≡ and_read_files old files → OnlyReports between new → OnlyReports old new
+only_reports old between new files read is =
+    let so = only_read old files in
+    let up = subst (λ (j : Journal). OnlyReports j new) read is in
+    record {
+      reported = subst (λ (n : ℕ). n < new.reported) so.reported up.reported;
+      written = up.written ∙ so.written;
+      spoiled = up.spoiled ∙ so.spoiled;
+      copies = up.copies ∙ so.copies;
+    }
+
+gave_up_after : (old between new : Journal) (files written : List FileValue) → between ≡ and_read_files old files → GaveUp written between new
+    → GaveUp written old new
+gave_up_after old between new files written read is =
+    let so = only_read old files in
+    let up = subst (λ (j : Journal). GaveUp written j new) read is in
+    record {
+      reported = subst (λ (n : ℕ). n < new.reported) so.reported up.reported;
+      written = subst (λ (w : List FileValue). AddsSome written w new.written) so.written up.written;
+      spoiled = subst (λ (s : List (List ℕ)). AddsSome (paths_of written) s new.spoiled) so.spoiled up.spoiled;
+      copies = up.copies ∙ so.copies;
+    }
+
+-- a report behind what was read
+pub reported : (old between new : Journal) (files : List FileValue) → between ≡ and_read_files old files → new ≡ and_reported between → OnlyReports old new
+reported old between new files read is =
+    only_reports old between new files read
+    (record {
+      reported = let more : new.reported ≡ between.reported + 1 = ap (λ (j : Journal). j.reported) is in omega (arith, more);
+      written = ap (λ (j : Journal). j.written) is;
+      spoiled = ap (λ (j : Journal). j.spoiled) is;
+      copies = ap (λ (j : Journal). j.copies) is;
+    })
 
 -- nothing at all came before
 pub reports_same : {A E : Type 0} (old between new : Journal) (r : Result A E) → between ≡ old → IfErr r (λ _. OnlyReports between new)
     → IfErr r (λ _. OnlyReports old new)
 reports_same old between new r same is = subst (λ (j : Journal). IfErr r (λ _. OnlyReports j new)) same is
 
+reports_after : {A E : Type 0} (old between new : Journal) (files : List FileValue) (r : Result A E) → between ≡ and_read_files old files
+    → IfErr r (λ _. OnlyReports between new) → IfErr r (λ _. OnlyReports old new)
+reports_after old between new files (Ok x) read is = tt
+reports_after old between new files (Err e) read is = only_reports old between new files read is
+
+-- ---- an answer to files that were read
+
+module _ (Answers : List FileValue → AnswerValue → Type 0) (paths : List (List ℕ)) (old between new : Journal) (files : List FileValue)
+    (named : paths_of files ≡ paths) (read : between ≡ and_read_files old files) where
+  pub gives_status : (answer : AnswerValue) (status : ℕ) → Answers files answer → IsGiven answer between new status → Gives Answers paths old new status
+  gives_status answer status answers gave = record {
+    files = files;
+    paths_are = named;
+    answer = answer;
+    answers = answers;
+    given = subst (λ (j : Journal). IsGiven answer j new status) read gave;
+  }
+
+  pub gives : {E : Type 0} (answer : AnswerValue) (r : Result ℕ E) → Answers files answer → IfOk r (IsGiven answer between new)
+      → IfOk r (Gives Answers paths old new)
+  gives answer (Ok status) answers gave = gives_status answer status answers gave
+  gives answer (Err e) answers gave = tt
+
+  pub gives_up : {A E : Type 0} (answer : AnswerValue) (r : Result A E) → Answers files answer → IfErr r (λ _. GaveUp answer.files between new)
+      → IfErr r (λ _. GivesUp Answers paths old new)
+  gives_up answer (Ok x) answers gave = tt
+  gives_up answer (Err e) answers gave = within files answer named answers (gave_up_after old between new files answer.files read gave)
+
+  -- an answer that is one to these files by what is known of them
+  module _ (Part : AnswerValue → Type 0) (whole : (answer : AnswerValue) → Part answer → Answers files answer) where
+    pub made_given : {E F : Type 0} (made : Result AnswerValue F) (r : Result ℕ E) → IfOk made Part
+        → IfOk r (λ status. IsOkAnd made (λ answer. IsGiven answer between new status)) → IfOk r (Gives Answers paths old new)
+    made_given (Ok answer) (Ok status) part gave = gives_status answer status (whole answer part) gave
+    made_given (Err f) (Ok status) part gave = absurd gave
+    made_given made (Err e) part gave = tt
+
+    pub part_given : {E : Type 0} (r : Result ℕ E) → IfOk r (IsAnswered Part between new) → IfOk r (Gives Answers paths old new)
+    part_given (Ok status) gave = gives_status gave.answer status (whole gave.answer gave.answers) gave.given
+    part_given (Err e) gave = tt
+
+    pub part_given_up : {A E : Type 0} (r : Result A E) → IfErr r (λ _. IsGivenUp Part between new) → IfErr r (λ _. GivesUp Answers paths old new)
+    part_given_up (Ok x) is = tt
+    part_given_up (Err e) is = go is
+      where
+        go : IsGivenUp Part between new → GivesUp Answers paths old new
+        go (before_it only) = before (only_reports old between new files read only)
+        go (within_it answer part gave) =
+            within files answer named (whole answer part) (gave_up_after old between new files answer.files read gave)
+
+-- what is given or given up of some answers is of others, if nothing came before
 pub gives_more : {E : Type 0} (Answers More : List FileValue → AnswerValue → Type 0) (paths : List (List ℕ)) (old between new : Journal) (r : Result ℕ E)
     → ((files : List FileValue) (answer : AnswerValue) → Answers files answer → More files answer) → between ≡ old
     → IfOk r (Gives Answers paths between new) → IfOk r (Gives More paths old new)
@@ -53,62 +144,88 @@ gives_more Answers More paths old between new (Ok status) more same gives = reco
 }
 gives_more Answers More paths old between new (Err e) more same gives = tt
 
+pub gives_up_more : {A E : Type 0} (Answers More : List FileValue → AnswerValue → Type 0) (paths : List (List ℕ)) (old between new : Journal) (r : Result A E)
+    → ((files : List FileValue) (answer : AnswerValue) → Answers files answer → More files answer) → between ≡ old
+    → IfErr r (λ _. GivesUp Answers paths between new) → IfErr r (λ _. GivesUp More paths old new)
+gives_up_more Answers More paths old between new (Ok x) more same gave = tt
+gives_up_more Answers More paths old between new (Err e) more same gave = go (subst (λ (j : Journal). GivesUp Answers paths j new) same gave)
+  where
+    go : GivesUp Answers paths old new → GivesUp More paths old new
+    go (before only) = before only
+    go (within files answer named answers up) = within files answer named (more files answer answers) up
+
 -- ---- an image and its regions
+
+-- nothing came behind the reading of an image and its regions
+pub program_read_on : (image_path regions_path : List ℕ) (asked : Bool) (old between after : Journal) (image : Located) (publics : List Public)
+    → IsProgramRead image_path regions_path asked old between image publics → after ≡ between → IsProgramRead image_path regions_path asked old after image publics
+program_read_on image_path regions_path asked old between after image publics read unchanged =
+    record { file = read.file; text = read.text; are_read = read.are_read; journal = unchanged ∙ read.journal }
 
 module _ (image_path regions_path : List ℕ) (asked : Bool) (old between new : Journal) (image : Located) (publics : List Public)
     (read : IsProgramRead image_path regions_path asked old between image publics) where
-  pub program_reports : {A E : Type 0} (r : Result A E) → IfErr r (λ _. OnlyReports between new) → IfErr r (λ _. OnlyReports old new)
-  program_reports (Ok x) is = tt
-  program_reports (Err e) is =
-      reports_after_two old new image_path read.file regions_path read.text (subst (λ (j : Journal). OnlyReports j new) read.journal is)
-
-  program_files : List FileValue
+  abbrev program_files : List FileValue
   program_files = file_value image_path read.file ∷ file_value regions_path read.text ∷ []
 
-  answers_program : (Answers : Located → List Public → AnswerValue → Type 0) (answer : AnswerValue) → Answers image publics answer
-      → AnswersProgram Answers asked (file_value image_path read.file ∷ file_value regions_path read.text ∷ []) answer
-  answers_program Answers answer answers = record {
-    image_file = file_value image_path read.file;
-    regions_file = file_value regions_path read.text;
-    files_are = refl;
-    image = image;
-    publics = publics;
-    are_read = read.are_read;
-    answers = answers;
+  pub program_reports : {A E : Type 0} (r : Result A E) → IfErr r (λ _. OnlyReports between new) → IfErr r (λ _. OnlyReports old new)
+  program_reports r is = reports_after old between new program_files r read.journal is
+
+  module _ (Answers : Located → List Public → AnswerValue → Type 0) where
+    pub answers_program : (answer : AnswerValue) → Answers image publics answer → AnswersProgram Answers asked program_files answer
+    answers_program answer answers = record {
+      image_file = file_value image_path read.file;
+      regions_file = file_value regions_path read.text;
+      files_are = refl;
+      image = image;
+      publics = publics;
+      are_read = read.are_read;
+      answers = answers;
+    }
+
+    pub program_gives : (answer : AnswerValue) (status : ℕ) → Answers image publics answer → IsGiven answer between new status
+        → Gives (AnswersProgram Answers asked) (image_path ∷ regions_path ∷ []) old new status
+    program_gives answer status answers given =
+        gives_status (AnswersProgram Answers asked) (image_path ∷ regions_path ∷ []) old between new program_files refl read.journal answer status
+        (answers_program answer answers) given
+
+    pub program_given : {E F : Type 0} (made : Result AnswerValue F) (r : Result ℕ E) → IfOk made (Answers image publics)
+        → IfOk r (λ status. IsOkAnd made (λ answer. IsGiven answer between new status))
+        → IfOk r (Gives (AnswersProgram Answers asked) (image_path ∷ regions_path ∷ []) old new)
+    program_given made r answers gave =
+        made_given (AnswersProgram Answers asked) (image_path ∷ regions_path ∷ []) old between new program_files refl read.journal
+        (Answers image publics) answers_program made r answers gave
+
+-- the stores of a program, with the ranges that the options write
+pub stores_give : (arguments : StoresArguments) (quiet : List Range) (paths : List (List ℕ)) (old first new : Journal) (status : ℕ)
+    → AreRangesOf (map (λ range. range.now) arguments.quiet.items) quiet → first ≡ old
+    → Gives (AnswersProgram (PrintsStores quiet) (asks_names arguments.files)) paths first new status → Gives (AnswersStores arguments) paths old new status
+stores_give arguments quiet paths old first new status written same gives =
+    gives_more {E = Unit {0}} (AnswersProgram (PrintsStores quiet) (asks_names arguments.files)) (AnswersStores arguments) paths old first new (Ok status)
+    (λ files answer is. record { quiet = quiet; written = written; is = is }) same gives
+
+-- ---- cases
+
+module _ (out : Option (List ℕ)) (image_path regions_path : List ℕ) (old between new : Journal) (image : Located) (publics : List Public)
+    (read : IsProgramRead image_path regions_path false old between image publics) where
+  abbrev cases_files : List FileValue
+  cases_files = file_value image_path read.file ∷ file_value regions_path read.text ∷ []
+
+  answers_cases : (answer : AnswerValue) → PrintsCases out image answer → AnswersCases out cases_files answer
+  answers_cases answer answers = record {
+    is = answers_program image_path regions_path false old between new image publics read (λ i ps. PrintsCases out i) answer answers;
   }
 
-  pub program_gives : (Answers : Located → List Public → AnswerValue → Type 0) (answer : AnswerValue) (status : ℕ) → Answers image publics answer
-      → IsGiven answer between new status → Gives (AnswersProgram Answers asked) (image_path ∷ regions_path ∷ []) old new status
-  program_gives Answers answer status answers given = record {
-    files = file_value image_path read.file ∷ file_value regions_path read.text ∷ [];
-    paths_are = refl;
-    answer = answer;
-    answers = answers_program Answers answer answers;
-    given = subst (λ (j : Journal). IsGiven answer j new status) read.journal given;
-  }
+  pub cases_give : {E : Type 0} (r : Result ℕ E) → IfOk r (IsAnswered (PrintsCases out image) between new)
+      → IfOk r (Gives (AnswersCases out) (image_path ∷ regions_path ∷ []) old new)
+  cases_give r gave =
+      part_given (AnswersCases out) (image_path ∷ regions_path ∷ []) old between new cases_files refl read.journal (PrintsCases out image)
+      answers_cases r gave
 
-  pub program_given : {E F : Type 0} (Answers : Located → List Public → AnswerValue → Type 0) (made : Result AnswerValue F) (r : Result ℕ E)
-      → IfOk made (Answers image publics) → IfOk r (λ status. IsOkAnd made (λ answer. IsGiven answer between new status))
-      → IfOk r (Gives (AnswersProgram Answers asked) (image_path ∷ regions_path ∷ []) old new)
-  program_given Answers (Ok answer) (Ok status) answers gave = program_gives Answers answer status answers gave
-  program_given Answers (Err f) (Ok status) answers gave = absurd gave
-  program_given Answers made (Err e) answers gave = tt
-
-  -- what is given up
-  pub program_gives_up : {A E : Type 0} (Answers : Located → List Public → AnswerValue → Type 0) (r : Result A E)
-      → IfErr r (λ _. IsGivenUp (Answers image publics) between new)
-      → IfErr r (λ _. GivesUp (AnswersProgram Answers asked) (image_path ∷ regions_path ∷ []) old new)
-  program_gives_up Answers (Ok x) is = tt
-  program_gives_up Answers (Err e) is = go between read.journal is
-    where
-      go : (j : Journal) → j ≡ and_read (and_read old image_path read.file) regions_path read.text → IsGivenUp (Answers image publics) j new
-          → GivesUp (AnswersProgram Answers asked) (image_path ∷ regions_path ∷ []) old new
-      go j same (before_it only) =
-          before (reports_after_two old new image_path read.file regions_path read.text (subst (λ (k : Journal). OnlyReports k new) same only))
-      go j same (within_it answer answers gave) =
-          let up = subst (λ (k : Journal). GaveUp answer.files k new) same gave in
-          within (file_value image_path read.file ∷ file_value regions_path read.text ∷ []) answer refl (answers_program Answers answer answers)
-          (record { reported = up.reported; written = up.written; spoiled = up.spoiled; copies = up.copies })
+  pub cases_give_up : {A E : Type 0} (r : Result A E) → IfErr r (λ _. IsGivenUp (PrintsCases out image) between new)
+      → IfErr r (λ _. GivesUp (AnswersCases out) (image_path ∷ regions_path ∷ []) old new)
+  cases_give_up r gave =
+      part_given_up (AnswersCases out) (image_path ∷ regions_path ∷ []) old between new cases_files refl read.journal (PrintsCases out image)
+      answers_cases r gave
 
 -- ---- the inputs of a run, too
 
@@ -126,10 +243,7 @@ module _ (paths : RunFiles) (asked : Bool) (old between new : Journal) (image : 
   files_read = file_value paths.image.now read.file ∷ file_value paths.regions.now read.text ∷ file_value paths.inputs.now text ∷ []
 
   pub run_reports : {A E : Type 0} (r : Result A E) → IfErr r (λ _. OnlyReports between new) → IfErr r (λ _. OnlyReports old new)
-  run_reports (Ok x) is = tt
-  run_reports (Err e) is =
-      reports_after_three old new paths.image.now read.file paths.regions.now read.text paths.inputs.now text
-      (subst (λ (j : Journal). OnlyReports j new) read.journal is)
+  run_reports r is = reports_after old between new files_read r read.journal is
 
   module _ (Answers : List (ℕ × ℕ) → List Public → Voucher → AnswerValue → Type 0) where
     answers_run : (answer : AnswerValue) → AnswersVerdict (Answers inputs publics) image publics answer
@@ -146,164 +260,32 @@ module _ (paths : RunFiles) (asked : Bool) (old between new : Journal) (image : 
       answers = subst (λ (pairs : List (ℕ × ℕ)). AnswersVerdict (Answers pairs publics) image publics answer) spelled answers;
     }
 
-    run_gives : (answer : AnswerValue) (status : ℕ) → AnswersVerdict (Answers inputs publics) image publics answer
-        → IsGiven answer between new status → Gives (AnswersRun Answers asked) (run_paths paths) old new status
-    run_gives answer status answers given = record {
-      files = files_read;
-      paths_are = refl;
-      answer = answer;
-      answers = answers_run answer answers;
-      given = subst (λ (j : Journal). IsGiven answer j new status) read.journal given;
-    }
-
     pub run_given : {E F : Type 0} (made : Result AnswerValue F) (r : Result ℕ E)
         → IfOk made (AnswersVerdict (Answers inputs publics) image publics) → IfOk r (λ status. IsOkAnd made (λ answer. IsGiven answer between new status))
         → IfOk r (Gives (AnswersRun Answers asked) (run_paths paths) old new)
-    run_given (Ok answer) (Ok status) answers gave = run_gives answer status answers gave
-    run_given (Err f) (Ok status) answers gave = absurd gave
-    run_given made (Err e) answers gave = tt
-
-    -- of one that is accepted, what is answered of its run
-    pub run_accepted : {E : Type 0} (program : Voucher) (r : Result ℕ E) → IsAccepted image program
-        → IfOk r (IsAnswered (Answers inputs publics program) between new) → IfOk r (Gives (AnswersRun Answers asked) (run_paths paths) old new)
-    run_accepted program (Ok status) is gave = run_gives gave.answer status (accepted program is gave.answers) gave.given
-    run_accepted program (Err e) is gave = tt
+    run_given made r answers gave =
+        made_given (AnswersRun Answers asked) (run_paths paths) old between new files_read refl read.journal
+        (AnswersVerdict (Answers inputs publics) image publics) answers_run made r answers gave
 
     -- of another one, its refusal
     pub run_refused : {E : Type 0} (line : List ℕ) (r : Result ℕ E) → IsRefusal image publics line → IfOk r (IsGiven (prints line 1) between new)
         → IfOk r (Gives (AnswersRun Answers asked) (run_paths paths) old new)
-    run_refused line (Ok status) is gave = run_gives (prints line 1) status (refused line is refl) gave
-    run_refused line (Err e) is gave = tt
+    run_refused line r is gave =
+        gives (AnswersRun Answers asked) (run_paths paths) old between new files_read refl read.journal (prints line 1) r
+        (answers_run (prints line 1) (refused line is refl)) gave
 
-    -- what is given up
+    -- of one that is accepted, what is answered of its run, or given up
+    pub run_accepted : {E : Type 0} (program : Voucher) (r : Result ℕ E) → IsAccepted image program
+        → IfOk r (IsAnswered (Answers inputs publics program) between new) → IfOk r (Gives (AnswersRun Answers asked) (run_paths paths) old new)
+    run_accepted program r is gave =
+        part_given (AnswersRun Answers asked) (run_paths paths) old between new files_read refl read.journal (Answers inputs publics program)
+        (λ answer answers. answers_run answer (accepted program is answers)) r gave
+
     pub run_gives_up : {A E : Type 0} (program : Voucher) (r : Result A E) → IsAccepted image program
         → IfErr r (λ _. IsGivenUp (Answers inputs publics program) between new) → IfErr r (λ _. GivesUp (AnswersRun Answers asked) (run_paths paths) old new)
-    run_gives_up program (Ok x) is gave = tt
-    run_gives_up program (Err e) is gave = go between read.journal gave
-      where
-        go : (j : Journal) → j ≡ and_read (and_read (and_read old paths.image.now read.file) paths.regions.now read.text) paths.inputs.now text
-            → IsGivenUp (Answers inputs publics program) j new → GivesUp (AnswersRun Answers asked) (run_paths paths) old new
-        go j same (before_it only) =
-            before (reports_after_three old new paths.image.now read.file paths.regions.now read.text paths.inputs.now text
-            (subst (λ (k : Journal). OnlyReports k new) same only))
-        go j same (within_it answer answers gave) =
-            let up = subst (λ (k : Journal). GaveUp answer.files k new) same gave in
-            within files_read answer refl (answers_run answer (accepted program is answers))
-            (record { reported = up.reported; written = up.written; spoiled = up.spoiled; copies = up.copies })
-
--- ---- files that were read, whichever they are
-
-same_reported : (old : Journal) (files : List FileValue) → (and_read_files old files).reported ≡ old.reported
-same_reported old [] = refl
-same_reported old (file ∷ files) = same_reported (and_read old file.path file.bytes) files
-
-same_written : (old : Journal) (files : List FileValue) → (and_read_files old files).written ≡ old.written
-same_written old [] = refl
-same_written old (file ∷ files) = same_written (and_read old file.path file.bytes) files
-
-same_spoiled : (old : Journal) (files : List FileValue) → (and_read_files old files).spoiled ≡ old.spoiled
-same_spoiled old [] = refl
-same_spoiled old (file ∷ files) = same_spoiled (and_read old file.path file.bytes) files
-
-same_copies : (old : Journal) (files : List FileValue) → (and_read_files old files).copies ≡ old.copies
-same_copies old [] = refl
-same_copies old (file ∷ files) = same_copies (and_read old file.path file.bytes) files
-
-pub only_reports : (old between new : Journal) (files : List FileValue) → between ≡ and_read_files old files → OnlyReports between new → OnlyReports old new
-only_reports old between new files read is = record {
-  reported = subst (λ (n : ℕ). n < new.reported) (ap (λ (j : Journal). j.reported) read ∙ same_reported old files) is.reported;
-  written = is.written ∙ ap (λ (j : Journal). j.written) read ∙ same_written old files;
-  spoiled = is.spoiled ∙ ap (λ (j : Journal). j.spoiled) read ∙ same_spoiled old files;
-  copies = is.copies ∙ ap (λ (j : Journal). j.copies) read ∙ same_copies old files;
-}
-
-reports_after_files : {A E : Type 0} (old between new : Journal) (files : List FileValue) (r : Result A E) → between ≡ and_read_files old files
-    → IfErr r (λ _. OnlyReports between new) → IfErr r (λ _. OnlyReports old new)
-reports_after_files old between new files (Ok x) read is = tt
-reports_after_files old between new files (Err e) read is = only_reports old between new files read is
-
-pub err_from : {A E P : Type 0} (r : Result A E) → P → IfErr r (λ _. P)
-err_from (Ok x) p = tt
-err_from (Err e) p = p
-
--- a report behind what was read
-pub reported : (old between new : Journal) (files : List FileValue) → between ≡ and_read_files old files → new ≡ and_reported between → OnlyReports old new
-reported old between new files read is =
-    only_reports old between new files read
-    (record {
-      reported = let more : new.reported ≡ between.reported + 1 = ap (λ (j : Journal). j.reported) is in omega (arith, more);
-      written = ap (λ (j : Journal). j.written) is;
-      spoiled = ap (λ (j : Journal). j.spoiled) is;
-      copies = ap (λ (j : Journal). j.copies) is;
-    })
-
-gave_up_after : (old between new : Journal) (files written : List FileValue) → between ≡ and_read_files old files → GaveUp written between new
-    → GaveUp written old new
-gave_up_after old between new files written read is =
-    record {
-      reported = subst (λ (n : ℕ). n < new.reported) (ap (λ (j : Journal). j.reported) read ∙ same_reported old files) is.reported;
-      written = subst (λ (w : List FileValue). AddsSome written w new.written) (ap (λ (j : Journal). j.written) read ∙ same_written old files) is.written;
-      spoiled = subst (λ (s : List (List ℕ)). AddsSome (paths_of written) s new.spoiled) (ap (λ (j : Journal). j.spoiled) read ∙ same_spoiled old files) is.spoiled;
-      copies = is.copies ∙ ap (λ (j : Journal). j.copies) read ∙ same_copies old files;
-    }
-
--- ---- an answer to files that were read
-
-module _ (Answers : List FileValue → AnswerValue → Type 0) (paths : List (List ℕ)) (old between new : Journal) (files : List FileValue)
-    (named : paths_of files ≡ paths) (read : between ≡ and_read_files old files) where
-  pub gives : {E : Type 0} (answer : AnswerValue) (r : Result ℕ E) → Answers files answer → IfOk r (IsGiven answer between new)
-      → IfOk r (Gives Answers paths old new)
-  gives answer (Ok status) answers gave = record {
-    files = files;
-    paths_are = named;
-    answer = answer;
-    answers = answers;
-    given = subst (λ (j : Journal). IsGiven answer j new status) read gave;
-  }
-  gives answer (Err e) answers gave = tt
-
-  pub gives_up : {A E : Type 0} (answer : AnswerValue) (r : Result A E) → Answers files answer → IfErr r (λ _. GaveUp answer.files between new)
-      → IfErr r (λ _. GivesUp Answers paths old new)
-  gives_up answer (Ok x) answers gave = tt
-  gives_up answer (Err e) answers gave = within files answer named answers (gave_up_after old between new files answer.files read gave)
-
-  pub gives_status : (answer : AnswerValue) (status : ℕ) → Answers files answer → IsGiven answer between new status → Gives Answers paths old new status
-  gives_status answer status answers gave = record {
-    files = files;
-    paths_are = named;
-    answer = answer;
-    answers = answers;
-    given = subst (λ (j : Journal). IsGiven answer j new status) read gave;
-  }
-
--- what is given up of some answers is given up of others, if nothing came before
-pub gives_up_more : {A E : Type 0} (Answers More : List FileValue → AnswerValue → Type 0) (paths : List (List ℕ)) (old between new : Journal) (r : Result A E)
-    → ((files : List FileValue) (answer : AnswerValue) → Answers files answer → More files answer) → between ≡ old
-    → IfErr r (λ _. GivesUp Answers paths between new) → IfErr r (λ _. GivesUp More paths old new)
-gives_up_more Answers More paths old between new (Ok x) more same gave = tt
-gives_up_more Answers More paths old between new (Err e) more same gave = go (subst (λ (j : Journal). GivesUp Answers paths j new) same gave)
-  where
-    go : GivesUp Answers paths old new → GivesUp More paths old new
-    go (before only) = before only
-    go (within files answer named answers up) = within files answer named (more files answer answers) up
-
--- nothing came behind the reading of an image and its regions
-pub program_read_on : (image_path regions_path : List ℕ) (asked : Bool) (old between after : Journal) (image : Located) (publics : List Public)
-    → IsProgramRead image_path regions_path asked old between image publics → after ≡ between → IsProgramRead image_path regions_path asked old after image publics
-program_read_on image_path regions_path asked old between after image publics read unchanged =
-    record { file = read.file; text = read.text; are_read = read.are_read; journal = unchanged ∙ read.journal }
-
--- the stores of a program, with the ranges that the options write
-pub stores_give : (arguments : StoresArguments) (quiet : List Range) (paths : List (List ℕ)) (old first new : Journal) (status : ℕ)
-    → AreRangesOf (map (λ range. range.now) arguments.quiet.items) quiet → first ≡ old
-    → Gives (AnswersProgram (PrintsStores quiet) (asks_names arguments.files)) paths first new status → Gives (AnswersStores arguments) paths old new status
-stores_give arguments quiet paths old first new status written same gives = record {
-  files = gives.files;
-  paths_are = gives.paths_are;
-  answer = gives.answer;
-  answers = record { quiet = quiet; written = written; is = gives.answers };
-  given = subst (λ (j : Journal). IsGiven gives.answer (and_read_files j gives.files) new status) same gives.given;
-}
+    run_gives_up program r is gave =
+        part_given_up (AnswersRun Answers asked) (run_paths paths) old between new files_read refl read.journal (Answers inputs publics program)
+        (λ answer answers. answers_run answer (accepted program is answers)) r gave
 
 -- ---- run
 
@@ -329,26 +311,3 @@ watched_runs arguments limits last tested are counted is untrue files answer ans
     watched =
         ap (λ (n : ℕ). (n == 0 && is_none (dump_of arguments)) && not arguments.names) (sym counted)
         ∙ ap (λ (none : Bool). (last == 0 && none) && not arguments.names) (none_mapped (λ path. path.now) arguments.dump) ∙ sym is ∙ untrue
-
--- ---- cases
-
-module _ (out : Option (List ℕ)) (image_path regions_path : List ℕ) (old between new : Journal) (image : Located) (publics : List Public)
-    (read : IsProgramRead image_path regions_path false old between image publics) where
-  pub cases_give : {E : Type 0} (r : Result ℕ E) → IfOk r (IsAnswered (PrintsCases out image) between new)
-      → IfOk r (Gives (AnswersCases out) (image_path ∷ regions_path ∷ []) old new)
-  cases_give (Ok status) gave =
-      let given = program_gives image_path regions_path false old between new image publics read (λ i ps. PrintsCases out i) gave.answer status
-      gave.answers gave.given in
-      of_program status given
-    where
-      of_program : (status : ℕ) → Gives (AnswersProgram (λ i ps. PrintsCases out i) false) (image_path ∷ regions_path ∷ []) old new status
-          → Gives (AnswersCases out) (image_path ∷ regions_path ∷ []) old new status
-      of_program status g = record { files = g.files; paths_are = g.paths_are; answer = g.answer; answers = record { is = g.answers }; given = g.given }
-  cases_give (Err e) gave = tt
-
-  pub cases_give_up : {A E : Type 0} (r : Result A E) → IfErr r (λ _. IsGivenUp (PrintsCases out image) between new)
-      → IfErr r (λ _. GivesUp (AnswersCases out) (image_path ∷ regions_path ∷ []) old new)
-  cases_give_up r gave =
-      gives_up_more (AnswersProgram (λ i ps. PrintsCases out i) false) (AnswersCases out) (image_path ∷ regions_path ∷ []) old old new r
-      (λ files answer answers. record { is = answers }) refl
-      (program_gives_up image_path regions_path false old between new image publics read (λ i ps. PrintsCases out i) r gave)

@@ -20,6 +20,7 @@ use Rattle.plm80_programs.specs.declared.helpers.run_arguments.RunFiles.{RunFile
 use Rattle.plm80_programs.specs.declared.helpers.run_arguments.RunTexts.{RunTexts}
 use Rattle.plm80_programs.specs.Arguments.{run_paths}
 use Rattle.plm80_programs.specs.Cases.{FindsCases, PrintsCases}
+use Rattle.plm80_programs.proofs.GivenLemmas.{part_given}
 use Rattle.plm80_programs.specs.Running.{AnswersSession, AnswersTexts, run_files, session_status, texts_of}
 use Rattle.plm80_programs.specs.Status.{notes_status}
 
@@ -31,14 +32,6 @@ printed before (Some bytes) lines old between new empty same appended taken =
     taken.1 ∙ ap (and_printed between) (sym taken.2 ∙ all) ∙ ap (λ (j : Journal). and_printed j lines) same
 printed before None lines old between new empty same appended taken =
     absurd (subst (λ (w : Option (List ℕ)). Appends w None lines) empty appended)
-
--- whatever was printed, a fault after it is one alone
-pub reports_printed : {A E : Type 0} (after : Option (List ℕ)) (old between taken new : Journal) (r : Result A E) → between ≡ old
-    → IsTakenBack after between taken → IfErr r (λ _. OnlyReports taken new) → IfErr r (λ _. OnlyReports old new)
-reports_printed after old between taken new (Ok x) same back only = tt
-reports_printed after old between taken new (Err e) same back only =
-    let up = subst (λ (j : Journal). OnlyReports (and_printed j back.0) new) same (subst (λ (j : Journal). OnlyReports j new) back.1 only) in
-    record { reported = up.reported; written = up.written; spoiled = up.spoiled; copies = up.copies }
 
 -- what a session sent, if its answer has a status
 session_sent : (limits : Limits) (texts : Texts) (said : Result Outcome SessionFault) (after : Option (List ℕ)) (old new : Journal) (status : ℕ)
@@ -75,20 +68,15 @@ session_given limits texts said before after old between new status empty same s
 pub session_gives : {E : Type 0} (paths : RunFiles) (texts : RunTexts) (limits : Limits) (old between new : Journal) (r : Result ℕ E)
     → between ≡ and_read_files old (run_files paths texts) → IfOk r (IsAnswered (AnswersTexts limits (texts_of texts)) between new)
     → IfOk r (Gives (AnswersSession limits) (run_paths paths) old new)
-session_gives paths texts limits old between new (Ok status) read gave = record {
-  files = run_files paths texts;
-  paths_are = refl;
-  answer = gave.answer;
-  answers = record {
-    image = record { path = paths.image.now; bytes = texts.program.image.bytes.items };
-    regions = record { path = paths.regions.now; bytes = texts.program.regions.bytes.items };
-    inputs = record { path = paths.inputs.now; bytes = texts.inputs.bytes.items };
-    files_are = refl;
-    answers = gave.answers;
-  };
-  given = subst (λ (j : Journal). IsGiven gave.answer j new status) read gave.given;
-}
-session_gives paths texts limits old between new (Err e) read gave = tt
+session_gives paths texts limits old between new r read gave =
+    part_given (AnswersSession limits) (run_paths paths) old between new (run_files paths texts) refl read (AnswersTexts limits (texts_of texts))
+    (λ answer answers. record {
+      image = record { path = paths.image.now; bytes = texts.program.image.bytes.items };
+      regions = record { path = paths.regions.now; bytes = texts.program.regions.bytes.items };
+      inputs = record { path = paths.inputs.now; bytes = texts.inputs.bytes.items };
+      files_are = refl;
+      answers = answers;
+    }) r gave
 
 -- the lines of cases, which are printed as they are found
 pub cases_printed : (image : Located) (cases : List DeclaredCase) (notes : List Note) (old new : Journal) (status : ℕ) → FindsCases image cases notes

@@ -64,9 +64,3 @@ pub added : (o : Option (List Repeated)) (before after : List Repeated) → o �
     → after ≡ before ++ unwrap_or o []
 added None before after some one = absurd (some refl)
 added (Some inputs) before after some one = one
-
--- why words give no file
-pub of_words : (words : List (List ℕ)) (fault : InputsFileFault) → FaultsWords words fault → FaultsFile words fault
-of_words words (BadInput word) first = first
-of_words words TooLong none = absurd none
-of_words words Memory any = tt

@@ -10,6 +10,7 @@ use Rattle.plm80_programs.specs.declared.cases.CasesArguments.{CasesArguments}
 use Rattle.plm80_programs.specs.declared.cover.CoverArguments.{CoverArguments}
 use Rattle.plm80_programs.specs.declared.helpers.run_arguments.LimitTexts.{LimitTexts}
 use Rattle.plm80_programs.specs.declared.helpers.run_arguments.RunFiles.{RunFiles}
+use Rattle.plm80_programs.specs.declared.explain.ExplainArguments.{ExplainArguments}
 use Rattle.plm80_programs.specs.declared.list.ListArguments.{ListArguments}
 use Rattle.plm80_programs.specs.declared.regions.RegionsArguments.{RegionsArguments}
 use Rattle.plm80_programs.specs.declared.run.RunArguments.{RunArguments}
@@ -19,6 +20,10 @@ use Rattle.plm80_programs.specs.declared.trace.TraceArguments.{TraceArguments}
 pub record AreListArguments (matches : ArgMatches) (arguments : ListArguments) : Type 0 where
   pub files : AreNamedFiles matches arguments.files
   pub reached : IsFlag matches (codes "reached") arguments.reached
+
+pub record AreExplainArguments (matches : ArgMatches) (arguments : ExplainArguments) : Type 0 where
+  pub files : AreNamedFiles matches arguments.files
+  pub all : IsFlag matches (codes "all") arguments.all
 
 pub record AreCallsArguments (matches : ArgMatches) (arguments : CallsArguments) : Type 0 where
   pub files : AreNamedFiles matches arguments.files

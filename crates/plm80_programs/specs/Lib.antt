@@ -1,6 +1,7 @@
 pub mod Arguments
 pub mod Status
 pub mod Printed
+pub mod Explanations
 pub mod Running
 pub mod Cases
 pub mod Suggest

@@ -1,6 +1,6 @@
 -- What commands print of an image, and their exit statuses. (The texts are those of the crates below; that a refusal is printed alone,
 -- with status 1, is this project's own.)
-use Rattle.std.specs.Prelude.{◌≡◌, ◌≢◌, ℕ, Bool, true, false, List, [], Option, None, Some, All, codes, map}
+use Rattle.std.specs.Prelude.{◌≡◌, ℕ, Bool, true, false, List, [], Some, All, codes, map}
 use Rattle.omf_model.specs.declared.symbols.Public.{Public}
 use Rattle.image80.specs.declared.range.Range.{Range}
 use Rattle.image80.specs.Image.{Located}
@@ -8,14 +8,8 @@ use Rattle.image80_text.specs.Listing.{listing_of}
 use Rattle.image80_text.specs.NameText.{labelled_text, named_text}
 use Rattle.machine80.specs.Ports.{lists_of}
 use Rattle.machine80.specs.World.{world_at_start}
-use Rattle.verify80_flow.specs.declared.refusal.Refusal.{Refusal}
-use Rattle.verify80_flow.specs.declared.refusal.Refusal.TheVariants.{Memory, StackTooSmall}
-use Rattle.verify80_flow.specs.declared.report.ProcRow.{ProcRow}
-use Rattle.verify80_flow.specs.Accepted.{IsMeasured}
-use Rattle.verify80_flow.specs.Faults.{Holds}
 use Rattle.verify80.specs.Looking.{code_of}
 use Rattle.verify80.specs.Boards.{SetsStack}
-use Rattle.verify80_explain.specs.Printed.{GoesOnWithChain, GoesOnWithWays}
 use Rattle.verify80_calls.specs.declared.graph.call_graph.Node.{Node}
 use Rattle.verify80_calls.specs.GraphText.{graph_text}
 use Rattle.verify80_calls.specs.ListText.{list_text}
@@ -32,8 +26,8 @@ use Rattle.loader80_trace.specs.Cover.{CoversReached, ListsReached}
 use Rattle.loader80_trace.specs.Traces.{EndsSo}
 use Rattle.plm80_console.specs.Answer.{AnswerValue, prints}
 use Rattle.plm80_console.specs.Journal.{FileValue}
-use Rattle.plm80_names.specs.Printed.{named_refusal_line, named_refusal_report, named_report}
-use Rattle.plm80_names.specs.Verdict.{AnswersProgram, AnswersVerdict, IsAccepted}
+use Rattle.plm80_names.specs.Printed.{named_report}
+use Rattle.plm80_names.specs.Verdict.{AnswersProgram, AnswersVerdict}
 use Rattle.plm80_names.specs.Arguments.{asks_names}
 use Rattle.plm80_programs.specs.declared.stores.StoresArguments.{StoresArguments}
 use Rattle.plm80_console.specs.Ranges.{AreRangesOf}
@@ -111,38 +105,6 @@ pub record AnswersStores (arguments : StoresArguments) (files : List FileValue) 
   pub quiet : List Range
   pub written : AreRangesOf (map (λ range. range.now) arguments.quiet.items) quiet
   pub is : AnswersProgram (PrintsStores quiet) (asks_names arguments.files) files answer
-
--- ---- explain
-
--- the refusal of an image whose stack is too small: the line of each procedure, and the chain of calls that needs most
-pub record ShowsOverrun (image : Located) (publics : List Public) (refusal : Refusal) (need : ℕ) (text : List ℕ) : Type 0 where
-  pub rows : List ProcRow
-  pub bytes : ℕ
-  pub measured : IsMeasured (code_of image) rows bytes
-  pub goes_on : GoesOnWithChain image publics need (named_refusal_report image.regions.code publics refusal rows) text
-
--- the bytes of stack that an image needs whose stack is too small
-abbrev pub needed_stack : Refusal → Option ℕ
-needed_stack (StackTooSmall need has) = Some need
-needed_stack _ = None
-
--- the line of a refusal, and what shows it: that depends on whether its stack is too small
-abbrev pub ShowsWith : Located → List Public → Refusal → (need : Option ℕ) → (text : List ℕ) → Type 0
-ShowsWith image publics refusal (Some need) text = ShowsOverrun image publics refusal need text
-ShowsWith image publics refusal None text =
-    GoesOnWithWays image publics refusal (named_refusal_line image.regions.code publics refusal) text
-
-abbrev pub ShowsRefusal : Located → List Public → Refusal → (text : List ℕ) → Type 0
-ShowsRefusal image publics refusal text = ShowsWith image publics refusal (needed_stack refusal) text
-
--- of a program that is accepted the report, and the chain of calls that needs most; of another one its refusal, and what shows it
-pub data PrintsExplanation (image : Located) (publics : List Public) (answer : AnswerValue) : Type 0 where
-  accepted : (program : Voucher) (text : List ℕ) → IsAccepted image program
-      → GoesOnWithChain image publics program.stack_bytes (named_report program publics) text
-      → answer ≡ prints text 0 → PrintsExplanation image publics answer
-  refused : (refusal : Refusal) (text : List ℕ) → Holds (code_of image) refusal → refusal ≢ Memory
-      → ShowsRefusal image publics refusal text
-      → answer ≡ prints text 1 → PrintsExplanation image publics answer
 
 -- ---- cover
 

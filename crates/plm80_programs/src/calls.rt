@@ -80,7 +80,9 @@ pub fn show_calls<C: Console>(
 {
     let (image, names) = arguments.files.read(console)?;
     let answer = shown(console.alloc(), image, arguments.dot, &names);
-    console.give_if_made(answer)
+    let given = console.give_if_made(answer);
+    arguments.files.explain_refusal(console, &given);
+    given
 }
 
 /// The calls of an image, or its refusal.

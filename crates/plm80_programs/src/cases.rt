@@ -379,19 +379,14 @@ fn lacks_table(note: &Note) -> bool
 /// Says what there is to say of PCHLs.
 pub(crate) fn remark_notes<C: Console>(console: &C, notes: &[Note]) {
     for note in notes {
-        remark_note(console, *note);
-    }
-}
-
-/// Says what a note says.
-fn remark_note<C: Console>(console: &C, note: Note) {
-    match note {
-        Note::MayEnd { table, end } => {
-            console.remark(format_args!("the table at {table:04X} may end at {end:04X}"))
+        match *note {
+            Note::MayEnd { table, end } => {
+                console.remark(format_args!("the table at {table:04X} may end at {end:04X}"))
+            }
+            Note::Tableless(at) => {
+                console.remark(format_args!("no table is seen for the PCHL at {at:04X}"))
+            }
+            Note::Returns(at) => console.remark(format_args!("the PCHL at {at:04X} returns")),
         }
-        Note::Tableless(at) => {
-            console.remark(format_args!("no table is seen for the PCHL at {at:04X}"))
-        }
-        Note::Returns(at) => console.remark(format_args!("the PCHL at {at:04X} returns")),
     }
 }

@@ -45,7 +45,9 @@ pub fn check_files<C: Console>(console: &mut C, files: NamedFiles<'_>) -> Result
 {
     let (image, names) = files.read(console)?;
     let answer = checked(console.alloc(), image, &names);
-    console.give_if_made(answer)
+    let given = console.give_if_made(answer);
+    files.explain_refusal(console, &given);
+    given
 }
 
 /// The report on an image, or its refusal.

@@ -15,7 +15,7 @@ use loader80_trace::{Limits, count_steps, cover};
 use machine80::Inputs;
 use plm80_console::{Answer, Console, Reported, Syntax};
 use plm80_files::{IMAGE, REGIONS};
-use plm80_names::{NAMES, Names, Verdict, judge};
+use plm80_names::{NAMES, Names, Verdict, explain_refusal, judge};
 use std::alloc::{AllocError, Global};
 
 /// The arguments of `cover`.
@@ -93,7 +93,9 @@ fn cover_within<C: Console>(
         inputs,
         limits,
     );
-    console.give_if_made(answer)
+    let given = console.give_if_made(answer);
+    explain_refusal(console, &given, files.image, files.regions);
+    given
 }
 
 /// The code of an image with the counts of its run, or its refusal.

@@ -8,20 +8,29 @@ ghost use Rattle.plm80_console.specs.Journal.{OnlyReports};
 ghost use Rattle.plm80_names.specs.Arguments.{asks_names, program_paths};
 ghost use Rattle.plm80_names.specs.Printed.{named_refusal_line, named_report};
 ghost use Rattle.plm80_names.specs.Verdict.{AnswersProgram};
-ghost use Rattle.plm80_programs.specs.Printed.{PrintsExplanation, ShowsOverrun, ShowsRefusal, needed_stack};
+ghost use Rattle.plm80_programs.specs.Arguments.{AreExplainArguments};
+ghost use Rattle.plm80_programs.specs.Explanations.{PrintsExplanation, ShowsOverrun, ShowsRefusal, ShowsRefused, needed_stack};
 
+use crate::all_refusals::all_refused;
+use clap::ArgMatches;
 use image80::Image;
 use loader80::{Refusal, Vouched, vouch};
-use plm80_console::{Answer, Console, Reported, Syntax};
-use plm80_names::{
-    NAMED_FILES, NamedFiles, Names, named_refusal, named_refusal_report, named_report,
-};
+use plm80_console::{Answer, Argument, Console, Kind, Reported, Syntax};
+use plm80_files::{IMAGE, REGIONS};
+use plm80_names::{NAMES, NamedFiles, Names, named_refusal, named_refusal_report, named_report};
 use std::alloc::{AllocError, Global};
 use verify80_explain::{append_chain, append_explanation, measure};
 
 /// The most that the points that are found weigh together: eight for a point, one for each word of its frame and each word taken, and as
 /// much again for each declared target. So as many points as `check` follows, 262,144, each with its return address.
-const LIMIT: usize = 2_359_296;
+pub(crate) const LIMIT: usize = 2_359_296;
+
+/// The arguments of `explain`.
+#[derive(Clone, Copy)]
+pub struct ExplainArguments<'a> {
+    files: NamedFiles<'a>,
+    all: bool,
+}
 
 const ABOUT: &str = "Verifies an image as check does, and shows why it is refused";
 
@@ -38,6 +47,11 @@ stack is too small, check's lines for the procedures come first, and then the
 chain of calls that needs most: the bytes that each procedure HAS on the stack,
 and two more for each call.
 
+With --all every refusal of an instruction that the program's ways meet is
+shown, by address, each with its way; then the refusal of check, if it is none
+of these; and REFUSALS n. A way ends at its refusal: what lies behind one shows
+only once that is mended.
+
 --names prints names as check and list do: behind a call its target's, behind
 the last line of a chain the address's.
 
@@ -50,23 +64,52 @@ pub const EXPLAIN: Syntax<'static> = Syntax {
     name: "explain",
     about: ABOUT,
     after_help: AFTER_HELP,
-    arguments: NAMED_FILES,
+    arguments: &[
+        IMAGE,
+        REGIONS,
+        Argument {
+            name: "all",
+            kind: Kind::Flag,
+            help: "Show every refusal of an instruction",
+        },
+        NAMES,
+    ],
 };
 
+impl<'a> ExplainArguments<'a> {
+    /// The arguments as clap has read them.
+    pub fn of(matches: &ArgMatches<'a>) -> ExplainArguments<'a>
+        ensures { AreExplainArguments matches.now result }
+    {
+        ExplainArguments {
+            files: NamedFiles::of(matches),
+            all: matches.get_flag("all"),
+        }
+    }
+}
+
 /// Prints the report on the image, or its refusal and what shows it, and gives the exit status.
-pub fn explain_files<C: Console>(console: &mut C, files: NamedFiles<'_>) -> Result<u8, Reported>
-    ensures done { IfOk result (Gives (AnswersProgram PrintsExplanation (asks_names files.entry)) (program_paths files.entry)
-        (C.journal console.old) (C.journal console.new)) }
+pub fn explain_files<C: Console>(
+    console: &mut C,
+    arguments: ExplainArguments<'_>,
+) -> Result<u8, Reported>
+    ensures done { let asked = arguments.entry in IfOk result (Gives (AnswersProgram (PrintsExplanation asked.all) (asks_names asked.files))
+        (program_paths asked.files) (C.journal console.old) (C.journal console.new)) }
     ensures fault { IfErr result (λ _. OnlyReports (C.journal console.old) (C.journal console.new)) }
 {
-    let (image, names) = files.read(console)?;
-    let answer = explained(console.alloc(), image, &names);
+    let (image, names) = arguments.files.read(console)?;
+    let answer = explained(console.alloc(), image, arguments.all, &names);
     console.give_if_made(answer)
 }
 
-/// The report on an image and its chain of calls, or its refusal and what shows it.
-fn explained(alloc: Global, image: Image, names: &Names) -> Result<Answer<'static>, AllocError>
-    ensures explanation { IfOk result (PrintsExplanation image names.now) }
+/// The report on an image and its chain of calls, or its refusal, or all of them, and what shows them.
+fn explained(
+    alloc: Global,
+    image: Image,
+    all: bool,
+    names: &Names,
+) -> Result<Answer<'static>, AllocError>
+    ensures explanation { IfOk result (PrintsExplanation all image names.now) }
     ensures no_file { IfOk result (λ answer. answer.files ≡ []) }
 {
     match vouch(alloc, image) {
@@ -75,9 +118,27 @@ fn explained(alloc: Global, image: Image, names: &Names) -> Result<Answer<'stati
             Ok(Answer::prints(text, 0))
         }
         Err((image, refusal)) => {
-            let text = refused(alloc, &image, refusal, names)?;
+            let text = one_or_all(alloc, &image, refusal, all, names)?;
             Ok(Answer::prints(text, 1))
         }
+    }
+}
+
+/// The refusal of an image, or all that are found, and what shows them; out of memory is no answer about the image.
+fn one_or_all(
+    alloc: Global,
+    image: &Image,
+    refusal: Refusal,
+    all: bool,
+    names: &Names,
+) -> Result<Vec<u8>, AllocError>
+    ensures shows { IfOk result (λ text. ShowsRefused all image.now names.now refusal text.items) }
+    ensures no_memory { OnOk result (refusal ≢ Memory) }
+{
+    if all {
+        all_refused(alloc, image, refusal, names)
+    } else {
+        refused(alloc, image, refusal, names)
     }
 }
 
@@ -93,7 +154,7 @@ fn with_chain(alloc: Global, vouched: &Vouched, names: &Names) -> Result<Vec<u8>
 }
 
 /// The refusal of an image, and what shows it; out of memory is no answer about the image.
-fn refused(
+pub(crate) fn refused(
     alloc: Global,
     image: &Image,
     refusal: Refusal,

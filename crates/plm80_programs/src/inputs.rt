@@ -144,22 +144,6 @@ fn report_bad_input<C: Console>(console: &mut C, word: &str) -> Reported
 {
     let fault = WordFault::BadInput;
     let reported = console.report(format_args!("{fault} {word}"));
-    if is_cut(word) {
-        console.explain("a word has no blanks, as in 02=3*2A,00");
-    }
+    console.explain("a word is a port, an equals sign and bytes, without blanks, as in 02=3*2A,00");
     reported
-}
-
-/// Whether a word has a blank, or seems to be a part of one that had.
-fn is_cut(word: &str) -> bool {
-    let bytes = word.as_bytes();
-    bytes.contains(&b' ')
-        || !bytes.contains(&b'=')
-        || is_mark(bytes.first())
-        || is_mark(bytes.last())
-}
-
-/// Whether a byte stands between parts of a word.
-fn is_mark(byte: Option<&u8>) -> bool {
-    matches!(byte, Some(b'*' | b'=' | b','))
 }

@@ -19,6 +19,7 @@
 //! | [`status_of`], [`explain_end`] | the exit status of a run; words on how it ended |
 #![tactic(auto)]
 
+mod all_refusals;
 mod calls;
 mod cases;
 mod check;
@@ -38,7 +39,7 @@ pub use calls::{CALLS, CallsArguments, show_calls};
 pub use cases::{CASES, CasesArguments, suggest_for_files};
 pub use check::{CHECK, check_files};
 pub use cover::{COVER, CoverArguments, cover_files};
-pub use explain::{EXPLAIN, explain_files};
+pub use explain::{EXPLAIN, ExplainArguments, explain_files};
 pub use inputs::{INPUTS, InputsArguments, write_inputs_file};
 pub use list::{LIST, ListArguments, list_files};
 pub use regions::{REGIONS, RegionsArguments, migrate_file};

@@ -81,7 +81,9 @@ pub fn list_files<C: Console>(console: &mut C, arguments: ListArguments<'_>) -> 
 {
     let (image, names) = arguments.files.read(console)?;
     let answer = listed(console.alloc(), image, arguments.reached, &names);
-    console.give_if_made(answer)
+    let given = console.give_if_made(answer);
+    arguments.files.explain_refusal(console, &given);
+    given
 }
 
 /// The listing of an image: of all its code, or of that to which the program may come if the verifier accepts it.

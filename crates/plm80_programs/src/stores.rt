@@ -1,6 +1,7 @@
 //! `plm80 stores`: the stores of a program that may leave its data, and its jumps by PCHL.
 
-ghost use Rattle.std.specs.Prelude.{◌≡◌, [], IfErr, IfOk};
+ghost use Rattle.std.specs.Prelude.{◌≡◌, false, [], IfErr, IfOk, IfSome};
+ghost use Rattle.image80.specs.Regions.{in_data};
 ghost use Rattle.plm80_console.specs.Answer.{Gives};
 ghost use Rattle.plm80_console.specs.Journal.{OnlyReports};
 ghost use Rattle.plm80_names.specs.Arguments.{program_paths};
@@ -106,7 +107,9 @@ pub fn list_stores<C: Console>(
         Ok(ListedStores { answer, causes }) => {
             let status = console.give(answer)?;
             explain_causes(console, &causes);
-            Ok(status)
+            let given = Ok(status);
+            arguments.files.explain_refusal(console, &given);
+            given
         }
         Err(_) => Err(console.report_memory()),
     }
@@ -137,7 +140,9 @@ fn first_no_data<'a>(
     regions: &Regions,
     texts: &[&'a str],
     quiet: &[Range],
-) -> Option<(&'a str, u16)> {
+) -> Option<(&'a str, u16)>
+    ensures { IfSome result (λ found. in_data regions.now found.1 ≡ false) }
+{
     for (text, range) in texts.iter().zip(quiet) {
         if let Some(at) = first_outside_data(regions, *range) {
             return Some((*text, at));

@@ -1,7 +1,8 @@
 //! `plm80 suggest`: the regions that an image's bytes suggest.
 
-ghost use Rattle.std.specs.Prelude.{◌≡◌, ◌∷◌, [], IfErr, IfOk};
+ghost use Rattle.std.specs.Prelude.{◌≡◌, ◌∷◌, [], false, IfErr, IfOk};
 ghost use Rattle.image80_file.specs.ImageFile.{SpellsImage, without_regions};
+ghost use Rattle.verify80_cases.specs.Suggested.{is_open};
 ghost use Rattle.plm80_console.specs.Answer.{Gives};
 ghost use Rattle.plm80_console.specs.Journal.{OnlyReports};
 ghost use Rattle.plm80_programs.specs.Suggest.{AdvisesRegions, AnswersAdvice, AreSuggestArguments};
@@ -183,6 +184,7 @@ fn line_length(
     at: u16,
 ) -> Result<usize, AllocError>
     requires { code.now ≡ image.now }
+    ensures { IfOk result (λ length. is_open image.now search.now.reached at ≡ false → length ≡ 0) }
 {
     if !search.is_open(image, code, at) {
         return Ok(0);

@@ -16,7 +16,7 @@ use loader80_trace::{Limits, Span, TraceFault};
 use machine80::Inputs;
 use plm80_console::{Answer, Argument, Console, Kind, OptionText, Reported, Syntax};
 use plm80_files::{IMAGE, REGIONS};
-use plm80_names::{NAMES, Names, Verdict, judge};
+use plm80_names::{NAMES, Names, Verdict, explain_refusal, judge};
 use std::alloc::{AllocError, Global};
 use stream80::Sink;
 
@@ -129,7 +129,11 @@ fn trace_within<C: Console>(
         Ok(Verdict::Accepted(vouched)) => {
             print_trace(console, &vouched, inputs, limits, span, &program.names)
         }
-        Ok(Verdict::Refused(line)) => console.give(Answer::prints(line, 1)),
+        Ok(Verdict::Refused(line)) => {
+            let given = console.give(Answer::prints(line, 1));
+            explain_refusal(console, &given, files.image, files.regions);
+            given
+        }
         Err(AllocError) => Err(console.report_memory()),
     }
 }
@@ -203,8 +207,9 @@ fn end_trace<C: Console>(
         return Err(console.report_memory());
     };
     let status = console.give(ending)?;
-    if let Some(ended) = ended {
-        explain_end(console, ended.end, ended.cpu.pc());
+    match ended {
+        Some(ended) => explain_end(console, ended.end, ended.cpu.pc()),
+        None => console.explain("more instructions follow: --from and --count choose others"),
     }
     Ok(status)
 }

@@ -1,3 +1,4 @@
 pub mod Rom
 pub mod RomLaws
 pub mod Compare
+pub mod DumpKinds

@@ -10,6 +10,7 @@
 //! | [`Dumps`] | dumps of read-only memories, each at its address, and the image of them |
 //! | [`compare`], [`Comparison`], [`Difference`] | where an image and a dump differ |
 //! | [`no_regions`] | the regions of an image of dumps, which have no address |
+//! | [`DumpKind`] | what a file seems to be that was to be a dump, and has no bytes as they are |
 //! | [`RomFault`] | why there are none |
 //! | [`laws`] | what holds of the definitions alone |
 #![tactic(auto)]
@@ -21,9 +22,11 @@ mod fault;
 pub mod laws;
 mod memory;
 mod placing;
+mod seeming;
 
 pub use comparing::{Comparison, Difference, compare};
 pub use dumps::Dumps;
 pub use extracting::{bytes_over, sum_text};
 pub use fault::RomFault;
 pub use placing::no_regions;
+pub use seeming::DumpKind;

@@ -9,6 +9,7 @@ use Rattle.verify80_explain.specs.declared.point.Point.{Point}
 use Rattle.verify80_explain.specs.declared.route.Call.{Call}
 use Rattle.verify80_explain.specs.declared.explanation.Explanation.{Explanation}
 use Rattle.verify80_explain.specs.declared.explanation.Explanation.TheVariants.{Way as OneWay, Ways as TwoWays, Ring}
+use Rattle.verify80_explain.specs.declared.explaining_all.ShownRefusal.{ShownRefusal}
 use Rattle.verify80_explain.specs.Ways.{IsRoute, Lead, point_of}
 
 -- one way, that leads to a point; two, that lead to two
@@ -66,3 +67,7 @@ pub record Shows (code : Code) (refusal : Refusal) (shown : Explanation) : Type 
 -- what an explanation shows holds
 abbrev pub ShownHolds : Type 0
 ShownHolds = (code : Code) (refusal : Refusal) (shown : Explanation) → Shows code refusal shown → Holds code refusal
+
+-- a refusal is shown by what stands with it
+abbrev pub IsShown : Code → ShownRefusal → Type 0
+IsShown code one = Shows code one.refusal one.explanation

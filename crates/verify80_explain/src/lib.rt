@@ -9,6 +9,7 @@
 //! | Item | What it is |
 //! |---|---|
 //! | [`explain`] | the ways that show a refusal |
+//! | [`explain_all`], [`ShownRefusals`], [`ShownRefusal`] | all refusals of points, each with its way |
 //! | [`measure`], [`ProcRow`] | the procedures of an image whose stack is too small |
 //! | [`find_chain`], [`Chain`], [`CallSite`], [`Standing`] | the calls whose bytes on the stack add up to the bound |
 //! | [`Explanation`], [`Route`], [`Call`], [`Point`] | the ways, the calls that lead to them, and their points |
@@ -22,6 +23,7 @@
 mod chain;
 mod evidence;
 mod explaining;
+mod explaining_all;
 mod explanation;
 mod fault;
 mod finding;
@@ -46,6 +48,7 @@ mod ways;
 
 pub use chain::{Chain, Standing, find_chain};
 pub use explaining::explain;
+pub use explaining_all::{ShownRefusal, ShownRefusals, explain_all};
 pub use explanation::Explanation;
 pub use fault::Unexplained;
 pub use frames80::{Frame, Word};

@@ -309,3 +309,12 @@ fn weight_of<C: Code>(program: &C, point: &Point) -> usize {
         .saturating_add(point.frame.taken as usize);
     own.saturating_mul(program.targets(point.at).len().saturating_add(1))
 }
+
+/// What points weigh together, or the most that a number can say.
+pub(crate) fn points_weight<C: Code>(program: &C, points: &[Point]) -> usize {
+    let mut weight: usize = 0;
+    for point in points {
+        weight = weight.saturating_add(weight_of(program, point));
+    }
+    weight
+}

@@ -3,6 +3,7 @@
 ghost use Rattle.std.specs.Prelude.{◌≡◌, IfOk, IfSome};
 ghost use Rattle.verify80_explain.specs.declared.sought.Kind.TheVariants.{Fault as OfFault, Clash as OfClash, Ring as OfRing};
 ghost use Rattle.verify80_explain.specs.Evidence.{IsSoughtFor, ShowsKind};
+ghost use Rattle.verify80_explain.specs.Reached.{AreReached, AreWalked};
 
 use crate::evidence::{Clash, Fault, is_clash, is_fault};
 use crate::explanation::Explanation;
@@ -142,10 +143,27 @@ fn show_fault<C: Code>(
 ) -> Result<Option<Explanation>, Unexplained>
     ensures { IfOk result (λ shown. IfSome shown (ShowsKind (C.code program.now) at (OfFault fault))) }
 {
-    if number >= points.len() || !is_fault(alloc, program, &points[number], at, fault)? {
+    if !are_reached(alloc, program, points, origins)? {
         return Ok(None);
     }
-    if !are_reached(alloc, program, points, origins)? {
+    show_reached_fault(alloc, program, points, origins, at, fault, number)
+}
+
+/// The way to one of the points that walks reach, if the instruction at an address may not be executed there for this reason.
+pub(crate) fn show_reached_fault<C: Code>(
+    alloc: Global,
+    program: &C,
+    points: &[Point],
+    origins: &[Origin],
+    at: u16,
+    fault: Fault,
+    number: usize,
+) -> Result<Option<Explanation>, Unexplained>
+    requires reached { AreReached (C.code program.now) points.now origins.now }
+    requires walked { AreWalked (C.code program.now) points.now }
+    ensures { IfOk result (λ shown. IfSome shown (ShowsKind (C.code program.now) at (OfFault fault))) }
+{
+    if number >= points.len() || !is_fault(alloc, program, &points[number], at, fault)? {
         return Ok(None);
     }
     match route_to(alloc, program, points, origins, number)? {

@@ -1,7 +1,7 @@
 //! The linked modules, and which of them declares a name.
 
-ghost use Rattle.std.specs.Prelude.{◌≡◌, map, IfOk};
-ghost use Rattle.link80_text.specs.Edges.{number_of, target};
+ghost use Rattle.std.specs.Prelude.{◌≡◌, map, option_copied, slice_get, IfOk};
+ghost use Rattle.link80_text.specs.Linked.{number_of, target};
 
 use omf_library::Providers;
 use omf_model::Module;
@@ -20,7 +20,7 @@ pub(crate) struct LinkedModules<'a> {
 impl<'a> Model for LinkedModules<'a> {
     ghost use Rattle.std.specs.Prelude.{map};
     ghost use Rattle.omf_library.specs.Providers.{AreProviders};
-    ghost use Rattle.link80_text.specs.Edges.{LinkedValue};
+    ghost use Rattle.link80_text.specs.Linked.{LinkedValue};
 
     ghost Value = { LinkedValue };
 
@@ -43,6 +43,23 @@ impl<'a> LinkedModules<'a> {
             modules,
             providers: Providers::of(alloc, modules)?,
         })
+    }
+
+    /// How many of the modules are roots.
+    pub(crate) fn roots(&self) -> usize
+        ensures { result ≡ self.now.roots }
+    {
+        self.roots
+    }
+
+    /// The linked module with this number.
+    pub(crate) fn module(&self, number: usize) -> Option<&'a Module>
+        ensures { option_copied result ≡ slice_get self.now.modules number }
+    {
+        match self.modules.get(number) {
+            Some(module) => Some(*module),
+            None => None,
+        }
     }
 
     /// The number, among the modules that were taken, of the one that was taken for the name of these bytes.

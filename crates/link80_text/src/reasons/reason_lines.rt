@@ -1,15 +1,13 @@
 //! The lines of the modules that were taken, with their reasons.
 
-ghost use Rattle.std.specs.Prelude.{◌≡◌, ◌++◌, ◌<◌, [], map, option_copied, slice_get, slice_index_or, length, Some, IfOk, OnOk};
-ghost use Rattle.link80_select.specs.Selected.{module_at};
-ghost use Rattle.link80_select.specs.declared.chosen.Chosen.{Chosen};
+ghost use Rattle.std.specs.Prelude.{◌≡◌, ◌++◌, true, false, length, map, slice_get, Some, IfOk, IfSome, OnOk};
 ghost use Rattle.link80.specs.Selection.{IsSelection};
-ghost use Rattle.link80_text.specs.Reasons.{IsReason, IsReasonLine, PrintsReasons, reason_line};
-ghost use Rattle.link80_text.specs.Searched.{PrintsLine};
+ghost use Rattle.link80_text.specs.Found.{AreReasonsFor, PrintsLine, PrintsLines};
+ghost use Rattle.link80_text.specs.Reasons.{PrintsReasons, reason_line};
 
 use crate::modules::{linked_modules, module_at};
-use crate::reasons::edges::{Edge, edges_in};
-use crate::reasons::search::{Found, fewest_steps};
+use crate::reasons::checked::checked_needs;
+use crate::reasons::search::Need;
 use crate::words::{append_word, path_of};
 use link80::Chosen;
 use omf_core::Name;
@@ -21,7 +19,8 @@ use std::marker::Model;
 /// Appends a line for each module that was taken, in order: its name, a name for which it was taken, a module that needs that name,
 /// and the path of its library, as `TAKEN @P0029 FOR @P0029 BY CALC FROM plm80.lib`. Of the modules that need it the nearest to the
 /// roots is named, of several the first, with the first of its names that need it. So one reaches a root, from BY to BY. The
-/// paths are those of the libraries, by their numbers; a library without one has an empty path.
+/// paths are those of the libraries, by their numbers; a library without one has an empty path. Answers `false`, and appends nothing, if
+/// the reasons aren't found.
 ///
 /// # Errors
 /// `AllocError` only if memory runs out; the text may then have some of the lines.
@@ -32,92 +31,82 @@ pub fn append_reasons(
     libraries: &[Library],
     taken: &[Chosen],
     paths: &[&[u8]],
-) -> Result<(), AllocError>
+) -> Result<bool, AllocError>
     requires { IsSelection roots.now libraries.now taken.now }
-    ensures { OnOk result (PrintsReasons roots.now libraries.now taken.now (map (λ p. p.now) paths.now) taken.now
-        text.old.items text.new.items) }
+    ensures reasons { IfOk result (λ found. found ≡ true → PrintsReasons roots.now libraries.now taken.now
+        (map (λ p. p.now) paths.now) taken.now text.old.items text.new.items) }
+    ensures none { IfOk result (λ found. found ≡ false → text.new.items ≡ text.old.items) }
 {
-    let searched = Searched::new(alloc, roots, libraries, taken)?;
-    for (number, place) in taken.iter().enumerate() {
-        searched.append_reason(text, paths, number, *place)?;
-    }
-    Ok(())
+    let Some(reasons) = Reasons::find(alloc, roots, libraries, taken)? else {
+        return Ok(false);
+    };
+    reasons.append_lines(text, taken, paths)?;
+    Ok(true)
 }
 
-/// What was taken from libraries for roots, and how each is reached by the fewest steps.
+/// Why modules were taken: for each the need of another one, by which one reaches a root.
 #[derive(Drop)]
-struct Searched<'a> {
+struct Reasons<'a> {
     roots: &'a [Module],
     libraries: &'a [Library],
     taken: &'a [Chosen],
     modules: Vec<&'a Module>,
-    edges: Vec<Edge>,
-    found: Vec<Option<Found>>,
+    needs: Vec<Need>,
 }
 
-impl<'a> Model for Searched<'a> {
+impl<'a> Model for Reasons<'a> {
     ghost use Rattle.std.specs.Prelude.{map};
-    ghost use Rattle.link80_text.specs.Searched.{SelectionValue, IsSearchedFor};
+    ghost use Rattle.link80_text.specs.Found.{AreReasonsIn, ReasonsValue};
 
-    ghost Value = { SelectionValue };
+    ghost Value = { ReasonsValue };
 
-    ghost view = { λ s. record { roots = s.roots.now; libraries = s.libraries.now; taken = s.taken.now } };
+    ghost view = { λ s. record { roots = s.roots.now; libraries = s.libraries.now; taken = s.taken.now; named = map (λ need. need.by) s.needs.items } };
 
-    ghost invariant = { λ s. IsSearchedFor s.roots.now s.libraries.now s.taken.now (map (λ m. m.now) s.modules.items)
-        s.edges.items s.found.items };
+    ghost invariant = { λ s. AreReasonsIn s.roots.now s.libraries.now s.taken.now (map (λ m. m.now) s.modules.items) s.needs.items };
 }
 
-/// A name that is needed, and the module that needs it.
-#[derive(Clone, Copy)]
-struct Reason<'a> {
-    name: &'a Name,
-    by: &'a Module,
-}
-
-impl<'a> Searched<'a> {
-    /// Finds how what was taken is reached.
-    fn new(
+impl<'a> Reasons<'a> {
+    /// Finds why modules were taken from libraries for roots; `None` if the search doesn't find it.
+    fn find(
         alloc: Global,
         roots: &'a [Module],
         libraries: &'a [Library],
         taken: &'a [Chosen],
-    ) -> Result<Searched<'a>, AllocError>
+    ) -> Result<Option<Reasons<'a>>, AllocError>
         requires { IsSelection roots.now libraries.now taken.now }
-        ensures { IfOk result (λ s. s ≡ record { roots = roots.now; libraries = libraries.now; taken = taken.now }) }
+        ensures { IfOk result (λ found. IfSome found (λ s. AreReasonsFor roots.now libraries.now taken.now s)) }
     {
         let modules = linked_modules(alloc, roots, libraries, taken)?;
-        let edges = edges_in(alloc, roots.len(), &modules)?;
-        let found = fewest_steps(alloc, roots.len(), &edges, taken.len())?;
-        Ok(Searched {
-            roots,
-            libraries,
-            taken,
-            modules,
-            edges,
-            found,
-        })
-    }
-
-    /// Why the module with this number among those that were taken was.
-    fn reason(&self, number: usize) -> Reason<'a>
-        requires { number < length self.now.taken }
-        ensures { (place : Chosen) → slice_get self.now.taken number ≡ Some place
-            → IsReason self.now.roots self.now.libraries self.now.taken place result.name.now result.by.now }
-    {
-        let one = match self.found[number] {
-            Some(one) => one,
-            None => unreachable!(),
-        };
-        let edge = self.edges[one.edge];
-        let by = self.modules[edge.by];
-        Reason {
-            name: &by.externals()[edge.name],
-            by,
+        match checked_needs(alloc, roots.len(), &modules, taken.len())? {
+            Some(needs) => Ok(Some(Reasons {
+                roots,
+                libraries,
+                taken,
+                modules,
+                needs,
+            })),
+            None => Ok(None),
         }
     }
 
+    /// Appends the lines of all modules that were taken.
+    fn append_lines(
+        &self,
+        text: &mut Vec<u8>,
+        taken: &[Chosen],
+        paths: &[&[u8]],
+    ) -> Result<(), AllocError>
+        requires { taken.now ≡ self.now.taken }
+        ensures { OnOk result (PrintsLines self.now (map (λ p. p.now) paths.now) (length taken.now) text.old.items text.new.items) }
+    {
+        for (number, place) in taken.iter().enumerate() {
+            self.append_line(text, paths, number, *place)?;
+        }
+        Ok(())
+    }
+
     /// Appends the line of the module at this place, which has this number among those that were taken.
-    fn append_reason(
+    fn append_line(
         &self,
         text: &mut Vec<u8>,
         paths: &[&[u8]],
@@ -125,15 +114,17 @@ impl<'a> Searched<'a> {
         place: Chosen,
     ) -> Result<(), AllocError>
         requires { slice_get self.now.taken number ≡ Some place }
-        ensures { OnOk result (PrintsLine self.now (map (λ p. p.now) paths.now) place text.old.items text.new.items) }
+        ensures { OnOk result (PrintsLine self.now (map (λ p. p.now) paths.now) number place text.old.items text.new.items) }
     {
-        let reason = self.reason(number);
+        let need = self.needs[number];
+        let by = self.modules[need.by];
+        let name = &by.externals()[need.name];
         match module_at(self.libraries, place) {
             Some(provider) => append_line(
                 text,
                 provider.name(),
-                reason.name,
-                reason.by.name(),
+                name,
+                by.name(),
                 path_of(paths, place.library),
             ),
             None => unreachable!(),

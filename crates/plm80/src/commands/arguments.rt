@@ -18,9 +18,9 @@ use plm80_objects::{
     MODULE, MapArguments, ModuleArguments,
 };
 use plm80_programs::{
-    CALLS, CASES, CHECK, COVER, CallsArguments, CasesArguments, CoverArguments, EXPLAIN, INPUTS,
-    InputsArguments, LIST, ListArguments, REGIONS, RUN, RegionsArguments, RunArguments, STORES,
-    SUGGEST, StoresArguments, SuggestArguments, TRACE, TraceArguments,
+    CALLS, CASES, CHECK, COVER, CallsArguments, CasesArguments, CoverArguments, EXPLAIN,
+    ExplainArguments, INPUTS, InputsArguments, LIST, ListArguments, REGIONS, RUN, RegionsArguments,
+    RunArguments, STORES, SUGGEST, StoresArguments, SuggestArguments, TRACE, TraceArguments,
 };
 use std::alloc::{AllocError, Global};
 
@@ -32,7 +32,7 @@ pub enum Request<'a> {
     Run(RunArguments<'a>),
     List(ListArguments<'a>),
     Check(NamedFiles<'a>),
-    Explain(NamedFiles<'a>),
+    Explain(ExplainArguments<'a>),
     Library(LibraryArguments<'a>),
     Regions(RegionsArguments<'a>),
     Cases(CasesArguments<'a>),
@@ -55,8 +55,9 @@ const ABOUT: &str = "Links, locates, verifies and runs 8080 programs from OMF-80
 const AFTER_HELP: &str = "\
 Without arguments it reads a bundle from standard input (an image in
 hexadecimal, its regions, a line INPUTS, its inputs) and prints the transcript
-of its run. --why, alone or after a command, explains a fault below its line;
-PLM80_WHY=1 in the environment does the same. Files have at most 1048576 bytes,
+of its run. Words below the line of a fault or a refusal explain it if standard
+error is a terminal, or by --why, alone or after a command, or PLM80_WHY=1 in
+the environment; PLM80_WHY=0 leaves them out. Files have at most 1048576 bytes,
 a bundle 4194312.
 
 The exit status is 0 if the command succeeded or the program halted; 1 if the
@@ -141,8 +142,7 @@ pub fn read_arguments<'a, C: Console>(
 {
     let alloc = console.alloc();
     let matches = program(alloc)?.try_get_matches_from(arguments)?;
-    refuse_shared_paths(console, &matches)?;
-    match asked_for(alloc, &matches)? {
+    match asked_for(console, &matches)? {
         Some(request) => Ok((request, is_explained(&matches))),
         None => Err(refusal(alloc, ErrorKind::MissingSubcommand, "no command")),
     }
@@ -155,19 +155,6 @@ fn is_explained(matches: &ArgMatches<'_>) -> bool
     match matches.subcommand() {
         Some((_, arguments)) => arguments.get_flag(WHY.name),
         None => false,
-    }
-}
-
-/// Refuses the arguments of a command by which it would write over a file that it reads, or write a file twice.
-fn refuse_shared_paths<C: Console>(console: &C, matches: &ArgMatches<'_>) -> Result<(), Error>
-    ensures { IfErr result IsConflict }
-{
-    let Some((name, arguments)) = matches.subcommand() else {
-        return Ok(());
-    };
-    match command_of(name) {
-        Some(command) => command.refuse_shared_paths(console, arguments),
-        None => Ok(()),
     }
 }
 
@@ -222,15 +209,23 @@ fn program<'a>(alloc: Global) -> Result<Command<'a>, AllocError> {
     Ok(program)
 }
 
-/// The command that clap has read.
-fn asked_for<'a>(alloc: Global, matches: &ArgMatches<'a>) -> Result<Option<Request<'a>>, AllocError>
+/// The command that clap has read. Arguments are refused by which it would write over a file that it reads, or write a file twice.
+fn asked_for<'a, C: Console>(
+    console: &C,
+    matches: &ArgMatches<'a>,
+) -> Result<Option<Request<'a>>, Error>
     ensures none { IfOk result (λ asked. has_subcommand matches.now ≡ false → asked ≡ None) }
     ensures request { IfOk result (λ asked. IfSome asked (IsRequestOf matches.now)) }
+    ensures conflict { IfErr result IsConflict }
 {
-    match matches.subcommand() {
-        Some((name, arguments)) => request_of(alloc, name, arguments),
-        None => Ok(None),
-    }
+    let Some((name, arguments)) = matches.subcommand() else {
+        return Ok(None);
+    };
+    let Some(command) = command_of(name) else {
+        return Ok(None);
+    };
+    command.refuse_shared_paths(console, arguments)?;
+    Ok(request_of(console.alloc(), name, arguments)?)
 }
 
 /// The request of the command with this name and these arguments.
@@ -244,11 +239,11 @@ fn request_of<'a>(
 {
     match name {
         "link" => Ok(Some(Request::Link(LinkArguments::of(alloc, arguments)?))),
-        "locate" => Ok(Some(Request::Locate(LocateArguments::of(arguments)))),
+        "locate" => Ok(Some(Request::Locate(LocateArguments::of(alloc, arguments)?))),
         "run" => Ok(Some(Request::Run(RunArguments::of(arguments)))),
         "list" => Ok(Some(Request::List(ListArguments::of(arguments)))),
         "check" => Ok(Some(Request::Check(NamedFiles::of(arguments)))),
-        "explain" => Ok(Some(Request::Explain(NamedFiles::of(arguments)))),
+        "explain" => Ok(Some(Request::Explain(ExplainArguments::of(arguments)))),
         "lib" => Ok(Some(Request::Library(LibraryArguments::of(alloc, arguments)?))),
         "regions" => Ok(Some(Request::Regions(RegionsArguments::of(arguments)))),
         "cases" => Ok(Some(Request::Cases(CasesArguments::of(arguments)))),

@@ -5,13 +5,16 @@ ghost use Rattle.std.specs.List.{repeat};
 ghost use Rattle.link80_text.specs.Causes.{PrintsCause};
 ghost use Rattle.plm80_console.specs.Journal.{and_reported};
 ghost use Rattle.place80.specs.Causes.{cause_text};
+ghost use Rattle.place80.specs.Layout.{layout_of};
+ghost use Rattle.place80_text.specs.Board.{unmapped_text};
 ghost use Rattle.plm80_objects.specs.Link.{root_paths};
 
 use crate::link::{LinkFiles, RootFile};
 use link80::LinkFault;
 use link80_text::LinkSources;
 use omf_module::Module;
-use place80::{Options, PlaceFault};
+use place80::{Options, PlaceFault, layout};
+use place80_text::{Unmapped, append_unmapped};
 use plm80_console::{Console, Reported};
 use std::alloc::{AllocError, Global};
 use std::str;
@@ -29,8 +32,17 @@ pub(crate) fn report_link_fault<C: Console>(
     } else {
         None
     };
+    let has_too_many = matches!(
+        &fault,
+        LinkFault::TooManyCommons | LinkFault::TooManyExternals
+    );
     let reported = console.report(fault);
     explain_lines(console, lines);
+    if has_too_many {
+        console.explain(
+            "link fewer modules, or name the libraries that are missing (docs/FAULTS.md, 'link')",
+        );
+    }
     reported
 }
 
@@ -90,8 +102,14 @@ pub(crate) fn report_place_fault<C: Console>(
     } else {
         None
     };
+    let has_no_start = matches!(&fault, PlaceFault::NoStart);
     let reported = console.report(fault);
     explain_lines(console, lines);
+    if has_no_start {
+        console.explain(
+            "it isn't the main program, which ends with END and a label: link it with that one",
+        );
+    }
     reported
 }
 
@@ -106,6 +124,42 @@ fn place_lines(
 {
     let mut lines = Vec::new(alloc);
     place80::append_cause(alloc, &mut lines, program, options, fault)?;
+    Ok(lines)
+}
+
+/// Reports the address of this module at which a board has no memory for it, and shows its segment if that is asked for.
+pub(crate) fn report_unmapped<C: Console>(
+    console: &mut C,
+    program: &Module,
+    options: &Options,
+    found: Unmapped,
+) -> Reported
+    ensures { C.journal console.new ≡ and_reported (C.journal console.old) }
+{
+    let reported = console.report(found);
+    if console.explains() {
+        explain_lines(
+            console,
+            unmapped_lines(console.alloc(), program, options, found).ok(),
+        );
+    }
+    reported
+}
+
+/// The words for an address without memory.
+fn unmapped_lines(
+    alloc: Global,
+    program: &Module,
+    options: &Options,
+    found: Unmapped,
+) -> Result<Vec<u8>, AllocError>
+    ensures { IfOk result (λ lines. lines.items ≡ unmapped_text program.now.commons (layout_of options.now program.now) found) }
+{
+    let Ok(layout) = layout(alloc, program, options) else {
+        return Err(AllocError);
+    };
+    let mut lines = Vec::new(alloc);
+    append_unmapped(&mut lines, program.commons(), &layout.segments, found)?;
     Ok(lines)
 }
 

@@ -36,7 +36,12 @@ pub(crate) fn explain_empty_segments<C: Console>(
         }
     }
     if has_empty {
-        explain_segments(console, &layout.segments);
+        for placed in &layout.segments {
+            if placed.length > 0 {
+                let (word, base, length) = (shown(placed.id), placed.base, placed.length);
+                console.explain(format_args!("{word} {base:04X} {length:04X}"));
+            }
+        }
     }
 }
 
@@ -47,16 +52,6 @@ fn is_empty(segments: &[Placed], id: u8) -> bool
     segments
         .iter()
         .all(|placed| placed.id != id || placed.length == 0)
-}
-
-/// Says where the segments are that have bytes.
-fn explain_segments<C: Console>(console: &C, segments: &[Placed]) {
-    for placed in segments {
-        if placed.length > 0 {
-            let (word, base, length) = (shown(placed.id), placed.base, placed.length);
-            console.explain(format_args!("{word} {base:04X} {length:04X}"));
-        }
-    }
 }
 
 /// The word for the segment of this id.

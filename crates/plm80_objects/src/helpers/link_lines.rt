@@ -39,7 +39,7 @@ pub(crate) fn lines_of(
     Ok(lines)
 }
 
-/// A line for each module that was taken, with its reason if reasons are wanted.
+/// A line for each module that was taken, with its reason if reasons are wanted and found.
 fn taken_lines(
     alloc: Global,
     reasons: bool,
@@ -51,21 +51,12 @@ fn taken_lines(
         (map (λ p. p.now) files.now.paths.items) linked.now.taken.items lines.items) }
 {
     let mut lines = Vec::new(alloc);
-    if reasons {
-        let (roots, libraries) = (&files.roots, &files.libraries);
-        append_reasons(
-            alloc,
-            &mut lines,
-            roots,
-            libraries,
-            &linked.taken,
-            &files.paths,
-        )?;
-        Ok(lines)
-    } else {
-        append_taken(&mut lines, &linked.taken, &files.libraries)?;
-        Ok(lines)
+    let (roots, libraries) = (&files.roots, &files.libraries);
+    let taken = &linked.taken;
+    if !reasons || !append_reasons(alloc, &mut lines, roots, libraries, taken, &files.paths)? {
+        append_taken(&mut lines, taken, libraries)?;
     }
+    Ok(lines)
 }
 
 /// Appends a line for each unresolved name; with the map one for each module that needs it, and one for each part.

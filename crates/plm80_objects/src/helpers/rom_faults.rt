@@ -1,6 +1,6 @@
 //! Faults of dumps, each with the path of its file.
 
-ghost use Rattle.std.specs.Prelude.{◌≡◌};
+ghost use Rattle.std.specs.Prelude.{◌≡◌, ◌↔◌, None};
 ghost use Rattle.plm80_console.specs.Journal.{and_reported};
 
 use plm80_console::{Console, FaultOf, Reported};
@@ -15,6 +15,28 @@ pub(crate) fn report_rom_fault<C: Console>(
 {
     match fault.fault {
         RomFault::Memory => console.report_memory(),
-        _ => console.report_file(fault.path, fault.fault),
+        _ => {
+            let reported = console.report_file(fault.path, fault.fault);
+            if let Some(words) = words_for(fault.fault) {
+                console.explain(words);
+            }
+            reported
+        }
+    }
+}
+
+/// Words for a fault of a dump; none if memory ran out.
+fn words_for(fault: RomFault) -> Option<&'static str>
+    ensures { (result ≡ None) ↔ (fault ≡ RomFault.Memory) }
+{
+    match fault {
+        RomFault::PastMemory => Some(
+            "its bytes go past FFFF: give a lower address, or fewer bytes",
+        ),
+        RomFault::EmptyFile => Some("it has no bytes: read the PROM again"),
+        RomFault::DumpsOverlap => Some(
+            "an earlier dump has one of its addresses: give another --rom, or cut one, as by head -c 2048",
+        ),
+        RomFault::Memory => None,
     }
 }

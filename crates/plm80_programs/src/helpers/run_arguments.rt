@@ -21,8 +21,8 @@ use plm80_names::{Names, ProgramTexts};
 /// The paths of an image, of its regions and of the inputs of its run.
 #[derive(Clone, Copy)]
 pub struct RunFiles<'a> {
-    image: &'a str,
-    regions: &'a str,
+    pub image: &'a str,
+    pub regions: &'a str,
     inputs: &'a str,
 }
 

@@ -15,6 +15,7 @@ use plm80_console::{Console, ReadFile, Reported};
 use plm80_files::{
     explain_image, explain_inputs, explain_regions, explain_regions_place, explain_unread_bytes,
 };
+use plm80_names::explain_refusal;
 use std::alloc::Global;
 use std::io::ErrorKind;
 use stream80::{Reading, Sink};
@@ -29,7 +30,9 @@ pub fn run_session<C: Console>(
     ensures fault { IfErr result (λ _. OnlyReports (C.journal console.old) (C.journal console.new)) }
 {
     let texts = files.texts(console)?;
-    print_session(console, &texts, limits)
+    let given = print_session(console, &texts, limits);
+    explain_refusal(console, &given, files.image, files.regions);
+    given
 }
 
 /// Does a session on the texts, prints its transcript, and gives the exit status.

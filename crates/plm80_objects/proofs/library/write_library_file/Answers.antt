@@ -17,4 +17,4 @@ returns-in-Err-Memory-clause-fault g c =
 pub returns-clause-fault : goal.returns-clause-fault
 returns-clause-fault g c =
     library_reported c.args.arguments.now.library.now (texts c.deref.result.now) (g.C.Console.journal c.args.console.now) (g.C.Console.journal c.modules_of.new.console)
-    (g.C.Console.journal c.report.new.self) c.in_ok-modules.modules.items c.in_ok-modules.ensures.read c.report.ensures
+    (g.C.Console.journal c.report-reported.new.self) c.in_ok-modules.modules.items c.in_ok-modules.ensures.read c.report-reported.ensures

@@ -2,8 +2,8 @@ use Rattle.std.proofs.Common.{subst}
 use Rattle.image80.specs.Image.{Located}
 use Rattle.verify80_explain.specs.Printed.{GoesOnWithChain}
 use Rattle.plm80_names.specs.Printed.{named_report}
-use Rattle.plm80_programs.specs.Printed.{ShowsRefusal}
-use Rattle.plm80_programs.specs.Printed.PrintsExplanation.{accepted, refused}
+use Rattle.plm80_programs.specs.Explanations.{ShowsRefused}
+use Rattle.plm80_programs.specs.Explanations.PrintsExplanation.{accepted, refused}
 use Rattle.plm80_programs.proofs.explain.explained.Goals as goal
 
 pub returns-in_ok-text-in-Ok-clause-explanation : goal.returns-in_ok-text-in-Ok-clause-explanation
@@ -19,5 +19,5 @@ pub returns-in_ok-text-in-Err-clause-explanation : goal.returns-in_ok-text-in-Er
 returns-in_ok-text-in-Err-clause-explanation c =
     let text = c.in_ok-text-in-Err.text.items in
     refused c.in-Err.refusal text c.in-Err.ensures.refused c.in_ok-text-in-Err.ensures.no_memory
-    (subst (λ (i : Located). ShowsRefusal i c.args.names.now c.in-Err.refusal text) c.in-Err.ensures.handed_back c.in_ok-text-in-Err.ensures.shows)
+    (subst (λ (i : Located). ShowsRefused c.args.all i c.args.names.now c.in-Err.refusal text) c.in-Err.ensures.handed_back c.in_ok-text-in-Err.ensures.shows)
     c.prints-in-Err.ensures

@@ -1,6 +1,6 @@
 use Rattle.std.specs.Prelude.{ℕ, Option, IfOk}
 use Rattle.std.proofs.Common.{◌∙◌, subst, sym}
-use Rattle.plm80_programs.specs.Printed.{ShowsWith}
+use Rattle.plm80_programs.specs.Explanations.{ShowsWith}
 use Rattle.plm80_programs.proofs.ExplainLemmas.{no_memory}
 use Rattle.plm80_programs.proofs.ResultLemmas.{on_ok}
 use Rattle.plm80_programs.proofs.explain.refused.Goals as goal

@@ -1,0 +1,70 @@
+//! Whether what a search found are needs that lead to roots.
+
+ghost use Rattle.std.specs.Prelude.{◌≡◌, true, map, IfOk, IfSome};
+ghost use Rattle.link80_text.specs.Found.{AreNeeds, IsNearer, IsNeeded};
+
+use crate::reasons::linked::LinkedModules;
+use crate::reasons::search::{Need, nearest_needs};
+use omf_model::Module;
+use std::alloc::{AllocError, Global};
+
+/// The needs of a given number of modules that were taken, if the search finds them. The first `roots` of the modules are roots.
+pub(crate) fn checked_needs(
+    alloc: Global,
+    roots: usize,
+    modules: &[&Module],
+    count: usize,
+) -> Result<Option<Vec<Need>>, AllocError>
+    ensures { IfOk result (λ found. IfSome found (λ needs.
+        AreNeeds (record { roots = roots; modules = map (λ m. m.now) modules.now }) needs.items count)) }
+{
+    let linked = LinkedModules::of(alloc, roots, modules)?;
+    let needs = nearest_needs(alloc, &linked, count)?;
+    if are_needs(&linked, &needs, count) {
+        Ok(Some(needs))
+    } else {
+        Ok(None)
+    }
+}
+
+/// Whether these are the needs of a given number of modules that were taken, and lead to roots.
+fn are_needs(linked: &LinkedModules<'_>, needs: &[Need], count: usize) -> bool
+    ensures { result ≡ true → AreNeeds linked.now needs.now count }
+{
+    if needs.len() != count {
+        return false;
+    }
+    for number in 0..needs.len() {
+        let need = needs[number];
+        if !is_needed(linked, number, need) || !is_nearer(linked, needs, need) {
+            return false;
+        }
+    }
+    true
+}
+
+/// Whether it is a need of the module with this number among those that were taken.
+fn is_needed(linked: &LinkedModules<'_>, number: usize, need: Need) -> bool
+    ensures { result ≡ true → IsNeeded linked.now number need }
+{
+    let Some(module) = linked.module(need.by) else {
+        return false;
+    };
+    let Some(name) = module.externals().get(need.name) else {
+        return false;
+    };
+    linked.target(name.bytes()) == Some(number)
+}
+
+/// Whether it is the need of a root, or of a module that is needed itself, in fewer steps.
+fn is_nearer(linked: &LinkedModules<'_>, needs: &[Need], need: Need) -> bool
+    ensures { result ≡ true → IsNearer linked.now.roots needs.now need }
+{
+    let Some(number) = need.by.checked_sub(linked.roots()) else {
+        return true;
+    };
+    match needs.get(number) {
+        Some(other) => other.steps < need.steps,
+        None => false,
+    }
+}

@@ -1,2 +1,0 @@
-mod BundleLemmas
-mod RequestLemmas

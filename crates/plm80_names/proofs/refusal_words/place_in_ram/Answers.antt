@@ -1,0 +1,16 @@
+use Rattle.std.specs.Borrow.{Bor}
+use Rattle.std.specs.Prelude.{List, Option, find, option_copied, refl}
+use Rattle.std.proofs.Common.{◌∙◌, ap, inl, sym}
+use Rattle.image80.specs.declared.range.Range.{Range}
+use Rattle.image80.specs.Image.{Located}
+use Rattle.image80.specs.Range.{in_range}
+use Rattle.plm80_names.proofs.refusal_words.place_in_ram.Goals as goal
+
+pub returns-in-Some : goal.returns-in-Some
+returns-in-Some c =
+    inl (
+      refl,
+      ap (λ (i : Located). find (λ r. in_range r c.args.address) i.regions.data_ranges) (sym c.image.view_is)
+          ∙ ap (λ (l : List Range). find (λ r. in_range r c.args.address) l) (sym c.data_ranges.ensures.ranges)
+          ∙ sym c.range_of.ensures ∙ ap (λ (o : Option (Bor Range)). option_copied o) c.in-Some.is,
+    )

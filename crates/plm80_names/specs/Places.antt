@@ -1,0 +1,29 @@
+-- What is at an address: an instruction, and a range of the regions.
+-- (8080 Assembly Language Programming Manual: instructions of one to three bytes. The words for ranges are those of a regions text.)
+use Rattle.std.specs.Prelude.{◌≡◌, ◌⊎◌, ℕ, ◌+◌, ◌%◌, true, Option, Some, option_map, List, codes, find}
+use Rattle.decode80.specs.declared.instr.Instr.{Instr}
+use Rattle.decode80.specs.Decoded.{decoded}
+use Rattle.image80.specs.declared.range.Range.{Range}
+use Rattle.image80.specs.Image.{Located, byte_at}
+use Rattle.image80.specs.Range.{in_range}
+use Rattle.image80.specs.Regions.{Areas}
+use Rattle.plm80_names.specs.declared.refusal_words.Place.{Place}
+
+-- the instruction that the image's bytes spell at an address; addresses go on at 0000 after FFFF
+abbrev pub instr_at : Located → (at : ℕ) → Option Instr
+instr_at image at = option_map (λ found. found.0)
+    (decoded (byte_at image.chunks at) (byte_at image.chunks ((at + 1) % 65536)) (byte_at image.chunks ((at + 2) % 65536)))
+
+abbrev has : (address : ℕ) → List Range → Range → Type 0
+has address ranges range = find (λ r. in_range r address) ranges ≡ Some range
+
+-- the range of the stack, of data, or of code that has the address, with the word that begins its line
+abbrev pub IsPlaceInStack : Areas → (address : ℕ) → Place → Type 0
+IsPlaceInStack areas address place = (place.word.now ≡ codes "STACK") × (place.range ≡ areas.stack) × (in_range areas.stack address ≡ true)
+
+abbrev pub IsPlaceInRam : Areas → (address : ℕ) → Place → Type 0
+IsPlaceInRam areas address place =
+    ((place.word.now ≡ codes "DATA") × has address areas.data_ranges place.range) ⊎ IsPlaceInStack areas address place
+
+abbrev pub IsPlaceOf : Areas → (address : ℕ) → Place → Type 0
+IsPlaceOf areas address place = ((place.word.now ≡ codes "CODE") × has address areas.code place.range) ⊎ IsPlaceInRam areas address place

@@ -1,0 +1,214 @@
+//! What is at the address of a refusal, in words.
+
+ghost use Rattle.std.specs.Prelude.{◌≡◌, false, find, option_copied, IfOk, IfSome};
+ghost use Rattle.decode80.specs.Text.{text as text_of};
+ghost use Rattle.image80.specs.Range.{in_range};
+ghost use Rattle.image80.specs.Regions.{in_data};
+ghost use Rattle.verify80.specs.Looking.{code_of};
+ghost use Rattle.verify80_flow.specs.Faults.{Holds};
+ghost use Rattle.plm80_names.specs.Places.{IsPlaceInRam, IsPlaceInStack, IsPlaceOf, instr_at};
+
+use decode80::{Instr, Pair, decode, direct_bytes, write_text};
+use image80::{Image, Range, read_regions};
+use image80_file::read_image;
+use loader80::{Refusal, vouch};
+use plm80_console::{Console, Reported};
+use std::alloc::{AllocError, Global};
+use std::fmt::Display;
+use std::str;
+
+/// A range of an image's regions, and the word that begins its line.
+#[derive(Clone, Copy)]
+struct Place {
+    word: &'static str,
+    range: Range,
+}
+
+/// Says what is at the address of the refusal of the program in the files of these paths, and how to go on, if a command has given the
+/// status of a refusal and words are asked for. The files are read again; if they can't be, or memory runs out, it says less.
+pub fn explain_refusal<C: Console>(
+    console: &C,
+    given: &Result<u8, Reported>,
+    image: &str,
+    regions: &str,
+) {
+    if !matches!(given, Ok(1)) {
+        return;
+    }
+    if let Some((image, refusal)) = refused_again(console, image, regions) {
+        explain_place(console, &image, refusal);
+        console.explain(
+            "plm80 explain shows the way; docs/FAULTS.md says what to change ('Refusals of the verifier')",
+        );
+    }
+}
+
+/// The program in the files of these paths with its refusal, if it is refused.
+fn refused_again<C: Console>(console: &C, image: &str, regions: &str) -> Option<(Image, Refusal)>
+    ensures { IfSome result (λ refused. Holds (code_of refused.0) refused.1) }
+{
+    let bytes = console.text_to_explain(image)?;
+    let text = console.text_to_explain(regions)?;
+    let regions = read_regions(console.alloc(), &text).ok()?;
+    let image = read_image(console.alloc(), &bytes, regions).ok()?;
+    match vouch(console.alloc(), image) {
+        Ok(_) => None,
+        Err(refused) => Some(refused),
+    }
+}
+
+/// Says what is at the address of a refusal.
+fn explain_place<C: Console>(console: &C, image: &Image, refusal: Refusal) {
+    match refusal {
+        Refusal::FetchOutside(at) if image.regions.in_code(at) => {
+            console.explain(format_args!(
+                "not all bytes of the instruction at {at:04X} are in CODE"
+            ));
+        }
+        Refusal::FetchOutside(at) => explain_range(console, image, "", at),
+        Refusal::UnusedOpcode(at) => {
+            let byte = image.byte(at);
+            console.explain(format_args!("{at:04X} has {byte:02X}, no instruction of the 8080"));
+        }
+        Refusal::StackTooSmall(need, _) => {
+            console.explain(format_args!("give STACK so many: locate --stack-size {need:X}"));
+        }
+        _ => explain_instruction(console, image, refusal),
+    }
+}
+
+/// Says in which range an address is, behind other words.
+fn explain_range<C: Console, W: Display + Drop>(
+    console: &C,
+    image: &Image,
+    before: W,
+    address: u16,
+) {
+    match place_of(image, address) {
+        Some(place) => {
+            let (word, first, length) = (place.word, place.range.first, place.range.length);
+            console.explain(format_args!(
+                "{before}{address:04X} is in {word} {first:04X} {length:04X}"
+            ));
+        }
+        None => console.explain(format_args!("{before}{address:04X} is in no range")),
+    }
+}
+
+/// Says which instruction is at the address of a refusal, and what is wrong with it.
+fn explain_instruction<C: Console>(console: &C, image: &Image, refusal: Refusal) {
+    let Some(at) = refusal.address() else { return };
+    let Some(instr) = instr_at(image, at) else {
+        return;
+    };
+    let Ok(text) = text_of(console.alloc(), instr) else {
+        return;
+    };
+    let Ok(text) = str::from_utf8(&text) else {
+        return;
+    };
+    let top = image.regions.top();
+    match refusal {
+        Refusal::DirectStore(_) => {
+            if let Some(address) = stored_outside(image, instr) {
+                explain_range(console, image, format_args!("{text}: "), address);
+            }
+        }
+        Refusal::SetsStack(_) if instr == Instr::Lxi(Pair::Sp, top) => {
+            console.explain(format_args!("{text} isn't in the main program"));
+        }
+        Refusal::SetsStack(_) => {
+            console.explain(format_args!("{text}: STACK ends before {top:04X}"));
+        }
+        Refusal::EnablesInterrupts(_) => {
+            console.explain(format_args!("{text}: no HLT in CODE follows it"));
+        }
+        Refusal::Pchl(_) => {
+            console.explain(format_args!(
+                "{text}: no CASE line has its targets; plm80 cases may see them"
+            ));
+        }
+        _ => console.explain(format_args!("{text} is at {at:04X}")),
+    }
+}
+
+/// The instruction at an address, by the image's bytes.
+fn instr_at(image: &Image, at: u16) -> Option<Instr>
+    ensures { result ≡ instr_at image.now at }
+{
+    let bytes = [
+        image.byte(at),
+        image.byte(at.wrapping_add(1)),
+        image.byte(at.wrapping_add(2)),
+    ];
+    let (instr, _) = decode(bytes)?;
+    Some(instr)
+}
+
+/// The text of an instruction.
+fn text_of(alloc: Global, instr: Instr) -> Result<Vec<u8>, AllocError>
+    ensures { IfOk result (λ made. made.items ≡ text_of instr) }
+{
+    let mut text = Vec::new(alloc);
+    write_text(alloc, instr, &mut text)?;
+    Ok(text)
+}
+
+/// The first byte outside DATA that an instruction names to store to.
+fn stored_outside(image: &Image, instr: Instr) -> Option<u16>
+    ensures { IfSome result (λ address. in_data image.now.regions address ≡ false) }
+{
+    let [first, second] = direct_bytes(instr);
+    match first {
+        Some(address) if !image.regions.in_data(address) => Some(address),
+        _ => second.filter(|address| !image.regions.in_data(*address)),
+    }
+}
+
+/// The range that has an address.
+fn place_of(image: &Image, address: u16) -> Option<Place>
+    ensures { IfSome result (IsPlaceOf image.now.regions address) }
+{
+    match range_of(image.regions.code(), address) {
+        Some(range) => Some(Place {
+            word: "CODE",
+            range: *range,
+        }),
+        None => place_in_ram(image, address),
+    }
+}
+
+/// The range of data that has an address, or the stack.
+fn place_in_ram(image: &Image, address: u16) -> Option<Place>
+    ensures { IfSome result (IsPlaceInRam image.now.regions address) }
+{
+    match range_of(image.regions.data_ranges(), address) {
+        Some(range) => Some(Place {
+            word: "DATA",
+            range: *range,
+        }),
+        None => place_in_stack(image, address),
+    }
+}
+
+/// The stack, if it has an address.
+fn place_in_stack(image: &Image, address: u16) -> Option<Place>
+    ensures { IfSome result (IsPlaceInStack image.now.regions address) }
+{
+    let range = image.regions.stack();
+    if range.contains(address) {
+        Some(Place {
+            word: "STACK",
+            range,
+        })
+    } else {
+        None
+    }
+}
+
+/// The first of the ranges that has an address.
+fn range_of(ranges: &[Range], address: u16) -> Option<&Range>
+    ensures { option_copied result ≡ find (λ range. in_range range address) ranges.now }
+{
+    ranges.iter().find(|range| range.contains(address))
+}

@@ -1,0 +1,51 @@
+//! The memory of a board, as the options of `locate` name it.
+
+ghost use Rattle.std.specs.Prelude.{◌≡◌, IfOk};
+ghost use Rattle.plm80_objects.specs.Locate.{names_board, unmapped_of};
+
+use omf_module::Module;
+use place80::{Options, layout};
+use place80_text::{Board, Unmapped, first_unmapped};
+use plm80_console::{Argument, Kind};
+use std::alloc::{AllocError, Global};
+
+/// Ranges of read-only memory.
+pub const ROM_RANGE: Argument<'static> = Argument {
+    name: "rom-range",
+    kind: Kind::PathsAt("FIRST:LENGTH"),
+    help: "ROM of the board, which only CODE may use",
+};
+
+/// Ranges of memory that can be written.
+pub const RAM_RANGE: Argument<'static> = Argument {
+    name: "ram-range",
+    kind: Kind::PathsAt("FIRST:LENGTH"),
+    help: "RAM of the board",
+};
+
+/// The first address at which the board has no memory for a program that can be located; none if no range of it is named.
+pub(crate) fn unmapped_of(
+    alloc: Global,
+    program: &Module,
+    options: &Options,
+    restart: bool,
+    board: Board<'_>,
+) -> Result<Option<Unmapped>, AllocError>
+    ensures { IfOk result (λ found. found ≡ unmapped_of board.entry.rom.now board.entry.ram.now restart options.now program.now) }
+{
+    if !names_board(board) {
+        return Ok(None);
+    }
+    match layout(alloc, program, options) {
+        Ok(layout) => Ok(first_unmapped(program, &layout.segments, restart, board)),
+        // It has no fault, since the program was located.
+        Err(_) => Err(AllocError),
+    }
+}
+
+/// Whether a range is named.
+fn names_board(board: Board<'_>) -> bool
+    ensures { result ≡ names_board board.entry.rom.now board.entry.ram.now }
+{
+    !board.rom.is_empty() || !board.ram.is_empty()
+}

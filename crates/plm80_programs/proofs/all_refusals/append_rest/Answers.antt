@@ -1,0 +1,9 @@
+use Rattle.std.specs.Prelude.{ℕ, List, ◌++◌, refl}
+use Rattle.std.proofs.Common.{◌∙◌, ap}
+use Rattle.plm80_programs.specs.Explanations.ShowsRest.{behind}
+use Rattle.plm80_programs.proofs.all_refusals.append_rest.Goals as goal
+
+pub returns : goal.returns
+returns c =
+    behind c.in_ok-rest.rest.items c.in_ok-rest.ensures.shows refl
+    (c.in_ok-extend_from_slice.ensures.items ∙ ap (λ (l : List ℕ). c.args.text.now.items ++ l) c.deref.ensures.value)

@@ -1,0 +1,100 @@
+-- What `explain` prints of an image. (This project's own.)
+use Rattle.std.specs.Prelude.{◌≡◌, ◌≢◌, ◌+◌, ◌++◌, ◌∷◌, ◌&&◌, ◌==◌, ℕ, Bool, true, false, List, [], Option, None, Some, All, codes, length}
+use Rattle.std.specs.Fmt.{decimal}
+use Rattle.std.specs.List.{flat_map, list_any}
+use Rattle.omf_model.specs.declared.symbols.Public.{Public}
+use Rattle.image80.specs.Image.{Located}
+use Rattle.verify80_flow.specs.declared.refusal.Refusal.{Refusal}
+use Rattle.verify80_flow.specs.declared.refusal.Refusal.TheVariants.{Memory, StackTooSmall}
+use Rattle.verify80_flow.specs.declared.report.ProcRow.{ProcRow}
+use Rattle.verify80_flow.specs.Accepted.{IsMeasured}
+use Rattle.verify80_flow.specs.Faults.{Holds}
+use Rattle.verify80_flow.specs.Refusal.{refusal_address, refusal_code}
+use Rattle.verify80.specs.Looking.{code_of}
+use Rattle.verify80.specs.Vouched.{Voucher}
+use Rattle.verify80_explain.specs.declared.explaining_all.ShownRefusal.{ShownRefusal}
+use Rattle.verify80_explain.specs.Explained.{explanation_text}
+use Rattle.verify80_explain.specs.Printed.{GoesOnWithChain, GoesOnWithWays, too_many}
+use Rattle.verify80_explain.specs.Shows.{IsShown}
+use Rattle.plm80_console.specs.Answer.{AnswerValue, prints}
+use Rattle.plm80_names.specs.Printed.{named_refusal_line, named_refusal_report, named_report}
+use Rattle.plm80_names.specs.Verdict.{IsAccepted}
+
+-- ---- one refusal
+
+-- the refusal of an image whose stack is too small: the line of each procedure, and the chain of calls that needs most
+pub record ShowsOverrun (image : Located) (publics : List Public) (refusal : Refusal) (need : ℕ) (text : List ℕ) : Type 0 where
+  pub rows : List ProcRow
+  pub bytes : ℕ
+  pub measured : IsMeasured (code_of image) rows bytes
+  pub goes_on : GoesOnWithChain image publics need (named_refusal_report image.regions.code publics refusal rows) text
+
+-- the bytes of stack that an image needs whose stack is too small
+abbrev pub needed_stack : Refusal → Option ℕ
+needed_stack (StackTooSmall need has) = Some need
+needed_stack _ = None
+
+-- the line of a refusal, and what shows it: that depends on whether its stack is too small
+abbrev pub ShowsWith : Located → List Public → Refusal → (need : Option ℕ) → (text : List ℕ) → Type 0
+ShowsWith image publics refusal (Some need) text = ShowsOverrun image publics refusal need text
+ShowsWith image publics refusal None text =
+    GoesOnWithWays image publics refusal (named_refusal_line image.regions.code publics refusal) text
+
+abbrev pub ShowsRefusal : Located → List Public → Refusal → (text : List ℕ) → Type 0
+ShowsRefusal image publics refusal text = ShowsWith image publics refusal (needed_stack refusal) text
+
+-- ---- all refusals
+
+-- the line of a refusal, and what shows it
+abbrev pub shown_lines : Located → List Public → ShownRefusal → List ℕ
+shown_lines image publics one =
+    named_refusal_line image.regions.code publics one.refusal ++ explanation_text image publics one.refusal one.explanation
+
+-- that there is more to show than the limit allows
+abbrev pub limit_line : (are_all : Bool) → List ℕ
+limit_line true = []
+limit_line false = too_many
+
+-- how many refusals there are
+abbrev pub count_line : ℕ → List ℕ
+count_line count = codes "REFUSALS " ++ (decimal count ++ 10 ∷ [])
+
+abbrev pub same_address : (one other : Option ℕ) → Bool
+same_address None None = true
+same_address (Some a) (Some b) = a == b
+same_address _ _ = false
+
+-- whether what is shown is a refusal: it has its number and its address
+abbrev pub is_of : Refusal → ShownRefusal → Bool
+is_of refusal one = (refusal_code one.refusal == refusal_code refusal) && same_address (refusal_address one.refusal) (refusal_address refusal)
+
+-- a text goes on with the verifier's refusal and what shows it, or it ends if that is shown already
+pub data ShowsRest (image : Located) (publics : List Public) (refusal : Refusal) (shown : List ShownRefusal) (further : ℕ)
+    (before text : List ℕ) : Type 0 where
+  among : list_any (is_of refusal) shown ≡ true → further ≡ 0 → text ≡ before → ShowsRest image publics refusal shown further before text
+  behind : (rest : List ℕ) → ShowsRefusal image publics refusal rest → further ≡ 1 → text ≡ before ++ rest
+      → ShowsRest image publics refusal shown further before text
+
+-- refusals, each with what shows it; that there are more, if so; the verifier's refusal, if it is none of these; and how many there are
+pub record ShowsAll (image : Located) (publics : List Public) (refusal : Refusal) (text : List ℕ) : Type 0 where
+  pub shown : List ShownRefusal
+  pub are_all : Bool
+  pub further : ℕ
+  pub lines : List ℕ
+  pub each : All (IsShown (code_of image)) shown
+  pub rest : ShowsRest image publics refusal shown further (flat_map (shown_lines image publics) shown ++ limit_line are_all) lines
+  pub text_is : text ≡ lines ++ count_line (length shown + further)
+
+-- one refusal, or all that are found
+abbrev pub ShowsRefused : (all : Bool) → Located → List Public → Refusal → (text : List ℕ) → Type 0
+ShowsRefused true image publics refusal text = ShowsAll image publics refusal text
+ShowsRefused false image publics refusal text = ShowsRefusal image publics refusal text
+
+-- of a program that is accepted the report, and the chain of calls that needs most; of another one its refusal, or all, and what shows it
+pub data PrintsExplanation (all : Bool) (image : Located) (publics : List Public) (answer : AnswerValue) : Type 0 where
+  accepted : (program : Voucher) (text : List ℕ) → IsAccepted image program
+      → GoesOnWithChain image publics program.stack_bytes (named_report program publics) text
+      → answer ≡ prints text 0 → PrintsExplanation all image publics answer
+  refused : (refusal : Refusal) (text : List ℕ) → Holds (code_of image) refusal → refusal ≢ Memory
+      → ShowsRefused all image publics refusal text
+      → answer ≡ prints text 1 → PrintsExplanation all image publics answer

@@ -1,0 +1,133 @@
+//! All refusals of an image, for `explain --all`.
+
+ghost use Rattle.std.specs.Prelude.{◌≡◌, ◌≢◌, ◌↔◌, ◌+◌, ◌++◌, true, IfOk, OnOk};
+ghost use Rattle.std.specs.List.{flat_map, list_any};
+ghost use Rattle.verify80_flow.specs.declared.refusal.Refusal.TheVariants.{Memory};
+ghost use Rattle.plm80_programs.specs.Explanations.{ShowsAll, ShowsRest, count_line, is_of, limit_line, shown_lines};
+
+use crate::explain::{LIMIT, refused};
+use image80::Image;
+use loader80::Refusal;
+use plm80_names::{Names, named_refusal};
+use std::alloc::{AllocError, Global};
+use verify80_explain::{ShownRefusal, explain_all, explanation_text};
+
+/// All refusals of points that are found of an image, each with its way; behind them the verifier's, if it is none of these; and how many
+/// there are. Out of memory is no answer about the image.
+pub(crate) fn all_refused(
+    alloc: Global,
+    image: &Image,
+    refusal: Refusal,
+    names: &Names,
+) -> Result<Vec<u8>, AllocError>
+    ensures shows { IfOk result (λ text. ShowsAll image.now names.now refusal text.items) }
+    ensures no_memory { OnOk result (refusal ≢ Memory) }
+{
+    if is_memory(refusal) {
+        return Err(AllocError);
+    }
+    let all = explain_all(alloc, image, LIMIT)?;
+    let mut text = shown_text(alloc, image, &all.shown, names)?;
+    append_limit(&mut text, all.are_all)?;
+    let further = append_rest(alloc, &mut text, image, refusal, names, &all.shown)?;
+    append_count(alloc, &mut text, all.shown.len(), further)?;
+    Ok(text)
+}
+
+/// Whether memory ran out.
+fn is_memory(refusal: Refusal) -> bool
+    ensures { (result ≡ true) ↔ (refusal ≡ Memory) }
+{
+    matches!(refusal, Refusal::Memory)
+}
+
+/// The line of each refusal, and what shows it.
+fn shown_text(
+    alloc: Global,
+    image: &Image,
+    shown: &[ShownRefusal],
+    names: &Names,
+) -> Result<Vec<u8>, AllocError>
+    ensures { IfOk result (λ text. text.items ≡ flat_map (shown_lines image.now names.now) shown.now) }
+{
+    let mut text = Vec::new(alloc);
+    for one in shown {
+        append_shown(alloc, &mut text, image, one, names)?;
+    }
+    Ok(text)
+}
+
+/// Appends the line of a refusal, and what shows it.
+fn append_shown(
+    alloc: Global,
+    text: &mut Vec<u8>,
+    image: &Image,
+    one: &ShownRefusal,
+    names: &Names,
+) -> Result<(), AllocError>
+    ensures { OnOk result (text.new.items ≡ text.old.items ++ shown_lines image.now names.now one.now) }
+{
+    let line = named_refusal(alloc, image, one.refusal, names)?;
+    text.extend_from_slice(&line)?;
+    let ways = explanation_text(alloc, image, names.publics(), one.refusal, &one.explanation)?;
+    text.extend_from_slice(&ways)
+}
+
+/// Appends the line that there is more to show, if there is.
+fn append_limit(text: &mut Vec<u8>, are_all: bool) -> Result<(), AllocError>
+    ensures { OnOk result (text.new.items ≡ text.old.items ++ limit_line are_all) }
+{
+    if are_all {
+        return Ok(());
+    }
+    text.extend_from_slice(b"TOO MANY WAYS TO SHOW\n".as_slice())
+}
+
+/// Appends the refusal of the verifier with what shows it, unless one of those that are shown is it, and answers how many it appended.
+fn append_rest(
+    alloc: Global,
+    text: &mut Vec<u8>,
+    image: &Image,
+    refusal: Refusal,
+    names: &Names,
+    shown: &[ShownRefusal],
+) -> Result<usize, AllocError>
+    ensures { IfOk result (λ further. ShowsRest image.now names.now refusal shown.now further text.old.items text.new.items) }
+{
+    if is_among(shown, refusal) {
+        return Ok(0);
+    }
+    let rest = refused(alloc, image, refusal, names)?;
+    text.extend_from_slice(&rest)?;
+    Ok(1)
+}
+
+/// Whether one of those that are shown has the number and the address of a refusal.
+fn is_among(shown: &[ShownRefusal], refusal: Refusal) -> bool
+    ensures { result ≡ list_any (is_of refusal) shown.now }
+{
+    shown.iter().any(|one| is_of(one, refusal))
+}
+
+/// Whether it has the number and the address of a refusal.
+fn is_of(one: &ShownRefusal, refusal: Refusal) -> bool
+    ensures { result ≡ is_of refusal one.now }
+{
+    one.refusal.code() == refusal.code() && one.refusal.address() == refusal.address()
+}
+
+/// Appends how many refusals there are.
+fn append_count(
+    alloc: Global,
+    text: &mut Vec<u8>,
+    shown: usize,
+    further: usize,
+) -> Result<(), AllocError>
+    ensures { OnOk result (text.new.items ≡ text.old.items ++ count_line (shown + further)) }
+{
+    let Some(count) = shown.checked_add(further) else {
+        return Err(AllocError);
+    };
+    let line = format!(in alloc; "REFUSALS {count}\n")?;
+    text.extend_from_slice(line.as_bytes())
+}

@@ -1,0 +1,219 @@
+//! All refusals of points that the walks of an image reach, each shown by a way.
+
+ghost use Rattle.std.specs.Prelude.{All, IfOk, IfSome, OnOk};
+ghost use Rattle.verify80.specs.Looking.{code_of};
+ghost use Rattle.verify80_explain.specs.Reached.{AreReached, AreWalked};
+ghost use Rattle.verify80_explain.specs.Shows.{IsShown, Shows};
+
+use crate::evidence::Fault;
+use crate::explanation::Explanation;
+use crate::fault::Unexplained;
+use crate::looked::{Looked, look_at};
+use crate::point::Point;
+use crate::reached::are_reached;
+use crate::search::{Origin, Search, points_weight};
+use crate::sought::{Kind, Sought, show_reached_fault};
+use frames80::{Code, FrameFault, LookFault};
+use image80::Image;
+use std::alloc::{AllocError, Global};
+use verify80::ImageCode;
+use verify80_flow::Refusal;
+
+/// A refusal, and what shows it.
+#[derive(Debug, Drop)]
+pub struct ShownRefusal {
+    /// Why the image is refused.
+    pub refusal: Refusal,
+    /// What shows that the refusal holds.
+    pub explanation: Explanation,
+}
+
+/// The refusals of points that a search found.
+#[derive(Debug, Drop)]
+pub struct ShownRefusals {
+    /// The refusals by address, those of one address by number, each once.
+    pub shown: Vec<ShownRefusal>,
+    /// Whether every walk was followed to its end, and all refusals that were found are shown.
+    pub are_all: bool,
+}
+
+/// A point whose instruction may not be executed, by its number in a search.
+#[derive(Clone, Copy)]
+struct FaultyPoint {
+    refusal: Refusal,
+    number: usize,
+}
+
+/// All refusals of points, those with the numbers 1 to 11, that walks of the image's program reach, each shown by a way. Walks end at
+/// a fault, so nothing is found behind one.
+///
+/// The limit is on what the points that are found weigh together, as for [`explain`](crate::explain), and on what the points of all ways weigh.
+/// Past it fewer refusals are shown, and the answer says so.
+///
+/// # Errors
+/// `AllocError` only if memory runs out.
+pub fn explain_all(alloc: Global, image: &Image, limit: usize) -> Result<ShownRefusals, AllocError>
+    ensures shown { IfOk result (λ all. All (IsShown (code_of image.now)) all.shown.items) }
+{
+    let code = ImageCode::new(alloc, image)?;
+    let mut search = Search::new(alloc, &code)?;
+    let is_whole = is_reached_within(search.grow(alloc, &code, limit))?;
+    let mut shown = Vec::new(alloc);
+    let are_shown = is_reached_within(show_all(alloc, &code, &search, limit, &mut shown))?;
+    Ok(ShownRefusals {
+        shown,
+        are_all: is_whole && are_shown,
+    })
+}
+
+/// Whether an end was reached; `false` if a limit was.
+fn is_reached_within(reached: Result<bool, Unexplained>) -> Result<bool, AllocError> {
+    match reached {
+        Ok(is_whole) => Ok(is_whole),
+        Err(Unexplained::Memory) => Err(AllocError),
+        Err(Unexplained::Limit | Unexplained::NotShown) => Ok(false),
+    }
+}
+
+/// Appends each refusal of the points of a search with a way that shows it, and answers whether none is left out.
+fn show_all<C: Code>(
+    alloc: Global,
+    program: &C,
+    search: &Search,
+    limit: usize,
+    shown: &mut Vec<ShownRefusal>,
+) -> Result<bool, Unexplained>
+    ensures { All (IsShown (C.code program.now)) shown.old.items → All (IsShown (C.code program.now)) shown.new.items }
+{
+    let points = search.points.as_slice();
+    let origins = search.origins.as_slice();
+    let faulty = find_faulty(alloc, program, points)?;
+    if !are_reached(alloc, program, points, origins)? {
+        return Ok(false);
+    }
+    show_each(alloc, program, points, origins, &faulty, limit, shown)
+}
+
+/// Appends the refusals of these points, each with a way that shows it, until their ways weigh more than the limit.
+fn show_each<C: Code>(
+    alloc: Global,
+    program: &C,
+    points: &[Point],
+    origins: &[Origin],
+    faulty: &[FaultyPoint],
+    limit: usize,
+    shown: &mut Vec<ShownRefusal>,
+) -> Result<bool, Unexplained>
+    requires reached { AreReached (C.code program.now) points.now origins.now }
+    requires walked { AreWalked (C.code program.now) points.now }
+    ensures { All (IsShown (C.code program.now)) shown.old.items → All (IsShown (C.code program.now)) shown.new.items }
+{
+    let mut left = limit;
+    for found in faulty {
+        let Some(explanation) = show_point(alloc, program, points, origins, *found)? else {
+            return Ok(false);
+        };
+        let Some(rest) = left.checked_sub(weight_of(program, &explanation)) else {
+            return Ok(false);
+        };
+        left = rest;
+        shown.push(ShownRefusal {
+            refusal: found.refusal,
+            explanation,
+        })?;
+    }
+    Ok(true)
+}
+
+/// The way to a point that shows its refusal.
+fn show_point<C: Code>(
+    alloc: Global,
+    program: &C,
+    points: &[Point],
+    origins: &[Origin],
+    found: FaultyPoint,
+) -> Result<Option<Explanation>, Unexplained>
+    requires reached { AreReached (C.code program.now) points.now origins.now }
+    requires walked { AreWalked (C.code program.now) points.now }
+    ensures { IfOk result (λ shown. IfSome shown (Shows (C.code program.now) found.refusal)) }
+{
+    let Some(sought) = Sought::of(found.refusal) else {
+        return Ok(None);
+    };
+    let Kind::Fault(fault) = sought.kind else {
+        return Ok(None);
+    };
+    show_reached_fault(
+        alloc,
+        program,
+        points,
+        origins,
+        sought.at,
+        fault,
+        found.number,
+    )
+}
+
+/// What the points and the calls of an explanation weigh, or the most that a number can say.
+fn weight_of<C: Code>(program: &C, explanation: &Explanation) -> usize {
+    match explanation {
+        Explanation::Way(route) => {
+            points_weight(program, &route.way).saturating_add(route.calls.len())
+        }
+        _ => 0,
+    }
+}
+
+/// The first point of each address and refusal, by address and the refusal's number.
+fn find_faulty<C: Code>(
+    alloc: Global,
+    program: &C,
+    points: &[Point],
+) -> Result<Vec<FaultyPoint>, Unexplained> {
+    let mut faulty = Vec::new(alloc);
+    for number in 0..points.len() {
+        if let Some(refusal) = refusal_at(alloc, program, &points[number])? {
+            faulty.push(FaultyPoint { refusal, number })?;
+        }
+    }
+    faulty.sort_by_key(place_of)?;
+    faulty.dedup_by_key(|found| place_of(found));
+    Ok(faulty)
+}
+
+/// The address and the number of a point's refusal.
+fn place_of(found: &FaultyPoint) -> (Option<u16>, u8) {
+    (found.refusal.address(), found.refusal.code())
+}
+
+/// The refusal of a point; `None` if its instruction may be executed there.
+fn refusal_at<C: Code>(
+    alloc: Global,
+    program: &C,
+    point: &Point,
+) -> Result<Option<Refusal>, Unexplained> {
+    let at = point.at;
+    Ok(match look_at(alloc, program, point)? {
+        Looked::Wrong(fault) => Some(refusal_of(Fault::Look(fault), at)),
+        Looked::Stuck(fault) => Some(refusal_of(Fault::Frame(fault), at)),
+        Looked::Moved(_moves, _next) => None,
+    })
+}
+
+/// The refusal for a fault at an address.
+fn refusal_of(fault: Fault, at: u16) -> Refusal {
+    match fault {
+        Fault::Look(LookFault::Outside) => Refusal::FetchOutside(at),
+        Fault::Look(LookFault::Unused) => Refusal::UnusedOpcode(at),
+        Fault::Look(LookFault::EnablesInterrupts) => Refusal::EnablesInterrupts(at),
+        Fault::Look(LookFault::Pchl) => Refusal::Pchl(at),
+        Fault::Look(LookFault::DirectStore) => Refusal::DirectStore(at),
+        Fault::Frame(FrameFault::Sphl) => Refusal::Sphl(at),
+        Fault::Frame(FrameFault::StackByByte) => Refusal::StackByByte(at),
+        Fault::Frame(FrameFault::SetsStack) => Refusal::SetsStack(at),
+        Fault::Frame(FrameFault::PopsBelow) => Refusal::PopsBelow(at),
+        Fault::Frame(FrameFault::ReturnNotOwn) => Refusal::ReturnNotOwn(at),
+        Fault::Frame(FrameFault::ReturnFromMain) => Refusal::ReturnFromMain(at),
+        Fault::Frame(FrameFault::Memory) => Refusal::Memory,
+    }
+}
