@@ -6,10 +6,10 @@ use crate::proposing::Proposal;
 use std::alloc::{AllocError, Global};
 use verify80_states::{APART, CallReturns, Placed};
 
-/// The hint of a way.
-fn hint_at(hints: &[u32], first: u32, number: usize) -> u32 {
-    match hints.get((first as usize).saturating_add(number)) {
-        Some(hint) => *hint,
+/// The place that a list of places has at an index.
+fn place_at(places: &[u32], index: usize) -> u32 {
+    match places.get(index) {
+        Some(place) => *place,
         None => NOWHERE,
     }
 }
@@ -37,7 +37,7 @@ pub(crate) fn compact(
     };
     proposal
         .hints
-        .push(new_place(&places, nodes.holder(start)))?;
+        .push(place_at(&places, nodes.holder(start) as usize))?;
     for number in 0..nodes.len() {
         let place = place_of(number);
         if let Some(node) = nodes.get(place) {
@@ -64,14 +64,6 @@ fn number_states(alloc: Global, nodes: &Nodes) -> Result<Vec<u32>, AllocError> {
     Ok(places)
 }
 
-/// The new place of a state.
-fn new_place(places: &[u32], place: u32) -> u32 {
-    match places.get(place as usize) {
-        Some(new) => *new,
-        None => NOWHERE,
-    }
-}
-
 /// Appends a state and its hints.
 fn append_state(
     proposal: &mut Proposal,
@@ -90,9 +82,9 @@ fn append_state(
         proposal.hints.push(NOWHERE)?;
     }
     for number in 0..ways {
-        let hint = hint_at(hints, node.hint, number);
+        let hint = place_at(hints, (node.hint as usize).saturating_add(number));
         let new = if hint < APART || hint == NOWHERE {
-            new_place(places, nodes.holder(hint))
+            place_at(places, nodes.holder(hint) as usize)
         } else {
             append_apart(proposal, nodes, hints, places, hint - APART)?
         };
@@ -117,9 +109,12 @@ fn append_apart(
     from: u32,
 ) -> Result<u32, AllocError> {
     let first = proposal.hints.len();
-    for number in 0..hint_at(hints, from, 0) as usize {
-        let held = nodes.holder(hint_at(hints, from, number.saturating_add(1)));
-        proposal.hints.push(new_place(places, held))?;
+    let from = from as usize;
+    for number in 0..place_at(hints, from) as usize {
+        let hint = place_at(hints, from.saturating_add(number).saturating_add(1));
+        proposal
+            .hints
+            .push(place_at(places, nodes.holder(hint) as usize))?;
     }
     Ok(APART.saturating_add(place_of(first)))
 }

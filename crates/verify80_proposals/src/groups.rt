@@ -16,7 +16,7 @@ const SWEEPS: usize = 64;
 #[derive(Drop)]
 pub struct Groups {
     /// By address the number of its group; that of an address that isn't reached is 0. 65,536 places.
-    numbers: Vec<u16>,
+    pub(crate) numbers: Vec<u16>,
     /// Whether each group may return.
     returns: Vec<bool>,
     /// The group of each call, and that of its callee.
@@ -67,11 +67,6 @@ impl Groups {
             }
             _ => Ok(()),
         }
-    }
-
-    /// By address the number of its group.
-    pub fn numbers(&self) -> &[u16] {
-        &self.numbers
     }
 
     /// The number of the group at an address.

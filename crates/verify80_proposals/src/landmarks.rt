@@ -115,8 +115,16 @@ impl Landmarks {
         }
     }
 
-    fn grown_bytes(&self, old: ByteSpan, new: ByteSpan, growths: u32) -> ByteSpan {
-        let words = grown(&self.bytes, words_of(old), words_of(new), growths);
+    pub fn grown_bytes(&self, old: ByteSpan, new: ByteSpan, growths: u32) -> ByteSpan {
+        let old = Span {
+            first: u16::from(old.first),
+            last: u16::from(old.last),
+        };
+        let new = Span {
+            first: u16::from(new.first),
+            last: u16::from(new.last),
+        };
+        let words = grown(&self.bytes, old, new, growths);
         ByteSpan {
             first: words.first.min(255) as u8,
             last: words.last.min(255) as u8,
@@ -136,20 +144,16 @@ impl Landmarks {
 
     fn grown_pair(&self, old: PairSpan, new: PairSpan, growths: u32) -> PairSpan {
         PairSpan {
-            words: self.grown_words(old.words, new.words, growths),
+            words: grown(&self.words, old.words, new.words, growths),
             low: self.grown_bytes(old.low, new.low, growths),
         }
     }
 
     fn grown_word(&self, old: Option<Span>, new: Option<Span>, growths: u32) -> Option<Span> {
         match (old, new) {
-            (Some(old), Some(new)) => Some(self.grown_words(old, new, growths)),
+            (Some(old), Some(new)) => Some(grown(&self.words, old, new, growths)),
             _ => None,
         }
-    }
-
-    fn grown_words(&self, old: Span, new: Span, growths: u32) -> Span {
-        grown(&self.words, old, new, growths)
     }
 }
 
@@ -175,14 +179,6 @@ fn grown(scale: &Scale, old: Span, new: Span, growths: u32) -> Span {
         scale.above(hull.last)
     };
     Span { first, last }
-}
-
-/// The bytes as words.
-fn words_of(bytes: ByteSpan) -> Span {
-    Span {
-        first: u16::from(bytes.first),
-        last: u16::from(bytes.last),
-    }
 }
 
 /// A state with the flags, the comparison, the copy and the byte of memory that both have.

@@ -17,8 +17,10 @@
 
 mod compacting;
 mod groups;
+mod joining;
 mod landmarks;
 mod marks;
+mod moving;
 mod needs;
 mod nodes;
 mod program;
@@ -26,6 +28,7 @@ mod proposals;
 mod proposing;
 mod slots;
 mod units;
+mod variables;
 
 pub use groups::Groups;
 pub use program::ReachedProgram;

@@ -1,12 +1,14 @@
 //! What a later store, jump by HL or condition may depend on, at each address.
 
+use crate::moving::moved_through;
 use crate::program::ReachedProgram;
 use crate::slots::{
-    Slots, cell_parts, find_places, find_pointers, placed_cells, pointer_at, slots_before,
-    stored_parts,
+    SLOTS, Slots, cell_parts, find_places, find_pointers, placed_cells, pointer_at, slots_before,
+    stored_parts, stored_slots,
 };
 use crate::units::{Units, reduced};
-use decode80::{Fetched, Flow, Instr, Operand, Operation, Pair, Rotation, Storing};
+use crate::variables::Variables;
+use decode80::{Fetched, Flow, Instr, Storing};
 use std::alloc::{AllocError, Global};
 use verify80_states::State;
 
@@ -52,33 +54,89 @@ pub(crate) struct Needs {
 }
 
 impl Needs {
-    /// What a program needs.
+    /// What a program needs; of memory, if it is local, what the next instruction reads.
     ///
     /// # Errors
     /// `AllocError` if memory runs out.
-    pub fn of(alloc: Global, program: ReachedProgram<'_>) -> Result<Needs, AllocError> {
+    pub fn of(
+        alloc: Global,
+        program: ReachedProgram<'_>,
+        is_local: bool,
+    ) -> Result<Needs, AllocError> {
         let pointers = find_pointers(alloc, program)?;
         let places = find_places(alloc, program, &pointers)?;
+        let reading = Reading {
+            program,
+            pointers: &pointers,
+            places: &places,
+            is_local,
+        };
         let mut needs = vec![in alloc; Need::NONE; 65_536]?;
         let mut behind = vec![in alloc; Need::NONE; 65_536]?;
         for _ in 0..SWEEPS {
-            if !sweep(program, &pointers, &places, &mut needs, &mut behind) {
+            if !sweep(reading, &mut needs, &mut behind) {
                 break;
             }
         }
-        let named = named_by(alloc, program, &needs)?;
+        let named = named_by(alloc, reading, &needs)?;
         Ok(Needs { needs, named })
     }
 
-    /// A state at an address with what is needed of it alone.
-    pub fn needed(&self, at: u16, state: State) -> State {
-        let need = need_at(&self.needs, at);
-        let named = match self.named.get(usize::from(at)) {
+    /// The bytes of memory that are read, by address.
+    ///
+    /// # Errors
+    /// `AllocError` if memory runs out.
+    pub fn addresses(&self, alloc: Global) -> Result<Vec<u16>, AllocError> {
+        let mut addresses = Vec::new(alloc);
+        for need in &self.needs {
+            for place in 0..SLOTS {
+                if let Some(address) = need.slots.at(place) {
+                    addresses.push(address)?;
+                }
+            }
+        }
+        addresses.sort_unstable();
+        addresses.dedup();
+        Ok(addresses)
+    }
+
+    /// The bytes of memory that are named, each with the addresses where it is.
+    ///
+    /// # Errors
+    /// `AllocError` if memory runs out.
+    pub fn readers(&self, alloc: Global) -> Result<Vec<(u16, u16)>, AllocError> {
+        let mut readers = Vec::new(alloc);
+        for number in 0..65_536_u32 {
+            let slots = self.named(number as u16);
+            for place in 0..SLOTS {
+                if let Some(address) = slots.at(place) {
+                    readers.push((address, number as u16))?;
+                }
+            }
+        }
+        Ok(readers)
+    }
+
+    /// The bytes of memory that a state at an address names.
+    pub fn named(&self, at: u16) -> Slots {
+        match self.named.get(usize::from(at)) {
             Some(slots) => *slots,
             None => Slots::NONE,
-        };
+        }
+    }
+
+    /// A state at an address with what is needed of it alone.
+    pub fn needed(&self, at: u16, state: State, variables: &Variables) -> State {
+        let need = need_at(&self.needs, at);
+        let named = self.named(at);
+        let set = variables.set_in(state);
         let placed = State {
-            cells: placed_cells(state.cells, named),
+            cells: placed_cells(state.cells, named, variables, set),
+            set,
+            source: match state.source {
+                Some(address) if named.has(address) => Some(address),
+                _ => None,
+            },
             ..state
         };
         reduced(placed, need.parts.union(cell_parts(need.slots)))
@@ -87,22 +145,20 @@ impl Needs {
 
 /// By address the bytes that a state names: those that are needed before the instruction, and at free places those that are needed after
 /// it, since it may store them.
-fn named_by(
-    alloc: Global,
-    program: ReachedProgram<'_>,
-    needs: &[Need],
-) -> Result<Vec<Slots>, AllocError> {
+fn named_by(alloc: Global, reading: Reading<'_>, needs: &[Need]) -> Result<Vec<Slots>, AllocError> {
     let mut named = vec![in alloc; Slots::NONE; 65_536]?;
     for number in 0..65_536_u32 {
-        if let Some(found) = program.at(number as u16) {
+        let at = number as u16;
+        if let Some(found) = reading.program.at(at) {
             let after = match found.instr.flow() {
+                _ if reading.is_local => reading.stored(at, found.instr),
                 Flow::Continues | Flow::Pushes | Flow::Pops | Flow::Exchanges => {
                     need_at(needs, found.next).slots
                 }
                 _ => Slots::NONE,
             };
             if let Some(place) = named.get_mut(number as usize) {
-                *place = need_at(needs, number as u16).slots.or(after);
+                *place = need_at(needs, at).slots.and(after);
             }
         }
     }
@@ -111,13 +167,8 @@ fn named_by(
 
 /// Goes through the program once, from its end, and says whether something changed. `behind` has for each group what is needed behind the
 /// calls of its procedures, if these know where they return to.
-fn sweep(
-    program: ReachedProgram<'_>,
-    pointers: &[Option<u16>],
-    places: &[usize],
-    needs: &mut [Need],
-    behind: &mut [Need],
-) -> bool {
+fn sweep(reading: Reading<'_>, needs: &mut [Need], behind: &mut [Need]) -> bool {
+    let program = reading.program;
     let mut is_changed = false;
     for below in 0..65_536_u32 {
         let at = (65_535 - below) as u16;
@@ -125,7 +176,7 @@ fn sweep(
             if let Flow::Calls(entry) | Flow::CallsIf(_, entry) = found.instr.flow() {
                 is_changed |= note_behind(program, behind, entry, need_at(needs, found.next));
             }
-            let need = need_before(program, pointers, places, needs, behind, at, found);
+            let need = need_before(reading, needs, behind, at, found);
             if let Some(place) = needs.get_mut(usize::from(at)) {
                 if *place != need {
                     *place = need;
@@ -175,25 +226,38 @@ fn need_at(needs: &[Need], at: u16) -> Need {
 
 /// What is needed before an instruction.
 fn need_before(
-    program: ReachedProgram<'_>,
-    pointers: &[Option<u16>],
-    places: &[usize],
+    reading: Reading<'_>,
     needs: &[Need],
     behind: &[Need],
     at: u16,
     found: Fetched,
 ) -> Need {
+    let need = need_of_ways(reading, needs, behind, at, found);
+    match found.instr.flow() {
+        Flow::Continues | Flow::Pushes | Flow::Pops | Flow::Exchanges => need,
+        _ if reading.is_local => Need {
+            parts: need.parts,
+            slots: Slots::NONE,
+        },
+        _ => need,
+    }
+}
+
+/// What is needed before an instruction by what its ways need.
+fn need_of_ways(
+    reading: Reading<'_>,
+    needs: &[Need],
+    behind: &[Need],
+    at: u16,
+    found: Fetched,
+) -> Need {
+    let program = reading.program;
     let Fetched { instr, next } = found;
     match instr.flow() {
         Flow::Halts => Need::NONE,
         Flow::Returns => returned(program, behind, at),
         Flow::Continues | Flow::Pushes | Flow::Pops | Flow::Exchanges => {
-            through(
-                places,
-                instr,
-                pointer_at(pointers, at),
-                need_at(needs, next),
-            )
+            reading.through(at, instr, need_at(needs, next))
         }
         Flow::Jumps(to) => need_at(needs, to),
         Flow::JumpsIf(condition, to) => need_at(needs, next)
@@ -225,173 +289,47 @@ fn called(need: Need) -> Need {
     }
 }
 
-/// What is needed before an instruction that goes on, given what is needed after it.
-fn through(places: &[usize], instr: Instr, pointer: Option<u16>, need: Need) -> Need {
-    let pointed = match instr.storing() {
-        Storing::ThroughHl => Units::HL,
-        Storing::Through(pair) => Units::of_index_pair(pair),
-        Storing::Nowhere | Storing::Byte(_) | Storing::Word(_) => Units::NONE,
-    };
-    Need {
-        parts: moved_through(instr, need.parts)
-            .union(pointed)
-            .union(stored_parts(instr, pointer, need.slots)),
-        slots: slots_before(places, instr, pointer, need.parts, need.slots),
-    }
+/// How a program's memory is read.
+#[derive(Clone, Copy)]
+struct Reading<'a> {
+    program: ReachedProgram<'a>,
+    /// By address the word that HL is known to be.
+    pointers: &'a [Option<u16>],
+    /// By address the place of a byte.
+    places: &'a [usize],
+    /// Whether bytes are needed by the next instruction alone.
+    is_local: bool,
 }
 
-/// The same without what the instruction stores.
-fn moved_through(instr: Instr, need: Units) -> Units {
-    match instr {
-        Instr::Mov(to, from) => copied(need, Units::of(to), Units::of(from)),
-        Instr::Load(to) => copied(need, Units::of(to), Units::HL),
-        Instr::Mvi(to, _) => copied(need, Units::of(to), Units::NONE),
-        Instr::Inr(register) | Instr::Dcr(register) => {
-            let counts = need.intersects(Units::of(register).union(Units::ZERO).union(Units::SIGN));
-            let rest = need.difference(Units::COUNTED);
-            if counts {
-                rest.union(Units::of(register))
-            } else {
-                rest
-            }
-        }
-        Instr::InrMemory | Instr::DcrMemory => {
-            let rest = need.difference(Units::COUNTED);
-            if need.intersects(Units::ZERO.union(Units::SIGN)) {
-                rest.union(Units::HL)
-            } else {
-                rest
-            }
-        }
-        Instr::Lxi(Pair::Sp, _) | Instr::Sphl => need.difference(Units::WORDS),
-        Instr::Lxi(pair, _) => need.difference(Units::of_pair(pair)),
-        Instr::Inx(Pair::Sp) | Instr::Dcx(Pair::Sp) => need.difference(Units::WORDS),
-        // The low half is followed with the high one: a carry goes from one to the other.
-        Instr::Inx(pair) | Instr::Dcx(pair) if need.intersects(Units::of_pair(pair)) => {
-            need.union(Units::of_pair(pair))
-        }
-        Instr::Dad(pair) => {
-            let adds = need.intersects(Units::HL.union(Units::CARRY));
-            let rest = need.difference(Units::CARRIED);
-            if adds {
-                rest.union(Units::HL).union(Units::of_pair(pair))
-            } else {
-                rest
-            }
-        }
-        Instr::Operate(operation, operand) => operated(operation, operand, need),
-        Instr::Rotate(rotation) => rotated(rotation, need),
-        Instr::Daa => need.difference(Units::ALL_FLAGS.union(Units::A)),
-        Instr::Cma => need.difference(Units::TEST),
-        Instr::Stc => need.difference(Units::CARRIED),
-        Instr::Cmc => need.difference(Units::TEST),
-        Instr::Ldax(pair) => copied(need, Units::A, Units::of_index_pair(pair)),
-        Instr::Lda(_) | Instr::In(_) => copied(need, Units::A, Units::NONE),
-        Instr::Lhld(_) => need.difference(Units::HL),
-        Instr::Xchg => exchanged(need),
-        Instr::Push(pair) => {
-            let rest = need.difference(Units::WORDS).union(need.shallower());
-            if need.intersects(Units::FIRST) {
-                rest.union(Units::of_stack_pair(pair))
-            } else {
-                rest
-            }
-        }
-        Instr::Pop(pair) => {
-            let written = Units::of_stack_pair(pair);
-            let rest = need
-                .difference(Units::WORDS)
-                .difference(written)
-                .union(need.deeper());
-            if need.intersects(written) {
-                rest.union(Units::FIRST)
-            } else {
-                rest
-            }
-        }
-        Instr::Xthl => {
-            let rest = need.difference(Units::FIRST.union(Units::HL));
-            let word = if need.intersects(Units::HL) {
-                Units::FIRST
-            } else {
-                Units::NONE
+impl Reading<'_> {
+    /// The bytes that the instruction at an address stores.
+    fn stored(self, at: u16, instr: Instr) -> Slots {
+        stored_slots(self.places, instr, pointer_at(self.pointers, at))
+    }
+
+    /// What is needed before an instruction that goes on, given what is needed after it.
+    fn through(self, at: u16, instr: Instr, need: Need) -> Need {
+        let pointer = pointer_at(self.pointers, at);
+        let pointed = match instr.storing() {
+            Storing::ThroughHl => Units::HL,
+            Storing::Through(pair) => Units::of_index_pair(pair),
+            Storing::Nowhere | Storing::Byte(_) | Storing::Word(_) => Units::NONE,
+        };
+        let (after, kept) = if self.is_local {
+            let stored = self.stored(at, instr);
+            let counted = match instr {
+                Instr::InrMemory | Instr::DcrMemory => stored,
+                _ => Slots::NONE,
             };
-            let pair = if need.intersects(Units::FIRST) {
-                Units::HL
-            } else {
-                Units::NONE
-            };
-            rest.union(word).union(pair)
+            (stored, counted)
+        } else {
+            (need.slots, need.slots)
+        };
+        Need {
+            parts: moved_through(instr, need.parts)
+                .union(pointed)
+                .union(stored_parts(instr, pointer, after)),
+            slots: slots_before(self.places, instr, pointer, need.parts, kept),
         }
-        _ => need,
-    }
-}
-
-/// What is needed before something is copied.
-fn copied(need: Units, to: Units, from: Units) -> Units {
-    let rest = if to == Units::A {
-        need.difference(Units::A.union(Units::TEST))
-    } else {
-        need.difference(to)
-    };
-    if need.intersects(to) {
-        rest.union(from)
-    } else {
-        rest
-    }
-}
-
-/// What is needed before DE and HL are exchanged.
-fn exchanged(need: Units) -> Units {
-    let mut before = need.difference(Units::DE.union(Units::HL));
-    for (from, to) in &[
-        (Units::D, Units::H),
-        (Units::E, Units::L),
-        (Units::H, Units::D),
-        (Units::L, Units::E),
-    ] {
-        if need.intersects(*to) {
-            before = before.union(*from);
-        }
-    }
-    before
-}
-
-/// What is needed before an operation on A.
-fn operated(operation: Operation, operand: Operand, need: Units) -> Units {
-    let read = match operand {
-        Operand::Register(register) => Units::of(register),
-        Operand::Memory => Units::HL,
-        Operand::Immediate(_) => Units::NONE,
-    };
-    let asks = need.intersects(Units::ALL_FLAGS);
-    let (rest, asks) = match operation {
-        Operation::Compare => (need.difference(Units::ALL_FLAGS), asks),
-        _ => (
-            need.difference(Units::ALL_FLAGS.union(Units::A)),
-            asks || need.intersects(Units::A),
-        ),
-    };
-    if !asks {
-        return rest;
-    }
-    match operation {
-        Operation::ExclusiveOr | Operation::Subtract if read == Units::A => rest,
-        Operation::AddCarry | Operation::SubtractBorrow => {
-            rest.union(Units::A).union(read).union(Units::CARRY)
-        }
-        _ => rest.union(Units::A).union(read),
-    }
-}
-
-/// What is needed before a rotation.
-fn rotated(rotation: Rotation, need: Units) -> Units {
-    let rest = need.difference(Units::CARRIED);
-    if !need.intersects(Units::A) {
-        return rest;
-    }
-    match rotation {
-        Rotation::Left | Rotation::Right => rest,
-        Rotation::LeftThroughCarry | Rotation::RightThroughCarry => rest.union(Units::CARRY),
     }
 }

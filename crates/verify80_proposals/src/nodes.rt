@@ -2,9 +2,14 @@
 
 use crate::landmarks::Landmarks;
 use crate::needs::Needs;
+use crate::program::ReachedProgram;
+use crate::slots::widened_cells;
 use crate::units::{PARTS, Units, are_alike, value_of};
+use crate::variables::{Variables, stored_bytes};
+use decode80::Instr;
 use std::alloc::{AllocError, Global};
-use verify80_states::State;
+use verify80_spans::ByteSpan;
+use verify80_states::{State, Variable};
 
 /// No state.
 pub(crate) const NOWHERE: u32 = u32::MAX;
@@ -46,11 +51,11 @@ pub(crate) struct Node {
 
 /// The states at one address.
 #[derive(Clone, Copy)]
-struct Group {
-    first: u32,
-    count: u32,
+pub(crate) struct Group {
+    pub first: u32,
+    pub count: u32,
     /// The parts by which they are no longer distinguished.
-    joined: Units,
+    pub joined: Units,
 }
 
 /// The states that are known so far, and those from which others have still to be followed.
@@ -63,6 +68,11 @@ pub(crate) struct Nodes {
     waiting: Vec<u32>,
     needs: Needs,
     landmarks: Landmarks,
+    variables: Variables,
+    /// Which addresses of instructions name each byte.
+    readers: Vec<(u16, u16)>,
+    /// The parts by which states are never told apart.
+    never: Units,
     /// Whether each address is to have one state from now on.
     is_late: bool,
     /// How many states an address has, at most.
@@ -78,13 +88,20 @@ impl Nodes {
         alloc: Global,
         needs: Needs,
         landmarks: Landmarks,
+        variables: Variables,
         most: u32,
     ) -> Result<Nodes, AllocError> {
+        let never = if variables.list().is_empty() {
+            Units::NONE
+        } else {
+            Units::CELLS
+        };
         let none = Group {
             first: NOWHERE,
             count: 0,
-            joined: Units::NONE,
+            joined: never,
         };
+        let readers = needs.readers(alloc)?;
         Ok(Nodes {
             nodes: Vec::new(alloc),
             groups: vec![in alloc; none; 65_536]?,
@@ -92,6 +109,9 @@ impl Nodes {
             waiting: Vec::new(alloc),
             needs,
             landmarks,
+            variables,
+            readers,
+            never,
             is_late: false,
             most,
         })
@@ -112,9 +132,14 @@ impl Nodes {
         self.nodes.get(place as usize)
     }
 
-    /// What is needed of a state at an address.
-    fn needed(&self, at: u16, state: State) -> State {
-        self.needs.needed(at, state)
+    /// A state is taken in by another, which begins to grow anew.
+    pub fn hand_over(&mut self, place: u32, holder: u32) {
+        if let Some(node) = self.nodes.get_mut(holder as usize) {
+            node.growths = 0;
+        }
+        if let Some(node) = self.nodes.get_mut(place as usize) {
+            node.taken_by = holder;
+        }
     }
 
     /// Notes where the hints of a state begin.
@@ -150,7 +175,7 @@ impl Nodes {
     /// # Errors
     /// `AllocError` if memory runs out.
     pub fn enter(&mut self, alloc: Global, at: u16, state: State) -> Result<u32, AllocError> {
-        let state = self.needed(at, state);
+        let state = self.needs.needed(at, state, &self.variables);
         if let Some(place) = self.find_around(at, state) {
             return Ok(place);
         }
@@ -162,7 +187,7 @@ impl Nodes {
     }
 
     /// Puts a state at its address: into one from which only joined parts tell it apart, or as one of its own.
-    fn put(&mut self, at: u16, state: State) -> Result<u32, AllocError> {
+    pub fn put(&mut self, at: u16, state: State) -> Result<u32, AllocError> {
         match self.find_alike(at, state) {
             Some(place) => {
                 self.grow(place, state)?;
@@ -174,7 +199,7 @@ impl Nodes {
 
     /// How many states an address has now, at most.
     fn most(&self, at: u16) -> u32 {
-        if self.is_late || self.nodes.len() >= MANY || self.group(at).joined != Units::NONE {
+        if self.is_late || self.nodes.len() >= MANY || self.group(at).joined != self.never {
             self.most_joined()
         } else {
             self.most
@@ -182,7 +207,7 @@ impl Nodes {
     }
 
     /// How many it has, at most, once some of them are no longer told apart.
-    fn most_joined(&self) -> u32 {
+    pub fn most_joined(&self) -> u32 {
         if self.is_late || self.nodes.len() >= TOO_MANY {
             1
         } else if self.nodes.len() >= MANY {
@@ -193,7 +218,7 @@ impl Nodes {
     }
 
     /// The states at an address.
-    fn group(&self, at: u16) -> Group {
+    pub fn group(&self, at: u16) -> Group {
         match self.groups.get(usize::from(at)) {
             Some(group) => *group,
             None => Group {
@@ -205,7 +230,7 @@ impl Nodes {
     }
 
     /// Sets the states at an address.
-    fn set_group(&mut self, at: u16, group: Group) {
+    pub fn set_group(&mut self, at: u16, group: Group) {
         if let Some(place) = self.groups.get_mut(usize::from(at)) {
             *place = group;
         }
@@ -218,7 +243,7 @@ impl Nodes {
             let Some(node) = self.get(place) else {
                 break;
             };
-            if node.at == at && state.is_inside(node.state, &[]) {
+            if node.at == at && state.is_inside(node.state, self.variables.list()) {
                 return Some(self.holder(place));
             }
             place = node.next_listed;
@@ -226,7 +251,7 @@ impl Nodes {
         let mut place = self.group(at).first;
         for _ in 0..NEWEST {
             let node = self.get(place)?;
-            if state.is_inside(node.state, &[]) {
+            if state.is_inside(node.state, self.variables.list()) {
                 return Some(place);
             }
             place = node.next;
@@ -260,7 +285,10 @@ impl Nodes {
     fn append(&mut self, at: u16, state: State) -> Result<u32, AllocError> {
         let place = place_of(self.nodes.len());
         let group = self.group(at);
-        let next_listed = self.put_first(list_of(at, state, group.joined), place);
+        let next_listed = self.first_listed(at, state);
+        if let Some(first) = self.lists.get_mut(list_of(at, state, group.joined)) {
+            *first = place;
+        }
         self.nodes.push(Node {
             at,
             state,
@@ -283,16 +311,77 @@ impl Nodes {
         Ok(place)
     }
 
-    /// Puts a state first in a list, and gives the one that was first.
-    fn put_first(&mut self, list: usize, place: u32) -> u32 {
-        match self.lists.get_mut(list) {
-            Some(first) => {
-                let next = *first;
-                *first = place;
-                next
+    /// Notes what an instruction stores in a state: variables grow, and so do the states that name them.
+    pub fn note_stored(&mut self, instr: Instr, state: State) -> Result<(), AllocError> {
+        for stored in &stored_bytes(instr, state) {
+            if let Some((at, bytes)) = stored {
+                if at.is_alone() && self.variables.grow(&self.landmarks, at.first, *bytes) {
+                    self.widen(at.first)?;
+                }
             }
-            None => NOWHERE,
         }
+        Ok(())
+    }
+
+    /// Widens the states that name a variable.
+    fn widen(&mut self, address: u16) -> Result<(), AllocError> {
+        for number in 0..self.readers.len() {
+            match self.readers.get(number) {
+                Some((read, at)) if *read == address => {
+                    let at = *at;
+                    self.widen_at(at, address)?;
+                }
+                _ => {}
+            }
+        }
+        Ok(())
+    }
+
+    /// Widens the states at an address.
+    fn widen_at(&mut self, at: u16, address: u16) -> Result<(), AllocError> {
+        let mut place = self.group(at).first;
+        for _ in 0..self.nodes.len() {
+            let Some(node) = self.nodes.get_mut(place as usize) else {
+                break;
+            };
+            let set = node.state.set;
+            let bytes = self.variables.bytes_at(set, address);
+            let cells = widened_cells(node.state.cells, address, bytes);
+            if bytes != ByteSpan::ANY && cells != node.state.cells {
+                node.state.cells = cells;
+                if !node.is_waiting {
+                    node.is_waiting = true;
+                    self.waiting.push(place)?;
+                }
+            }
+            place = node.next;
+        }
+        Ok(())
+    }
+
+    /// Takes the marks of the variables that aren't steady, and says whether one had it.
+    pub fn unmark_unsteady(&self, program: ReachedProgram<'_>, is_steady: &mut [bool]) -> bool {
+        let mut is_changed = false;
+        for number in 0..self.nodes.len() {
+            if let Some(node) = self.get(place_of(number)) {
+                if let (Some(found), true) = (
+                    program.at(node.at),
+                    node.taken_by == place_of(number),
+                ) {
+                    for stored in &stored_bytes(found.instr, node.state) {
+                        if let Some((at, bytes)) = stored {
+                            is_changed |= self.variables.unmark_unsteady(is_steady, *at, *bytes);
+                        }
+                    }
+                }
+            }
+        }
+        is_changed
+    }
+
+    /// The variables.
+    pub fn into_variables(self) -> Vec<Variable> {
+        self.variables.into_list()
     }
 
     /// A state takes in another, and others have to be followed from it again.
@@ -310,101 +399,6 @@ impl Nodes {
         }
         Ok(())
     }
-
-    /// No longer tells apart the states at an address by those parts that tell the most of them apart, as many as it takes until there are
-    /// few enough.
-    fn join_some(&mut self, alloc: Global, at: u16) -> Result<(), AllocError> {
-        let places = self.places_at(alloc, at)?;
-        let joined = self.parts_to_join(alloc, at, &places)?;
-        self.set_group(
-            at,
-            Group {
-                first: NOWHERE,
-                count: 0,
-                joined,
-            },
-        );
-        for place in &places {
-            self.put_back(at, *place)?;
-        }
-        Ok(())
-    }
-
-    /// The places of the states at an address.
-    fn places_at(&self, alloc: Global, at: u16) -> Result<Vec<u32>, AllocError> {
-        let mut places = Vec::new(alloc);
-        let mut place = self.group(at).first;
-        for _ in 0..self.nodes.len() {
-            let Some(node) = self.get(place) else {
-                break;
-            };
-            places.push(place)?;
-            place = node.next;
-        }
-        Ok(places)
-    }
-
-    /// The parts by which states at an address are no longer told apart, with those of which they have the most values.
-    fn parts_to_join(&self, alloc: Global, at: u16, places: &[u32]) -> Result<Units, AllocError> {
-        let most = self.most_joined() as usize;
-        let mut joined = self.group(at).joined;
-        let mut counted = Vec::new(alloc);
-        for part in 0..PARTS {
-            if !joined.intersects(Units::numbered(part)) {
-                let count = self.count_apart(
-                    alloc,
-                    places,
-                    Units::ALL.difference(Units::numbered(part)),
-                )?;
-                counted.push((count, PARTS.saturating_sub(part)))?;
-            }
-        }
-        counted.sort_unstable();
-        for _ in 0..PARTS {
-            let Some((_, part)) = counted.pop() else {
-                break;
-            };
-            joined = joined.union(Units::numbered(PARTS.saturating_sub(part)));
-            if self.count_apart(alloc, places, joined)? < most {
-                return Ok(joined);
-            }
-        }
-        Ok(Units::ALL)
-    }
-
-    /// How many of these states are told apart, if these parts are joined.
-    fn count_apart(
-        &self,
-        alloc: Global,
-        places: &[u32],
-        joined: Units,
-    ) -> Result<usize, AllocError> {
-        let mut sums = Vec::new(alloc);
-        for place in places {
-            if let Some(node) = self.get(*place) {
-                sums.push(sum_of(0, node.state, joined))?;
-            }
-        }
-        sums.sort_unstable();
-        sums.dedup();
-        Ok(sums.len())
-    }
-
-    /// Puts a state back at its address, into the one that has it from now on.
-    fn put_back(&mut self, at: u16, place: u32) -> Result<(), AllocError> {
-        let Some(node) = self.get(place) else {
-            return Ok(());
-        };
-        let state = node.state;
-        let holder = self.put(at, state)?;
-        if let Some(node) = self.nodes.get_mut(holder as usize) {
-            node.growths = 0;
-        }
-        if let Some(node) = self.nodes.get_mut(place as usize) {
-            node.taken_by = holder;
-        }
-        Ok(())
-    }
 }
 
 /// The list of a state, of which these parts tell it apart from none.
@@ -413,7 +407,7 @@ fn list_of(at: u16, state: State, joined: Units) -> usize {
 }
 
 /// A sum over the parts of a state without these.
-fn sum_of(first: u32, state: State, joined: Units) -> u32 {
+pub(crate) fn sum_of(first: u32, state: State, joined: Units) -> u32 {
     let mut sum = first;
     let mut bits = joined.bits();
     for part in 0..PARTS {

@@ -2,7 +2,7 @@
 
 use decode80::{Fetched, Flow, Instr};
 use image80::Regions;
-use verify80_states::{CallReturns, State, given, is_marked, state_after};
+use verify80_states::{CallReturns, State, given, state_after};
 
 /// A program: its code, its instructions that may be reached, and which of its procedures return.
 #[derive(Clone, Copy)]
@@ -76,21 +76,30 @@ impl<'a> ReachedProgram<'a> {
             }
             Flow::Jumps(to) => Some((to, self.after(found, false, state))),
             Flow::JumpsIf(condition, to) => match number {
-                0 => self.left(found, true, to, given(condition, true, state)),
-                _ => self.left(found, false, next, given(condition, false, state)),
+                0 => Some((to, self.after(found, true, given(condition, true, state)?))),
+                _ => Some((
+                    next,
+                    self.after(found, false, given(condition, false, state)?),
+                )),
             },
             Flow::CallsIf(condition, to) => match number {
-                0 => self.left(found, true, to, given(condition, true, state)),
-                1 => self.left(found, false, next, given(condition, false, state)),
-                _ => self.returned(to, next),
+                0 => Some((to, self.after(found, true, given(condition, true, state)?))),
+                1 => Some((
+                    next,
+                    self.after(found, false, given(condition, false, state)?),
+                )),
+                _ => self.returned(to, next, state.set),
             },
             Flow::ReturnsIf(condition) => match number {
-                0 => self.left(found, false, next, given(condition, false, state)),
+                0 => Some((
+                    next,
+                    self.after(found, false, given(condition, false, state)?),
+                )),
                 _ => self.back(at, found, given(condition, true, state)?),
             },
             Flow::Calls(to) => match number {
                 0 => Some((to, self.after(found, true, state))),
-                _ => self.returned(to, next),
+                _ => self.returned(to, next, state.set),
             },
             Flow::JumpsToHl => {
                 let to = *self.targets(at).get(number)?;
@@ -103,10 +112,10 @@ impl<'a> ReachedProgram<'a> {
         }
     }
 
-    /// Where a callee returns to, if it may return and its states don't know where to: then nothing is known there.
-    fn returned(self, entry: u16, next: u16) -> Option<(u16, State)> {
+    /// Where a callee returns to, if it may return and its states don't know where to: then its variables alone are known there.
+    fn returned(self, entry: u16, next: u16, set: u64) -> Option<(u16, State)> {
         if self.returns.may_return(entry) && !self.returns.know_return(entry) {
-            Some((next, State::ANY))
+            Some((next, State { set, ..State::ANY }))
         } else {
             None
         }
@@ -138,27 +147,8 @@ impl<'a> ReachedProgram<'a> {
         }
     }
 
-    /// What an instruction makes of a state, of quiet memory alone.
+    /// What an instruction makes of a state.
     fn after(self, found: Fetched, taken: bool, state: State) -> State {
-        let after = state_after(self.code, found.instr, taken, found.next, state);
-        match after.source {
-            Some(at) if !is_marked(self.quiet, at) => State {
-                source: None,
-                ..after
-            },
-            _ => after,
-        }
-    }
-
-    /// A way of a state that is left, if one is.
-    fn left(
-        self,
-        found: Fetched,
-        taken: bool,
-        to: u16,
-        left: Option<State>,
-    ) -> Option<(u16, State)> {
-        let state = left?;
-        Some((to, self.after(found, taken, state)))
+        state_after(self.code, found.instr, taken, found.next, state)
     }
 }

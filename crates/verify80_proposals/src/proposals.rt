@@ -20,7 +20,8 @@ const WAYS: usize = 400_000;
 /// How many are followed then, at most.
 const LATE_WAYS: usize = 1_000_000;
 
-/// The table of a number from 0 to 3, if there is one: calls told apart or joined, and then both once more as if no address were quiet.
+/// The table of a number from 0 to 5, if there is one: calls told apart or joined, then both once more as if no address were quiet, and both
+/// with variables.
 ///
 /// # Errors
 /// `AllocError` only if memory runs out.
@@ -35,11 +36,13 @@ pub fn propose_table(
         ..program
     };
     match number {
-        0 => propose_told_apart(alloc, program, groups),
-        1 => propose_joined(alloc, program, groups),
+        0 => propose_told_apart(alloc, program, groups, false),
+        1 => propose_joined(alloc, program, groups, false),
         _ if !program.quiet.contains(&true) => Ok(None),
-        2 => propose_told_apart(alloc, unquiet, groups),
-        _ => propose_joined(alloc, unquiet, groups),
+        2 => propose_told_apart(alloc, unquiet, groups, false),
+        3 => propose_joined(alloc, unquiet, groups, false),
+        4 => propose_told_apart(alloc, program, groups, true),
+        _ => propose_joined(alloc, program, groups, true),
     }
 }
 
@@ -48,10 +51,11 @@ fn propose_told_apart(
     alloc: Global,
     program: ReachedProgram<'_>,
     groups: &Groups,
+    keeps_variables: bool,
 ) -> Result<Option<Proposal>, AllocError> {
     let mut left = TRIALS_WAYS;
     for most in &STATES {
-        let found = try_told_apart(alloc, program, groups, *most, &mut left)?;
+        let found = try_told_apart(alloc, program, groups, keeps_variables, *most, &mut left)?;
         if found.is_some() {
             return Ok(found);
         }
@@ -67,6 +71,7 @@ fn try_told_apart(
     alloc: Global,
     program: ReachedProgram<'_>,
     groups: &Groups,
+    keeps_variables: bool,
     most: u32,
     left: &mut usize,
 ) -> Result<Option<Proposal>, AllocError> {
@@ -75,6 +80,7 @@ fn try_told_apart(
         states: most,
         ways: TRIAL_WAYS,
         late_ways: 0,
+        keeps_variables,
     };
     for _ in 0..TRIALS {
         if !knows.contains(&true) {
@@ -95,11 +101,13 @@ fn propose_joined(
     alloc: Global,
     program: ReachedProgram<'_>,
     groups: &Groups,
+    keeps_variables: bool,
 ) -> Result<Option<Proposal>, AllocError> {
     let limits = Limits {
         states: MOST_STATES,
         ways: WAYS,
         late_ways: LATE_WAYS,
+        keeps_variables,
     };
     let mut left = WAYS.saturating_add(LATE_WAYS);
     propose_with(alloc, program, groups, &[], limits, &mut left)
@@ -119,7 +127,7 @@ fn propose_with(
         alloc,
         ReachedProgram {
             returns: &returns,
-            groups: groups.numbers(),
+            groups: &groups.numbers,
             ..program
         },
         limits,

@@ -5,12 +5,14 @@ use crate::landmarks::Landmarks;
 use crate::needs::Needs;
 use crate::nodes::{NOWHERE, Node, Nodes, place_of};
 use crate::program::ReachedProgram;
+use crate::variables::Variables;
 use decode80::{Instr, Operand, Operation};
 use std::alloc::{AllocError, Global};
-use verify80_states::{APART, ByteSpan, CallReturns, Placed, State, Variable};
+use verify80_spans::ByteSpan;
+use verify80_states::{APART, CallReturns, Placed, State, Variable};
 
-/// A table of states, for each of their ways a place of the table, and the returns by which it was made. The first hint is that of the
-/// start.
+/// A table of states, for each of their ways a place of the table, and the returns and variables by which it was made. The first hint is
+/// that of the start.
 #[derive(Drop)]
 pub struct Proposal {
     pub table: Vec<Placed>,
@@ -22,6 +24,9 @@ pub struct Proposal {
 /// How many bytes of A are told apart, at most.
 const MOST_APART: usize = 16;
 
+/// How often the search begins anew without variables that aren't steady.
+const ROUNDS: usize = 6;
+
 /// What a search may cost.
 #[derive(Clone, Copy)]
 pub(crate) struct Limits {
@@ -31,6 +36,8 @@ pub(crate) struct Limits {
     pub ways: usize,
     /// How many are followed then, if each address has one state.
     pub late_ways: usize,
+    /// Whether bytes of memory are variables.
+    pub keeps_variables: bool,
 }
 
 /// What is known at each address that the program may reach, or `None` if too many ways would have to be followed: more than the limits say,
@@ -46,25 +53,53 @@ pub(crate) fn propose(
     limits: Limits,
     left: &mut usize,
 ) -> Result<Option<Proposal>, AllocError> {
-    let needs = Needs::of(alloc, program)?;
+    let mut is_steady = Vec::from_slice(alloc, program.quiet)?;
+    for _ in 0..ROUNDS {
+        let steady = ReachedProgram {
+            quiet: &is_steady,
+            ..program
+        };
+        let mut hints = Vec::new(alloc);
+        let Some((nodes, start)) = follow_from_start(alloc, &mut hints, steady, limits, left)?
+        else {
+            return Ok(None);
+        };
+        if !nodes.unmark_unsteady(program, &mut is_steady) {
+            let proposal = compact(alloc, &nodes, &hints, program, start)?;
+            return Ok(Some(Proposal {
+                variables: nodes.into_variables(),
+                ..proposal
+            }));
+        }
+    }
+    Ok(None)
+}
+
+/// The states of a program whose variables are all steady, and the place of the one at the start; `None` if there are too many ways.
+fn follow_from_start(
+    alloc: Global,
+    hints: &mut Vec<u32>,
+    program: ReachedProgram<'_>,
+    limits: Limits,
+    left: &mut usize,
+) -> Result<Option<(Nodes, u32)>, AllocError> {
+    let needs = Needs::of(alloc, program, limits.keeps_variables)?;
     let landmarks = Landmarks::new(alloc, program)?;
-    let mut nodes = Nodes::new(alloc, needs, landmarks, limits.states)?;
-    let mut hints = Vec::new(alloc);
+    let addresses = if limits.keeps_variables {
+        needs.addresses(alloc)?
+    } else {
+        Vec::new(alloc)
+    };
+    let variables = Variables::new(alloc, &addresses)?;
+    let mut nodes = Nodes::new(alloc, needs, landmarks, variables, limits.states)?;
     let start = nodes.enter(alloc, program.start, State::ANY)?;
-    if !follow_all(alloc, &mut nodes, &mut hints, program, limits.ways, left)? {
+    if !follow_all(alloc, &mut nodes, hints, program, limits.ways, left)? {
         nodes.hurry();
-        if !follow_all(
-            alloc,
-            &mut nodes,
-            &mut hints,
-            program,
-            limits.late_ways,
-            left,
-        )? {
+        if !follow_all(alloc, &mut nodes, hints, program, limits.late_ways, left)? {
             return Ok(None);
         }
     }
-    Ok(Some(compact(alloc, &nodes, &hints, program, start)?))
+    Ok(Some((nodes, start)))
 }
 
 /// Follows states until none waits, but no more ways than these, and says whether none waits.
@@ -128,6 +163,7 @@ fn follow(
     } else {
         hint as usize
     };
+    nodes.note_stored(found.instr, state)?;
     let mut followed = ways;
     for number in 0..ways {
         let to = match program.way(at, found, state, number) {

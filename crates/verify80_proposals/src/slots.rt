@@ -3,9 +3,11 @@
 use crate::marks::mark;
 use crate::program::ReachedProgram;
 use crate::units::Units;
+use crate::variables::Variables;
 use decode80::{Fetched, Flow, Instr, Operand, Pair};
 use std::alloc::{AllocError, Global};
-use verify80_states::{ByteSpan, Cell, Cells, is_marked};
+use verify80_spans::ByteSpan;
+use verify80_states::{Cell, Cells, is_marked};
 
 /// How many bytes a state may know.
 pub(crate) const SLOTS: usize = 8;
@@ -29,7 +31,7 @@ impl Slots {
 
     /// Whether an address has a place.
     pub fn has(self, address: u16) -> bool {
-        self.0.contains(&address)
+        address != NONE && self.0.contains(&address)
     }
 
     /// These, and an address at a place, if that is free or has a greater one.
@@ -59,17 +61,6 @@ impl Slots {
         let mut both = self;
         for place in 0..SLOTS {
             if let Some(address) = other.at(place) {
-                both = both.with(place, address);
-            }
-        }
-        both
-    }
-
-    /// These, and those of others at places that are free.
-    pub fn or(self, other: Slots) -> Slots {
-        let mut both = self;
-        for place in 0..SLOTS {
-            if let (None, Some(address)) = (self.at(place), other.at(place)) {
                 both = both.with(place, address);
             }
         }
@@ -107,6 +98,25 @@ pub(crate) fn find_places(
         }
     }
     Ok(places)
+}
+
+/// The bytes of memory that an instruction stores by name, or through a known pointer, at their places.
+pub(crate) fn stored_slots(places: &[usize], instr: Instr, pointer: Option<u16>) -> Slots {
+    let (first, second) = match instr {
+        Instr::Sta(address) => (Some(address), None),
+        Instr::Shld(address) => (Some(address), Some(address.wrapping_add(1))),
+        Instr::Store(_) | Instr::MviMemory(_) | Instr::InrMemory | Instr::DcrMemory => {
+            (pointer, None)
+        }
+        _ => (None, None),
+    };
+    let mut slots = Slots::NONE;
+    for address in &[first, second] {
+        if let Some(address) = address {
+            slots = slots.with(place_at(places, *address), *address);
+        }
+    }
+    slots
 }
 
 /// The bytes of memory that an instruction reads by name, or through a known pointer: the low one first.
@@ -238,34 +248,63 @@ pub(crate) fn cell_parts(slots: Slots) -> Units {
     let mut parts = Units::NONE;
     for place in 0..SLOTS {
         if slots.at(place).is_some() {
-            parts = parts.union(Units::cell(place));
+            parts = parts.union(Units::numbered(place.min(7) + 15));
         }
     }
     parts
 }
 
-/// The cells of these addresses: what is known of others is forgotten.
-pub(crate) fn placed_cells(cells: Cells, slots: Slots) -> Cells {
+/// The cells of these addresses, by cells and variables: what is known of others is forgotten.
+pub(crate) fn placed_cells(cells: Cells, slots: Slots, variables: &Variables, set: u64) -> Cells {
     Cells {
-        first: placed_cell(cells.first, slots.at(0)),
-        second: placed_cell(cells.second, slots.at(1)),
-        third: placed_cell(cells.third, slots.at(2)),
-        fourth: placed_cell(cells.fourth, slots.at(3)),
-        fifth: placed_cell(cells.fifth, slots.at(4)),
-        sixth: placed_cell(cells.sixth, slots.at(5)),
-        seventh: placed_cell(cells.seventh, slots.at(6)),
-        eighth: placed_cell(cells.eighth, slots.at(7)),
+        first: placed_cell(cells.first, slots.at(0), variables, set),
+        second: placed_cell(cells.second, slots.at(1), variables, set),
+        third: placed_cell(cells.third, slots.at(2), variables, set),
+        fourth: placed_cell(cells.fourth, slots.at(3), variables, set),
+        fifth: placed_cell(cells.fifth, slots.at(4), variables, set),
+        sixth: placed_cell(cells.sixth, slots.at(5), variables, set),
+        seventh: placed_cell(cells.seventh, slots.at(6), variables, set),
+        eighth: placed_cell(cells.eighth, slots.at(7), variables, set),
     }
 }
 
 /// A cell of an address, if there is one.
-fn placed_cell(cell: Cell, address: Option<u16>) -> Cell {
+fn placed_cell(cell: Cell, address: Option<u16>, variables: &Variables, set: u64) -> Cell {
     match address {
         None => Cell::ANY,
-        Some(at) if cell.at == at => cell,
+        Some(at) if cell.at == at && cell.bytes != ByteSpan::ANY => cell,
         Some(at) => Cell {
             at,
-            bytes: ByteSpan::ANY,
+            bytes: variables.bytes_at(set, at),
         },
+    }
+}
+
+/// Cells of which that of an address may be these bytes too.
+pub(crate) fn widened_cells(cells: Cells, address: u16, bytes: ByteSpan) -> Cells {
+    Cells {
+        first: widened_cell(cells.first, address, bytes),
+        second: widened_cell(cells.second, address, bytes),
+        third: widened_cell(cells.third, address, bytes),
+        fourth: widened_cell(cells.fourth, address, bytes),
+        fifth: widened_cell(cells.fifth, address, bytes),
+        sixth: widened_cell(cells.sixth, address, bytes),
+        seventh: widened_cell(cells.seventh, address, bytes),
+        eighth: widened_cell(cells.eighth, address, bytes),
+    }
+}
+
+/// The cell, or if it has the address one with these bytes too.
+fn widened_cell(cell: Cell, address: u16, bytes: ByteSpan) -> Cell {
+    if cell.at == address {
+        Cell {
+            at: address,
+            bytes: ByteSpan {
+                first: cell.bytes.first.min(bytes.first),
+                last: cell.bytes.last.max(bytes.last),
+            },
+        }
+    } else {
+        cell
     }
 }

@@ -38,6 +38,8 @@ bitflags! {
         const FOURTH = 0x0000_4000;
         /// The words on the stack.
         const WORDS = 0x0000_7800;
+        /// The bytes of memory.
+        const CELLS = 0x007F_8000;
         /// All parts. Those above the words are bytes of memory: a bit for each place that a cell may have.
         const ALL = 0x007F_FFFF;
     }
@@ -51,11 +53,6 @@ impl Units {
             bit = bit.wrapping_mul(2);
         }
         Units(bit)
-    }
-
-    /// The byte of memory whose cell has a place below 8.
-    pub fn cell(place: usize) -> Units {
-        Units::numbered(place.min(7) + 15)
     }
 
     /// A register.
@@ -122,45 +119,11 @@ impl Units {
 
 /// Whether two states agree in these parts.
 pub(crate) fn are_alike(one: State, other: State, parts: Units) -> bool {
-    let keeps_a = parts.intersects(Units::A.union(Units::TEST));
-    (!keeps_a || one.a == other.a && one.copy == other.copy && one.source == other.source)
-        && are_pairs_alike(
-            one.bc,
-            other.bc,
-            parts.intersects(Units::B),
-            parts.intersects(Units::C),
-        )
-        && are_pairs_alike(
-            one.de,
-            other.de,
-            parts.intersects(Units::D),
-            parts.intersects(Units::E),
-        )
-        && are_pairs_alike(
-            one.hl,
-            other.hl,
-            parts.intersects(Units::H),
-            parts.intersects(Units::L),
-        )
-        && (!parts.intersects(Units::ZERO) || one.zero == other.zero)
-        && (!parts.intersects(Units::CARRY) || one.carry == other.carry)
-        && (!parts.intersects(Units::SIGN) || one.sign == other.sign)
-        && (!parts.intersects(Units::TEST) || one.compared == other.compared)
-        && (!parts.intersects(Units::FIRST) || one.words.first == other.words.first)
-        && (!parts.intersects(Units::SECOND) || one.words.second == other.words.second)
-        && (!parts.intersects(Units::THIRD) || one.words.third == other.words.third)
-        && (!parts.intersects(Units::FOURTH) || one.words.fourth == other.words.fourth)
-        && reduced_cells(one.cells, parts) == reduced_cells(other.cells, parts)
-}
-
-/// Whether two pairs agree in these halves.
-fn are_pairs_alike(one: PairSpan, other: PairSpan, high: bool, low: bool) -> bool {
-    match (high, low) {
-        (true, true) => one == other,
-        (true, false) => one.high() == other.high(),
-        (false, true) => one.low == other.low,
-        (false, false) => true,
-    }
+    reduced(one, parts)
+        == State {
+            set: one.set,
+            ..reduced(other, parts)
+        }
 }
 
 /// A state of which only these parts are known.
@@ -219,14 +182,14 @@ pub(crate) fn reduced(state: State, parts: Units) -> State {
 /// Cells of which only these parts are known: each keeps its address.
 fn reduced_cells(cells: Cells, parts: Units) -> Cells {
     Cells {
-        first: reduced_cell(cells.first, parts.intersects(Units::cell(0))),
-        second: reduced_cell(cells.second, parts.intersects(Units::cell(1))),
-        third: reduced_cell(cells.third, parts.intersects(Units::cell(2))),
-        fourth: reduced_cell(cells.fourth, parts.intersects(Units::cell(3))),
-        fifth: reduced_cell(cells.fifth, parts.intersects(Units::cell(4))),
-        sixth: reduced_cell(cells.sixth, parts.intersects(Units::cell(5))),
-        seventh: reduced_cell(cells.seventh, parts.intersects(Units::cell(6))),
-        eighth: reduced_cell(cells.eighth, parts.intersects(Units::cell(7))),
+        first: reduced_cell(cells.first, parts.intersects(Units::numbered(15))),
+        second: reduced_cell(cells.second, parts.intersects(Units::numbered(16))),
+        third: reduced_cell(cells.third, parts.intersects(Units::numbered(17))),
+        fourth: reduced_cell(cells.fourth, parts.intersects(Units::numbered(18))),
+        fifth: reduced_cell(cells.fifth, parts.intersects(Units::numbered(19))),
+        sixth: reduced_cell(cells.sixth, parts.intersects(Units::numbered(20))),
+        seventh: reduced_cell(cells.seventh, parts.intersects(Units::numbered(21))),
+        eighth: reduced_cell(cells.eighth, parts.intersects(Units::numbered(22))),
     }
 }
 

@@ -25,6 +25,7 @@ mod marks;
 mod pointer;
 mod quiet;
 mod quiet_ranges;
+mod setters;
 mod showing;
 mod stack_pointer;
 mod stores;

@@ -22,7 +22,7 @@ use verify80_proposals::{Groups, Proposal, ReachedProgram, propose_table};
 use verify80_states::{CallReturns, Placed, Span, anything, fits, is_marked};
 
 /// How many tables are tried.
-const TABLES: usize = 4;
+const TABLES: usize = 6;
 
 /// What is shown by tables that fit.
 #[derive(Drop)]

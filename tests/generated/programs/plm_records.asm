@@ -5,8 +5,6 @@
 ; quiet 2040 0001
 ; stores 3
 ; listed FALL fault: a number that isn't checked
-; listed FIRST the store at FALL may change CHOSEN
-; listed NEXT the store at FALL may change CHOSEN
 RECORDS: EQU 2000H             ; DECLARE RECORDS (10) STRUCTURE (A BYTE, B BYTE, C (4) BYTE), CHOSEN BYTE
 CHOSEN: EQU 2040H
         LXI SP,20A0H
@@ -36,8 +34,8 @@ SET:    LHLD CHOSEN            ; RECORDS(CHOSEN).A = INPUT(1), .B = INPUT(2)
         LXI D,RECORDS
         DAD D
         IN 1
-FIRST:  MOV M,A
+        MOV M,A
         INX H
         IN 2
-NEXT:   MOV M,A
+        MOV M,A
         RET
