@@ -170,7 +170,7 @@ impl Instr {
         self.facts().writes
     }
 
-    /// Where it stores.
+    /// Where the instruction stores.
     pub fn storing(self) -> Storing
         ensures { result ≡ storing self }
     {

@@ -8,7 +8,7 @@ use crate::fault::HeightsDiffer;
 use crate::frame::Frame;
 use crate::word::Word;
 
-/// The frame becomes what is known of both: a word or a pair is the return address only if it is in both. Answers
+/// The frame becomes what is known of it and of another: a word or a pair is the return address only if it is in both. Answers
 /// whether the frame changed. It takes no memory.
 ///
 /// # Errors

@@ -127,7 +127,7 @@ impl Frames {
         Ok(keep(&mut self.kept, Kept::of_words(kept.taken, words))?)
     }
 
-    /// The number of the frame that is known of both: a word or a pair is the return address only if it is in both. It is that
+    /// The number of the frame that is known of two frames: a word or a pair is the return address only if it is in both. It is that
     /// of the first if the first doesn't change.
     ///
     /// # Errors

@@ -19,11 +19,11 @@ use std::alloc::AllocError;
 /// The words that two stacks have above a stack that lies in both.
 #[derive(Drop)]
 struct Meeting {
-    /// What is known of both words at each place, top first.
+    /// What is known of the words of both stacks at each place, top first.
     words: Vec<Word>,
     /// The number of the stack in both.
     rest: u32,
-    /// Whether one of the words isn't that of the first stack.
+    /// Whether a word that is known of both stacks isn't that of the first.
     changed: bool,
 }
 
@@ -31,11 +31,11 @@ struct Meeting {
 enum Top {
     /// A word each.
     Words(Link, Link),
-    /// The number of the stack of what is known of both.
+    /// The number of the stack of what is known of both stacks.
     Met(u32),
 }
 
-/// The frame that is known of both: a word or a pair is the return address only if it is in both.
+/// The frame that is known of two frames: a word or a pair is the return address only if it is in both.
 ///
 /// # Errors
 /// `HeightsDiffer` exactly where the frames differ in the words taken or in the number of words; `Memory` only if they don't
@@ -64,7 +64,7 @@ pub(crate) fn meet_frames(stacks: &mut Stacks, one: Kept, other: Kept) -> Result
     })
 }
 
-/// The number of the stack of what is known of both words at each place. It is that of the first stack if that doesn't change.
+/// The number of the stack of what is known of the words of two stacks at each place. It is that of the first stack if that doesn't change.
 ///
 /// Deep stacks that meet again and again take few steps, since every 16 words the pair is kept: those that aren't kept yet
 /// meet first, from the bottom up.
@@ -124,7 +124,7 @@ fn depth_to_met(stacks: &Stacks, pair: Pair) -> u32
     depth
 }
 
-/// Meets the pair beneath a pair of stacks, and keeps what is known of both.
+/// Meets the pair beneath a pair of stacks, and keeps what is known of both stacks.
 ///
 /// # Errors
 /// `AllocError` if memory runs out.

@@ -28,7 +28,7 @@ pub(crate) struct Stacks {
     /// Each distinct link once, in order of first sight.
     links: IndexSet<Link>,
     owns: Owns,
-    /// Of some pairs of stacks what is known of both.
+    /// For some pairs of stacks the stack that is known of both.
     met: IndexMap<Pair, u32>,
 }
 
@@ -197,7 +197,7 @@ impl Stacks {
         Ok(number)
     }
 
-    /// The number of the stack of what is known of both, if it is kept.
+    /// The number of the stack of what is known of a pair of stacks, if it is kept.
     pub(crate) fn met(&self, pair: Pair) -> Option<u32>
         requires { pair.one < length self.now }
         ensures { IfSome result (λ number. IsMet self.now pair number) }
@@ -208,7 +208,7 @@ impl Stacks {
         self.met.get(&pair).copied()
     }
 
-    /// Keeps the number of the stack of what is known of both. If as many are kept as may be, all others are dropped.
+    /// Keeps the number of the stack of what is known of a pair of stacks. If as many are kept as may be, all others are dropped.
     ///
     /// # Errors
     /// `AllocError` if memory runs out: the stacks stay as they are.

@@ -107,7 +107,7 @@ fn append_word(name: &[u8], word: u16, line: &mut Vec<u8>) -> Result<(), AllocEr
 /// What stands before an instruction.
 #[derive(Clone, Copy)]
 pub struct LineForm<'a> {
-    /// Whether it is the number of steps that were made before it.
+    /// Whether the line is the number of steps that were made before it.
     pub numbered: bool,
     /// The publics by which addresses are named, each on a line of its own; it may have none.
     pub publics: &'a PublicTable,

@@ -67,7 +67,7 @@ impl ListPorts {
     }
 }
 
-/// The first place, for each port.
+/// The place of the first of some pairs, for each port.
 fn first_places() -> [usize; 256]
     ensures { result ≡ replicate 256 0 }
 {

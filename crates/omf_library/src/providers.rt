@@ -28,7 +28,7 @@ impl<'a> Model for Providers<'a> {
 }
 
 impl<'a> Providers<'a> {
-    /// The first providers of the names that these modules declare, by one entry a name.
+    /// The first providers of the names that some modules declare, by one entry a name.
     ///
     /// # Errors
     /// `AllocError` only if there is no memory for the entries.

@@ -142,7 +142,7 @@ impl<T: Drop> From<AllocFailed<T>> for ModuleFault {
 }
 
 impl ModuleFault {
-    /// Whether it is out of memory.
+    /// Whether the fault is that memory ran out.
     pub(crate) fn is_memory(&self) -> bool
         ensures memory { IsTrue result → self.now ≡ no_memory }
         ensures other { result ≡ false → self.now ≢ no_memory }

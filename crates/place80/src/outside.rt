@@ -41,7 +41,7 @@ fn any_passes(contents: &[Content], size: u32) -> bool
     contents.iter().any(|content| passes_memory(size, content))
 }
 
-/// Whether this is content of MEMORY that the length doesn't hold.
+/// Whether a content is one of MEMORY that the segment's length doesn't hold.
 fn passes_memory(size: u32, content: &Content) -> bool
     ensures { result ≡ passes_memory size content.now }
 {

@@ -11,7 +11,7 @@ use omf_module::{Content, Module};
 /// Two places that share an address.
 pub(crate) type Pair = (Placed, Placed);
 
-/// The first two segments, or else the first absolute content with the first segment.
+/// The first two segments that share an address, or else the first absolute content that shares one, with the first segment that it meets.
 #[tactic(auto, using(crate::proofs::PairLemmas::found_first, crate::proofs::PairLemmas::found_among_others))]
 pub(crate) fn first_overlap(program: &Module, segments: &[Placed]) -> Option<Pair>
     ensures { result ≡ first_sharing (all_pairs program.now segments.now) }
@@ -22,7 +22,7 @@ pub(crate) fn first_overlap(program: &Module, segments: &[Placed]) -> Option<Pai
     }
 }
 
-/// The first two segments.
+/// The first two segments that share an address.
 fn first_of_segments(segments: &[Placed]) -> Option<Pair>
     ensures { result ≡ first_sharing (pairs segments.now) }
 {
@@ -56,7 +56,7 @@ fn overlaps(place: Placed, other: Placed) -> bool
         && u64::from(other.base) < u64::from(place.base) + u64::from(place.length)
 }
 
-/// The first absolute content with the first segment.
+/// The first absolute content that shares an address with a segment, and the first such segment.
 pub(crate) fn first_of_contents(program: &Module, segments: &[Placed]) -> Option<Pair>
     ensures { result ≡ first_sharing (with_each segments.now (absolute_places program.now.contents)) }
 {

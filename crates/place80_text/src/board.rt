@@ -51,7 +51,7 @@ pub fn first_unmapped(
         .or(first_of_restart(restart, board))
 }
 
-/// The first of the segments.
+/// The first address of the segments at which the board has no memory for them.
 fn first_of_segments(segments: &[Placed], board: Board<'_>) -> Option<Unmapped>
     ensures { result ≡ first_unmapped board.entry.rom.now board.entry.ram.now segments.now }
 {
@@ -64,7 +64,7 @@ fn first_of_segments(segments: &[Placed], board: Board<'_>) -> Option<Unmapped>
     None
 }
 
-/// The first of the absolute contents.
+/// The first address of the absolute contents at which the board has no memory for them.
 fn first_of_contents(contents: &[Content], board: Board<'_>) -> Option<Unmapped>
     ensures { result ≡ first_unmapped board.entry.rom.now board.entry.ram.now (absolute_places contents.now) }
 {
@@ -76,7 +76,7 @@ fn first_of_contents(contents: &[Content], board: Board<'_>) -> Option<Unmapped>
     None
 }
 
-/// The first of a content, if it is absolute.
+/// The first such address of a content, if it is absolute.
 fn first_of_content(content: &Content, board: Board<'_>) -> Option<Unmapped>
     ensures { let own = content.now in result ≡ (if own.segment == 0 then
         unmapped_from board.entry.rom.now board.entry.ram.now 0 own.offset (length own.bytes) else None) }
@@ -89,7 +89,7 @@ fn first_of_content(content: &Content, board: Board<'_>) -> Option<Unmapped>
     }
 }
 
-/// The first of the jump at address 0, if there is one.
+/// The first such address of the jump at address 0, if there is one.
 fn first_of_restart(restart: bool, board: Board<'_>) -> Option<Unmapped>
     ensures { result ≡ first_unmapped board.entry.rom.now board.entry.ram.now (restart_places restart) }
 {

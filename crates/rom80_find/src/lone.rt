@@ -33,7 +33,7 @@ impl Uses {
         }
     }
 
-    /// Whether they are of one word.
+    /// Whether the two bytes are of one word.
     fn is_lone(self) -> bool
         ensures { result ≡ true → (bytes : List CodeByte) → IsUses self bytes → AreOfOneWord bytes }
     {
@@ -91,7 +91,7 @@ pub(crate) fn is_lone(byte: &CodeByte, lone: &[bool]) -> bool
     2 <= number && number < lone.len() && lone[number]
 }
 
-/// Whether it is of another value than these three.
+/// Whether a byte is of another value than the three that stand alone.
 pub(crate) fn is_crowded(byte: &CodeByte, lone: &[bool]) -> bool
     ensures { result ≡ is_crowded lone.now byte.now }
 {

@@ -92,7 +92,7 @@ impl<'a> Search<'a> {
         lies_at(self.dump.dump(), address, &self.bytes.free, &mut self.table)
     }
 
-    /// The same, by the answer at the address before, if the dump has the same bytes there.
+    /// Whether the module lies at an address, by the answer at the address before if the dump has the same bytes there.
     fn lies_again(&mut self, address: u16, before: Option<bool>) -> bool
         requires { IsAnswerBefore self.old.dump self.old.free address before }
         ensures same { self.new ≡ self.old }

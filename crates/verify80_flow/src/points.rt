@@ -210,7 +210,7 @@ impl Points {
         self.frames.forget(frame, asked)
     }
 
-    /// The number of the frame that is known of both; that of the first if the first doesn't change.
+    /// The number of the frame that is known of two frames; that of the first if the first doesn't change.
     ///
     /// # Errors
     /// `HeightsDiffer` if the counts differ, or out of memory.

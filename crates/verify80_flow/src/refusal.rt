@@ -127,7 +127,7 @@ impl Refusal {
         }
     }
 
-    /// Whether it is for a word of a frame; any other holds by the counts alone.
+    /// Whether the refusal is for a word of a frame; any other holds by the counts alone.
     pub(crate) fn rests_on_a_word(&self) -> bool
         ensures { result ≡ rests_on_a_word self.now }
     {

@@ -81,7 +81,7 @@ impl Moves {
         kept
     }
 
-    /// The other place to which the word of a place moves.
+    /// The place to which the word of a place moves, or the place itself if its word stays.
     pub(crate) fn moved_to(self, place: Place) -> Place {
         for found in self.0 {
             match found {

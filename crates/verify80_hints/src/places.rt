@@ -61,7 +61,7 @@ impl Places {
         place.block() == self.block && self.bits & place.bit() != 0
     }
 
-    /// The first pair that is one of them.
+    /// The first pair that is one of the places.
     pub(crate) fn first_pair(self) -> Option<Place> {
         let pair = self.bits.trailing_zeros();
         if self.block == 0 && pair < PAIRS {

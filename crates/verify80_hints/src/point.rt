@@ -48,7 +48,7 @@ impl Point {
         is_return && self.procedure != Procedure::Main
     }
 
-    /// Whether it is no start, and leads to one point alone, over no call.
+    /// Whether the point is no start, and leads to one point alone, over no call.
     pub(crate) fn leads_straight(self) -> bool {
         matches!(self.effect, Effect::Change(_) | Effect::Jump(_)) && !self.starts()
     }

@@ -17,7 +17,7 @@ pub(crate) struct HighByte {
     pub start: u16,
 }
 
-/// The first, by module, by content and by record.
+/// The first such fixup of a list of modules, by module, by content and by record.
 pub(crate) fn first_high(modules: &[&Module]) -> Option<HighByte>
     ensures { result ≡ first_high (map (λ m. m.now) modules.now) }
 {
@@ -32,7 +32,7 @@ pub(crate) fn first_high(modules: &[&Module]) -> Option<HighByte>
     None
 }
 
-/// The first of a module.
+/// The first such fixup of a module.
 fn high_of_module(
     starts: &PartStarts<'_, '_>,
     number: usize,
@@ -49,7 +49,7 @@ fn high_of_module(
     None
 }
 
-/// The first of a content.
+/// The first such fixup of a content.
 fn high_of_content(
     starts: &PartStarts<'_, '_>,
     number: usize,
@@ -66,7 +66,7 @@ fn high_of_content(
     None
 }
 
-/// The fixup, if it is one.
+/// Whether a fixup is one, and which.
 fn high_of_fixup(
     starts: &PartStarts<'_, '_>,
     number: usize,

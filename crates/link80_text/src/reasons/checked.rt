@@ -27,7 +27,7 @@ pub(crate) fn checked_needs(
     }
 }
 
-/// Whether these are the needs of a given number of modules that were taken, and lead to roots.
+/// Whether some needs are those of a given number of modules that were taken, and lead to roots.
 fn are_needs(linked: &LinkedModules<'_>, needs: &[Need], count: usize) -> bool
     ensures { result ≡ true → AreNeeds linked.now needs.now count }
 {
@@ -43,7 +43,7 @@ fn are_needs(linked: &LinkedModules<'_>, needs: &[Need], count: usize) -> bool
     true
 }
 
-/// Whether it is a need of the module with this number among those that were taken.
+/// Whether a need is one of the module with a number among those that were taken.
 fn is_needed(linked: &LinkedModules<'_>, number: usize, need: Need) -> bool
     ensures { result ≡ true → IsNeeded linked.now number need }
 {
@@ -56,7 +56,7 @@ fn is_needed(linked: &LinkedModules<'_>, number: usize, need: Need) -> bool
     linked.target(name.bytes()) == Some(number)
 }
 
-/// Whether it is the need of a root, or of a module that is needed itself, in fewer steps.
+/// Whether a need is that of a root, or of a module that is needed itself, in fewer steps.
 fn is_nearer(linked: &LinkedModules<'_>, needs: &[Need], need: Need) -> bool
     ensures { result ≡ true → IsNearer linked.now.roots needs.now need }
 {

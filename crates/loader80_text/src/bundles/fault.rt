@@ -9,7 +9,7 @@ use thiserror::Error;
 /// Why a bundle has no outcome.
 #[derive(Clone, Copy, Debug, PartialEq, Eq, Error)]
 pub enum BundleFault {
-    /// As in a session on the bundle's three parts.
+    /// A fault of the session on the bundle's three parts.
     #[error("{0}")]
     Session(SessionFault),
     /// The bundle has no three parts.

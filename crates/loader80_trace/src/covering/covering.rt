@@ -151,7 +151,7 @@ fn count_all(reached: &Reached) -> u64
     count
 }
 
-/// How many of them were begun.
+/// How many of the reached instructions were begun.
 fn count_begun(reached: &Reached, counts: &[u64]) -> u64
     requires { length counts.now ≡ 65536 }
     ensures { result ≡ tally (is_begun counts.now reached.now) 0 65536 }

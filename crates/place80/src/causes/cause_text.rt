@@ -94,7 +94,7 @@ fn append_overlap(
     append_pair(text, program.commons(), first_pair(program, segments))
 }
 
-/// The first two that share an address, those of the program before those with a restart.
+/// The first two parts of a program that share an address, those of the program before those with a restart.
 #[tactic(auto, using(crate::proofs::PairLemmas::found_first, crate::proofs::PairLemmas::found_among_others))]
 fn first_pair(program: &Module, segments: &[Placed]) -> Option<Pair>
     ensures { result ≡ first_overlap program.now segments.now }

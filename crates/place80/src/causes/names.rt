@@ -22,7 +22,7 @@ pub(crate) fn first_use_of(program: &Module, name: &Name) -> Option<Use>
     None
 }
 
-/// The first of a content.
+/// The first fixup of a content that refers to a name.
 fn first_in(externals: &[Name], name: &Name, content: &Content) -> Option<Use>
     ensures { result ≡ first_use_in no_word (λ f. refers_to externals.now name.now f.target) content.now }
 {
@@ -58,7 +58,7 @@ fn name_at(externals: &[Name], index: u16) -> &[u8]
     }
 }
 
-/// The first public whose name differs from this one in case alone.
+/// The first public whose name differs from a given one in case alone.
 pub(crate) fn alike<'a>(program: &'a Module, name: &Name) -> Option<&'a Public>
     ensures { option_copied result ≡ alike program.now name.now }
 {

@@ -28,7 +28,7 @@ pub(crate) fn first_high(segments: &[Placed], program: &Module) -> Option<Use>
     None
 }
 
-/// The first of a content.
+/// The first such fixup of a content.
 fn first_in(segments: &[Placed], content: &Content) -> Option<Use>
     ensures { result ≡ first_use_in (word_among segments.now) (loses_with (word_among segments.now)) content.now }
 {

@@ -30,7 +30,7 @@ pub(crate) fn append_places(
     append_more(alloc, text, places.len())
 }
 
-/// The first places.
+/// The first places, as many as are shown.
 fn first_of(places: &[u16]) -> &[u16]
     ensures { result.now ≡ take 16 places.now }
 {
