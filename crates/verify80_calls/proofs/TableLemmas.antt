@@ -1,45 +1,32 @@
 -- Bounds of procedures and calls of chains, by address.
-use Rattle.std.proofs.Common.{◌≡◌, ℕ, suc, ◌+◌, ◌-◌, ◌<◌, ◌≤◌, Bool, true, false, List, [], ◌∷◌, length, drop, get_or, refl, sym, ◌∙◌, ap, arith}
-use Rattle.std.proofs.Math.Seq.{drop-cons}
-use Rattle.std.specs.Prelude.{◌==◌, ◌&&◌, ◌||◌, if◌then◌else◌, slice_index_or}
+use Rattle.std.proofs.Common.{◌≡◌, ℕ, zero, suc, ◌-◌, Bool, true, false, List, [], ◌∷◌, length, drop, get_or, refl, sym, ◌∙◌, ap, arith}
+use Rattle.std.proofs.lemmas.List.{drop_all}
+use Rattle.std.specs.Prelude.{◌&&◌, ◌||◌, replicate}
 use Rattle.std.specs.List.{list_any}
-use Rattle.std.proofs.lemmas.Bool.{and_parts, true≢false}
+use Rattle.std.proofs.lemmas.Bool.{true≢false}
 use Rattle.frames80.specs.declared.procedure.Procedure.{Procedure}
 use Rattle.frames80.specs.declared.procedure.Procedure.TheVariants.{Entry}
 use Rattle.frames80.specs.PointNumbers.{same_procedure}
 use Rattle.verify80_calls.specs.declared.graph.call_graph.Node.{Node}
 use Rattle.verify80_calls.specs.declared.graph.chain.Link.{Link}
-use Rattle.verify80_calls.specs.Nodes.{bound_of, is_node_of}
+use Rattle.verify80_calls.specs.Nodes.{bound_of}
 use Rattle.verify80_calls.specs.Chain.{is_link}
 use Rattle.verify80_calls.specs.Tables.{stands_at}
 
--- the bound of a procedure, if one more node stands before the others
-with_node : (node : Node) (nodes : List Node) (p : Procedure)
-    → bound_of (node ∷ nodes) p ≡ (if same_procedure node.procedure p then node.bound else bound_of nodes p)
-with_node node nodes p = by (same_procedure node.procedure p) refl
-  where
-    by : (t : Bool) → same_procedure node.procedure p ≡ t
-        → bound_of (node ∷ nodes) p ≡ (if same_procedure node.procedure p then node.bound else bound_of nodes p)
-    by true e = rw e refl
-    by false e = rw e refl
+all_same : {A : Type 0} (n k : ℕ) (x : A) → get_or (replicate n x) k x ≡ x
+all_same zero k x = refl
+all_same (suc n) zero x = refl
+all_same (suc n) (suc k) x = all_same n k x
 
--- one more node of those from the last on
-pub one_before : (nodes : List Node) (done : ℕ) (d : Node) → done < length nodes → (entry old new : ℕ)
-    → old ≡ bound_of (drop (length nodes - done) nodes) (Entry entry)
-    → new ≡ (if same_procedure (get_or nodes (length nodes - 1 - done) d).procedure (Entry entry) then (get_or nodes (length nodes - 1 - done) d).bound else old)
-    → new ≡ bound_of (drop (length nodes - (done + 1)) nodes) (Entry entry)
-one_before nodes done d lt entry old new before set =
-    let at = length nodes - 1 - done in
-    let here : length nodes - (done + 1) ≡ at = omega (arith, lt) in
-    let next : suc at ≡ length nodes - done = omega (arith, lt) in
-    let node = get_or nodes at d in
-    let split : drop at nodes ≡ node ∷ drop (suc at) nodes = drop-cons nodes at d (omega (arith, lt)) in
-    set
-    ∙ (ap (λ (n : ℕ). if same_procedure node.procedure (Entry entry) then node.bound else n)
-    (before ∙ ap (λ (k : ℕ). bound_of (drop k nodes) (Entry entry)) (sym next))
-    ∙ (sym (with_node node (drop (suc at) nodes) (Entry entry))
-    ∙ (ap (λ (l : List Node). bound_of l (Entry entry)) (sym split)
-    ∙ ap (λ (k : ℕ). bound_of (drop k nodes) (Entry entry)) (sym here))))
+-- none yet
+pub no_bounds : (nodes : List Node) (bounds : List ℕ) → bounds ≡ replicate 65536 0 → (entry : ℕ)
+    → get_or bounds entry 0 ≡ bound_of (drop (length nodes - 0) nodes) (Entry entry)
+no_bounds nodes bounds is entry =
+    ap (λ (l : List ℕ). get_or l entry 0) is ∙ all_same 65536 entry 0
+    ∙ sym (ap (λ (l : List Node). bound_of l (Entry entry)) (drop_all (length nodes - 0) nodes (omega arith)))
+
+pub no_marks : (marks : List Bool) → marks ≡ replicate 65536 false → (at : ℕ) → get_or marks at false ≡ false
+no_marks marks is at = ap (λ (l : List Bool). get_or l at false) is ∙ all_same 65536 at false
 
 -- no call of a procedure stands where none does
 pub none_there : (chain : List Link) (caller : Procedure) (at : ℕ) → list_any (stands_at at) chain ≡ false → list_any (is_link caller at) chain ≡ false

@@ -1,6 +1,6 @@
 //! The calls of which the main program's bound is made.
 
-ghost use Rattle.std.specs.Prelude.{◌≡◌, ℕ, false, length, slice_index_or, IfOk, option_copied};
+ghost use Rattle.std.specs.Prelude.{◌≡◌, false, replicate, IfOk, option_copied};
 ghost use Rattle.std.specs.List.{list_any};
 ghost use Rattle.verify80_calls.specs.Chain.{chain_of, deepest_call, first_deepest, is_link, reaches};
 ghost use Rattle.verify80_calls.specs.Tables.{AreMarks};
@@ -62,8 +62,7 @@ impl MarkedChain {
 
 /// Sets the mark of each address at which a call of the chain stands; before, none is set.
 fn set_marks(marks: &mut [bool], chain: &[Link])
-    requires whole { length marks.old ≡ 65536 }
-    requires none { (at : ℕ) → slice_index_or marks.old at false ≡ false }
+    requires { marks.old ≡ replicate 65536 false }
     ensures { AreMarks chain.now marks.new }
 {
     for link in chain {

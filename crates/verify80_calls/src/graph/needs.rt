@@ -1,6 +1,6 @@
 //! The bytes of stack that calls need.
 
-ghost use Rattle.std.specs.Prelude.{◌≡◌, ℕ, ◌<◌, if◌then◌else◌, length, option_copied, slice_index, IfOk};
+ghost use Rattle.std.specs.Prelude.{◌≡◌, ℕ, ◌<◌, if◌then◌else◌, length, option_copied, replicate, slice_index, IfOk};
 ghost use Rattle.frames80.specs.PointNumbers.{same_procedure};
 ghost use Rattle.frames80.specs.declared.procedure.Procedure.TheVariants.{Entry};
 ghost use Rattle.verify80_calls.specs.Nodes.{bound_of, is_node_of, needs, node_of};
@@ -68,8 +68,7 @@ impl<'a> IndexedNodes<'a> {
 
 /// Sets the bound of each entry, from the last procedure to the first; before, each is 0.
 fn set_bounds(bounds: &mut [u64], nodes: &[Node])
-    requires whole { length bounds.old ≡ 65536 }
-    requires none { (entry : ℕ) → slice_index bounds.old entry ≡ 0 }
+    requires { bounds.old ≡ replicate 65536 0 }
     ensures { AreBounds nodes.now bounds.new }
 {
     for done in 0..nodes.len() {
