@@ -63,6 +63,10 @@ impl Nodes {
                 break;
             };
             joined = joined.union(Units::of_number(PARTS.saturating_sub(part)));
+            if joined.intersects(Units::A) {
+                // What A was compared with tells states apart by A too.
+                joined = joined.union(Units::TEST);
+            }
             if self.count_apart(alloc, places, joined)? < most {
                 return Ok(joined);
             }
