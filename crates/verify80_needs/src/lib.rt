@@ -1,4 +1,4 @@
-//! What of a state the later stores of a program may depend on, at each address, and how spans and variables grow.
+//! What of a state the later stores of a program may depend on.
 //!
 //! Proved: nothing rests on it.
 //!
