@@ -6,7 +6,7 @@ use Rattle.verify80_flow.specs.declared.refusal.Refusal.{Refusal}
 use Rattle.verify80_flow.specs.declared.refusal.Refusal.TheVariants.{Memory}
 use Rattle.omf_model.specs.declared.symbols.Public.{Public}
 use Rattle.image80.specs.Image.{Located}
-use Rattle.verify80_explain.specs.Printed.{GoesOnWithChain, GoesOnWithWays}
+use Rattle.verify80_explain_text.specs.Printed.{GoesOnWithChain, GoesOnWithWays}
 use Rattle.verify80.specs.Looking.{code_of}
 use Rattle.verify80_explain.specs.Shows.{IsShown}
 use Rattle.verify80_explain.specs.declared.explaining_all.ShownRefusal.{ShownRefusal}

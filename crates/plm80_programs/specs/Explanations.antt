@@ -13,8 +13,8 @@ use Rattle.verify80_flow.specs.Refusal.{refusal_address, refusal_code}
 use Rattle.verify80.specs.Looking.{code_of}
 use Rattle.verify80.specs.Vouched.{Voucher}
 use Rattle.verify80_explain.specs.declared.explaining_all.ShownRefusal.{ShownRefusal}
-use Rattle.verify80_explain.specs.Explained.{explanation_text}
-use Rattle.verify80_explain.specs.Printed.{GoesOnWithChain, GoesOnWithWays, too_many}
+use Rattle.verify80_explain_text.specs.Explained.{explanation_text}
+use Rattle.verify80_explain_text.specs.Printed.{GoesOnWithChain, GoesOnWithWays, too_many}
 use Rattle.verify80_explain.specs.Shows.{IsShown}
 use Rattle.plm80_console.specs.Answer.{AnswerValue, prints}
 use Rattle.plm80_names.specs.Printed.{named_refusal_line, named_refusal_report, named_report}

@@ -10,7 +10,8 @@ use image80::Image;
 use loader80::Refusal;
 use plm80_names::{Names, named_refusal};
 use std::alloc::{AllocError, Global};
-use verify80_explain::{ShownRefusal, explain_all, explanation_text};
+use verify80_explain::{ShownRefusal, explain_all};
+use verify80_explain_text::explanation_text;
 
 /// All refusals of points that are found of an image, each with its way; behind them the verifier's, if it is none of these; and how many
 /// there are. Out of memory is no answer about the image.

@@ -2,7 +2,7 @@
 
 ghost use Rattle.std.specs.Prelude.{◌≡◌, ◌≢◌, [], IfErr, IfOk, OnOk};
 ghost use Rattle.verify80_flow.specs.declared.refusal.Refusal.TheVariants.{Memory};
-ghost use Rattle.verify80_explain.specs.Printed.{GoesOnWithChain, GoesOnWithWays};
+ghost use Rattle.verify80_explain_text.specs.Printed.{GoesOnWithChain, GoesOnWithWays};
 ghost use Rattle.plm80_console.specs.Answer.{Gives};
 ghost use Rattle.plm80_console.specs.Journal.{OnlyReports};
 ghost use Rattle.plm80_names.specs.Arguments.{asks_names, program_paths};
@@ -19,7 +19,8 @@ use plm80_console::{Answer, Argument, Console, Kind, Reported, Syntax};
 use plm80_files::{IMAGE, REGIONS};
 use plm80_names::{NAMES, NamedFiles, Names, named_refusal, named_refusal_report, named_report};
 use std::alloc::{AllocError, Global};
-use verify80_explain::{append_chain, append_explanation, measure};
+use verify80_explain::measure;
+use verify80_explain_text::{append_chain, append_explanation};
 
 /// The most that the points that are found weigh together: eight for a point, one for each word of its frame and each word taken, and as
 /// much again for each declared target. So as many points as `check` follows, 262,144, each with its return address.

@@ -2,6 +2,3 @@ pub mod ShownLemmas
 pub mod SoughtLemmas
 pub mod WayLemmas
 pub mod ChainLemmas
-pub mod RunLemmas
-pub mod LawLemmas
-pub mod TextLemmas

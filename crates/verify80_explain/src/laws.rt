@@ -1,7 +1,6 @@
-//! What explanations mean, and what the runs of a way are, as contracts.
+//! What explanations mean, as contracts.
 
 ghost use Rattle.verify80_explain.specs.Chains.{ChainsAreUses};
-ghost use Rattle.verify80_explain.specs.Laws.{RunsAreTheWay};
 ghost use Rattle.verify80_explain.specs.Shows.{ShownHolds};
 
 /// What an explanation shows holds of the program: the refusal names a fault that is there.
@@ -12,10 +11,4 @@ pub fn what_is_shown_holds()
 /// A chain of calls is one of those whose sums the bound is the greatest of.
 pub fn chains_are_uses()
     ensures { ChainsAreUses }
-{}
-
-/// The runs of a way are all of its points, in order. The points of a run have one frame, and the first point behind a run has
-/// another frame.
-pub fn ways_are_shown_in_runs()
-    ensures { RunsAreTheWay }
 {}

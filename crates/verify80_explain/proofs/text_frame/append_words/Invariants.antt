@@ -1,7 +1,0 @@
-use Rattle.std.proofs.Common.{◌≡◌, ◌++◌, take}
-use Rattle.std.specs.List.{flat_map}
-use Rattle.verify80_explain.specs.Frames.{word_shown}
-use Rattle.verify80_explain.proofs.text_frame.append_words.Given as goal
-
-abbrev pub invariant-loop-word : goal.invariant-loop-word
-invariant-loop-word l = l.text.items ≡ l.initial.text.items ++ flat_map word_shown (take l.word-index l.words)

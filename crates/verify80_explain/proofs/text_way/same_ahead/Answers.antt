@@ -1,7 +1,0 @@
-use Rattle.std.proofs.Common.{sym}
-use Rattle.verify80_explain.specs.Explained.{has_other_frame}
-use Rattle.verify80_explain.proofs.RunLemmas.{all_counted}
-use Rattle.verify80_explain.proofs.text_way.same_ahead.Goals as goal
-
-pub returns-in-None-clause-value : goal.returns-in-None-clause-value
-returns-in-None-clause-value c = all_counted (has_other_frame c.args.frame.now) c.args.way.now (sym c.in-None.ensures)

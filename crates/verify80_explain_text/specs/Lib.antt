@@ -1,0 +1,5 @@
+pub mod Instructions
+pub mod Frames
+pub mod Explained
+pub mod Printed
+pub mod Laws

@@ -1,0 +1,9 @@
+//! What the runs of a way are, as a contract.
+
+ghost use Rattle.verify80_explain_text.specs.Laws.{RunsAreTheWay};
+
+/// The runs of a way are all of its points, in order. The points of a run have one frame, and the first point behind a run has
+/// another frame.
+pub fn ways_are_shown_in_runs()
+    ensures { RunsAreTheWay }
+{}
