@@ -111,6 +111,6 @@ impl<'a> Search<'a> {
     fn is_repeated(&self, address: u16) -> bool
         ensures { result ≡ true → (lies : Bool) → IsAnswerBefore self.now.dump self.now.free address (Some lies) → IsAnswer self.now.dump self.now.free address lies }
     {
-        self.dump.is_repeated(self.bytes.offsets, address)
+        self.dump.are_repeated(&self.bytes.runs, address)
     }
 }
