@@ -99,7 +99,7 @@ pub trait Console {
     fn text_to_explain(&self, path: &str) -> Option<Vec<u8>>
         ensures { IfSome result (λ bytes. vec_len bytes ≤ text_limit) };
 
-    /// Whether both paths name one file, by whatever spellings and links.
+    /// Whether two paths name one file, by whatever spellings and links.
     fn is_one_file(&self, first: &str, second: &str) -> bool;
 
     /// Reports a fault of the file of this path.
@@ -121,8 +121,16 @@ pub trait Console {
         ensures { journal self.new ≡ and_reported (journal self.old) }
     {
         let reported = self.report("Write");
-        self.explain_failure(failure);
+        self.explain_output(failure);
         reported
+    }
+
+    /// Says why standard output takes nothing more, if it is known.
+    fn explain_output(&self, failure: Option<ErrorKind>) {
+        match failure {
+            Some(ErrorKind::NotConnected) => self.explain("standard output is closed"),
+            _ => self.explain_failure(failure),
+        }
     }
 
     /// Says why the system failed, if it is known.

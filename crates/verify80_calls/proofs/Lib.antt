@@ -5,3 +5,4 @@ pub mod EndLemmas
 pub mod ChainLemmas
 pub mod NodeLemmas
 pub mod TextLemmas
+pub mod TableLemmas

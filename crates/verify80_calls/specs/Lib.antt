@@ -6,3 +6,4 @@ pub mod ListText
 pub mod GraphText
 -- what the crate's own functions promise one another: no public contract cites these
 pub mod Points
+pub mod Tables

@@ -1,13 +1,15 @@
 //! The calls of which the main program's bound is made.
 
-ghost use Rattle.std.specs.Prelude.{◌≡◌, IfOk, option_copied};
+ghost use Rattle.std.specs.Prelude.{◌≡◌, false, replicate, IfOk, option_copied};
 ghost use Rattle.std.specs.List.{list_any};
 ghost use Rattle.verify80_calls.specs.Chain.{chain_of, deepest_call, first_deepest, is_link, reaches};
+ghost use Rattle.verify80_calls.specs.Tables.{AreMarks};
 
 use crate::graph::call_graph::Node;
-use crate::graph::needs::{bound_of, node_of};
+use crate::graph::needs::{IndexedNodes, node_of};
 use crate::{Call, Procedure};
 use std::alloc::{AllocError, Global};
+use std::marker::Model;
 
 /// A call of a chain, and the procedure that makes it.
 #[derive(Clone, Copy, Debug, PartialEq, Eq)]
@@ -16,14 +18,65 @@ pub(crate) struct Link {
     pub(crate) call: Call,
 }
 
-/// The calls of which the main program's bound is made: from the main program on, of each procedure the first call whose depth and
-/// needs add up to its bound.
-pub(crate) fn chain_of(alloc: Global, nodes: &[Node]) -> Result<Vec<Link>, AllocError>
+/// How many addresses there are.
+const ADDRESSES: usize = 65536;
+
+/// The calls of a chain, with a mark for each address at which one stands. A contract sees the calls.
+#[derive(Drop)]
+pub(crate) struct MarkedChain {
+    links: Vec<Link>,
+    marks: Vec<bool>,
+}
+
+impl Model for MarkedChain {
+    ghost use Rattle.std.specs.Prelude.{List};
+    ghost use Rattle.verify80_calls.specs.declared.graph.chain.Link.{Link};
+    ghost use Rattle.verify80_calls.specs.Tables.{AreMarks};
+
+    ghost Value = { List Link };
+
+    ghost view = { λ c. c.links.items };
+
+    ghost invariant = { λ c. AreMarks c.links.items c.marks.items };
+}
+
+impl MarkedChain {
+    /// The calls of which the main program's bound is made: from the main program on, of each procedure the first call whose depth and
+    /// needs add up to its bound.
+    pub(crate) fn of(alloc: Global, nodes: &IndexedNodes<'_>) -> Result<MarkedChain, AllocError>
+        ensures { IfOk result (λ chain. chain ≡ chain_of nodes.now) }
+    {
+        let links = chain_of(alloc, nodes)?;
+        let mut marks = vec![in alloc; false; ADDRESSES]?;
+        set_marks(&mut marks, &links);
+        Ok(MarkedChain { links, marks })
+    }
+
+    /// Whether a procedure's call at an address is one of the chain.
+    pub(crate) fn has(&self, caller: Procedure, at: u16) -> bool
+        ensures { result ≡ list_any (is_link caller at) self.now }
+    {
+        self.marks[usize::from(at)] && is_in(&self.links, caller, at)
+    }
+}
+
+/// Sets the mark of each address at which a call of the chain stands; before, none is set.
+fn set_marks(marks: &mut [bool], chain: &[Link])
+    requires { marks.old ≡ replicate 65536 false }
+    ensures { AreMarks chain.now marks.new }
+{
+    for link in chain {
+        marks[usize::from(link.call.at)] = true;
+    }
+}
+
+/// The calls of which the main program's bound is made.
+fn chain_of(alloc: Global, nodes: &IndexedNodes<'_>) -> Result<Vec<Link>, AllocError>
     ensures { IfOk result (λ chain. chain.items ≡ chain_of nodes.now) }
 {
     let mut chain = Vec::new(alloc);
     let mut caller = Procedure::Main;
-    let mut left = nodes.len();
+    let mut left = nodes.nodes().len();
     while left > 0 {
         let Some(call) = deepest_call(nodes, caller) else {
             return Ok(chain);
@@ -36,17 +89,17 @@ pub(crate) fn chain_of(alloc: Global, nodes: &[Node]) -> Result<Vec<Link>, Alloc
 }
 
 /// The first call of a procedure whose depth and needs add up to its bound.
-fn deepest_call(nodes: &[Node], caller: Procedure) -> Option<Call>
+fn deepest_call(nodes: &IndexedNodes<'_>, caller: Procedure) -> Option<Call>
     ensures { result ≡ deepest_call nodes.now caller }
 {
-    match node_of(nodes, caller) {
+    match node_of(nodes.nodes(), caller) {
         Some(node) => first_deepest(nodes, node).copied(),
         None => None,
     }
 }
 
 /// The first of a node's calls whose depth and needs add up to its bound.
-fn first_deepest<'a>(nodes: &[Node], node: &'a Node) -> Option<&'a Call>
+fn first_deepest<'a>(nodes: &IndexedNodes<'_>, node: &'a Node) -> Option<&'a Call>
     ensures { option_copied result ≡ first_deepest nodes.now node.now }
 {
     node.calls
@@ -55,15 +108,15 @@ fn first_deepest<'a>(nodes: &[Node], node: &'a Node) -> Option<&'a Call>
 }
 
 /// Whether the depth and the needs of a call add up to a bound.
-fn reaches(nodes: &[Node], bound: u64, call: Call) -> bool
+fn reaches(nodes: &IndexedNodes<'_>, bound: u64, call: Call) -> bool
     ensures { result ≡ reaches nodes.now bound call }
 {
-    let needs = 2 + i128::from(bound_of(nodes, Procedure::Entry(call.target)));
+    let needs = 2 + i128::from(nodes.bound_of(call.target));
     i128::from(call.depth) + needs == i128::from(bound)
 }
 
 /// Whether a procedure's call at an address is one of the chain.
-pub(crate) fn is_in(chain: &[Link], caller: Procedure, at: u16) -> bool
+fn is_in(chain: &[Link], caller: Procedure, at: u16) -> bool
     ensures { result ≡ list_any (is_link caller at) chain.now }
 {
     chain.iter().any(|link| is_link(link, caller, at))

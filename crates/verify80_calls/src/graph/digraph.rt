@@ -2,10 +2,12 @@
 
 ghost use Rattle.std.specs.Prelude.{◌≡◌, ◌++◌, IfOk, OnOk};
 ghost use Rattle.std.specs.List.{flat_map};
+ghost use Rattle.verify80_calls.specs.Chain.{chain_of};
 ghost use Rattle.verify80_calls.specs.GraphText.{box_line, edge_end, edge_label, edge_line, edges, entry_id, escaped, escaped_name, graph_text, label_begin, node_id};
 
 use crate::graph::call_graph::{CallGraph, Node};
-use crate::graph::chain::{Link, chain_of, is_in};
+use crate::graph::chain::MarkedChain;
+use crate::graph::needs::IndexedNodes;
 use crate::graph::words::{append_address, append_bound, node_word};
 use crate::{Call, Procedure};
 use image80::Image;
@@ -34,6 +36,14 @@ pub fn graph_text(
     append_edges(alloc, &mut text, &chain, nodes)?;
     text.extend_from_slice(b"}\n".as_slice())?;
     Ok(text)
+}
+
+/// The calls of which the main program's bound is made.
+fn chain_of(alloc: Global, nodes: &[Node]) -> Result<MarkedChain, AllocError>
+    ensures { IfOk result (λ chain. chain ≡ chain_of nodes.now) }
+{
+    let indexed = IndexedNodes::of(alloc, nodes)?;
+    MarkedChain::of(alloc, &indexed)
 }
 
 /// Appends the box of each procedure.
@@ -140,7 +150,7 @@ fn append_byte(text: &mut Vec<u8>, byte: u8) -> Result<(), AllocError>
 fn append_edges(
     alloc: Global,
     text: &mut Vec<u8>,
-    chain: &[Link],
+    chain: &MarkedChain,
     nodes: &[Node],
 ) -> Result<(), AllocError>
     ensures { OnOk result (text.new.items ≡ text.old.items ++ flat_map (edges chain.now) nodes.now) }
@@ -155,7 +165,7 @@ fn append_edges(
 fn append_calls(
     alloc: Global,
     text: &mut Vec<u8>,
-    chain: &[Link],
+    chain: &MarkedChain,
     caller: Procedure,
     calls: &[Call],
 ) -> Result<(), AllocError>
@@ -171,7 +181,7 @@ fn append_calls(
 fn append_edge(
     alloc: Global,
     text: &mut Vec<u8>,
-    chain: &[Link],
+    chain: &MarkedChain,
     caller: Procedure,
     call: Call,
 ) -> Result<(), AllocError>
@@ -180,7 +190,7 @@ fn append_edge(
     append_id(text, caller)?;
     append_address(text, b" -> \"".as_slice(), call.target)?;
     append_edge_label(alloc, text, call)?;
-    text.extend_from_slice(edge_end(is_in(chain, caller, call.at)))
+    text.extend_from_slice(edge_end(chain.has(caller, call.at)))
 }
 
 /// Appends the label of a call's edge.

@@ -6,7 +6,7 @@ ghost use Rattle.verify80_calls.specs.ListText.{call_line, depth_text, list_text
 
 use crate::Call;
 use crate::graph::call_graph::{CallGraph, Node};
-use crate::graph::needs::needs;
+use crate::graph::needs::IndexedNodes;
 use crate::graph::words::{append_address, append_bound, append_end, node_word};
 use image80::Image;
 use image80_text::PublicTable;
@@ -26,8 +26,9 @@ pub fn list_text(
 ) -> Result<Vec<u8>, AllocError>
     ensures { IfOk result (λ text. text.items ≡ list_text image.now publics.now graph.now) }
 {
+    let nodes = IndexedNodes::of(alloc, graph.nodes())?;
     let mut text = Vec::new(alloc);
-    append_nodes(alloc, &mut text, image, publics, graph.nodes())?;
+    append_nodes(alloc, &mut text, image, publics, &nodes)?;
     Ok(text)
 }
 
@@ -37,11 +38,11 @@ fn append_nodes(
     text: &mut Vec<u8>,
     image: &Image,
     publics: &PublicTable,
-    nodes: &[Node],
+    nodes: &IndexedNodes<'_>,
 ) -> Result<(), AllocError>
     ensures { OnOk result (text.new.items ≡ text.old.items ++ list_text image.now publics.now nodes.now) }
 {
-    for node in nodes {
+    for node in nodes.nodes() {
         append_node_line(alloc, text, image, publics, node)?;
         append_calls(alloc, text, image, publics, nodes, &node.calls)?;
     }
@@ -73,7 +74,7 @@ fn append_calls(
     text: &mut Vec<u8>,
     image: &Image,
     publics: &PublicTable,
-    nodes: &[Node],
+    nodes: &IndexedNodes<'_>,
     calls: &[Call],
 ) -> Result<(), AllocError>
     ensures { OnOk result (text.new.items ≡ text.old.items ++ flat_map (call_line image.now publics.now nodes.now) calls.now) }
@@ -90,13 +91,13 @@ fn append_call(
     text: &mut Vec<u8>,
     image: &Image,
     publics: &PublicTable,
-    nodes: &[Node],
+    nodes: &IndexedNodes<'_>,
     call: Call,
 ) -> Result<(), AllocError>
     ensures { OnOk result (text.new.items ≡ text.old.items ++ call_line image.now publics.now nodes.now call) }
 {
     append_depth(alloc, text, call)?;
-    append_needs(alloc, text, call.target, needs(nodes, call.target))?;
+    append_needs(alloc, text, call.target, nodes.needs(call.target))?;
     append_end(alloc, text, image, publics, call.target)?;
     Ok(())
 }
