@@ -8,7 +8,7 @@ ghost use Rattle.plm80_names.specs.Arguments.{AreNamedFiles};
 ghost use Rattle.plm80_console.specs.Journal.{OnlyReports, and_read};
 ghost use Rattle.plm80_names.specs.Verdict.{IsProgramRead};
 
-use crate::names::Names;
+use crate::names::{Names, explain_names};
 use crate::refusal_words::explain_refusal;
 use clap::ArgMatches;
 use image80::Image;
@@ -65,9 +65,16 @@ impl<'a> NamedFiles<'a> {
 }
 
 impl<'a> NamedFiles<'a> {
-    /// Says what is at the address of the program's refusal, if a command has given the status of one and words are asked for.
-    pub fn explain_refusal<C: Console>(self, console: &C, given: &Result<u8, Reported>) {
+    /// Says what is at the address of the program's refusal, and that names are missing, if that is so of what a command has given, and words
+    /// are asked for.
+    pub fn explain_given<C: Console>(self, console: &C, given: &Result<u8, Reported>) {
         explain_refusal(console, given, self.image, self.regions);
+        self.explain_names(console, given);
+    }
+
+    /// Says that names are asked for and missing, if that is so and words are asked for.
+    pub fn explain_names<C: Console>(self, console: &C, given: &Result<u8, Reported>) {
+        explain_names(console, given, self.names, self.image);
     }
 }
 

@@ -7,6 +7,7 @@ ghost use Rattle.plm80_console.specs.Journal.{OnlyReports, and_reported};
 ghost use Rattle.plm80_objects.specs.Arguments.{AreExtractArguments, IsExtentOf, fill_text};
 ghost use Rattle.plm80_objects.specs.Absolute.{ExtractsFile};
 
+use crate::helpers::byte_words::explain_no_bytes;
 use clap::ArgMatches;
 use image80::Image;
 use plm80_console::{Answer, Argument, Console, Kind, OptionText, Reported, Syntax, argument_text};
@@ -126,7 +127,14 @@ pub fn extract_file<C: Console>(
     let none = no_regions(console.alloc());
     let image = image_of(console, file.path, &file.bytes, none)?;
     match extracted(console.alloc(), arguments, extent, &image) {
-        Ok(answer) => console.give(answer),
+        Ok(answer) => {
+            let given = console.give(answer);
+            if given.is_ok() {
+                let (first, length) = (arguments.first.text(), arguments.length.text());
+                explain_no_bytes(console, arguments.image, first, length);
+            }
+            given
+        }
         Err(fault) => Err(report_range(console, fault)),
     }
 }

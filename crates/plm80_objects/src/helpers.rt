@@ -1,6 +1,7 @@
 //! What the commands of object files share, and the longer parts of one of them.
 
 pub(crate) mod board_options;
+pub(crate) mod byte_words;
 pub(crate) mod causes;
 pub(crate) mod dump_words;
 pub(crate) mod empty_segments;

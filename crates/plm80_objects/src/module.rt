@@ -8,6 +8,7 @@ ghost use Rattle.plm80_files.specs.LinkFiles.{AreModulesRead};
 ghost use Rattle.plm80_objects.specs.Modules.{AnswersModules, DescribesModules};
 
 use clap::ArgMatches;
+use omf_core::{RecordKind, next_record};
 use omf_library::read_library;
 use omf_module::Module;
 use omf_text::append_module_text;
@@ -83,7 +84,7 @@ fn read_described<C: Console>(console: &mut C, path: &str) -> Result<Vec<Module>
     read
 }
 
-/// Says which modules a library has, unless it was read as an object file.
+/// Says which modules a library has, and the places of their first records, unless it was read as an object file.
 fn explain_library<C: Console>(console: &C, is_read: bool, path: &str) {
     if is_read {
         return;
@@ -94,11 +95,29 @@ fn explain_library<C: Console>(console: &C, is_read: bool, path: &str) {
     let Ok(library) = read_library(console.alloc(), &bytes) else {
         return;
     };
+    let mut rest = 0;
     for member in &library.modules {
+        let Some((at, after)) = header_from(&bytes, rest) else {
+            return;
+        };
         if let Ok(name) = str::from_utf8(member.name().bytes()) {
-            console.explain(format_args!("it has the module {name}"));
+            console.explain(format_args!("it has the module {name} at {at}"));
         }
+        rest = after;
     }
+}
+
+/// The place of the first record from a place on that begins a module, and the place after it.
+fn header_from(bytes: &[u8], from: usize) -> Option<(usize, usize)> {
+    let mut at = from;
+    for _ in 0..bytes.len() {
+        let (record, after) = next_record(bytes, at).ok()?;
+        if record.kind == RecordKind::ModuleHeader as u8 {
+            return Some((at, after));
+        }
+        at = after;
+    }
+    None
 }
 
 /// The lines of all modules, in order.

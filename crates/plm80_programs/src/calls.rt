@@ -81,7 +81,7 @@ pub fn show_calls<C: Console>(
     let (image, names) = arguments.files.read(console)?;
     let answer = shown(console.alloc(), image, arguments.dot, &names);
     let given = console.give_if_made(answer);
-    arguments.files.explain_refusal(console, &given);
+    arguments.files.explain_given(console, &given);
     given
 }
 

@@ -46,7 +46,7 @@ pub fn check_files<C: Console>(console: &mut C, files: NamedFiles<'_>) -> Result
     let (image, names) = files.read(console)?;
     let answer = checked(console.alloc(), image, &names);
     let given = console.give_if_made(answer);
-    files.explain_refusal(console, &given);
+    files.explain_given(console, &given);
     given
 }
 

@@ -99,7 +99,9 @@ pub fn explain_files<C: Console>(
 {
     let (image, names) = arguments.files.read(console)?;
     let answer = explained(console.alloc(), image, arguments.all, &names);
-    console.give_if_made(answer)
+    let given = console.give_if_made(answer);
+    arguments.files.explain_names(console, &given);
+    given
 }
 
 /// The report on an image and its chain of calls, or its refusal, or all of them, and what shows them.

@@ -82,7 +82,7 @@ pub fn list_files<C: Console>(console: &mut C, arguments: ListArguments<'_>) -> 
     let (image, names) = arguments.files.read(console)?;
     let answer = listed(console.alloc(), image, arguments.reached, &names);
     let given = console.give_if_made(answer);
-    arguments.files.explain_refusal(console, &given);
+    arguments.files.explain_given(console, &given);
     given
 }
 

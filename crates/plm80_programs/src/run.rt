@@ -106,5 +106,9 @@ pub fn run_files<C: Console>(console: &mut C, arguments: RunArguments<'_>) -> Re
         last,
         dump: arguments.dump,
     };
-    watch_run(console, arguments.files, arguments.names, watch)
+    let given = watch_run(console, arguments.files, arguments.names, watch);
+    arguments
+        .files
+        .explain_given(console, &given, arguments.names);
+    given
 }

@@ -108,7 +108,7 @@ pub fn list_stores<C: Console>(
             let status = console.give(answer)?;
             explain_causes(console, &causes);
             let given = Ok(status);
-            arguments.files.explain_refusal(console, &given);
+            arguments.files.explain_given(console, &given);
             given
         }
         Err(_) => Err(console.report_memory()),
