@@ -8,6 +8,7 @@ ghost use Rattle.plm80_objects.specs.Arguments.{AreExtractArguments, IsExtentOf,
 ghost use Rattle.plm80_objects.specs.Absolute.{ExtractsFile};
 
 use crate::helpers::byte_words::explain_no_bytes;
+use crate::helpers::decimal_words::explain_decimal;
 use clap::ArgMatches;
 use image80::Image;
 use plm80_console::{Answer, Argument, Console, Kind, OptionText, Reported, Syntax, argument_text};
@@ -132,6 +133,7 @@ pub fn extract_file<C: Console>(
             if given.is_ok() {
                 let (first, length) = (arguments.first.text(), arguments.length.text());
                 explain_no_bytes(console, arguments.image, first, length);
+                explain_decimal(console, arguments.length);
             }
             given
         }

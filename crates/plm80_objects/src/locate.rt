@@ -155,6 +155,7 @@ pub fn locate_file<C: Console>(
             let given = console.give(answer);
             if given.is_ok() {
                 explain_empty_segments(console, program, &options, arguments.options);
+                arguments.options.explain_decimal(console);
             }
             given
         }

@@ -86,7 +86,13 @@ pub fn map_file<C: Console>(console: &mut C, arguments: MapArguments<'_>) -> Res
     let modules = read_program(console, arguments.object)?;
     let program = &modules[0];
     match mapped(console.alloc(), program, &options) {
-        Ok(answer) => console.give(answer),
+        Ok(answer) => {
+            let given = console.give(answer);
+            if given.is_ok() {
+                arguments.options.explain_decimal(console);
+            }
+            given
+        }
         Err(fault) => Err(report_place_fault(console, program, &options, fault)),
     }
 }

@@ -19,7 +19,7 @@ pub(crate) fn explain_no_bytes<C: Console>(console: &C, path: &str, first: &str,
         return;
     };
     if bytes.iter().all(|byte| byte.is_none()) {
-        explain_span(console, &image, "the image has no byte in that range");
+        explain_span(console, &image, "no byte is in that range");
     }
 }
 
@@ -43,9 +43,13 @@ pub(crate) fn explain_differences<C: Console>(
     };
     let (held, same) = count_same(&bytes, &dump);
     if held == 0 {
-        explain_span(console, &image, "the image has no byte in that range");
+        explain_span(console, &image, "no byte is in that range");
     } else if same < held.saturating_sub(same) {
-        explain_span(console, &image, "few bytes are the same: is --first right?");
+        explain_span(
+            console,
+            &image,
+            "few bytes are the same: --first may be wrong",
+        );
     } else if held < dump.len() && fill == "00" {
         console.explain(
             "where the image has no byte, 00 was compared; --fill FF compares what an erased PROM has",
@@ -86,7 +90,7 @@ fn count_same(bytes: &[Option<u8>], dump: &[u8]) -> (usize, usize) {
 fn explain_span<C: Console>(console: &C, image: &Image, words: &str) {
     match span_of(image) {
         Some((first, last)) => console.explain(format_args!(
-            "{words}; its bytes are from {first:04X} to {last:04X}"
+            "{words}; the image's bytes are from {first:04X} to {last:04X}"
         )),
         None => console.explain("the image has no bytes"),
     }

@@ -4,6 +4,7 @@ ghost use Rattle.std.specs.Prelude.{◌≡◌, ◌∷◌, [], IfErr, IfOk};
 ghost use Rattle.plm80_console.specs.Journal.{OnlyReports};
 ghost use Rattle.plm80_objects.specs.Arguments.{AreLocateTexts, AreNumbersOf};
 
+use crate::helpers::decimal_words::explain_decimal;
 use clap::ArgMatches;
 use omf_core::segment_id::{CODE, DATA, MEMORY, STACK, UNNAMED_COMMON};
 use place80::Options;
@@ -98,6 +99,20 @@ impl<'a> LocateTexts<'a> {
             (DATA, self.data_base),
             (MEMORY, self.memory),
         ]
+    }
+
+    /// Says which of the numbers may have been meant in decimal.
+    pub fn explain_decimal<C: Console>(self, console: &C) {
+        for (_, base) in self.bases() {
+            if let Some(base) = base {
+                explain_decimal(console, base);
+            }
+        }
+        for size in [self.stack_size, self.memory_size] {
+            if let Some(size) = size {
+                explain_decimal(console, size);
+            }
+        }
     }
 
     /// The numbers of the options.
