@@ -51,7 +51,7 @@ fn resolve_fixups(
 }
 
 /// A copy of bytes, with words added at their places.
-fn apply_patches(alloc: Global, bytes: &[u8], patches: &[Patch]) -> Result<Vec<u8>, AllocError>
+fn patched_copy(alloc: Global, bytes: &[u8], patches: &[Patch]) -> Result<Vec<u8>, AllocError>
     requires inside { IsTrue (are_inside (length bytes.now) patches.now) }
     requires apart { IsTrue (are_apart patches.now) }
     ensures { IfOk result (λ copy. copy.items ≡ with_patches patches.now bytes.now) }
@@ -74,7 +74,7 @@ fn linked_content(
     ensures { IfOk result (λ moved. moved ≡ linked_content tables.now (number, source.now) content.now) }
 {
     let (patches, fixups) = resolve_fixups(alloc, tables, number, source, content)?;
-    let bytes = apply_patches(alloc, &content.bytes, &patches)?;
+    let bytes = patched_copy(alloc, &content.bytes, &patches)?;
     Ok(Content {
         segment: tables.joined.linked_id(source, content.segment),
         offset: content.offset + tables.joined.start(number, content.segment),
