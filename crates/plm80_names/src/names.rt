@@ -155,28 +155,6 @@ impl Names {
     }
 }
 
-/// Says that the image of this path has no names, if they are asked for, a command has given a status, and words are asked for. The file is
-/// read again; if it can't be, or memory runs out, nothing is said.
-pub fn explain_names<C: Console>(
-    console: &C,
-    given: &Result<u8, Reported>,
-    asked: bool,
-    image: &str,
-) {
-    if !asked || given.is_err() {
-        return;
-    }
-    let Some(bytes) = console.text_to_explain(image) else {
-        return;
-    };
-    let Ok(publics) = read_publics(console.alloc(), &bytes) else {
-        return;
-    };
-    if publics.is_empty() {
-        console.explain(format_args!("{image} has no names: locate --publics keeps them"));
-    }
-}
-
 /// These publics as names.
 fn names_of<C: Console>(console: &mut C, publics: Vec<Public>) -> Result<Names, Reported>
     ensures names { IfOk result (λ names. names ≡ publics.items) }

@@ -11,7 +11,7 @@ ghost use Rattle.plm80_objects.specs.Compare.{ComparesFiles, PrintsDifferences};
 ghost use Rattle.plm80_objects.specs.RomFaults.{IsRefused};
 
 use crate::extract::{FILL, fill_of};
-use crate::helpers::byte_words::explain_differences;
+use crate::helpers::byte_words::explain_bytes;
 use crate::helpers::dump_words::explain_dump;
 use crate::helpers::rom_faults::report_rom_fault;
 use clap::ArgMatches;
@@ -20,7 +20,7 @@ use plm80_console::{
     Answer, Argument, Console, FaultOf, Kind, OptionText, ReadFile, Reported, Syntax, argument_text,
 };
 use plm80_files::{IMAGE, image_of};
-use plm80_names::{NAMES, Names, explain_names};
+use plm80_names::{NAMES, Names, explain_given};
 use rom80::{RomFault, byte_ranges, compare, no_regions};
 use std::alloc::{AllocError, Global};
 
@@ -102,9 +102,9 @@ pub fn compare_files<C: Console>(
     let done = print_differences(console, arguments);
     if let Ok(1) = done {
         let (first, fill) = (arguments.first.text(), arguments.fill.text());
-        explain_differences(console, arguments.image, arguments.dump, first, fill);
+        explain_bytes(console, arguments.image, arguments.dump, first, fill);
     }
-    explain_names(console, &done, arguments.names, arguments.image);
+    explain_given(console, &done, arguments.names, arguments.image, None);
     explain_dump(console, arguments.dump);
     done
 }

@@ -7,8 +7,8 @@ ghost use Rattle.plm80_console.specs.Journal.{OnlyReports, and_reported};
 ghost use Rattle.plm80_objects.specs.Arguments.{AreExtractArguments, IsExtentOf, fill_text};
 ghost use Rattle.plm80_objects.specs.Absolute.{ExtractsFile};
 
-use crate::helpers::byte_words::explain_no_bytes;
-use crate::helpers::decimal_words::explain_decimal;
+use crate::helpers::byte_words::explain_bytes;
+use crate::helpers::decimal_words::explain_decimals;
 use clap::ArgMatches;
 use image80::Image;
 use plm80_console::{Answer, Argument, Console, Kind, OptionText, Reported, Syntax, argument_text};
@@ -131,9 +131,9 @@ pub fn extract_file<C: Console>(
         Ok(answer) => {
             let given = console.give(answer);
             if given.is_ok() {
-                let (first, length) = (arguments.first.text(), arguments.length.text());
-                explain_no_bytes(console, arguments.image, first, length);
-                explain_decimal(console, arguments.length);
+                let (image, out, first) = (arguments.image, arguments.out, arguments.first.text());
+                explain_bytes(console, image, out, first, "");
+                explain_decimals(console, &[Some(arguments.length)]);
             }
             given
         }

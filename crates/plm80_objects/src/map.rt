@@ -11,6 +11,7 @@ ghost use Rattle.plm80_objects.specs.Arguments.{AreMapArguments};
 ghost use Rattle.plm80_objects.specs.Modules.{MapsFile};
 
 use crate::helpers::causes::report_place_fault;
+use crate::helpers::decimal_words::explain_decimals;
 use crate::helpers::locate_options::{
     CODE_BASE, COMMON_BASE, DATA_BASE, LocateTexts, MEMORY_BASE, MEMORY_SIZE, STACK_BASE,
     STACK_SIZE,
@@ -89,7 +90,7 @@ pub fn map_file<C: Console>(console: &mut C, arguments: MapArguments<'_>) -> Res
         Ok(answer) => {
             let given = console.give(answer);
             if given.is_ok() {
-                arguments.options.explain_decimal(console);
+                explain_decimals(console, &arguments.options.all());
             }
             given
         }

@@ -1,6 +1,7 @@
 //! `plm80 module`: what an object file holds, module by module.
 
-ghost use Rattle.std.specs.Prelude.{◌≡◌, ◌∷◌, [], IfErr, IfOk, codes};
+ghost use Rattle.std.specs.Prelude.{◌≡◌, ◌∷◌, ℕ, List, [], IfErr, IfOk, IfSome, codes};
+ghost use Rattle.omf_core.specs.Record.{SpellsRecord};
 ghost use Rattle.plm80_console.specs.Answer.{Gives};
 ghost use Rattle.plm80_console.specs.Arguments.{argument_text};
 ghost use Rattle.plm80_console.specs.Journal.{OnlyReports};
@@ -108,7 +109,9 @@ fn explain_library<C: Console>(console: &C, is_read: bool, path: &str) {
 }
 
 /// The place of the first record from a place on that begins a module, and the place after it.
-fn header_from(bytes: &[u8], from: usize) -> Option<(usize, usize)> {
+fn header_from(bytes: &[u8], from: usize) -> Option<(usize, usize)>
+    ensures { IfSome result (λ found. (body : List ℕ) × SpellsRecord bytes.now found.0 found.1 2 body) }
+{
     let mut at = from;
     for _ in 0..bytes.len() {
         let (record, after) = next_record(bytes, at).ok()?;

@@ -15,7 +15,7 @@ use loader80_trace::{Limits, count_steps, cover};
 use machine80::Inputs;
 use plm80_console::{Answer, Console, Reported, Syntax};
 use plm80_files::{IMAGE, REGIONS};
-use plm80_names::{NAMES, Names, Verdict, judge};
+use plm80_names::{NAMES, Names, Verdict, explain_given, judge};
 use std::alloc::{AllocError, Global};
 
 /// The arguments of `cover`.
@@ -71,9 +71,8 @@ pub fn cover_files<C: Console>(
 {
     let limits = arguments.limits.numbers(console)?;
     let given = cover_within(console, arguments.files, limits, arguments.names);
-    arguments
-        .files
-        .explain_given(console, &given, arguments.names);
+    let (image, regions) = (arguments.files.image, arguments.files.regions);
+    explain_given(console, &given, arguments.names, image, Some(regions));
     given
 }
 

@@ -16,7 +16,7 @@ use loader80_trace::{Limits, Span, TraceFault};
 use machine80::Inputs;
 use plm80_console::{Answer, Argument, Console, Kind, OptionText, Reported, Syntax};
 use plm80_files::{IMAGE, REGIONS};
-use plm80_names::{NAMES, Names, Verdict, judge};
+use plm80_names::{NAMES, Names, Verdict, explain_given, judge};
 use std::alloc::{AllocError, Global};
 use stream80::Sink;
 
@@ -109,9 +109,8 @@ pub fn trace_files<C: Console>(
     let limits = arguments.limits.numbers(console)?;
     let span = arguments.span(console)?;
     let given = trace_within(console, arguments.files, limits, span, arguments.names);
-    arguments
-        .files
-        .explain_given(console, &given, arguments.names);
+    let (image, regions) = (arguments.files.image, arguments.files.regions);
+    explain_given(console, &given, arguments.names, image, Some(regions));
     given
 }
 

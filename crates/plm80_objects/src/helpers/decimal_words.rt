@@ -2,15 +2,18 @@
 
 use plm80_console::{Console, OptionText, count_of_digits};
 
-/// Says that the value of an option is hexadecimal, if it is a power of two in decimal, as sizes of memories are.
-pub(crate) fn explain_decimal<C: Console>(console: &C, option: OptionText<'_>) {
-    let (name, text) = (option.name(), option.text());
-    match count_of_digits(text) {
-        Some(number) if number >= 16 && number.count_ones() == 1 => {
+/// Says of the options that are given whose values are powers of two in decimal, as sizes of memories are, that they are hexadecimal.
+pub(crate) fn explain_decimals<C: Console>(console: &C, options: &[Option<OptionText<'_>>]) {
+    for option in options {
+        if let Some(option) = option
+            && let Some(number) = count_of_digits(option.text())
+            && number >= 16
+            && number.count_ones() == 1
+        {
+            let (name, text) = (option.name(), option.text());
             console.explain(format_args!(
                 "--{name} {text} is hexadecimal: {text} in decimal is {number:X}"
             ));
         }
-        _ => {}
     }
 }

@@ -4,7 +4,6 @@ ghost use Rattle.std.specs.Prelude.{◌≡◌, ◌∷◌, [], IfErr, IfOk};
 ghost use Rattle.plm80_console.specs.Journal.{OnlyReports};
 ghost use Rattle.plm80_objects.specs.Arguments.{AreLocateTexts, AreNumbersOf};
 
-use crate::helpers::decimal_words::explain_decimal;
 use clap::ArgMatches;
 use omf_core::segment_id::{CODE, DATA, MEMORY, STACK, UNNAMED_COMMON};
 use place80::Options;
@@ -101,18 +100,20 @@ impl<'a> LocateTexts<'a> {
         ]
     }
 
-    /// Says which of the numbers may have been meant in decimal.
-    pub fn explain_decimal<C: Console>(self, console: &C) {
-        for (_, base) in self.bases() {
-            if let Some(base) = base {
-                explain_decimal(console, base);
-            }
-        }
-        for size in [self.stack_size, self.memory_size] {
-            if let Some(size) = size {
-                explain_decimal(console, size);
-            }
-        }
+    /// All options, if they are given.
+    pub fn all(self) -> [Option<OptionText<'a>>; 7]
+        ensures { let texts = self.entry in result ≡ texts.code ∷ texts.stack ∷ texts.common ∷ texts.data_base ∷ texts.memory
+            ∷ texts.stack_size ∷ texts.memory_size ∷ [] }
+    {
+        [
+            self.code,
+            self.stack,
+            self.common,
+            self.data_base,
+            self.memory,
+            self.stack_size,
+            self.memory_size,
+        ]
     }
 
     /// The numbers of the options.

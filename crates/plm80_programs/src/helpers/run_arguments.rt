@@ -16,7 +16,7 @@ use loader80_trace::Limits;
 use machine80::Inputs;
 use plm80_console::{Argument, Console, Kind, OptionText, ReadFile, Reported, argument_text};
 use plm80_files::explain_inputs;
-use plm80_names::{Names, ProgramTexts, explain_names, explain_refusal};
+use plm80_names::{Names, ProgramTexts};
 
 /// The paths of an image, of its regions and of the inputs of its run.
 #[derive(Clone, Copy)]
@@ -96,13 +96,6 @@ impl<'a> RunFiles<'a> {
         let program = ProgramTexts::read(console, self.image, self.regions)?;
         let inputs = console.read_file(self.inputs)?;
         Ok(RunTexts { program, inputs })
-    }
-
-    /// Says what is at the address of the program's refusal, and that names are asked for and missing, if that is so of what a command has
-    /// given, and words are asked for.
-    pub fn explain_given<C: Console>(self, console: &C, given: &Result<u8, Reported>, names: bool) {
-        explain_refusal(console, given, self.image, self.regions);
-        explain_names(console, given, names, self.image);
     }
 
     /// The inputs that the text of their file spells.
