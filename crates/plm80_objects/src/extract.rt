@@ -8,7 +8,7 @@ ghost use Rattle.plm80_objects.specs.Arguments.{AreExtractArguments, IsExtentOf,
 ghost use Rattle.plm80_objects.specs.Absolute.{ExtractsFile};
 
 use crate::helpers::byte_words::explain_bytes;
-use crate::helpers::decimal_words::explain_decimals;
+use crate::helpers::decimal_words::decimal_size;
 use clap::ArgMatches;
 use image80::Image;
 use plm80_console::{Answer, Argument, Console, Kind, OptionText, Reported, Syntax, argument_text};
@@ -131,9 +131,13 @@ pub fn extract_file<C: Console>(
         Ok(answer) => {
             let given = console.give(answer);
             if given.is_ok() {
-                let (image, out, first) = (arguments.image, arguments.out, arguments.first.text());
-                explain_bytes(console, image, out, first, "");
-                explain_decimals(console, &[Some(arguments.length)]);
+                let (first, length) = (arguments.first.text(), arguments.length.text());
+                explain_bytes(console, arguments.image, arguments.out, first, "");
+                if let Some(number) = decimal_size(length) {
+                    console.explain(format_args!(
+                        "--length {length} is hexadecimal: {length} in decimal is {number:X}"
+                    ));
+                }
             }
             given
         }

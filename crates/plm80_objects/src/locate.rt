@@ -12,7 +12,6 @@ ghost use Rattle.plm80_objects.specs.Modules.{LocatesFile};
 
 use crate::helpers::board_options::{RAM_RANGE, ROM_RANGE, unmapped_of};
 use crate::helpers::causes::{report_place_fault, report_unmapped};
-use crate::helpers::decimal_words::explain_decimals;
 use crate::helpers::empty_segments::explain_empty_segments;
 use crate::helpers::locate_options::{
     CODE_BASE, COMMON_BASE, DATA_BASE, LocateTexts, MEMORY_BASE, MEMORY_SIZE, STACK_BASE,
@@ -154,9 +153,8 @@ pub fn locate_file<C: Console>(
     match located(console.alloc(), arguments, program, &options, board) {
         Ok(answer) => {
             let given = console.give(answer);
-            if given.is_ok() {
+            if given.is_ok() && console.explains() {
                 explain_empty_segments(console, program, &options, arguments.options);
-                explain_decimals(console, &arguments.options.all());
             }
             given
         }

@@ -11,7 +11,6 @@ ghost use Rattle.plm80_objects.specs.Arguments.{AreMapArguments};
 ghost use Rattle.plm80_objects.specs.Modules.{MapsFile};
 
 use crate::helpers::causes::report_place_fault;
-use crate::helpers::decimal_words::explain_decimals;
 use crate::helpers::locate_options::{
     CODE_BASE, COMMON_BASE, DATA_BASE, LocateTexts, MEMORY_BASE, MEMORY_SIZE, STACK_BASE,
     STACK_SIZE,
@@ -87,13 +86,7 @@ pub fn map_file<C: Console>(console: &mut C, arguments: MapArguments<'_>) -> Res
     let modules = read_program(console, arguments.object)?;
     let program = &modules[0];
     match mapped(console.alloc(), program, &options) {
-        Ok(answer) => {
-            let given = console.give(answer);
-            if given.is_ok() {
-                explain_decimals(console, &arguments.options.all());
-            }
-            given
-        }
+        Ok(answer) => console.give(answer),
         Err(fault) => Err(report_place_fault(console, program, &options, fault)),
     }
 }

@@ -1,19 +1,18 @@
-//! Numbers that were perhaps meant in decimal, in words.
+//! Numbers that were perhaps meant in decimal.
 
-use plm80_console::{Console, OptionText, count_of_digits};
+ghost use Rattle.std.specs.Prelude.{◌≡◌, IfSome};
+ghost use Rattle.plm80_console.specs.NumberText.{IsCountText, count_value};
 
-/// Says of the options that are given whose values are powers of two in decimal, as sizes of memories are, that they are hexadecimal.
-pub(crate) fn explain_decimals<C: Console>(console: &C, options: &[Option<OptionText<'_>>]) {
-    for option in options {
-        if let Some(option) = option
-            && let Some(number) = count_of_digits(option.text())
-            && number >= 16
-            && number.count_ones() == 1
-        {
-            let (name, text) = (option.name(), option.text());
-            console.explain(format_args!(
-                "--{name} {text} is hexadecimal: {text} in decimal is {number:X}"
-            ));
-        }
+use plm80_console::count_of_digits;
+
+/// The number that a text writes in decimal, if that is a power of two, as sizes of memories are.
+pub(crate) fn decimal_size(text: &str) -> Option<u64>
+    ensures { IfSome result (λ number. IsCountText text.now × (number ≡ count_value text.now)) }
+{
+    let number = count_of_digits(text)?;
+    if number >= 16 && number.count_ones() == 1 {
+        Some(number)
+    } else {
+        None
     }
 }

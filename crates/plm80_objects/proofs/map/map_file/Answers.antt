@@ -19,5 +19,5 @@ returns-in-Ok-clause-done g c =
           c.index-program.ensures (record { none = c.in-Ok.ensures.none; is_map = c.in-Ok.ensures.map; answer_is = c.in-Ok.ensures.printed });
     } in
     let journal = read.1 ∙ ap (λ (j : Journal). and_read j asked.object.now read.0) c.in_ok-options.ensures.unchanged in
-    gives (MapsFile asked) (asked.object.now ∷ []) (g.C.Console.journal c.args.console.now) (g.C.Console.journal c.read_program.new.console) (g.C.Console.journal c.give-given.new.self) (file ∷ []) refl
-    journal c.in-Ok.answer c.give-given.result answers c.give-given.ensures.given
+    gives (MapsFile asked) (asked.object.now ∷ []) (g.C.Console.journal c.args.console.now) (g.C.Console.journal c.read_program.new.console) (g.C.Console.journal c.give.new.self) (file ∷ []) refl
+    journal c.in-Ok.answer c.give.result answers c.give.ensures.given
