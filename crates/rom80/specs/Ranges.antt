@@ -12,7 +12,7 @@ joined before chunk =
     else record { first = chunk.address; length = length chunk.bytes }
 
 -- a range for each chunk, behind the one before them
-unfoldable pub joined_from : (before : Range) → List PlacedBytes → List Range
+abbrev pub joined_from : (before : Range) → List PlacedBytes → List Range
 joined_from before [] = []
 joined_from before (chunk ∷ chunks) = joined before chunk ∷ joined_from (joined before chunk) chunks
 

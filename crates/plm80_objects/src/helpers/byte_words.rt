@@ -52,7 +52,7 @@ pub(crate) fn explain_bytes<C: Console>(
         console.explain(format_args!(
             "no byte is in that range; the image's bytes begin at {begin:04X}"
         ));
-    } else if same < held / 2 {
+    } else if same < held.saturating_sub(same) {
         console.explain(format_args!(
             "few bytes are the same: --first may be wrong; the image's bytes begin at {begin:04X}"
         ));
