@@ -1,6 +1,6 @@
 -- The ranges at which an image has bytes.
 -- (8080 Object Module Formats, content record: a record's bytes stand at successive addresses, and those of the next one may go on.)
-use Rattle.std.specs.Prelude.{ℕ, ◌+◌, ◌==◌, ◌&&◌, nat_lt, if◌then◌else◌, List, [], ◌∷◌, length}
+use Rattle.std.specs.Prelude.{◌+◌, ◌==◌, ◌&&◌, nat_lt, if◌then◌else◌, List, [], ◌∷◌, length}
 use Rattle.image80.specs.declared.range.Range.{Range}
 use Rattle.image80.specs.Image.{PlacedBytes}
 

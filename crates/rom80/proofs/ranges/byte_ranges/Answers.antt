@@ -2,7 +2,7 @@ use Rattle.std.specs.Prelude.{◌≡◌, ◌≤◌, ℕ, ◌+◌, ◌∷◌, [],
 use Rattle.std.proofs.Common.{◌∙◌, ap, sym, arith, append_assoc, append-nil}
 use Rattle.std.proofs.lemmas.List.{at_drop_all, at_drop_more}
 use Rattle.image80.specs.declared.range.Range.{Range}
-use Rattle.image80.specs.Image.{PlacedBytes}
+use Rattle.image80.specs.Image.{Located, PlacedBytes}
 use Rattle.rom80.specs.Ranges.{byte_ranges, joined, joined_from}
 use Rattle.rom80.proofs.ranges.byte_ranges.Goals as goal
 
@@ -35,3 +35,4 @@ returns c =
     ∙ ap (λ (left : List Range). ranges ++ left) (sym (at_drop_all (joined_from before) chunks i past))
     ∙ c.loop-chunk.invariant
     ∙ ap byte_ranges c.deref-chunk-items.ensures.value
+    ∙ ap (λ (image : Located). byte_ranges image.chunks) c.image.view_is
