@@ -9,7 +9,7 @@
 //! | [`ProgramTexts`] | the same, from what the files have |
 //! | [`Names`] | the names of an image's addresses, put into texts |
 //! | [`judge`], [`Verdict`], [`named_refusal`] | what the verifier says of an image: it is accepted, or its refusal with a name |
-//! | [`explain_refusal`] | what is at the address of a refusal, in words |
+//! | [`explain_given`] | what is at the address of a refusal, and that an image has no names, in words |
 //! | [`named_report`], [`named_refusal_report`] | the report on an image, or its refusal and its procedures, with their names |
 #![tactic(auto)]
 
@@ -21,6 +21,6 @@ mod reports;
 
 pub use named_files::{NAMED_FILES, NAMES, NamedFiles, ProgramTexts};
 pub use names::Names;
-pub use refusal_words::explain_refusal;
+pub use refusal_words::explain_given;
 pub use refusing::{Verdict, judge, named_refusal};
 pub use reports::{named_refusal_report, named_report};

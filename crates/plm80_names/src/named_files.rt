@@ -9,7 +9,6 @@ ghost use Rattle.plm80_console.specs.Journal.{OnlyReports, and_read};
 ghost use Rattle.plm80_names.specs.Verdict.{IsProgramRead};
 
 use crate::names::Names;
-use crate::refusal_words::explain_refusal;
 use clap::ArgMatches;
 use image80::Image;
 use plm80_console::{Argument, Console, Kind, ReadFile, Reported, argument_text};
@@ -28,9 +27,9 @@ pub const NAMED_FILES: &[Argument<'static>] = &[IMAGE, REGIONS, NAMES];
 /// The paths of an image and of its regions, and whether names are printed.
 #[derive(Clone, Copy)]
 pub struct NamedFiles<'a> {
-    image: &'a str,
-    regions: &'a str,
-    names: bool,
+    pub image: &'a str,
+    pub regions: &'a str,
+    pub names: bool,
 }
 
 /// The bytes of an image's file and the text of its regions, each with its path.
@@ -61,13 +60,6 @@ impl<'a> NamedFiles<'a> {
     {
         let texts = ProgramTexts::read(console, self.image, self.regions)?;
         texts.program(console, self.names)
-    }
-}
-
-impl<'a> NamedFiles<'a> {
-    /// Says what is at the address of the program's refusal, if a command has given the status of one and words are asked for.
-    pub fn explain_refusal<C: Console>(self, console: &C, given: &Result<u8, Reported>) {
-        explain_refusal(console, given, self.image, self.regions);
     }
 }
 

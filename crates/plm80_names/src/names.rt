@@ -48,7 +48,7 @@ impl Names {
             });
         }
         match read_publics(console.alloc(), bytes) {
-            Ok(publics) => names_of(console, path, publics),
+            Ok(publics) => names_of(console, publics),
             Err(fault) => match fault.cause {
                 Cause::Memory => Err(console.report_memory()),
                 _ => Err(console.report_file(path, fault)),
@@ -155,19 +155,12 @@ impl Names {
     }
 }
 
-/// These publics as names; says that there are none, if that is so.
-fn names_of<C: Console>(
-    console: &mut C,
-    path: &str,
-    publics: Vec<Public>,
-) -> Result<Names, Reported>
+/// These publics as names.
+fn names_of<C: Console>(console: &mut C, publics: Vec<Public>) -> Result<Names, Reported>
     ensures names { IfOk result (λ names. names ≡ publics.items) }
     ensures unchanged { IfOk result (λ _. C.journal console.new ≡ C.journal console.old) }
     ensures fault { IfErr result (λ _. OnlyReports (C.journal console.old) (C.journal console.new)) }
 {
-    if publics.is_empty() {
-        console.explain(format_args!("{path} has no names: locate --publics keeps them"));
-    }
     match PublicTable::new(console.alloc(), publics) {
         Ok(publics) => Ok(Names { publics }),
         Err(_) => Err(console.report_memory()),

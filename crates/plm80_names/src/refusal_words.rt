@@ -1,6 +1,7 @@
 //! What is at the address of a refusal, in words.
 
-ghost use Rattle.std.specs.Prelude.{◌≡◌, false, find, option_copied, IfOk, IfSome};
+ghost use Rattle.std.specs.Prelude.{◌≡◌, ℕ, List, [], true, false, find, option_copied, IfOk, IfSome};
+ghost use Rattle.place80_text.specs.ImagePublics.{HasPublics};
 ghost use Rattle.decode80.specs.Text.{text as text_of};
 ghost use Rattle.image80.specs.Range.{in_range};
 ghost use Rattle.image80.specs.Regions.{in_data};
@@ -12,6 +13,7 @@ use decode80::{Instr, Pair, decode, direct_bytes, write_text};
 use image80::{Image, Range, read_regions};
 use image80_file::read_image;
 use loader80::{Refusal, vouch};
+use place80_text::read_publics;
 use plm80_console::{Console, Reported};
 use std::alloc::{AllocError, Global};
 use std::fmt::Display;
@@ -24,22 +26,39 @@ struct Place {
     range: Range,
 }
 
-/// Says what is at the address of the refusal of the program in the files of these paths, and how to go on, if a command has given the
-/// status of a refusal and words are asked for. The files are read again; if they can't be, or memory runs out, it says less.
-pub fn explain_refusal<C: Console>(
+/// Words on what a command has given of the program in the files of these paths, if they are asked for. If it is a refusal, and the command
+/// doesn't show why: what is at its address, and how to go on. Then, if names are asked for and missing, that they are. The files are read
+/// again; if they can't be, or memory runs out, less is said.
+pub fn explain_given<C: Console>(
     console: &C,
     given: &Result<u8, Reported>,
+    names: bool,
     image: &str,
-    regions: &str,
+    regions: Option<&str>,
 ) {
-    if !matches!(given, Ok(1)) {
-        return;
-    }
-    if let Some((image, refusal)) = refused_again(console, image, regions) {
+    if let (Ok(1), Some(regions)) = (given, regions)
+        && let Some((image, refusal)) = refused_again(console, image, regions)
+    {
         explain_place(console, &image, refusal);
         console.explain(
             "plm80 explain shows the way; docs/FAULTS.md says what to change ('Refusals of the verifier')",
         );
+    }
+    if names && given.is_ok() && has_no_names(console, image) {
+        console.explain(format_args!("{image} has no names: locate --publics keeps them"));
+    }
+}
+
+/// Whether the file of this path is an image that has no names; if that isn't known, `false`.
+fn has_no_names<C: Console>(console: &C, path: &str) -> bool
+    ensures { result ≡ true → (bytes : List ℕ) × HasPublics bytes [] }
+{
+    let Some(bytes) = console.text_to_explain(path) else {
+        return false;
+    };
+    match read_publics(console.alloc(), &bytes) {
+        Ok(publics) => publics.is_empty(),
+        Err(_) => false,
     }
 }
 

@@ -2,12 +2,12 @@
 -- (The form of the lines and the status are this project's own.)
 use Rattle.std.specs.Prelude.{◌≡◌, ℕ, List, [], ◌∷◌, length, codes}
 use Rattle.omf_model.specs.declared.symbols.Public.{Public}
-use Rattle.image80.specs.declared.range.Range.{Range}
-use Rattle.image80.specs.Image.{Located}
+use Rattle.image80.specs.Image.{Located, PlacedBytes}
 use Rattle.image80_file.specs.ImageFile.{SpellsImage, without_regions}
 use Rattle.image80_text.specs.NameText.{named_text}
 use Rattle.rom80.specs.declared.comparing.Difference.{Difference}
 use Rattle.rom80.specs.Compare.{AreDifferences, comparison_text}
+use Rattle.rom80.specs.Ranges.{byte_ranges}
 use Rattle.rom80.specs.Rom.{bytes_over}
 use Rattle.plm80_console.specs.Answer.{AnswerValue, prints}
 use Rattle.plm80_console.specs.Journal.{FileValue}
@@ -15,20 +15,18 @@ use Rattle.plm80_console.specs.NumberText.{word_value}
 use Rattle.plm80_names.specs.Printed.{AreNamesOf}
 use Rattle.plm80_objects.specs.declared.compare.CompareArguments.{CompareArguments}
 
--- all addresses but FFFF, and FFFF: a name is that of the greatest public at or below an address, whatever the regions
-abbrev pub whole_memory : List Range
-whole_memory = record { first = 0; length = 0xFFFF } ∷ record { first = 0xFFFF; length = 1 } ∷ []
-
 -- the status is 0 if no bytes differ
 abbrev pub status_of : List Difference → ℕ
 status_of [] = 0
 status_of (range ∷ ranges) = 1
 
--- the ranges at which an image's bytes and a dump's from an address on differ, each with the name of its first address
-pub record PrintsDifferences (image dump : List ℕ) (first : ℕ) (publics : List Public) (answer : AnswerValue) : Type 0 where
+-- the ranges at which an image's bytes, over a dump's addresses, and the dump's differ, each with the name of its first address: that of
+-- the nearest public at or below it, if the chunks lie side by side there
+pub record PrintsDifferences (chunks : List PlacedBytes) (image dump : List ℕ) (first : ℕ) (publics : List Public) (answer : AnswerValue)
+    : Type 0 where
   pub ranges : List Difference
   pub are : AreDifferences image dump first ranges
-  pub answer_is : answer ≡ prints (named_text whole_memory publics (codes "DIFFERS ") (comparison_text image dump first ranges))
+  pub answer_is : answer ≡ prints (named_text (byte_ranges chunks) publics (codes "DIFFERS ") (comparison_text image dump first ranges))
       (status_of ranges)
 
 -- what is printed of an image's file and of a dump, by the options
@@ -44,4 +42,4 @@ pub record ComparesFiles (arguments : CompareArguments) (files : List FileValue)
   pub contents : SpellsImage file.bytes (without_regions image)
   pub publics : List Public
   pub names : AreNamesOf arguments.names file.bytes publics
-  pub answer_is : PrintsDifferences (bytes_over fill image.chunks first (length dump.bytes)) dump.bytes first publics answer
+  pub answer_is : PrintsDifferences image.chunks (bytes_over fill image.chunks first (length dump.bytes)) dump.bytes first publics answer

@@ -1,6 +1,8 @@
 //! `plm80 compare`: where an image and a dump differ.
 
-ghost use Rattle.std.specs.Prelude.{◌≡◌, ◌∷◌, [], length, IfOk, IfErr};
+ghost use Rattle.std.specs.Prelude.{◌≡◌, ◌∷◌, [], codes, length, IfOk, IfErr};
+ghost use Rattle.image80_text.specs.NameText.{named_text};
+ghost use Rattle.rom80.specs.Ranges.{byte_ranges};
 ghost use Rattle.rom80.specs.Rom.{bytes_over};
 ghost use Rattle.plm80_console.specs.Answer.{Gives};
 ghost use Rattle.plm80_console.specs.Journal.{OnlyReports};
@@ -9,17 +11,18 @@ ghost use Rattle.plm80_objects.specs.Compare.{ComparesFiles, PrintsDifferences};
 ghost use Rattle.plm80_objects.specs.RomFaults.{IsRefused};
 
 use crate::extract::{FILL, fill_of};
+use crate::helpers::byte_words::explain_bytes;
 use crate::helpers::dump_words::explain_dump;
 use crate::helpers::rom_faults::report_rom_fault;
 use clap::ArgMatches;
-use image80::{Image, Range};
+use image80::Image;
 use plm80_console::{
     Answer, Argument, Console, FaultOf, Kind, OptionText, ReadFile, Reported, Syntax, argument_text,
 };
 use plm80_files::{IMAGE, image_of};
-use plm80_names::{NAMES, Names};
-use rom80::{RomFault, compare, no_regions};
-use std::alloc::Global;
+use plm80_names::{NAMES, Names, explain_given};
+use rom80::{RomFault, byte_ranges, compare, no_regions};
+use std::alloc::{AllocError, Global};
 
 /// The arguments of `compare`.
 #[derive(Clone, Copy)]
@@ -41,7 +44,7 @@ hexadecimal. The last line counts the bytes that are the same, as in SAME 2046
 OF 2048. Where the image has no byte, FILL is compared: two hexadecimal digits.
 
 --names prints a name behind a range: the nearest public at or below its first
-address, as check does, whatever the regions.
+address, as check does, if the image has all bytes between them.
 
 The exit status is 0 if all bytes are the same, 1 if some differ.
 
@@ -97,11 +100,11 @@ pub fn compare_files<C: Console>(
     ensures fault { IfErr result (λ _. OnlyReports (C.journal console.old) (C.journal console.new)) }
 {
     let done = print_differences(console, arguments);
-    if matches!(done, Ok(1)) && arguments.fill.text() == "00" {
-        console.explain(
-            "where the image has no byte, 00 was compared; --fill FF compares what an erased PROM has",
-        );
+    if let Ok(1) = done {
+        let (first, fill) = (arguments.first.text(), arguments.fill.text());
+        explain_bytes(console, arguments.image, arguments.dump, first, fill);
     }
+    explain_given(console, &done, arguments.names, arguments.image, None);
     explain_dump(console, arguments.dump);
     done
 }
@@ -128,18 +131,6 @@ fn print_differences<C: Console>(
     }
 }
 
-/// All addresses, but FFFF, and FFFF: where names are sought for the bytes of a memory.
-static MEMORY: [Range; 2] = [
-    Range {
-        first: 0,
-        length: 0xFFFF,
-    },
-    Range {
-        first: 0xFFFF,
-        length: 1,
-    },
-];
-
 /// Where an image and a dump from an address on differ.
 fn compared<'a>(
     alloc: Global,
@@ -150,7 +141,7 @@ fn compared<'a>(
     fill: u8,
 ) -> Result<Answer<'static>, FaultOf<'a, RomFault>>
     ensures answer { let bytes = dump.now.bytes.items in IfOk result
-        (PrintsDifferences (bytes_over fill image.now.chunks first (length bytes)) bytes first names.now) }
+        (PrintsDifferences image.now.chunks (bytes_over fill image.now.chunks first (length bytes)) bytes first names.now) }
     ensures no_file { IfOk result (λ answer. answer.files ≡ []) }
     ensures fault { IfErr result (λ f. (f.path.now ≡ dump.now.path.now) × IsRefused first dump.now.bytes.items f.fault) }
 {
@@ -159,8 +150,21 @@ fn compared<'a>(
         Err(fault) => return Err(dump.fault(fault)),
     };
     let status = if comparison.ranges.is_empty() { 0 } else { 1 };
-    match names.name(alloc, &MEMORY, b"DIFFERS ", comparison.text) {
+    match with_names(alloc, image, names, comparison.text) {
         Ok(text) => Ok(Answer::prints(text, status)),
         Err(_) => Err(dump.fault(RomFault::Memory)),
     }
+}
+
+/// The lines of a comparison, each with the name of its first address.
+fn with_names(
+    alloc: Global,
+    image: &Image,
+    names: &Names,
+    text: Vec<u8>,
+) -> Result<Vec<u8>, AllocError>
+    ensures { IfOk result (λ named. named.items ≡ named_text (byte_ranges image.now.chunks) names.now (codes "DIFFERS ") text.items) }
+{
+    let ranges = byte_ranges(alloc, image)?;
+    names.name(alloc, &ranges, b"DIFFERS ", text)
 }

@@ -7,6 +7,8 @@ ghost use Rattle.plm80_console.specs.Journal.{OnlyReports, and_reported};
 ghost use Rattle.plm80_objects.specs.Arguments.{AreExtractArguments, IsExtentOf, fill_text};
 ghost use Rattle.plm80_objects.specs.Absolute.{ExtractsFile};
 
+use crate::helpers::byte_words::explain_bytes;
+use crate::helpers::decimal_words::decimal_size;
 use clap::ArgMatches;
 use image80::Image;
 use plm80_console::{Answer, Argument, Console, Kind, OptionText, Reported, Syntax, argument_text};
@@ -126,7 +128,19 @@ pub fn extract_file<C: Console>(
     let none = no_regions(console.alloc());
     let image = image_of(console, file.path, &file.bytes, none)?;
     match extracted(console.alloc(), arguments, extent, &image) {
-        Ok(answer) => console.give(answer),
+        Ok(answer) => {
+            let given = console.give(answer);
+            if given.is_ok() {
+                let (first, length) = (arguments.first.text(), arguments.length.text());
+                explain_bytes(console, arguments.image, arguments.out, first, "");
+                if let Some(number) = decimal_size(length) {
+                    console.explain(format_args!(
+                        "--length {length} is hexadecimal: {length} in decimal is {number:X}"
+                    ));
+                }
+            }
+            given
+        }
         Err(fault) => Err(report_range(console, fault)),
     }
 }

@@ -153,7 +153,7 @@ pub fn locate_file<C: Console>(
     match located(console.alloc(), arguments, program, &options, board) {
         Ok(answer) => {
             let given = console.give(answer);
-            if given.is_ok() {
+            if given.is_ok() && console.explains() {
                 explain_empty_segments(console, program, &options, arguments.options);
             }
             given

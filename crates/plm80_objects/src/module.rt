@@ -1,6 +1,7 @@
 //! `plm80 module`: what an object file holds, module by module.
 
-ghost use Rattle.std.specs.Prelude.{◌≡◌, ◌∷◌, [], IfErr, IfOk, codes};
+ghost use Rattle.std.specs.Prelude.{◌≡◌, ◌∷◌, ℕ, List, [], IfErr, IfOk, IfSome, codes};
+ghost use Rattle.omf_core.specs.Record.{SpellsRecord};
 ghost use Rattle.plm80_console.specs.Answer.{Gives};
 ghost use Rattle.plm80_console.specs.Arguments.{argument_text};
 ghost use Rattle.plm80_console.specs.Journal.{OnlyReports};
@@ -8,6 +9,7 @@ ghost use Rattle.plm80_files.specs.LinkFiles.{AreModulesRead};
 ghost use Rattle.plm80_objects.specs.Modules.{AnswersModules, DescribesModules};
 
 use clap::ArgMatches;
+use omf_core::{RecordKind, next_record};
 use omf_library::read_library;
 use omf_module::Module;
 use omf_text::append_module_text;
@@ -83,7 +85,7 @@ fn read_described<C: Console>(console: &mut C, path: &str) -> Result<Vec<Module>
     read
 }
 
-/// Says which modules a library has, unless it was read as an object file.
+/// Says which modules a library has, and the places of their first records, unless it was read as an object file.
 fn explain_library<C: Console>(console: &C, is_read: bool, path: &str) {
     if is_read {
         return;
@@ -94,11 +96,31 @@ fn explain_library<C: Console>(console: &C, is_read: bool, path: &str) {
     let Ok(library) = read_library(console.alloc(), &bytes) else {
         return;
     };
+    let mut rest = 0;
     for member in &library.modules {
+        let Some((at, after)) = header_from(&bytes, rest) else {
+            return;
+        };
         if let Ok(name) = str::from_utf8(member.name().bytes()) {
-            console.explain(format_args!("it has the module {name}"));
+            console.explain(format_args!("it has the module {name} at {at}"));
         }
+        rest = after;
     }
+}
+
+/// The place of the first record from a place on that begins a module, and the place after it.
+fn header_from(bytes: &[u8], from: usize) -> Option<(usize, usize)>
+    ensures { IfSome result (λ found. (body : List ℕ) × SpellsRecord bytes.now found.0 found.1 2 body) }
+{
+    let mut at = from;
+    for _ in 0..bytes.len() {
+        let (record, after) = next_record(bytes, at).ok()?;
+        if record.kind == RecordKind::ModuleHeader as u8 {
+            return Some((at, after));
+        }
+        at = after;
+    }
+    None
 }
 
 /// The lines of all modules, in order.

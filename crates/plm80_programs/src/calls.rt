@@ -13,7 +13,7 @@ use image80::Image;
 use loader80::Vouched;
 use plm80_console::{Answer, Argument, Console, Kind, Reported, Syntax};
 use plm80_files::{IMAGE, REGIONS};
-use plm80_names::{NAMES, NamedFiles, Names, Verdict, judge};
+use plm80_names::{NAMES, NamedFiles, Names, Verdict, explain_given, judge};
 use std::alloc::{AllocError, Global};
 use verify80_calls::{CallGraph, graph_text, list_text};
 
@@ -81,7 +81,14 @@ pub fn show_calls<C: Console>(
     let (image, names) = arguments.files.read(console)?;
     let answer = shown(console.alloc(), image, arguments.dot, &names);
     let given = console.give_if_made(answer);
-    arguments.files.explain_refusal(console, &given);
+    let files = arguments.files;
+    explain_given(
+        console,
+        &given,
+        files.names,
+        files.image,
+        Some(files.regions),
+    );
     given
 }
 

@@ -9,7 +9,7 @@ ghost use Rattle.plm80_programs.specs.Printed.{PrintsReport};
 
 use image80::Image;
 use plm80_console::{Answer, Console, Reported, Syntax};
-use plm80_names::{NAMED_FILES, NamedFiles, Names, Verdict, judge, named_report};
+use plm80_names::{NAMED_FILES, NamedFiles, Names, Verdict, explain_given, judge, named_report};
 use std::alloc::{AllocError, Global};
 
 const ABOUT: &str = "Verifies an image: prints a report, or the refusal";
@@ -46,7 +46,13 @@ pub fn check_files<C: Console>(console: &mut C, files: NamedFiles<'_>) -> Result
     let (image, names) = files.read(console)?;
     let answer = checked(console.alloc(), image, &names);
     let given = console.give_if_made(answer);
-    files.explain_refusal(console, &given);
+    explain_given(
+        console,
+        &given,
+        files.names,
+        files.image,
+        Some(files.regions),
+    );
     given
 }
 

@@ -15,7 +15,7 @@ use loader80_trace::{Limits, count_steps, cover};
 use machine80::Inputs;
 use plm80_console::{Answer, Console, Reported, Syntax};
 use plm80_files::{IMAGE, REGIONS};
-use plm80_names::{NAMES, Names, Verdict, explain_refusal, judge};
+use plm80_names::{NAMES, Names, Verdict, explain_given, judge};
 use std::alloc::{AllocError, Global};
 
 /// The arguments of `cover`.
@@ -70,7 +70,10 @@ pub fn cover_files<C: Console>(
     ensures fault { IfErr result (λ _. OnlyReports (C.journal console.old) (C.journal console.new)) }
 {
     let limits = arguments.limits.numbers(console)?;
-    cover_within(console, arguments.files, limits, arguments.names)
+    let given = cover_within(console, arguments.files, limits, arguments.names);
+    let (image, regions) = (arguments.files.image, arguments.files.regions);
+    explain_given(console, &given, arguments.names, image, Some(regions));
+    given
 }
 
 /// Prints the code with the counts of the run within these limits, and gives the exit status.
@@ -93,9 +96,7 @@ fn cover_within<C: Console>(
         inputs,
         limits,
     );
-    let given = console.give_if_made(answer);
-    explain_refusal(console, &given, files.image, files.regions);
-    given
+    console.give_if_made(answer)
 }
 
 /// The code of an image with the counts of its run, or its refusal.

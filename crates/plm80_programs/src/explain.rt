@@ -17,7 +17,9 @@ use image80::Image;
 use loader80::{Refusal, Vouched, vouch};
 use plm80_console::{Answer, Argument, Console, Kind, Reported, Syntax};
 use plm80_files::{IMAGE, REGIONS};
-use plm80_names::{NAMES, NamedFiles, Names, named_refusal, named_refusal_report, named_report};
+use plm80_names::{
+    NAMES, NamedFiles, Names, explain_given, named_refusal, named_refusal_report, named_report,
+};
 use std::alloc::{AllocError, Global};
 use verify80_explain::measure;
 use verify80_explain_text::{append_chain, append_explanation};
@@ -100,7 +102,10 @@ pub fn explain_files<C: Console>(
 {
     let (image, names) = arguments.files.read(console)?;
     let answer = explained(console.alloc(), image, arguments.all, &names);
-    console.give_if_made(answer)
+    let given = console.give_if_made(answer);
+    let files = arguments.files;
+    explain_given(console, &given, files.names, files.image, None);
+    given
 }
 
 /// The report on an image and its chain of calls, or its refusal, or all of them, and what shows them.

@@ -15,7 +15,7 @@ use loader80::Vouched;
 use loader80_trace::list_reached;
 use plm80_console::{Answer, Argument, Console, Kind, Reported, Syntax};
 use plm80_files::{IMAGE, REGIONS};
-use plm80_names::{NAMES, NamedFiles, Names, Verdict, judge};
+use plm80_names::{NAMES, NamedFiles, Names, Verdict, explain_given, judge};
 use std::alloc::{AllocError, Global};
 
 /// The arguments of `list`.
@@ -82,7 +82,14 @@ pub fn list_files<C: Console>(console: &mut C, arguments: ListArguments<'_>) -> 
     let (image, names) = arguments.files.read(console)?;
     let answer = listed(console.alloc(), image, arguments.reached, &names);
     let given = console.give_if_made(answer);
-    arguments.files.explain_refusal(console, &given);
+    let files = arguments.files;
+    explain_given(
+        console,
+        &given,
+        files.names,
+        files.image,
+        Some(files.regions),
+    );
     given
 }
 

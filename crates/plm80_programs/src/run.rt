@@ -11,7 +11,7 @@ use crate::helpers::watching::{Watch, watch_run};
 use clap::ArgMatches;
 use plm80_console::{Argument, Console, Kind, OptionText, Reported, Syntax};
 use plm80_files::{IMAGE, REGIONS};
-use plm80_names::NAMES;
+use plm80_names::{NAMES, explain_given};
 
 /// The arguments of `run`.
 #[derive(Clone, Copy)]
@@ -106,5 +106,8 @@ pub fn run_files<C: Console>(console: &mut C, arguments: RunArguments<'_>) -> Re
         last,
         dump: arguments.dump,
     };
-    watch_run(console, arguments.files, arguments.names, watch)
+    let given = watch_run(console, arguments.files, arguments.names, watch);
+    let (image, regions) = (arguments.files.image, arguments.files.regions);
+    explain_given(console, &given, arguments.names, image, Some(regions));
+    given
 }

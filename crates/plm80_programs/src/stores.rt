@@ -16,7 +16,7 @@ use plm80_console::{
     Answer, Argument, Console, Kind, Reported, Syntax, argument_values, ranges_of,
 };
 use plm80_files::{IMAGE, REGIONS};
-use plm80_names::{NAMES, NamedFiles, Names, Verdict, judge};
+use plm80_names::{NAMES, NamedFiles, Names, Verdict, explain_given, judge};
 use std::alloc::{AllocError, Global};
 use verify80_stores::{Cause, Stores, find_causes, find_stores, first_outside_data, stores_text};
 
@@ -106,7 +106,14 @@ pub fn list_stores<C: Console>(
             let status = console.give(answer)?;
             explain_causes(console, &causes);
             let given = Ok(status);
-            arguments.files.explain_refusal(console, &given);
+            let files = arguments.files;
+            explain_given(
+                console,
+                &given,
+                files.names,
+                files.image,
+                Some(files.regions),
+            );
             given
         }
         Err(_) => Err(console.report_memory()),

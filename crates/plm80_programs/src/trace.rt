@@ -16,7 +16,7 @@ use loader80_trace::{Limits, Span, TraceFault};
 use machine80::Inputs;
 use plm80_console::{Answer, Argument, Console, Kind, OptionText, Reported, Syntax};
 use plm80_files::{IMAGE, REGIONS};
-use plm80_names::{NAMES, Names, Verdict, explain_refusal, judge};
+use plm80_names::{NAMES, Names, Verdict, explain_given, judge};
 use std::alloc::{AllocError, Global};
 use stream80::Sink;
 
@@ -108,7 +108,10 @@ pub fn trace_files<C: Console>(
 {
     let limits = arguments.limits.numbers(console)?;
     let span = arguments.span(console)?;
-    trace_within(console, arguments.files, limits, span, arguments.names)
+    let given = trace_within(console, arguments.files, limits, span, arguments.names);
+    let (image, regions) = (arguments.files.image, arguments.files.regions);
+    explain_given(console, &given, arguments.names, image, Some(regions));
+    given
 }
 
 /// Prints some instructions of the run within these limits, and gives the exit status.
@@ -129,11 +132,7 @@ fn trace_within<C: Console>(
         Ok(Verdict::Accepted(vouched)) => {
             print_trace(console, &vouched, inputs, limits, span, &program.names)
         }
-        Ok(Verdict::Refused(line)) => {
-            let given = console.give(Answer::prints(line, 1));
-            explain_refusal(console, &given, files.image, files.regions);
-            given
-        }
+        Ok(Verdict::Refused(line)) => console.give(Answer::prints(line, 1)),
         Err(AllocError) => Err(console.report_memory()),
     }
 }

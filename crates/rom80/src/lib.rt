@@ -9,6 +9,7 @@
 //! | [`sum_text`] | the line with the sum of bytes |
 //! | [`Dumps`] | dumps of read-only memories, each at its address, and the image of them |
 //! | [`compare`], [`Comparison`], [`Difference`] | where an image and a dump differ |
+//! | [`byte_ranges`] | where an image has bytes |
 //! | [`no_regions`] | the regions of an image of dumps, which have no address |
 //! | [`DumpKind`] | what a file seems to be that was to be a dump, and has no bytes as they are |
 //! | [`RomFault`] | why there are none |
@@ -22,6 +23,7 @@ mod fault;
 pub mod laws;
 mod memory;
 mod placing;
+mod ranges;
 mod seeming;
 
 pub use comparing::{Comparison, Difference, compare};
@@ -29,4 +31,5 @@ pub use dumps::Dumps;
 pub use extracting::{bytes_over, sum_text};
 pub use fault::RomFault;
 pub use placing::no_regions;
+pub use ranges::byte_ranges;
 pub use seeming::DumpKind;

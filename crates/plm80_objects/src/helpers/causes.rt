@@ -12,6 +12,7 @@ ghost use Rattle.plm80_objects.specs.Link.{root_paths};
 use crate::link::{LinkFiles, RootFile};
 use link80::LinkFault;
 use link80_text::LinkSources;
+use omf_core::segment_id::ABSOLUTE;
 use omf_module::Module;
 use place80::{Options, PlaceFault, layout};
 use place80_text::{Unmapped, append_unmapped};
@@ -102,13 +103,19 @@ pub(crate) fn report_place_fault<C: Console>(
     } else {
         None
     };
-    let has_no_start = matches!(&fault, PlaceFault::NoStart);
+    let more = match (&fault, program.start()) {
+        (PlaceFault::NoStart, _) => {
+            "it isn't the main program, which ends with END and a label: link it with that one"
+        }
+        (PlaceFault::StartNotCode, Some((ABSOLUTE, _))) => {
+            "an image is located already: check, list and run take it"
+        }
+        _ => "",
+    };
     let reported = console.report(fault);
     explain_lines(console, lines);
-    if has_no_start {
-        console.explain(
-            "it isn't the main program, which ends with END and a label: link it with that one",
-        );
+    if !more.is_empty() {
+        console.explain(more);
     }
     reported
 }

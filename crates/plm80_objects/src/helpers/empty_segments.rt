@@ -1,9 +1,10 @@
-//! Words on bases of segments that are empty.
+//! Words on options of LOCATE: that they are hexadecimal, and on bases of segments that are empty.
 
 ghost use Rattle.std.specs.Prelude.{◌≡◌, ◌⊎◌, ◌==◌, ◌||◌, not, []};
 ghost use Rattle.omf_core.specs.SegmentId.{segment_word};
 ghost use Rattle.std.specs.List.{list_all};
 
+use crate::helpers::decimal_words::decimal_size;
 use crate::helpers::locate_options::LocateTexts;
 use omf_core::segment_id::word_of;
 use omf_module::Module;
@@ -11,7 +12,7 @@ use place80::{Options, Placed, layout};
 use plm80_console::Console;
 use std::str;
 
-/// Says which bases are those of empty segments, and where the segments are that aren't empty: there is what was to be at these bases. If
+/// Says which options may have been meant in decimal; and which bases are those of empty segments, and where the segments are that aren't empty: there is what was to be at these bases. If
 /// memory runs out for it, it says nothing.
 pub(crate) fn explain_empty_segments<C: Console>(
     console: &C,
@@ -19,12 +20,19 @@ pub(crate) fn explain_empty_segments<C: Console>(
     options: &Options,
     texts: LocateTexts<'_>,
 ) {
-    if !console.explains() {
-        return;
-    }
     let Ok(layout) = layout(console.alloc(), program, options) else {
         return;
     };
+    for option in texts.all() {
+        if let Some(option) = option
+            && let Some(number) = decimal_size(option.text())
+        {
+            let (name, text) = (option.name(), option.text());
+            console.explain(format_args!(
+                "--{name} {text} is hexadecimal: {text} in decimal is {number:X}"
+            ));
+        }
+    }
     let mut has_empty = false;
     for (id, option) in texts.bases() {
         if let Some(option) = option {

@@ -100,6 +100,22 @@ impl<'a> LocateTexts<'a> {
         ]
     }
 
+    /// All options, if they are given.
+    pub fn all(self) -> [Option<OptionText<'a>>; 7]
+        ensures { let texts = self.entry in result ≡ texts.code ∷ texts.stack ∷ texts.common ∷ texts.data_base ∷ texts.memory
+            ∷ texts.stack_size ∷ texts.memory_size ∷ [] }
+    {
+        [
+            self.code,
+            self.stack,
+            self.common,
+            self.data_base,
+            self.memory,
+            self.stack_size,
+            self.memory_size,
+        ]
+    }
+
     /// The numbers of the options.
     pub fn numbers<C: Console>(self, console: &mut C) -> Result<Options, Reported>
         ensures numbers { IfOk result (AreNumbersOf self.entry) }

@@ -15,7 +15,7 @@ use plm80_console::{Console, ReadFile, Reported};
 use plm80_files::{
     explain_image, explain_inputs, explain_regions, explain_regions_place, explain_unread_bytes,
 };
-use plm80_names::explain_refusal;
+use plm80_names::explain_given;
 use std::alloc::Global;
 use std::io::ErrorKind;
 use stream80::{Reading, Sink};
@@ -31,7 +31,7 @@ pub fn run_session<C: Console>(
 {
     let texts = files.texts(console)?;
     let given = print_session(console, &texts, limits);
-    explain_refusal(console, &given, files.image, files.regions);
+    explain_given(console, &given, false, files.image, Some(files.regions));
     given
 }
 

@@ -15,7 +15,7 @@ use loader80::{Ended, Vouched, front_text};
 use loader80_trace::{Finished, Limits, Span, TraceFault, finish, memory_bytes};
 use machine80::{Inputs, PagedBus};
 use plm80_console::{Answer, Console, Reported};
-use plm80_names::{Names, Verdict, explain_refusal, judge};
+use plm80_names::{Names, Verdict, judge};
 use std::alloc::{AllocError, Global};
 use stream80::{Sink, write_all};
 
@@ -64,11 +64,7 @@ pub fn watch_run<C: Console>(
         Ok(Verdict::Accepted(vouched)) => {
             print_run(console, &vouched, inputs, watch, &program.names)
         }
-        Ok(Verdict::Refused(line)) => {
-            let given = console.give(Answer::prints(line, 1));
-            explain_refusal(console, &given, files.image, files.regions);
-            given
-        }
+        Ok(Verdict::Refused(line)) => console.give(Answer::prints(line, 1)),
         Err(AllocError) => Err(console.report_memory()),
     }
 }

@@ -21,8 +21,8 @@ returns-in-Ok-clause-done g c =
       is_extent = c.in_ok-extent.ensures.extent;
       answer_is = c.in-Ok.ensures.answer;
     } in
-    gives (ExtractsFile c.args.arguments) (path ∷ []) (g.C.Console.journal c.args.console.now) (g.C.Console.journal c.image_of.new.console) (g.C.Console.journal c.give.new.self) (file ∷ []) refl read
-    c.in-Ok.answer c.give.result answers c.give.ensures.given
+    gives (ExtractsFile c.args.arguments) (path ∷ []) (g.C.Console.journal c.args.console.now) (g.C.Console.journal c.image_of.new.console) (g.C.Console.journal c.give-given.new.self) (file ∷ []) refl read
+    c.in-Ok.answer c.give-given.result answers c.give-given.ensures.given
 
 pub returns-in-Ok-clause-fault : goal.returns-in-Ok-clause-fault
 returns-in-Ok-clause-fault g c =
@@ -39,5 +39,5 @@ returns-in-Ok-clause-fault g c =
       is_extent = c.in_ok-extent.ensures.extent;
       answer_is = c.in-Ok.ensures.answer;
     } in
-    gives_up (ExtractsFile c.args.arguments) (path ∷ []) (g.C.Console.journal c.args.console.now) (g.C.Console.journal c.image_of.new.console) (g.C.Console.journal c.give.new.self) (file ∷ []) refl read
-    c.in-Ok.answer c.give.result answers c.give.ensures.fault
+    gives_up (ExtractsFile c.args.arguments) (path ∷ []) (g.C.Console.journal c.args.console.now) (g.C.Console.journal c.image_of.new.console) (g.C.Console.journal c.give-given.new.self) (file ∷ []) refl read
+    c.in-Ok.answer c.give-given.result answers c.give-given.ensures.fault

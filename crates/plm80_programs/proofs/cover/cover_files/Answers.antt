@@ -8,11 +8,11 @@ pub returns-clause-done : goal.returns-clause-done
 returns-clause-done g c =
     let limits = c.in_ok-limits.limits in
     gives_more (AnswersRun (λ inputs. CountsRun inputs limits) c.args.arguments.names) (CoversFiles c.args.arguments) (run_paths c.args.arguments.files)
-    (g.C.Console.journal c.args.console.now) (g.C.Console.journal c.numbers.new.console) (g.C.Console.journal c.cover_within.new.console) c.cover_within.result
+    (g.C.Console.journal c.args.console.now) (g.C.Console.journal c.numbers.new.console) (g.C.Console.journal c.cover_within-given.new.console) c.cover_within-given.result
     (λ files answer answers. record { limits = limits; are_limits = c.in_ok-limits.ensures.limits; answers = answers })
-    c.in_ok-limits.ensures.unchanged c.cover_within.ensures.done
+    c.in_ok-limits.ensures.unchanged c.cover_within-given.ensures.done
 
 pub returns-clause-fault : goal.returns-clause-fault
 returns-clause-fault g c =
-    reports_same (g.C.Console.journal c.args.console.now) (g.C.Console.journal c.numbers.new.console) (g.C.Console.journal c.cover_within.new.console) c.cover_within.result
-    c.in_ok-limits.ensures.unchanged c.cover_within.ensures.fault
+    reports_same (g.C.Console.journal c.args.console.now) (g.C.Console.journal c.numbers.new.console) (g.C.Console.journal c.cover_within-given.new.console) c.cover_within-given.result
+    c.in_ok-limits.ensures.unchanged c.cover_within-given.ensures.fault

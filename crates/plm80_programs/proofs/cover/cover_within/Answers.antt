@@ -8,10 +8,10 @@ returns-clause-done g c =
     let read = run_read_on c.args.files c.args.names (g.C.Console.journal c.args.console.now) (g.C.Console.journal c.read.new.console) (g.C.Console.journal c.inputs_of.new.console)
     program.image program.names program.inputs.items c.deref.result.now c.in_ok-program.ensures.read c.in_ok-inputs.ensures.unchanged
     c.deref.ensures.value in
-    run_given c.args.files c.args.names (g.C.Console.journal c.args.console.now) (g.C.Console.journal c.inputs_of.new.console) (g.C.Console.journal c.give_if_made-given.new.self)
+    run_given c.args.files c.args.names (g.C.Console.journal c.args.console.now) (g.C.Console.journal c.inputs_of.new.console) (g.C.Console.journal c.give_if_made.new.self)
     program.image program.names c.deref.result.now c.in_ok-inputs.inputs.pairs.items read c.in_ok-inputs.ensures.good c.in_ok-inputs.ensures.inputs
-    (λ inputs. CountsRun inputs c.args.limits) c.covered-answer.result c.give_if_made-given.result c.covered-answer.ensures.cover
-    c.give_if_made-given.ensures.given
+    (λ inputs. CountsRun inputs c.args.limits) c.covered-answer.result c.give_if_made.result c.covered-answer.ensures.cover
+    c.give_if_made.ensures.given
 
 pub returns-clause-fault : goal.returns-clause-fault
 returns-clause-fault g c =
@@ -19,6 +19,6 @@ returns-clause-fault g c =
     let read = run_read_on c.args.files c.args.names (g.C.Console.journal c.args.console.now) (g.C.Console.journal c.read.new.console) (g.C.Console.journal c.inputs_of.new.console)
     program.image program.names program.inputs.items c.deref.result.now c.in_ok-program.ensures.read c.in_ok-inputs.ensures.unchanged
     c.deref.ensures.value in
-    run_reports c.args.files c.args.names (g.C.Console.journal c.args.console.now) (g.C.Console.journal c.inputs_of.new.console) (g.C.Console.journal c.give_if_made-given.new.self)
+    run_reports c.args.files c.args.names (g.C.Console.journal c.args.console.now) (g.C.Console.journal c.inputs_of.new.console) (g.C.Console.journal c.give_if_made.new.self)
     program.image program.names c.deref.result.now c.in_ok-inputs.inputs.pairs.items read c.in_ok-inputs.ensures.good c.in_ok-inputs.ensures.inputs
-    c.give_if_made-given.result (c.give_if_made-given.ensures.no_file c.covered-answer.ensures.no_file)
+    c.give_if_made.result (c.give_if_made.ensures.no_file c.covered-answer.ensures.no_file)

@@ -33,8 +33,8 @@ returns-in-Ok-Refused-clause-done g c =
     let read = run_read_on c.args.files c.args.names (g.C.Console.journal c.args.console.now) (g.C.Console.journal c.read.new.console) (g.C.Console.journal c.inputs_of.new.console)
     program.image program.names program.inputs.items c.deref.result.now c.in_ok-program.ensures.read c.in_ok-inputs.ensures.unchanged
     c.deref.ensures.value in
-    run_refused c.args.files c.args.names (g.C.Console.journal c.args.console.now) (g.C.Console.journal c.inputs_of.new.console) (g.C.Console.journal c.give-given.new.self)
+    run_refused c.args.files c.args.names (g.C.Console.journal c.args.console.now) (g.C.Console.journal c.inputs_of.new.console) (g.C.Console.journal c.give.new.self)
     program.image program.names c.deref.result.now c.in_ok-inputs.inputs.pairs.items read c.in_ok-inputs.ensures.good c.in_ok-inputs.ensures.inputs
-    (λ inputs. TracesRun inputs c.args.limits c.args.span) c.in-Ok-Refused.line.items c.give-given.result
+    (λ inputs. TracesRun inputs c.args.limits c.args.span) c.in-Ok-Refused.line.items c.give.result
     (subst (IsVerdict program.image program.names) c.in-Ok-Refused.field-0-is c.in-Ok-Refused.ensures)
-    (subst (λ (a : AnswerValue). IfOk c.give-given.result (IsGiven a (g.C.Console.journal c.inputs_of.new.console) (g.C.Console.journal c.give-given.new.self))) c.prints.ensures c.give-given.ensures.given)
+    (subst (λ (a : AnswerValue). IfOk c.give.result (IsGiven a (g.C.Console.journal c.inputs_of.new.console) (g.C.Console.journal c.give.new.self))) c.prints.ensures c.give.ensures.given)

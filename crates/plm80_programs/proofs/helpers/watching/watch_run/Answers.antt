@@ -35,9 +35,9 @@ returns-in-Ok-Refused-clause-done g c =
     let read = run_read_on c.args.files c.args.names (g.C.Console.journal c.args.console.now) (g.C.Console.journal c.read.new.console) (g.C.Console.journal c.inputs_of-2.new.console)
     program.image program.names program.inputs.items c.deref.result.now c.in_ok-program.ensures.read
     (c.in_ok-second.ensures.unchanged ∙ c.in_ok-first.ensures.unchanged) c.deref.ensures.value in
-    run_refused c.args.files c.args.names (g.C.Console.journal c.args.console.now) (g.C.Console.journal c.inputs_of-2.new.console) (g.C.Console.journal c.give-given.new.self)
+    run_refused c.args.files c.args.names (g.C.Console.journal c.args.console.now) (g.C.Console.journal c.inputs_of-2.new.console) (g.C.Console.journal c.give.new.self)
     program.image program.names c.deref.result.now c.in_ok-first.first.pairs.items read c.in_ok-first.ensures.good c.in_ok-first.ensures.inputs
     (λ inputs. EndsRun inputs c.args.watch.limits c.args.watch.last (dump_path c.args.watch.dump))
-    c.in-Ok-Refused.line.items c.give-given.result
+    c.in-Ok-Refused.line.items c.give.result
     (subst (IsVerdict program.image program.names) c.in-Ok-Refused.field-0-is c.in-Ok-Refused.ensures)
-    (subst (λ (a : AnswerValue). IfOk c.give-given.result (IsGiven a (g.C.Console.journal c.inputs_of-2.new.console) (g.C.Console.journal c.give-given.new.self))) c.prints.ensures c.give-given.ensures.given)
+    (subst (λ (a : AnswerValue). IfOk c.give.result (IsGiven a (g.C.Console.journal c.inputs_of-2.new.console) (g.C.Console.journal c.give.new.self))) c.prints.ensures c.give.ensures.given)
