@@ -17,6 +17,7 @@ use Rattle.link80.specs.LinkFault.{link_fault}
 use Rattle.link80.specs.Selection.{IsSelection, CannotBeLinked, modules_with}
 use Rattle.link80_text.specs.declared.causes.high_bytes.HighByte.{HighByte}
 use Rattle.link80_text.specs.HighBytes.{first_high}
+use Rattle.link80_text.specs.ShownPaths.{shown_path}
 use Rattle.omf_text.specs.Places.{place_words, part_words}
 
 -- the files of linked modules, by their numbers: those of the roots, and those of the libraries that the others are taken from
@@ -47,7 +48,7 @@ mains modules = filter_map main_number (enumerate_from 0 modules)
 
 -- the module with a number, by its name, and its file
 abbrev pub module_words : (files : List (List ℕ)) → (number : ℕ) → (name : List ℕ) → List ℕ
-module_words files number name = name ++ (codes " of " ++ slice_index_or files number [])
+module_words files number name = name ++ (codes " of " ++ shown_path (slice_index_or files number []))
 
 -- a module with its number, and what it does
 abbrev pub deed_line : (files : List (List ℕ)) → (does : List ℕ) → (number : ℕ) → (name : List ℕ) → List ℕ

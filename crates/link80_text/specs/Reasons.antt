@@ -8,6 +8,7 @@ use Rattle.omf_library.specs.Providers.{declares}
 use Rattle.link80_select.specs.declared.chosen.Chosen.{Chosen}
 use Rattle.link80_select.specs.Selected.{module_at, IsFirstProvider}
 use Rattle.link80.specs.Selection.{modules_with}
+use Rattle.link80_text.specs.ShownPaths.{shown_path}
 
 -- ---- reasons
 
@@ -38,7 +39,7 @@ LeadToRoots roots named = (number by : ℕ) → slice_get named number ≡ Some 
 -- the line of a module that was taken: its name, the name that is needed, the module that needs it, and the library's file
 abbrev pub reason_line : (taken name by path : List ℕ) → List ℕ
 reason_line taken name by path =
-    (codes "TAKEN " ++ taken) ++ ((codes " FOR " ++ name) ++ ((codes " BY " ++ by) ++ ((codes " FROM " ++ path) ++ 10 ∷ [])))
+    (codes "TAKEN " ++ taken) ++ ((codes " FOR " ++ name) ++ ((codes " BY " ++ by) ++ ((codes " FROM " ++ shown_path path) ++ 10 ∷ [])))
 
 -- a line, and the number of the module that it names behind BY
 pub record ReasonLine : Type 0 where

@@ -20,6 +20,7 @@ mod named;
 mod needs;
 mod parts;
 mod reasons;
+mod shown;
 mod unresolved;
 mod words;
 

@@ -121,8 +121,16 @@ pub trait Console {
         ensures { journal self.new ≡ and_reported (journal self.old) }
     {
         let reported = self.report("Write");
-        self.explain_failure(failure);
+        self.explain_output(failure);
         reported
+    }
+
+    /// Says why standard output takes nothing more, if it is known.
+    fn explain_output(&self, failure: Option<ErrorKind>) {
+        match failure {
+            Some(ErrorKind::NotConnected) => self.explain("standard output is closed"),
+            _ => self.explain_failure(failure),
+        }
     }
 
     /// Says why the system failed, if it is known.

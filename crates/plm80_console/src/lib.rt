@@ -10,6 +10,7 @@
 //! | [`Answer`], [`WrittenFile`] | what a command answers: files, lines and a status; a [`Console`] does it |
 //! | [`ReadFile`], [`FaultOf`] | a file with its path; a fault with the path of its file |
 //! | [`TakePieces`] | what takes the pieces of a file |
+//! | [`OneLine`] | a text that stays in its line |
 #![tactic(auto)]
 
 mod answer;
@@ -18,6 +19,7 @@ mod comparison;
 mod console;
 mod new_file;
 mod number_text;
+mod one_line;
 mod options;
 mod pieces;
 mod ranges;
@@ -33,6 +35,7 @@ pub use new_file::NewFile;
 pub use number_text::{
     are_digits, byte_of_digits, count_of_digits, length_of_digits, word_of_digits,
 };
+pub use one_line::OneLine;
 pub use options::OptionText;
 pub use pieces::TakePieces;
 pub use ranges::ranges_of;

@@ -10,6 +10,7 @@ ghost use Rattle.plm80_console.specs.SharedPaths.{IsWrittenBy};
 
 use crate::comparison::Comparison;
 use crate::console::Console;
+use crate::one_line::OneLine;
 use crate::syntax::{Argument, Kind, Syntax};
 use clap::error::ErrorKind;
 use clap::{ArgMatches, Error};
@@ -86,7 +87,7 @@ impl<'a> Syntax<'a> {
         let (written, other) = (shared.written.shown(alloc)?, shared.other.shown(alloc)?);
         let text = format!(in alloc;
             "the path '{}' of '{written}', which is written, is also that of '{other}'",
-            shared.path,
+            OneLine(shared.path),
         )?;
         let name = format!(in alloc; "plm80 {}", self.name)?;
         self.command(alloc)?

@@ -4,6 +4,7 @@ ghost use Rattle.std.specs.Prelude.{◌≡◌, ◌++◌, Some, map, slice_get, O
 ghost use Rattle.link80_text.specs.Causes.{module_words, deed_line, line_of, first_two, use_line, high_line, high_text};
 
 use crate::causes::high_bytes::HighByte;
+use crate::shown::append_path;
 use crate::words::path_of;
 use omf_core::Name;
 use omf_model::{Common, Module};
@@ -124,5 +125,5 @@ pub(crate) fn append_module(
 {
     text.extend_from_slice(name.bytes())?;
     text.extend_from_slice(b" of ".as_slice())?;
-    text.extend_from_slice(path_of(files, number))
+    append_path(text, path_of(files, number))
 }

@@ -8,6 +8,7 @@ ghost use Rattle.link80_text.specs.Reasons.{PrintsReasons, reason_line};
 use crate::modules::{linked_modules, module_at};
 use crate::reasons::checked::checked_needs;
 use crate::reasons::search::Need;
+use crate::shown::append_path;
 use crate::words::{append_word, path_of};
 use link80::Chosen;
 use omf_core::Name;
@@ -145,7 +146,8 @@ fn append_line(
     append_word(text, b"TAKEN ".as_slice(), taken.bytes())?;
     append_word(text, b" FOR ".as_slice(), name.bytes())?;
     append_word(text, b" BY ".as_slice(), by.bytes())?;
-    append_word(text, b" FROM ".as_slice(), path)?;
+    text.extend_from_slice(b" FROM ".as_slice())?;
+    append_path(text, path)?;
     text.push(b'\n')?;
     Ok(())
 }
