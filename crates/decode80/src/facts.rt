@@ -57,7 +57,7 @@ fn goes(flow: Flow) -> Facts
 }
 
 /// The registers that an operation on the accumulator writes.
-fn operated(operation: Operation) -> Writes
+fn writes_of_operation(operation: Operation) -> Writes
     ensures { result ≡ operated operation }
 {
     match operation {
@@ -69,7 +69,7 @@ fn operated(operation: Operation) -> Writes
 }
 
 /// The registers that a POP writes.
-fn popped(pair: StackPair) -> Writes
+fn writes_of_pop(pair: StackPair) -> Writes
     ensures { result ≡ popped pair }
 {
     match pair {
@@ -108,7 +108,10 @@ impl Instr {
                 AffectedFlags::NoFlags,
             ),
             Instr::Dad(_) => works(Writes::Both(Pair::Hl), AffectedFlags::CarryAlone),
-            Instr::Operate(operation, _) => works(operated(operation), AffectedFlags::AllFlags),
+            Instr::Operate(operation, _) => works(
+                writes_of_operation(operation),
+                AffectedFlags::AllFlags,
+            ),
             Instr::Rotate(_) => works(Writes::One(Register::A), AffectedFlags::CarryAlone),
             Instr::Daa => works(Writes::One(Register::A), AffectedFlags::AllFlags),
             Instr::Cma | Instr::Ldax(_) | Instr::Lda(_) | Instr::In(_) => works(
@@ -134,7 +137,7 @@ impl Instr {
             Instr::Push(_) => goes(Flow::Pushes),
             Instr::Pop(pair) => Facts {
                 flow: Flow::Pops,
-                writes: popped(pair),
+                writes: writes_of_pop(pair),
                 flags: popped_flags(pair),
                 storing: Storing::Nowhere,
             },

@@ -14,9 +14,9 @@ pub fn effect_of(instr: Instr) -> Effect
 {
     match instr {
         Instr::Mov(to, _) | Instr::Load(to) | Instr::Mvi(to, _) | Instr::Inr(to) | Instr::Dcr(to) =>
-            Effect::Change(written(to)),
-        Instr::Lxi(pair, word) => loaded(pair, Effect::Change(Change::SetStack(word))),
-        Instr::Inx(pair) | Instr::Dcx(pair) => loaded(pair, Effect::Refuse(StackByByte)),
+            Effect::Change(change_of_write(to)),
+        Instr::Lxi(pair, word) => effect_of_load(pair, Effect::Change(Change::SetStack(word))),
+        Instr::Inx(pair) | Instr::Dcx(pair) => effect_of_load(pair, Effect::Refuse(StackByByte)),
         Instr::Dad(_) | Instr::Lhld(_) => Effect::Change(Change::Forget(FramePair::Hl)),
         Instr::Push(pair) => Effect::Change(in_frame(pair).map_or(Change::PushAny, Change::Push)),
         Instr::Pop(pair) => Effect::Change(in_frame(pair).map_or(Change::Drop, Change::Pop)),
@@ -56,7 +56,7 @@ pub fn effect_of(instr: Instr) -> Effect
 }
 
 /// The change by an instruction that writes a register.
-fn written(to: Register) -> Change
+fn change_of_write(to: Register) -> Change
     ensures { result ≡ written to }
 {
     match to {
@@ -68,7 +68,7 @@ fn written(to: Register) -> Change
 }
 
 /// The effect of an instruction that loads or counts a pair; of SP it is the one given.
-fn loaded(pair: Pair, of_sp: Effect) -> Effect
+fn effect_of_load(pair: Pair, of_sp: Effect) -> Effect
     ensures { result ≡ loaded pair of_sp }
 {
     match pair {

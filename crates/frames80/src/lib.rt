@@ -16,6 +16,7 @@
 //! | [`depth`], [`depth_by`] | how many bytes of the stack a frame takes, and one with these counts |
 //! | [`places_move`], [`counts_decide`], [`covered_goes_along`], [`equality_is_exact`] | what holds of all frames, as contracts |
 //! | [`Code`], [`LookFault`] | the program: the instruction at each address, the start and the stack |
+//! | [`MOST_POINTS`], [`MOST_WORDS`] | how far a program is followed |
 //! | [`role_of`] | what a procedure of it is to its frames |
 //! | [`PointNumbers`] | a number for each address of each procedure |
 //! | [`numbers_are_of_addresses`] | a number is kept only of an address of memory, as a contract |
@@ -31,6 +32,7 @@ mod frame_pair;
 mod height;
 mod holding;
 mod laws;
+mod limits;
 mod merge;
 mod moves;
 mod point_numbers;
@@ -49,6 +51,7 @@ pub use frame_pair::FramePair;
 pub use height::{depth, depth_by};
 pub use holding::Holding;
 pub use laws::{counts_decide, covered_goes_along, equality_is_exact, places_move};
+pub use limits::{MOST_POINTS, MOST_WORDS};
 pub use merge::meet;
 pub use moves::{Moves, next};
 pub use point_numbers::{PointNumbers, numbers_are_of_addresses};

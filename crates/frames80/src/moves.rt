@@ -58,7 +58,7 @@ pub fn next(alloc: Global, frame: &Frame, instr: Instr, role: Role) -> Result<Mo
         return Err(fault);
     }
     Ok(match effect {
-        Effect::Change(change) => Moves::On(changed(alloc, frame, change)?),
+        Effect::Change(change) => Moves::On(change_frame(alloc, frame, change)?),
         Effect::Halt => Moves::End,
         Effect::Jump(to) => Moves::Jump(frame.copy(alloc)?, to),
         Effect::JumpIf(to) => Moves::Either(frame.copy(alloc)?, to),
@@ -72,7 +72,7 @@ pub fn next(alloc: Global, frame: &Frame, instr: Instr, role: Role) -> Result<Mo
 }
 
 /// The frame after a change.
-fn changed(alloc: Global, frame: &Frame, change: Change) -> Result<Frame, AllocError>
+fn change_frame(alloc: Global, frame: &Frame, change: Change) -> Result<Frame, AllocError>
     requires { frame.now.taken ≤ 1000000 }
     ensures { IfOk result (λ after. after ≡ changed change frame.now) }
 {

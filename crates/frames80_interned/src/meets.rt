@@ -116,7 +116,7 @@ fn depth_to_met(stacks: &Stacks, pair: Pair) -> u32
     let mut depth = height % STRIDE;
     while depth < height {
         let lower = beneath(stacks, pair, depth);
-        if lower.one == lower.other || stacks.met(lower).is_some() {
+        if lower.one == lower.other || stacks.meet_of(lower).is_some() {
             return depth;
         }
         depth = depth.saturating_add(STRIDE);
@@ -209,7 +209,7 @@ fn tops(stacks: &Stacks, pair: Pair) -> Top
     if pair.one == pair.other {
         return Top::Met(pair.one);
     }
-    if let Some(number) = stacks.met(pair) {
+    if let Some(number) = stacks.meet_of(pair) {
         return Top::Met(number);
     }
     match (stacks.top(pair.one), stacks.top(pair.other)) {

@@ -198,7 +198,7 @@ impl Stacks {
     }
 
     /// The number of the stack of what is known of a pair of stacks, if it is kept.
-    pub(crate) fn met(&self, pair: Pair) -> Option<u32>
+    pub(crate) fn meet_of(&self, pair: Pair) -> Option<u32>
         requires { pair.one < length self.now }
         ensures { IfSome result (λ number. IsMet self.now pair number) }
     {

@@ -64,12 +64,12 @@ fn append_text(
     ensures rules { OnOk result (AreRegions regions.now) }
     ensures err { OnErr result (out.new.items ≡ out.old.items) }
 {
-    let text = spelled(alloc, version, regions)?;
+    let text = spell(alloc, version, regions)?;
     out.extend_from_slice(&text)
 }
 
 /// The text of the regions in the version.
-fn spelled(alloc: Global, version: Version, regions: &Regions) -> Result<Vec<u8>, AllocError>
+fn spell(alloc: Global, version: Version, regions: &Regions) -> Result<Vec<u8>, AllocError>
     ensures text { IfOk result (λ text. text.items ≡ text_in version regions.now) }
     ensures rules { OnOk result (AreRegions regions.now) }
 {

@@ -143,11 +143,11 @@ impl<'a> JoinedModules<'a> {
     }
 
     /// An offset in a module's segment, moved with its part.
-    pub(crate) fn moved(&self, number: usize, id: u8, offset: u16) -> u16
+    pub(crate) fn linked_offset(&self, number: usize, id: u8, offset: u16) -> u16
         requires { number < length self.now }
         ensures { result ≡ moved self.now number id offset }
     {
-        self.laid.moved(number, id, offset)
+        self.laid.linked_offset(number, id, offset)
     }
 
     /// The end of the last part of CODE, DATA or STACK; the parts of other segments lie over one another.

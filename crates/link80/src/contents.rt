@@ -15,7 +15,7 @@ use std::alloc::{AllocError, Global};
 
 /// What LINK makes of a content's fixups: the words that it adds to the bytes, one for each fixup, and the fixups that are left,
 /// as those to absolute bytes are done with.
-fn resolved(
+fn resolve_fixups(
     alloc: Global,
     tables: &SymbolTables,
     number: usize,
@@ -51,7 +51,7 @@ fn resolved(
 }
 
 /// A copy of bytes, with words added at their places.
-fn patched(alloc: Global, bytes: &[u8], patches: &[Patch]) -> Result<Vec<u8>, AllocError>
+fn patched_copy(alloc: Global, bytes: &[u8], patches: &[Patch]) -> Result<Vec<u8>, AllocError>
     requires inside { IsTrue (are_inside (length bytes.now) patches.now) }
     requires apart { IsTrue (are_apart patches.now) }
     ensures { IfOk result (λ copy. copy.items ≡ with_patches patches.now bytes.now) }
@@ -73,8 +73,8 @@ fn linked_content(
     requires movable { CanBeMoved tables.now number source.now content.now }
     ensures { IfOk result (λ moved. moved ≡ linked_content tables.now (number, source.now) content.now) }
 {
-    let (patches, fixups) = resolved(alloc, tables, number, source, content)?;
-    let bytes = patched(alloc, &content.bytes, &patches)?;
+    let (patches, fixups) = resolve_fixups(alloc, tables, number, source, content)?;
+    let bytes = patched_copy(alloc, &content.bytes, &patches)?;
     Ok(Content {
         segment: tables.joined.linked_id(source, content.segment),
         offset: content.offset + tables.joined.start(number, content.segment),

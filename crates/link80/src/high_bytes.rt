@@ -48,7 +48,7 @@ fn is_high_off_page(modules: &LaidModules, number: usize, fixup: Fixup) -> bool
     ensures { result ≡ is_high_off_page modules.now number fixup }
 {
     match (fixup.field, fixup.target) {
-        (Field::High, Target::Segment(id)) => modules.moved(number, id, 0) % 256 != 0,
+        (Field::High, Target::Segment(id)) => modules.linked_offset(number, id, 0) % 256 != 0,
         _ => false,
     }
 }

@@ -77,7 +77,7 @@ fn start_of(tables: &SymbolTables, main: Option<usize>) -> Option<(u8, u16)>
     let (id, offset) = source.start()?;
     Some((
         tables.joined.linked_id(source, id),
-        tables.joined.moved(number, id, offset),
+        tables.joined.linked_offset(number, id, offset),
     ))
 }
 

@@ -186,7 +186,7 @@ impl<'a> LaidModules<'a> {
 
     /// An offset in a module's segment, moved with its part: absolute offsets aren't moved, and those in STACK count
     /// from its top.
-    pub(crate) fn moved(&self, number: usize, id: u8, offset: u16) -> u16
+    pub(crate) fn linked_offset(&self, number: usize, id: u8, offset: u16) -> u16
         requires { number < length self.now }
         ensures { result ≡ moved self.now number id offset }
     {

@@ -37,7 +37,7 @@ fn add_moved_publics(
         publics.push(Public {
             name: public.name.copy(alloc)?,
             segment: joined.linked_id(source, public.segment),
-            offset: joined.moved(number, public.segment, public.offset),
+            offset: joined.linked_offset(number, public.segment, public.offset),
         })?;
     }
     Ok(())
@@ -75,7 +75,7 @@ fn add_undeclared<'a>(
 }
 
 /// The names that no module declares, in order of first sight, by number and as a list.
-fn unresolved<'a>(
+fn find_unresolved<'a>(
     alloc: Global,
     joined: &JoinedModules<'a>,
     declared: &NameTable,
@@ -164,7 +164,7 @@ impl<'t, 'a> SymbolTables<'t, 'a> {
         ensures fault { IfErr result (λ fault. fault ≢ LinkFault.Memory → too_many_externals joined.now ≡ Some fault) }
     {
         let publics = linked_publics(alloc, joined)?;
-        let (unresolved, names) = unresolved(alloc, joined, declared)?;
+        let (unresolved, names) = find_unresolved(alloc, joined, declared)?;
         if unresolved.len() > MOST_EXTERNALS {
             return Err(LinkFault::TooManyExternals);
         }
@@ -201,14 +201,16 @@ impl<'t, 'a> SymbolTables<'t, 'a> {
         match target {
             Target::Segment(id) => to_place(
                 self.joined.linked_id(source, id),
-                self.joined.moved(number, id, 0),
+                self.joined.linked_offset(number, id, 0),
             ),
-            Target::External(index) => self.named(source.externals()[usize::from(index)].bytes()),
+            Target::External(index) => self.reference_to(source.externals()[usize::from(
+                index,
+            )].bytes()),
         }
     }
 
     /// What an external of the modules stands for: the public that bears the name, or else the name itself.
-    fn named(&self, name: &[u8]) -> Reference
+    fn reference_to(&self, name: &[u8]) -> Reference
         requires { is_among (flat_map (λ m. m.externals) self.now) name.now ≡ true }
         ensures { result ≡ to_public self.now name.now (public_of self.now name.now) }
     {

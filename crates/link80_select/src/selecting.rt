@@ -60,7 +60,7 @@ impl Search {
 }
 
 /// Marks of the first `roots` modules of a row and of all that they need, by themselves or through others.
-fn reached(alloc: Global, row: &Row<'_>, roots: usize) -> Result<Vec<bool>, AllocError>
+fn mark_reached(alloc: Global, row: &Row<'_>, roots: usize) -> Result<Vec<bool>, AllocError>
     requires { roots ≤ length row.now }
     ensures { IfOk result (λ marked. AreReached row.now roots marked.items) }
 {
@@ -79,7 +79,7 @@ fn marks_of(alloc: Global, roots: &[Module], libraries: &[Library]) -> Result<Ve
     ensures { IfOk result (λ marked. AreReached (roots.now ++ members libraries.now) (length roots.now) marked.items) }
 {
     let row = Row::of(alloc, roots, libraries)?;
-    reached(alloc, &row, roots.len())
+    mark_reached(alloc, &row, roots.len())
 }
 
 /// Appends the places of a library's modules.

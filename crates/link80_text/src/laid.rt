@@ -24,7 +24,7 @@ pub(crate) fn append_laid(
     let mut end = 0;
     for source in modules {
         let part = segment_in(source.segments(), id);
-        let start = rounded(end, part.paged);
+        let start = round_up(end, part.paged);
         append_part(text, commons, id, start as u16, part, source.name())?;
         end = start + u32::from(part.length);
     }
@@ -32,7 +32,7 @@ pub(crate) fn append_laid(
 }
 
 /// The start of a part that is laid after what ends at `before`.
-fn rounded(before: u32, paged: bool) -> u32
+fn round_up(before: u32, paged: bool) -> u32
     requires { before ≤ 65535 }
     ensures { result ≡ rounded paged before }
 {

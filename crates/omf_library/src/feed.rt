@@ -119,12 +119,12 @@ impl LibraryFeed {
             return Err(fault);
         }
         let library = self.library;
-        finished(self.alloc, &self.bytes, library)
+        finish(self.alloc, &self.bytes, library)
     }
 }
 
 /// The library that bytes are which are read so far, and of which no more come.
-fn finished(
+fn finish(
     alloc: Global,
     bytes: &[u8],
     unfinished: UnfinishedLibrary,

@@ -15,7 +15,7 @@ use omf_model::{Common, has_common_id, has_common_name};
 use std::alloc::{AllocError, Global};
 
 /// A copy of a name that stands in a file.
-pub(crate) fn kept(alloc: Global, name: &NameBytes) -> Result<Name, AllocError>
+pub(crate) fn keep_name(alloc: Global, name: &NameBytes) -> Result<Name, AllocError>
     ensures { IfOk result (λ kept. kept ≡ name.now) }
 {
     match Name::new(alloc, name.bytes()) {
@@ -61,7 +61,7 @@ pub(crate) fn take_commons(
         };
         commons.push(Common {
             id: common.id,
-            name: kept(alloc, &common.name)?,
+            name: keep_name(alloc, &common.name)?,
         })?;
     }
     Ok(())

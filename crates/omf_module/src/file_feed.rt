@@ -161,11 +161,11 @@ fn modules_of(alloc: Global, bytes: &[u8], before: Progress) -> Result<Vec<Modul
     if read.ended {
         return Ok(read.modules);
     }
-    Err(unended(alloc, bytes, &read))
+    Err(missing_end_fault(alloc, bytes, &read))
 }
 
 /// The fault of a file whose bytes end where more of them are needed.
-fn unended(alloc: Global, bytes: &[u8], read: &Progress) -> ModuleFault
+fn missing_end_fault(alloc: Global, bytes: &[u8], read: &Progress) -> ModuleFault
     requires reads { ReadsFile bytes.now read.now }
     requires waits { WaitsModule bytes.now read.now.unfinished.begin }
     ensures { OrNoMemory (FaultsFile bytes.now) result }

@@ -5,7 +5,7 @@ ghost use Rattle.std.specs.List.{flat_map};
 ghost use Rattle.omf_model.specs.declared.fixup.Target.TheVariants as target;
 ghost use Rattle.omf_module.specs.Gathered.{segments_in, publics_in, externals_in, fixups_in};
 
-use crate::commons::kept;
+use crate::commons::keep_name;
 use crate::module_file::PlacedBody;
 use omf_body::{Body, ExternalReferencesBody, Field, HeaderBody, OffsetEntry, Row};
 use omf_core::Name;
@@ -41,7 +41,7 @@ fn take_publics(alloc: Global, body: &Body, publics: &mut Vec<Public>) -> Result
     let mut rest = declared.publics.again();
     while let Some(entry) = rest.next() {
         publics.push(Public {
-            name: kept(alloc, &entry.name)?,
+            name: keep_name(alloc, &entry.name)?,
             segment: declared.segment,
             offset: entry.offset,
         })?;
@@ -69,7 +69,7 @@ fn take_externals(alloc: Global, body: &Body, externals: &mut Vec<Name>) -> Resu
     };
     let mut rest = entries.again();
     while let Some(entry) = rest.next() {
-        externals.push(kept(alloc, &entry.name)?)?;
+        externals.push(keep_name(alloc, &entry.name)?)?;
     }
     Ok(())
 }

@@ -13,7 +13,7 @@ ghost use Rattle.omf_module.specs.ReadingLaws.{Answers};
 ghost use Rattle.omf_module.specs.Spelled.{SpellsModule, FaultsHeader, FaultsModule, SpellsFile, FaultsFile};
 ghost use Rattle.omf_module.specs.Reading.{OrNoMemory, records_of, with_contents};
 
-use crate::commons::kept;
+use crate::commons::keep_name;
 use crate::fault::ModuleFault;
 use crate::file_feed::FileFeed;
 use crate::gathering::{externals_of, publics_of, segments_in};
@@ -43,7 +43,7 @@ fn without_contents(
       start = option_map (λ place. (place.segment, place.offset)) start;
     }) }
 {
-    let name = kept(alloc, &header.name)?;
+    let name = keep_name(alloc, &header.name)?;
     let segments = segments_in(alloc, header)?;
     let publics = publics_of(alloc, bodies)?;
     let externals = externals_of(alloc, bodies)?;

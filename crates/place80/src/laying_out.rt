@@ -103,7 +103,7 @@ fn place_after(program: &Module, options: &Options, before: u32, id: u8) -> Plac
     });
     let base = match options.base(id) {
         Some(base) => u32::from(base),
-        None => rounded(segment.paged, before),
+        None => round_up(segment.paged, before),
     };
     let length = options.length(id).unwrap_or(segment.length);
     Placed {
@@ -114,7 +114,7 @@ fn place_after(program: &Module, options: &Options, before: u32, id: u8) -> Plac
 }
 
 /// The place itself, or the next multiple of 256 for a paged segment.
-fn rounded(paged: bool, place: u32) -> u32
+fn round_up(paged: bool, place: u32) -> u32
     requires { place ≤ 4000000000 }
     ensures rounded { result ≡ rounded paged place }
     ensures near { result ≤ place + 255 }

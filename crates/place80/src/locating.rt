@@ -55,7 +55,7 @@ pub fn locate(alloc: Global, program: &Module, options: &Options) -> Result<Imag
     commons_are_found_by_name();
     parts_of_one_start_at_zero();
     if let Some(name) = program.externals().first() {
-        return Err(unresolved(alloc, name));
+        return Err(unresolved_fault(alloc, name));
     }
     let Some((segment, offset)) = program.start() else {
         return Err(PlaceFault::NoStart);
@@ -97,7 +97,7 @@ fn image_of(
 }
 
 /// The fault of an external without a public.
-fn unresolved(alloc: Global, name: &Name) -> PlaceFault
+fn unresolved_fault(alloc: Global, name: &Name) -> PlaceFault
     ensures { (result ≡ Memory) ⊎ (result ≡ Unresolved name.now) }
 {
     match name.copy(alloc) {

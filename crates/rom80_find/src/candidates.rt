@@ -18,7 +18,7 @@ pub(crate) enum Candidates {
 
 impl Candidates {
     /// Returns the candidates with which the half of their sum with the addend is this byte, if there are any.
-    pub(crate) fn narrowed(self, half: Half, addend: u16, byte: u8) -> Option<Candidates>
+    pub(crate) fn narrow(self, half: Half, addend: u16, byte: u8) -> Option<Candidates>
         ensures some { IfSome result (λ narrowed. (word : ℕ) → word < 65536 →
             is_candidate narrowed word ≡ (is_candidate self word && is_half half addend byte word)) }
         ensures none { IfNone result ((word : ℕ) → word < 65536 →

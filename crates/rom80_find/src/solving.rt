@@ -132,7 +132,7 @@ fn narrowed_by(
         (is_candidate candidates word && fits (dump_of dump.entry) address byte word) ≡ false) }
 {
     match dump.byte_at(address.wrapping_add(byte.offset)) {
-        Some(found) => candidates.narrowed(byte.half, byte.addend, found),
+        Some(found) => candidates.narrow(byte.half, byte.addend, found),
         None => None,
     }
 }

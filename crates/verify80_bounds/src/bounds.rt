@@ -8,7 +8,7 @@ use crate::cycles::cycle;
 use crate::fault::BoundsFault;
 use crate::graph::{CallSite, Depth};
 use crate::sums::greatest_depths;
-use crate::worklist::{advance, group, idle, left};
+use crate::worklist::{advance, group, idle, pending_calls};
 use frames80::{Procedure, slot};
 use std::alloc::{AllocError, Global};
 use std::marker::Model;
@@ -58,7 +58,7 @@ fn settle(alloc: Global, depths: &[Depth], calls: &[CallSite]) -> Result<Settled
     while !settled.is_empty() {
         advance(&mut bytes, &mut callers, &mut counts, &mut settled)?;
     }
-    let pending = left(alloc, calls, &counts)?;
+    let pending = pending_calls(alloc, calls, &counts)?;
     Ok((bytes, pending))
 }
 

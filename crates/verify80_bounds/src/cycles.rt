@@ -9,7 +9,11 @@ use frames80::{Procedure, SLOTS, slot, table};
 use std::alloc::{AllocError, Global};
 
 /// A table of one call of each procedure that has any.
-fn followed(alloc: Global, calls: &[CallSite], other: CallSite) -> Result<Vec<CallSite>, AllocError>
+fn next_calls(
+    alloc: Global,
+    calls: &[CallSite],
+    other: CallSite,
+) -> Result<Vec<CallSite>, AllocError>
     ensures followed { IfOk result (λ v. AreFollowed calls.now calls.now v.items) }
     ensures places { IfOk result (λ v. length v.items ≡ 65537) }
 {
@@ -28,7 +32,7 @@ pub(crate) fn cycle(alloc: Global, calls: &[CallSite]) -> Result<u16, AllocError
     requires stuck { AreStuck calls.now }
     ensures { IfOk result (λ at. Cycles calls.now at) }
 {
-    let next = followed(alloc, calls, calls[0])?;
+    let next = next_calls(alloc, calls, calls[0])?;
     let mut met = table(alloc, false, SLOTS)?;
     let mut call = next[slot(calls[0].caller)];
     while !met[slot(call.caller)] {

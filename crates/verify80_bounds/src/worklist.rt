@@ -89,7 +89,7 @@ pub(crate) fn advance(
 }
 
 /// The calls that aren't absorbed: those whose callees have such calls themselves.
-pub(crate) fn left(
+pub(crate) fn pending_calls(
     alloc: Global,
     calls: &[CallSite],
     counts: &[usize],

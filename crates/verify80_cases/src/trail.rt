@@ -118,8 +118,8 @@ impl Trail {
     {
         match (self.load, instr) {
             (_, Instr::Lxi(Pair::Hl, _)) => Load::Base(at),
-            (load, Instr::Dad(Pair::Bc)) => load.added(self.bc),
-            (load, Instr::Dad(Pair::De)) => load.added(self.de),
+            (load, Instr::Dad(Pair::Bc)) => load.after_dad(self.bc),
+            (load, Instr::Dad(Pair::De)) => load.after_dad(self.de),
             (load, Instr::Load(Register::A)) => load.low_in_a(),
             (load, Instr::Load(Register::E)) => load.low_in_e(),
             (Load::LowInA(table), Instr::Inx(Pair::Hl)) => Load::NextOfA(table),
@@ -128,7 +128,7 @@ impl Trail {
             (Load::Low(table), Instr::Inx(Pair::Hl)) => Load::Next(table),
             (Load::Next(table), Instr::Load(Register::D)) => Load::Word(table),
             (Load::Word(table), Instr::Xchg) => Load::Exchanged(table),
-            (load, _) if !may_change(instr, Pair::Hl) => load.kept(),
+            (load, _) if !may_change(instr, Pair::Hl) => load.with_hl_kept(),
             _ => Load::Nothing,
         }
     }
@@ -146,7 +146,7 @@ impl Load {
     }
 
     /// After a pair was added to HL whose word is that of an LXI, or isn't known.
-    fn added(self, lxi: Option<u16>) -> Load
+    fn after_dad(self, lxi: Option<u16>) -> Load
         ensures { (passed : List ℕ) → IsPassed passed lxi → IsPassed passed (lxi_of self) → IsPassed passed (lxi_of result) }
     {
         match (lxi, self) {
@@ -162,7 +162,7 @@ impl Load {
     {
         match self.table() {
             Some(table) => Load::LowInA(table),
-            None => self.kept(),
+            None => self.with_hl_kept(),
         }
     }
 
@@ -172,12 +172,12 @@ impl Load {
     {
         match self.table() {
             Some(table) => Load::Low(table),
-            None => self.kept(),
+            None => self.with_hl_kept(),
         }
     }
 
     /// After an instruction that leaves HL as it is.
-    fn kept(self) -> Load
+    fn with_hl_kept(self) -> Load
         ensures { (passed : List ℕ) → IsPassed passed (lxi_of self) → IsPassed passed (lxi_of result) }
     {
         match self {

@@ -7,14 +7,11 @@ use crate::chain::{depth_at, is_sum};
 use crate::fault::Unexplained;
 use crate::point::Point;
 use crate::search::CallingPoint;
-use frames80::{Code, slot};
+use frames80::{Code, MOST_POINTS, slot};
 use indexmap::IndexMap;
 use std::alloc::Global;
 use verify80_bounds::{Bounds, BoundsFault, CallSite, Depth, find_bounds};
 use verify80_flow::Procedure;
-
-/// The most calls that bounds are found of.
-const MOST_CALLS: usize = 262_144;
 
 /// The points of a chain, by their numbers.
 #[derive(Drop)]
@@ -35,7 +32,7 @@ pub(crate) fn find_links<C: Code>(
 ) -> Result<Option<Links>, Unexplained> {
     let depths = depths(alloc, program, points)?;
     let sites = sites(alloc, program, points, calls)?;
-    if sites.len() > MOST_CALLS {
+    if sites.len() > MOST_POINTS {
         return Err(Unexplained::Limit);
     }
     let bounds = match find_bounds(alloc, &depths, &sites) {

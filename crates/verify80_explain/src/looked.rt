@@ -6,11 +6,10 @@ ghost use Rattle.verify80_explain.specs.Reached.{IsBack, IsLooked};
 
 use crate::fault::Unexplained;
 use crate::point::Point;
-use frames80::{CallFault, Code, Frame, FrameFault, LookFault, Moves, Role, after, next, role_of};
+use frames80::{
+    CallFault, Code, Frame, FrameFault, LookFault, MOST_WORDS, Moves, Role, after, next, role_of,
+};
 use std::alloc::Global;
-
-/// The most words that a frame has that is followed, and the most that it has taken.
-const MOST_WORDS: usize = 1_000_000;
 
 /// What a look at a point finds.
 #[derive(Drop)]
@@ -62,7 +61,7 @@ pub(crate) fn is_within(frame: &Frame) -> bool
     ensures words { result ≡ true → length frame.now.words ≤ 1000000 }
     ensures taken { result ≡ true → frame.now.taken ≤ 1000000 }
 {
-    frame.taken as usize <= MOST_WORDS && frame.words.len() <= MOST_WORDS
+    frame.taken <= MOST_WORDS && frame.words.len() <= MOST_WORDS as usize
 }
 
 /// The caller's frame when a callee has returned that took a given number of words; `None` if the caller has fewer.

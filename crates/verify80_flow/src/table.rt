@@ -21,14 +21,11 @@ use crate::points::Points;
 use crate::refusal::Refusal;
 use crate::report::ProgramPoint;
 use crate::site::Site;
-use frames80::{CallFault, Change, Code, Effect, Procedure, Role, effect_of, role_of};
+use frames80::{CallFault, Change, Code, Effect, MOST_POINTS, Procedure, Role, effect_of, role_of};
 use frames80_interned::{FrameId, Frames, MeetFault};
 use std::alloc::{AllocError, Global};
 use std::marker::Model;
 use verify80_hints::{AskedPlaces, Callers, Pending};
-
-/// The most points that are visited.
-const MOST_POINTS: usize = 262_144;
 
 /// How many visits each point is worth. In most programs a point is visited once or twice.
 const VISITS_FOR_A_POINT: u64 = 4;

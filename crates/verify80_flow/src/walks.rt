@@ -16,13 +16,10 @@ ghost use Rattle.verify80_flow.specs.Walks.{LeadsTo, called, returning};
 
 use crate::refusal::Refusal;
 use crate::survey::target_of;
-use frames80::{CallFault, Code, Effect, FrameFault, Procedure, effect_of, role_of};
+use frames80::{CallFault, Code, Effect, FrameFault, MOST_WORDS, Procedure, effect_of, role_of};
 use frames80_interned::{FrameId, Frames, MeetFault};
 use std::alloc::{AllocError, Global};
 use verify80_hints::Step;
-
-/// The most words that a frame has taken that is followed.
-const MOST_TAKEN: u32 = 1_000_000;
 
 /// A point to which a walk comes, its frame by number.
 #[derive(Clone, Copy)]
@@ -191,7 +188,7 @@ impl Walks {
         if !leads_to(effect, program.targets(from.at), next, to) {
             return Ok(None);
         }
-        if self.frames.taken(from.frame) > MOST_TAKEN {
+        if self.frames.taken(from.frame) > MOST_WORDS {
             return Ok(None);
         }
         let frame = self.frames.change(from.frame, effect.change())?;

@@ -13,6 +13,8 @@
 mod asked;
 mod asks;
 mod callers;
+mod cases;
+mod hubs;
 mod lists;
 mod marks;
 mod moves;

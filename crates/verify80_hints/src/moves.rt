@@ -16,7 +16,7 @@ pub(crate) struct Moves([Option<Move>; 3]);
 
 impl Move {
     /// A pair gets a word that is no return address.
-    fn lost(pair: FramePair) -> Move {
+    fn losing(pair: FramePair) -> Move {
         Move {
             to: Place::of_pair(pair),
             from: None,
@@ -45,9 +45,9 @@ impl Moves {
     /// Returns the moves of a call that comes back.
     pub(crate) fn of_call() -> Moves {
         Moves([
-            Some(Move::lost(FramePair::Bc)),
-            Some(Move::lost(FramePair::De)),
-            Some(Move::lost(FramePair::Hl)),
+            Some(Move::losing(FramePair::Bc)),
+            Some(Move::losing(FramePair::De)),
+            Some(Move::losing(FramePair::Hl)),
         ])
     }
 

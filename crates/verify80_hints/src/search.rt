@@ -11,6 +11,8 @@ mod follow;
 mod reach;
 
 use crate::asks::Asks;
+use crate::cases::Cases;
+use crate::hubs::Hubs;
 use crate::lists::Lists;
 use crate::marks::Marks;
 use crate::order::rank_addresses;
@@ -38,9 +40,11 @@ pub(crate) struct Search<'a, C> {
     points: Vec<Point>,
     ranks: Vec<u32>,
     steps: Vec<Step>,
-    /// For each point the ways that lead to it, but for those from PCHLs; for each address those from the addresses of PCHLs.
+    /// For each point the ways that lead to it, but for those from PCHLs; for each address the PCHLs that lead to it, and what was asked
+    /// for at those.
     leading: Lists,
-    cases: Lists,
+    cases: Cases,
+    hubs: Hubs,
     noted: Marks,
     /// For each entry how its procedure returns, and the calls that wait for that.
     exits: Vec<Option<Exit>>,
@@ -106,7 +110,8 @@ impl<'a, C: Code> Search<'a, C> {
             ranks: rank_addresses(alloc, program)?,
             steps: Vec::new(alloc),
             leading: Lists::new(alloc),
-            cases: Lists::new(alloc),
+            cases: Cases::new(alloc)?,
+            hubs: Hubs::new(alloc),
             noted: Marks::new(alloc),
             exits: vec![in alloc; None; 65536]?,
             callers: Lists::new(alloc),

@@ -76,7 +76,7 @@ fn moved_start(modules: &[&Module], number: usize, id: u8, end: u128) -> u16
     ensures { result ≡ part_start (map (λ m. m.now) modules.now) number id % 65536 }
 {
     let part = segment_in(modules[number].segments(), id);
-    (rounded(end, part.paged) % 65536) as u16
+    (round_up(end, part.paged) % 65536) as u16
 }
 
 /// The ends of the last of some modules' parts of CODE and DATA, which lie one after another.
@@ -116,11 +116,11 @@ fn end_with(before: u128, part: Segment) -> u128
     requires { before + 255 < 340282366920938463463374607431768145920 }
     ensures { result ≡ rounded part.paged before + part.length }
 {
-    rounded(before, part.paged) + u128::from(part.length)
+    round_up(before, part.paged) + u128::from(part.length)
 }
 
 /// The start of a part that is laid after what ends at `before`.
-fn rounded(before: u128, paged: bool) -> u128
+fn round_up(before: u128, paged: bool) -> u128
     requires { before + 255 < 340282366920938463463374607431768211456 }
     ensures { result ≡ rounded paged before }
 {

@@ -49,7 +49,8 @@ impl<'a, C: Code> Search<'a, C> {
         let way = self.leading.only(places.point as usize)?;
         let from = self.point(way.from)?;
         let point = self.point(places.point)?;
-        if !from.leads_straight() || self.cases.newest(usize::from(point.at)).is_some() {
+        let list = self.cases.list_of(point.at);
+        if !from.leads_straight() || self.cases.newest(list).is_some() {
             return None;
         }
         if from.keeps(way.turn) || from.moves(way.turn).kept_of(places) == places.bits {
@@ -59,31 +60,49 @@ impl<'a, C: Code> Search<'a, C> {
         None
     }
 
-    /// Goes back from places of a point to each PCHL that leads to it, if walks have the same counts there.
+    /// Goes back from places of a point to each PCHL that leads to it. What another target of the same PCHLs asked for was asked for
+    /// there already.
     fn go_back_to_cases(&mut self, places: Places, point: Point) -> Result<(), AllocError> {
-        let mut link = self.cases.newest(usize::from(point.at));
+        let mut list = self.cases.list_of(point.at);
+        if self.cases.newest(list).is_none() {
+            return Ok(());
+        }
+        let bits = self.hubs.add(list, point, places)?;
+        let places = Places { bits, ..places };
         for _ in 0..u32::MAX {
-            let Some(found) = link else {
+            let Some((pchl, before)) = self.cases.newest(list) else {
                 break;
             };
-            if let Some(from) = self.case_before(found.way.from, point) {
-                let turn = found.way.turn;
-                self.carry(Way { from, turn }, places)?;
-            }
-            link = self.cases.before(found);
+            self.go_back_to_case(pchl, places, point)?;
+            list = before;
         }
         Ok(())
     }
 
-    /// The number of the point at the address of a PCHL that leads to a point.
-    fn case_before(&self, at: u32, point: Point) -> Option<u32> {
-        let number = self.numbers.get(point.procedure, u16::try_from(at).ok()?)?;
-        let from = self.point(number)?;
-        if from.counts == point.counts {
-            Some(number)
-        } else {
-            None
+    /// Goes back from places of a point to a PCHL that leads to it, if walks have the same counts there. It keeps every place.
+    fn go_back_to_case(&mut self, pchl: u16, places: Places, to: Point) -> Result<(), AllocError> {
+        let Some(point) = self.numbers.get(to.procedure, pchl) else {
+            return Ok(());
+        };
+        let bits = places.bits & !self.asked.get(point, places.block);
+        match self.point(point) {
+            Some(from) if bits != 0 && from.counts == to.counts => {
+                let before = Places {
+                    point,
+                    bits,
+                    ..places
+                };
+                self.ask(from, before, self.choice_of_target(pchl, to.at))
+            }
+            _ => Ok(()),
         }
+    }
+
+    /// By which of its ways a PCHL leads to a target.
+    fn choice_of_target(&self, pchl: u16, target: u16) -> u16 {
+        let mut targets = self.program.targets(pchl).iter();
+        let choice = targets.position(|at| *at == target).unwrap_or(0);
+        u16::try_from(choice).unwrap_or(0)
     }
 
     /// Goes back from places of a point over a way to it.

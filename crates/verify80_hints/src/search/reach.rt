@@ -5,11 +5,8 @@ use crate::places::{Place, Places};
 use crate::point::{Counts, Point, effect_at};
 use crate::search::Search;
 use crate::step::Step;
-use frames80::{Code, Effect, Procedure};
+use frames80::{Code, Effect, MOST_POINTS, Procedure};
 use std::alloc::AllocError;
-
-/// The most points that are reached.
-const MOST_POINTS: u32 = 262_144;
 
 impl<'a, C: Code> Search<'a, C> {
     /// Goes each way on from a point.
@@ -53,11 +50,7 @@ impl<'a, C: Code> Search<'a, C> {
         let mut choice: u16 = 0;
         for at in program.targets(from.at) {
             if !is_noted {
-                let case = Way {
-                    from: u32::from(from.at),
-                    turn: Turn::Leads(choice),
-                };
-                self.cases.add(usize::from(*at), case)?;
+                self.cases.add(*at, from.at)?;
             }
             self.go_to(number, from, *at, choice)?;
             choice = choice.wrapping_add(1);
@@ -150,10 +143,10 @@ impl<'a, C: Code> Search<'a, C> {
         counts: Counts,
         step: Step,
     ) -> Result<Option<u32>, AllocError> {
-        let number = u32::try_from(self.points.len()).unwrap_or(MOST_POINTS);
-        if number >= MOST_POINTS {
+        if self.points.len() >= MOST_POINTS {
             return Ok(None);
         }
+        let number = u32::try_from(self.points.len()).unwrap_or(u32::MAX);
         let (effect, next) = effect_at(self.program, at);
         let point = Point {
             procedure,

@@ -13,8 +13,8 @@ pub start-requires : goal.start-requires
 start-requires c = omega
     (arith, slice_get_within c.args.tables.now c.args.number c.args.source.now c.requires.here, ap length c.tables.view_is)
 
-pub patched-requires-clause-inside : goal.patched-requires-clause-inside
-patched-requires-clause-inside c =
+pub patched_copy-requires-clause-inside : goal.patched_copy-requires-clause-inside
+patched_copy-requires-clause-inside c =
     let patches_are : c.deref-2.result.now
     ≡ map (link_patch c.args.tables.now (c.args.number, c.args.source.now) c.args.content.now) c.args.content.now.fixups =
     c.deref-2.ensures.value ∙ c.in_ok-patches.ensures.patches in
@@ -28,8 +28,8 @@ patched-requires-clause-inside c =
     (c.requires.movable.fixups.inside
     (λ f. (linked_reference c.args.tables.now (c.args.number, c.args.source.now) f.target).word)))
 
-pub patched-requires-clause-apart : goal.patched-requires-clause-apart
-patched-requires-clause-apart c =
+pub patched_copy-requires-clause-apart : goal.patched_copy-requires-clause-apart
+patched_copy-requires-clause-apart c =
     let patches_are : c.deref-2.result.now
     ≡ map (link_patch c.args.tables.now (c.args.number, c.args.source.now) c.args.content.now) c.args.content.now.fixups =
     c.deref-2.ensures.value ∙ c.in_ok-patches.ensures.patches in

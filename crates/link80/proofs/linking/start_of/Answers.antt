@@ -21,13 +21,13 @@ returns-in_err-id c =
     c.tables.view_is (sym c.requires ∙ ap (λ (o : Option ℕ). cons_option o []) c.in_ok-number.was)
     c.get-source.ensures (sym c.in_err-id.ensures.value))
 
-pub moved-requires : goal.moved-requires
-moved-requires c = main_within c.tables.inside.joined.now c.args.tables.now c.in_ok-number.number c.tables.view_is (sym c.requires
+pub linked_offset-requires : goal.linked_offset-requires
+linked_offset-requires c = main_within c.tables.inside.joined.now c.args.tables.now c.in_ok-number.number c.tables.view_is (sym c.requires
     ∙ ap (λ (o : Option ℕ). cons_option o []) c.in_ok-number.was)
 
 pub returns : goal.returns
 returns c =
-    (λ j. Some (c.linked_id.ensures j, c.moved.ensures j))
+    (λ j. Some (c.linked_id.ensures j, c.linked_offset.ensures j))
     ∙ sym (start_from c.tables.inside.joined.now c.args.tables.now c.in_ok-number.number c.get-source.result.now c.in_ok-id.id
     c.in_ok-id.offset c.tables.view_is
     (sym c.requires ∙ ap (λ (o : Option ℕ). cons_option o []) c.in_ok-number.was) c.get-source.ensures

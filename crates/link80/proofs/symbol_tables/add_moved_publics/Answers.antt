@@ -11,10 +11,10 @@ loop-public-preserved c =
     (drop (c.loop-public.public-index + 1) c.publics-public-items.result.now)) c.in_ok-push.ensures.items
     ∙ one_more (linked_public c.args.joined.now (c.args.number, c.args.source.now)) c.publics-public-items.result.now
     c.loop-public.public-index c.public-item.result c.loop-public.publics.items
-    (record { name = c.in_ok-copy.field-0; segment = c.linked_id.result; offset = c.moved.result })
+    (record { name = c.in_ok-copy.field-0; segment = c.linked_id.result; offset = c.linked_offset.result })
     c.loop-public-test.true c.public-item.is
-    (λ j. record { name = c.in_ok-copy.ensures.same j; segment = c.linked_id.ensures j; offset = c.moved.ensures j })
+    (λ j. record { name = c.in_ok-copy.ensures.same j; segment = c.linked_id.ensures j; offset = c.linked_offset.ensures j })
     ∙ c.loop-public.invariant
 
-pub moved-requires : goal.moved-requires
-moved-requires c = slice_get_within c.args.joined.now c.args.number c.args.source.now c.requires
+pub linked_offset-requires : goal.linked_offset-requires
+linked_offset-requires c = slice_get_within c.args.joined.now c.args.number c.args.source.now c.requires

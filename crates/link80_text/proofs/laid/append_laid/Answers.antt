@@ -20,19 +20,19 @@ fits c =
 part_is : (c : After-segment_in-part) → c.segment_in-part.result ≡ segment_in c.source-item.result.now.segments c.args.id
 part_is c = c.segment_in-part.ensures ∙ ap (λ s. segment_in s c.args.id) c.segments.ensures.value
 
-pub rounded-start-requires : goal.rounded-start-requires
-rounded-start-requires c = (fits c).first
+pub round_up-start-requires : goal.round_up-start-requires
+round_up-start-requires c = (fits c).first
 
 pub overflow_cast-start : goal.overflow_cast-start
 overflow_cast-start c =
-    let start = c.rounded-start.ensures ∙ ap (λ (s : Segment). rounded s.paged c.loop-source.end) (part_is c.before.before) in
+    let start = c.round_up-start.ensures ∙ ap (λ (s : Segment). rounded s.paged c.loop-source.end) (part_is c.before.before) in
     let fit = (fits c.before.before).start in
     search (rules, start, fit)
 
 pub overflow_add-end : goal.overflow_add-end
 overflow_add-end c =
     let part = c.segment_in-part.ensures ∙ ap (λ s. segment_in s c.args.id) c.segments.ensures.value in
-    let start = c.rounded-start.ensures ∙ ap (λ (s : Segment). rounded s.paged c.loop-source.end) part in
+    let start = c.round_up-start.ensures ∙ ap (λ (s : Segment). rounded s.paged c.loop-source.end) part in
     let length = c.from.ensures ∙ ap (λ (s : Segment). s.length) part in
     let fit = (part_fits c.laid_parts_end_at_words.ensures.later c.args.id c.loop-source.end (parts_end c.args.id 0 (map (λ m. m.now) c.args.modules.now))
     c.source-item.result.now (map (λ m. m.now) (drop (c.loop-source.source-index + 1) c.args.modules.now))
@@ -44,7 +44,7 @@ overflow_add-end c =
 pub loop-source-preserved : goal.loop-source-preserved
 loop-source-preserved c =
     let part = c.segment_in-part.ensures ∙ ap (λ s. segment_in s c.args.id) c.segments.ensures.value in
-    let start = c.rounded-start.ensures ∙ ap (λ (s : Segment). rounded s.paged c.loop-source.end) part in
+    let start = c.round_up-start.ensures ∙ ap (λ (s : Segment). rounded s.paged c.loop-source.end) part in
     let length = c.from.ensures ∙ ap (λ (s : Segment). s.length) part in
     let grown = c.in_ok-append_part.ensures
     ∙ ap (λ (n : ℕ). c.loop-source.text.items ++ part_line c.args.commons.now c.args.id n c.segment_in-part.result c.name.result.now) start
@@ -53,7 +53,7 @@ loop-source-preserved c =
     ∙ ap (λ (n : List ℕ). c.loop-source.text.items ++ part_line c.args.commons.now c.args.id
     (rounded (segment_in c.source-item.result.now.segments c.args.id).paged c.loop-source.end)
     (segment_in c.source-item.result.now.segments c.args.id) n) c.name.ensures in
-    let more = one_more c.args.commons.now c.args.id c.loop-source.end (c.rounded-start.result + c.from.result)
+    let more = one_more c.args.commons.now c.args.id c.loop-source.end (c.round_up-start.result + c.from.result)
     (parts_end c.args.id 0 (map (λ m. m.now) c.args.modules.now)) c.loop-source.text.items c.append_part.new.text.items _
     c.source-item.result.now (map (λ m. m.now) (drop (c.loop-source.source-index + 1) c.args.modules.now))
     (map (λ m. m.now) (drop c.loop-source.source-index c.args.modules.now))

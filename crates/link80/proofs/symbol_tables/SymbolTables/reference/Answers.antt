@@ -16,8 +16,8 @@ external_at externals own index from item name same from_is below is named =
     ap (λ l. slice_get l index) (sym same) ∙ ap (slice_get externals) (sym from_is)
     ∙ slice_get_read externals (length externals) from item refl within is ∙ ap Some (sym named)
 
-pub named-requires : goal.named-requires
-named-requires c =
+pub reference_to-requires : goal.reference_to-requires
+reference_to-requires c =
     let there : nat_lt c.in-External.index (length c.args.source.now.externals) ≡ true =
     ap (has_target c.args.source.now.commons (length c.args.source.now.externals)) (sym c.in-External.is)
     ∙ c.requires.there in
@@ -35,7 +35,7 @@ returns-in-External c =
     let at = external_at c.externals.result.now c.args.source.now.externals c.in-External.index c.from.result
     c.index-externals-from.result c.bytes.result.now c.externals.ensures.value c.from.ensures there c.index-externals-from.is
     c.bytes.ensures.value in
-    c.named.ensures
+    c.reference_to.ensures
     ∙ ap (λ name. to_public c.args.self.now name (public_of c.args.self.now name))
     (sym (ap (λ (o : Option (List ℕ)). unwrap_or o []) at))
     ∙ ap (linked_reference c.args.self.now (c.args.number, c.args.source.now)) (sym c.in-External.is)

@@ -14,7 +14,7 @@ returns c =
     c.requires.laid in
     let part = c.segment_in-part.ensures ∙ ap (λ s. segment_in s id) c.segments.ensures.value
     ∙ ap (λ (m : Bor Module). segment_in m.now.segments id) c.index-modules-number.is in
-    let start = c.rounded.ensures ∙ ap (λ (s : Segment). rounded s.paged c.args.end) part
+    let start = c.round_up.ensures ∙ ap (λ (s : Segment). rounded s.paged c.args.end) part
     ∙ ap (λ (e : ℕ). rounded (segment_in (get_or c.args.modules.now c.args.number c.index-modules-number.result).now.segments id).paged e)
     c.requires.end in
     ap (λ (n : ℕ). n % 65536) (start ∙ sym whole)

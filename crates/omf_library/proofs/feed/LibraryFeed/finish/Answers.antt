@@ -8,6 +8,6 @@ pub returns-clause-every_library : goal.returns-clause-every_library
 returns-clause-every_library c = λ none ms s.
     let same : c.deref.result.now ≡ c.args.self.bytes = c.deref.ensures.value
     ∙ ap (λ (v : LibraryFeedValue). v.bytes) c.self.view_is in
-    every_library c.one_library.ensures.library c.one_library.ensures.never_both c.deref.result.now c.finished.result
-    c.finished.ensures.read c.finished.ensures.fault ms
+    every_library c.one_library.ensures.library c.one_library.ensures.never_both c.deref.result.now c.finish.result
+    c.finish.ensures.read c.finish.ensures.fault ms
     (subst (λ (b : List ℕ). SpellsLibrary b ms) (sym same) s)

@@ -1,6 +1,6 @@
 use Rattle.verify80_bounds.proofs.WorklistLemmas.{left_kept, left_absorbed}
-use Rattle.verify80_bounds.proofs.worklist.left.Goals as goal
-use Rattle.verify80_bounds.proofs.worklist.left.Goals.{then-counts-slot-gt0+in_ok-push, else-counts-slot-gt0}
+use Rattle.verify80_bounds.proofs.worklist.pending_calls.Goals as goal
+use Rattle.verify80_bounds.proofs.worklist.pending_calls.Goals.{then-counts-slot-gt0+in_ok-push, else-counts-slot-gt0}
 
 pub loop-call-preserved : goal.loop-call-preserved
 loop-call-preserved c = elim c.if-counts-slot-gt0.branch [

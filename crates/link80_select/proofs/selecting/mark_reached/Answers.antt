@@ -1,6 +1,6 @@
 use Rattle.std.proofs.Common.{arith}
 use Rattle.link80_select.proofs.MarkLemmas.{search_inside, search_next, search_end}
-use Rattle.link80_select.proofs.selecting.reached.Goals as goal
+use Rattle.link80_select.proofs.selecting.mark_reached.Goals as goal
 
 pub get-requires : goal.get-requires
 get-requires c = (search_inside c.args.row.now c.args.roots c.loop-looked_at.looked_at c.index-number.result.now

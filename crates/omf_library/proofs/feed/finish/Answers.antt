@@ -1,6 +1,6 @@
 use Rattle.std.proofs.lemmas.Result.{err_from_is_err_and}
 use Rattle.omf_library.proofs.FeedLemmas.{first_fault}
-use Rattle.omf_library.proofs.feed.finished.Goals as goal
+use Rattle.omf_library.proofs.feed.finish.Goals as goal
 
 pub returns-in_err-read_on-clause-fault : goal.returns-in_err-read_on-clause-fault
 returns-in_err-read_on-clause-fault c =

@@ -14,8 +14,8 @@ use Rattle.omf_model.specs.Place.{part_start}
 use Rattle.link80.specs.declared.reference.Reference.{Reference}
 use Rattle.link80.specs.Linked.{fixup_to, linked_fixup, link_patch}
 use Rattle.link80.proofs.LoopLemmas.{item_has, one_item_more, one_left_more, none_left_more}
-use Rattle.link80.proofs.contents.resolved.Goals as goal
-use Rattle.link80.proofs.contents.resolved.Goals.{in-Some+in_ok-push-2, in_default}
+use Rattle.link80.proofs.contents.resolve_fixups.Goals as goal
+use Rattle.link80.proofs.contents.resolve_fixups.Goals.{in-Some+in_ok-push-2, in_default}
 
 -- (where no item stands)
 abbrev nothing : Fixup

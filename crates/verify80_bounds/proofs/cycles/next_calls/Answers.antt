@@ -3,7 +3,7 @@ use Rattle.std.proofs.lemmas.List.{length-set, take_all}
 use Rattle.verify80_bounds.specs.declared.graph.CallSite.{CallSite}
 use Rattle.verify80_bounds.specs.Sums.{AreFollowed}
 use Rattle.verify80_bounds.proofs.FollowLemmas.{follow_none, follow_at}
-use Rattle.verify80_bounds.proofs.cycles.followed.Goals as goal
+use Rattle.verify80_bounds.proofs.cycles.next_calls.Goals as goal
 
 pub loop-call-init : goal.loop-call-init
 loop-call-init c = (follow_none c.args.calls.now c.in_ok-next.next.items, c.in_ok-next.ensures.places)

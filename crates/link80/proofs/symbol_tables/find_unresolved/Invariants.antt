@@ -1,7 +1,7 @@
 use Rattle.std.proofs.Common.{◌≡◌, [], drop, filter, is_none}
 use Rattle.std.specs.List.{flat_map}
 use Rattle.link80.specs.FirstSight.{number_in, with_names}
-use Rattle.link80.proofs.symbol_tables.unresolved.Given as goal
+use Rattle.link80.proofs.symbol_tables.find_unresolved.Given as goal
 
 -- the names so far, with those of the modules that are left
 abbrev pub invariant-loop-number : goal.invariant-loop-number

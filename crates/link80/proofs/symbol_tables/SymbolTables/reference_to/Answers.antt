@@ -7,7 +7,7 @@ use Rattle.link80.specs.FirstSight.{number_in}
 use Rattle.link80.specs.Linked.{linked_publics, unresolved}
 use Rattle.link80.specs.SymbolTables.{AreSymbolTables}
 use Rattle.link80.proofs.UnresolvedLemmas.{borne, not_borne, left_open, is_unresolved, map_length}
-use Rattle.link80.proofs.symbol_tables.SymbolTables.named.Goals as goal
+use Rattle.link80.proofs.symbol_tables.SymbolTables.reference_to.Goals as goal
 
 -- the number of a name in the tables of these modules
 number_is : (modules joined : List ModuleValue) (declared : List (List ℕ)) (publics : List Public)

@@ -7,7 +7,7 @@ use Rattle.link80.specs.FirstSight.{number_in, with_names}
 use Rattle.link80.proofs.FirstSightLemmas.{with_both}
 use Rattle.link80.proofs.LoopLemmas.{left_at}
 use Rattle.link80.proofs.UnresolvedLemmas.{unresolved_is}
-use Rattle.link80.proofs.symbol_tables.unresolved.Goals as goal
+use Rattle.link80.proofs.symbol_tables.find_unresolved.Goals as goal
 
 abbrev undeclared : List (List ℕ) → ModuleValue → List (List ℕ)
 undeclared declared m = filter (λ name. is_none (number_in declared name)) m.externals

@@ -1,6 +1,6 @@
 use Rattle.std.proofs.Common.{◌≡◌, ◌++◌, map, drop, filter_map}
 use Rattle.link80.specs.Linked.{link_patch, linked_fixup}
-use Rattle.link80.proofs.contents.resolved.Given as goal
+use Rattle.link80.proofs.contents.resolve_fixups.Given as goal
 
 -- the patches and the fixups so far, and those of the fixups that are left
 abbrev pub invariant-loop-fixup : goal.invariant-loop-fixup

@@ -4,8 +4,8 @@ use Rattle.omf_module.specs.Spelled.{FaultsFile, no_end}
 use Rattle.omf_module.proofs.WithinLemmas.{by_cause}
 use Rattle.omf_module.proofs.StayLemmas.{of_stay}
 use Rattle.omf_module.proofs.FileFeedLemmas.{waits_no_module, waiting_answer}
-use Rattle.omf_module.proofs.file_feed.unended.Goals as goal
-use Rattle.omf_module.proofs.file_feed.unended.Goals.{else-bytes-begin-via-then-bytes-begin+else-not-is_empty, else-bytes-begin-via-else-bytes-begin}
+use Rattle.omf_module.proofs.file_feed.missing_end_fault.Goals as goal
+use Rattle.omf_module.proofs.file_feed.missing_end_fault.Goals.{else-bytes-begin-via-then-bytes-begin+else-not-is_empty, else-bytes-begin-via-else-bytes-begin}
 
 pub returns-then-not-is_empty : goal.returns-then-not-is_empty
 returns-then-not-is_empty c =
