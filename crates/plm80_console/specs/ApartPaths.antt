@@ -41,11 +41,7 @@ has_path (WrittenIfGiven word) matches name path = is_value matches name path
 has_path (Replaced word old) matches name path = is_value matches name path
 has_path Paths matches name path = is_among_values matches name path
 has_path (PathsAt word) matches name path = is_behind_values matches name path
-has_path Words matches name path = false
-has_path (Required word) matches name path = false
-has_path (Number word) matches name path = false
-has_path (Count default) matches name path = false
-has_path Flag matches name path = false
+has_path _ matches name path = false
 
 -- of an argument that writes the file of a path, and another one: this one hasn't the path, unless its file may be replaced
 abbrev pub IsApartFrom : ArgMatches → (written : Argument) → (path : List ℕ) → (other : Argument) → Type 0

@@ -12,12 +12,7 @@ is_required Words = true
 is_required Written = true
 is_required (WrittenOption word) = true
 is_required (Required word) = true
-is_required (WrittenIfGiven word) = false
-is_required (Replaced word old) = false
-is_required (Number word) = false
-is_required (Count default) = false
-is_required Flag = false
-is_required (PathsAt word) = false
+is_required _ = false
 
 -- its value is the path of a file that is written
 abbrev pub is_written : Kind → Bool
@@ -25,14 +20,7 @@ is_written Written = true
 is_written (WrittenOption word) = true
 is_written (WrittenIfGiven word) = true
 is_written (Replaced word old) = true
-is_written Path = false
-is_written Paths = false
-is_written Words = false
-is_written (Required word) = false
-is_written (Number word) = false
-is_written (Count default) = false
-is_written Flag = false
-is_written (PathsAt word) = false
+is_written _ = false
 
 -- its values name no file
 abbrev pub names_no_file : Kind → Bool
@@ -41,28 +29,12 @@ names_no_file (Required word) = true
 names_no_file (Number word) = true
 names_no_file (Count default) = true
 names_no_file Flag = true
-names_no_file Path = false
-names_no_file Paths = false
-names_no_file Written = false
-names_no_file (WrittenOption word) = false
-names_no_file (WrittenIfGiven word) = false
-names_no_file (Replaced word old) = false
-names_no_file (PathsAt word) = false
+names_no_file _ = false
 
 -- the file that it writes may be the one that the argument of this name reads
 abbrev pub may_replace : Kind → (name : List ℕ) → Bool
 may_replace (Replaced word old) name = bytes_eq name old.now
-may_replace Path name = false
-may_replace Paths name = false
-may_replace Words name = false
-may_replace Written name = false
-may_replace (WrittenOption word) name = false
-may_replace (WrittenIfGiven word) name = false
-may_replace (Required word) name = false
-may_replace (Number word) name = false
-may_replace (Count default) name = false
-may_replace Flag name = false
-may_replace (PathsAt word) name = false
+may_replace _ name = false
 
 -- how clap's errors show an argument: a position by its name, an option with the word for its value
 abbrev pub value_shown : (name word : List ℕ) → List ℕ

@@ -63,7 +63,7 @@ impl<'a> Answer<'a> {
         }
     }
 
-    /// The same lines and status; a file is written before the lines are printed, and no other.
+    /// An answer with the lines and the status of this one; a file is written before its lines are printed, and no other.
     pub fn behind_file<'b>(self, path: &'b str, bytes: Vec<u8>) -> Answer<'b>
         ensures { result ≡ behind_file path.now bytes.items self.entry }
     {
@@ -92,7 +92,7 @@ impl<'a> Answer<'a> {
 }
 
 impl<'a> WrittenFile<'a> {
-    /// The same file, whose bytes stay here.
+    /// The file, lent.
     pub(crate) fn lent(&self) -> NewFile<'_>
         ensures path { result.path.now ≡ self.now.path.now }
         ensures bytes { result.bytes.now ≡ self.now.bytes.items }

@@ -99,7 +99,7 @@ pub trait Console {
     fn text_to_explain(&self, path: &str) -> Option<Vec<u8>>
         ensures { IfSome result (λ bytes. vec_len bytes ≤ text_limit) };
 
-    /// Whether both paths name one file, by whatever spellings and links.
+    /// Whether two paths name one file, by whatever spellings and links.
     fn is_one_file(&self, first: &str, second: &str) -> bool;
 
     /// Reports a fault of the file of this path.

@@ -56,14 +56,14 @@ impl<'a> OptionText<'a> {
         }
     }
 
-    /// Its name, without the two hyphens.
+    /// The name of the option, without the two hyphens.
     pub fn name(self) -> &'a str
         ensures { result.now ≡ self.entry.name.now }
     {
         self.name
     }
 
-    /// The text of its value.
+    /// The text of the option's value.
     pub fn text(self) -> &'a str
         ensures { result.now ≡ self.entry.text.now }
     {

@@ -84,7 +84,7 @@ impl<'a> Syntax<'a> {
     fn refusal(&self, alloc: Global, shared: SharedPath<'_, 'a>) -> Result<Error, AllocError>
         ensures { IfOk result IsConflict }
     {
-        let (written, other) = (shared.written.shown(alloc)?, shared.other.shown(alloc)?);
+        let (written, other) = (shared.written.shown_text(alloc)?, shared.other.shown_text(alloc)?);
         let text = format!(in alloc;
             "the path '{}' of '{written}', which is written, is also that of '{other}'",
             OneLine(shared.path),
@@ -200,7 +200,7 @@ impl<'a> Argument<'a> {
     }
 
     /// The argument as clap's errors show it.
-    fn shown(&self, alloc: Global) -> Result<String, AllocError>
+    fn shown_text(&self, alloc: Global) -> Result<String, AllocError>
         ensures { IfOk result (λ shown. string_bytes shown ≡ shown_text self.now.kind self.now.name.now) }
     {
         match self.kind {

@@ -41,7 +41,7 @@ pub(crate) const FLAWS: &[LineFlaw] = &[
     LineFlaw::OddDigits,
 ];
 
-/// The same of a line whose words and digits are of upper case.
+/// What may be wrong with a line whose words and digits are of upper case, in the order in which it is said.
 pub(crate) const UPPER_FLAWS: &[LineFlaw] = &[
     LineFlaw::NotAscii,
     LineFlaw::CarriageReturn,
@@ -53,7 +53,7 @@ pub(crate) const UPPER_FLAWS: &[LineFlaw] = &[
     LineFlaw::LowerCase,
 ];
 
-/// The same of a first line, whose digit stands alone.
+/// What may be wrong with a first line, whose digit stands alone, in the order in which it is said.
 pub(crate) const VERSION_FLAWS: &[LineFlaw] = &[
     LineFlaw::NotAscii,
     LineFlaw::CarriageReturn,

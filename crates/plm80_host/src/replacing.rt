@@ -41,7 +41,7 @@ impl<'a> Draft<'a> {
     }
 }
 
-/// Both drafts, with the one first that is written in place, if only one is, since that may fail as it is written.
+/// Two drafts, with the one first that is written in place, if only one is, since that may fail as it is written.
 fn in_order<'a>(first: Draft<'a>, second: Draft<'a>) -> (Draft<'a>, Draft<'a>)
     ensures { result ≡ in_order first.entry second.entry }
 {
@@ -208,7 +208,7 @@ impl<'a> HostConsole<'a> {
         if exceeds_limit(self.rt, file) {
             return Err(DraftFault::System(ErrorKind::FileTooLarge));
         }
-        let old = match self.replaced(file.path)? {
+        let old = match self.find_replaced(file.path)? {
             Replaced::Nothing => None,
             Replaced::File(metadata) => Some(metadata),
             Replaced::Other => return Ok(Draft { file, beside: None }),
@@ -265,7 +265,7 @@ impl<'a> HostConsole<'a> {
     }
 
     /// What the path names now. An old file that can't be written is an error, as it is for one that is written in place.
-    fn replaced(&self, path: &str) -> io::Result<Replaced> {
+    fn find_replaced(&self, path: &str) -> io::Result<Replaced> {
         match fs::symlink_metadata(self.rt, path) {
             Err(error) if error.kind() == ErrorKind::NotFound => Ok(Replaced::Nothing),
             Err(_) => Ok(Replaced::Other),

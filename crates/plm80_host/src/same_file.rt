@@ -16,7 +16,7 @@ use std::os::unix::fs::MetadataExt;
 const LINKS: usize = 40;
 
 impl<'a> HostConsole<'a> {
-    /// Whether both paths name one file.
+    /// Whether two paths name one file.
     pub(crate) fn is_one_place(&self, first: &str, second: &str) -> bool {
         match (place_of(self.rt, first), place_of(self.rt, second)) {
             (Some(first), Some(second)) => first.is(&second),
@@ -40,7 +40,7 @@ impl Node {
         }
     }
 
-    /// Whether both are one file or folder.
+    /// Whether two nodes are one file or folder.
     fn is(self, other: Node) -> bool
         ensures { result ≡ (self.device == other.device && self.number == other.number) }
     {
@@ -58,7 +58,7 @@ enum Place {
 }
 
 impl Place {
-    /// Whether both are one file.
+    /// Whether two places are one file.
     fn is(&self, other: &Place) -> bool
         ensures { result ≡ is_one_place self.now other.now }
     {

@@ -1,27 +1,25 @@
 //! The command line, read by clap.
 
-ghost use Rattle.std.specs.Prelude.{◌≡◌, ◌⊎◌, true, false, None, Some, IfOk, IfErr, IfSome};
-ghost use Rattle.std.specs.Str.{bytes_eq};
+ghost use Rattle.std.specs.Prelude.{◌≡◌, ◌⊎◌, false, None, IfOk, IfErr, IfSome, OnOk};
 ghost use Rattle.clap.specs.Matches.{has_subcommand};
 ghost use Rattle.clap.specs.Values.{kind_of};
 ghost use Rattle.plm80_console.specs.Refusals.{IsConflict};
 ghost use Rattle.clap.specs.declared.parser.matches.ArgMatches.{ArgMatches};
+ghost use Rattle.plm80.specs.Apart.{AreApartIn};
 ghost use Rattle.plm80.specs.Requests.{AreArgumentsOf, IsRequestOf, command_name};
 
-use super::program::{
-    object_commands, program, prom_commands, run_commands, shown_error, verifier_commands,
-};
+use super::program::{program, shown_error};
 use clap::error::ErrorKind;
 use clap::{ArgMatches, Error};
-use plm80_console::{Console, Syntax, WHY};
+use plm80_console::{Console, WHY};
 use plm80_names::NamedFiles;
 use plm80_objects::{
-    AbsoluteArguments, CompareArguments, ExtractArguments, FindArguments, LibraryArguments,
-    LinkArguments, LocateArguments, MapArguments, ModuleArguments,
+    ABSOLUTE, AbsoluteArguments, CompareArguments, EXTRACT, ExtractArguments, FindArguments, LIB,
+    LINK, LOCATE, LibraryArguments, LinkArguments, LocateArguments, MapArguments, ModuleArguments,
 };
 use plm80_programs::{
-    CallsArguments, CasesArguments, CoverArguments, ExplainArguments, InputsArguments,
-    ListArguments, RegionsArguments, RunArguments, StoresArguments, SuggestArguments,
+    CASES, CallsArguments, CasesArguments, CoverArguments, ExplainArguments, InputsArguments,
+    ListArguments, RUN, RegionsArguments, RunArguments, StoresArguments, SuggestArguments,
     TraceArguments,
 };
 use std::alloc::{AllocError, Global};
@@ -50,33 +48,6 @@ pub enum Request<'a> {
     Module(ModuleArguments<'a>),
     Find(FindArguments<'a>),
     Suggest(SuggestArguments<'a>),
-}
-
-/// The command of a name.
-fn command_of(name: &str) -> Option<Syntax<'static>>
-    ensures { IfSome result (λ command. bytes_eq command.name.now name.now ≡ true) }
-{
-    for command in object_commands() {
-        if command.name == name {
-            return Some(command);
-        }
-    }
-    for command in verifier_commands() {
-        if command.name == name {
-            return Some(command);
-        }
-    }
-    for command in run_commands() {
-        if command.name == name {
-            return Some(command);
-        }
-    }
-    for command in prom_commands() {
-        if command.name == name {
-            return Some(command);
-        }
-    }
-    None
 }
 
 /// The command of a command line, whose first argument is the program's own name, and whether its faults are explained.
@@ -128,7 +99,7 @@ fn refusal(alloc: Global, kind: ErrorKind, text: &str) -> Error
     }
 }
 
-/// The same, if memory doesn't run out.
+/// An error of the command line, if memory doesn't run out for it.
 fn refuse(alloc: Global, kind: ErrorKind, text: &str) -> Result<Error, AllocError>
     ensures { IfOk result (λ error. kind_of error ≡ kind) }
 {
@@ -147,11 +118,58 @@ fn asked_for<'a, C: Console>(
     let Some((name, arguments)) = matches.subcommand() else {
         return Ok(None);
     };
-    let Some(command) = command_of(name) else {
-        return Ok(None);
-    };
-    command.refuse_shared_paths(console, arguments)?;
-    Ok(request_of(console.alloc(), name, arguments)?)
+    match request_of(console.alloc(), name, arguments)? {
+        Some(request) => Ok(Some(unless_shared(console, request, arguments)?)),
+        None => Ok(None),
+    }
+}
+
+/// The request, unless an argument of it has the path of a file that it writes.
+fn unless_shared<'a, C: Console>(
+    console: &C,
+    request: Request<'a>,
+    arguments: &ArgMatches<'a>,
+) -> Result<Request<'a>, Error>
+    ensures request { IfOk result (λ given. given ≡ request.entry) }
+    ensures apart { IfOk result (λ given. AreApartIn arguments.now given) }
+    ensures conflict { IfErr result IsConflict }
+{
+    refuse_shared_paths(console, &request, arguments)?;
+    Ok(request)
+}
+
+/// Refuses the arguments of a command by which it would write a file that it reads, or write a file twice.
+fn refuse_shared_paths<C: Console>(
+    console: &C,
+    request: &Request<'_>,
+    arguments: &ArgMatches<'_>,
+) -> Result<(), Error>
+    ensures apart { OnOk result (AreApartIn arguments.now request.now) }
+    ensures conflict { IfErr result IsConflict }
+{
+    match request {
+        Request::Link(_) => LINK.refuse_shared_paths(console, arguments),
+        Request::Library(_) => LIB.refuse_shared_paths(console, arguments),
+        Request::Locate(_) => LOCATE.refuse_shared_paths(console, arguments),
+        Request::Run(_) => RUN.refuse_shared_paths(console, arguments),
+        Request::Cases(_) => CASES.refuse_shared_paths(console, arguments),
+        Request::Extract(_) => EXTRACT.refuse_shared_paths(console, arguments),
+        Request::Absolute(_) => ABSOLUTE.refuse_shared_paths(console, arguments),
+        Request::List(_)
+        | Request::Check(_)
+        | Request::Explain(_)
+        | Request::Regions(_)
+        | Request::Map(_)
+        | Request::Stores(_)
+        | Request::Compare(_)
+        | Request::Inputs(_)
+        | Request::Calls(_)
+        | Request::Trace(_)
+        | Request::Cover(_)
+        | Request::Module(_)
+        | Request::Find(_)
+        | Request::Suggest(_) => Ok(()),
+    }
 }
 
 /// The request of the command with this name and these arguments.

@@ -1,0 +1,10 @@
+-- the text so far, and the bytes that are left
+use Rattle.std.proofs.Common.{◌≡◌, ◌++◌, length}
+use Rattle.link80_text.specs.ShownPaths.{shown_behind, shown_path}
+use Rattle.link80_text.proofs.shown.append_path.Given as goal
+
+abbrev pub invariant-loop-byte : goal.invariant-loop-byte
+invariant-loop-byte l = l.text.items ++ shown_behind l.before l.rest ≡ l.initial.text.items ++ shown_path l.fn.path
+
+abbrev pub decreases-loop-byte : goal.decreases-loop-byte
+decreases-loop-byte l = length l.rest
