@@ -10,7 +10,7 @@ use Rattle.plm80_console.specs.Arguments.{argument_values}
 use Rattle.plm80_console.specs.Kinds.{is_written, may_replace}
 use Rattle.plm80_console.specs.declared.syntax.Argument.{Argument}
 use Rattle.plm80_console.specs.declared.syntax.Kind.{Kind}
-use Rattle.plm80_console.specs.declared.syntax.Kind.TheVariants.{Path, Paths, Words, Written, WrittenOption, WrittenIfGiven, Replaced, Required, Number, Count, Flag, PathsAt}
+use Rattle.plm80_console.specs.declared.syntax.Kind.TheVariants.{Path, Paths, Written, WrittenOption, WrittenIfGiven, Replaced, PathsAt}
 
 -- the path of the file that an argument writes, if it writes one and is given
 abbrev pub path_to_write : ArgMatches → Argument → Option (List ℕ)

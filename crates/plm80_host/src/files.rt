@@ -1,7 +1,8 @@
 //! Files that are opened when they are first read, readers that keep why they failed, and why.
 
-ghost use Rattle.std.specs.Prelude.{◌≡◌, None};
+ghost use Rattle.std.specs.Prelude.{◌≡◌, ◌≢◌, None, Some, pos};
 ghost use Rattle.std.specs.Io.{ReadsAtMost};
+ghost use Rattle.std.specs.IoError.{error_kind, raw_os_error};
 
 use std::fs::File;
 use std::io;
@@ -12,7 +13,10 @@ use std::marker::Model;
 const CLOSED: i32 = 9;
 
 /// Why the system failed. std has no kind for a closed standard input or output: here it isn't connected.
-pub(crate) fn kind_of(error: &io::Error) -> ErrorKind {
+pub(crate) fn kind_of(error: &io::Error) -> ErrorKind
+    ensures closed { raw_os_error error.now ≡ Some (pos 9) → result ≡ ErrorKind.NotConnected }
+    ensures other { raw_os_error error.now ≢ Some (pos 9) → result ≡ error_kind error.now }
+{
     if error.raw_os_error() == Some(CLOSED) {
         ErrorKind::NotConnected
     } else {

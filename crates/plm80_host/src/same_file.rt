@@ -1,7 +1,8 @@
 //! Whether two paths name one file.
 
-ghost use Rattle.std.specs.Prelude.{◌≡◌, ◌==◌, ◌&&◌, IfSome};
+ghost use Rattle.std.specs.Prelude.{◌≡◌, ◌==◌, ◌&&◌, IfOk, IfSome, string_bytes};
 ghost use Rattle.std.specs.Str.{bytes_eq};
+ghost use Rattle.plm80_host.specs.PathParts.{joined_path};
 ghost use Rattle.plm80_host.specs.Places.{IsNewFile, is_one_place};
 
 use crate::host::HostConsole;
@@ -108,7 +109,9 @@ fn next_path(rt: &HostRuntime, path: &str) -> Option<Option<String>> {
 }
 
 /// A path that begins in this folder, unless it begins at the root.
-fn join(alloc: Global, folder: &str, path: &str) -> Result<String, AllocError> {
+fn join(alloc: Global, folder: &str, path: &str) -> Result<String, AllocError>
+    ensures { IfOk result (λ joined. string_bytes joined ≡ joined_path folder.now path.now) }
+{
     if path.starts_with('/') {
         String::from_str(alloc, path)
     } else {

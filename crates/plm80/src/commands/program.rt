@@ -118,13 +118,21 @@ fn help_text(alloc: Global) -> Result<String, AllocError> {
     append_group(&mut text, "Object files", &object_commands())?;
     append_group(&mut text, "Located programs", &verifier_commands())?;
     append_group(&mut text, "Runs", &run_commands())?;
-    append_group(&mut text, "PROMs, and programs without object files", &prom_commands())?;
+    append_group(
+        &mut text,
+        "PROMs, and programs without object files",
+        &prom_commands(),
+    )?;
     text.push_str(AFTER_HELP)?;
     Ok(text)
 }
 
 /// Appends the commands of a group, each with what it does.
-fn append_group(text: &mut String, heading: &str, commands: &[Syntax<'_>]) -> Result<(), AllocError> {
+fn append_group(
+    text: &mut String,
+    heading: &str,
+    commands: &[Syntax<'_>],
+) -> Result<(), AllocError> {
     write!(text, "{heading}:\n")?;
     for command in commands {
         write!(text, "  {:<8}  {}\n", command.name, command.about)?;
