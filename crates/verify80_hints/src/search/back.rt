@@ -68,6 +68,9 @@ impl<'a, C: Code> Search<'a, C> {
             return Ok(());
         }
         let bits = self.hubs.add(list, point, places)?;
+        if bits == 0 {
+            return Ok(());
+        }
         let places = Places { bits, ..places };
         for _ in 0..u32::MAX {
             let Some((pchl, before)) = self.cases.newest(list) else {
