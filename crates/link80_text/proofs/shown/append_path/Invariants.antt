@@ -3,8 +3,8 @@ use Rattle.std.proofs.Common.{◌≡◌, ◌++◌, length}
 use Rattle.link80_text.specs.ShownPaths.{shown_behind, shown_path}
 use Rattle.link80_text.proofs.shown.append_path.Given as goal
 
-abbrev pub invariant-loop-byte : goal.invariant-loop-byte
-invariant-loop-byte l = l.text.items ++ shown_behind l.before l.rest ≡ l.initial.text.items ++ shown_path l.fn.path
+abbrev pub invariant-loop-rest : goal.invariant-loop-rest
+invariant-loop-rest l = l.text.items ++ shown_behind l.before l.rest ≡ l.initial.text.items ++ shown_path l.fn.path
 
-abbrev pub decreases-loop-byte : goal.decreases-loop-byte
-decreases-loop-byte l = length l.rest
+abbrev pub decreases-loop-rest : goal.decreases-loop-rest
+decreases-loop-rest l = length l.rest

@@ -14,7 +14,7 @@ returns c =
     let third = c.in_ok-append_word-3.ensures
     ∙ ap (λ w. c.append_word-2.new.text.items ++ (w ++ c.bytes-3.result.now)) c.as_slice-3.ensures
     ∙ ap (λ v. c.append_word-2.new.text.items ++ (codes " BY " ++ v)) c.bytes-3.ensures.value in
-    let word = c.in_ok-extend_from_slice.ensures ∙ ap (λ w. c.append_word-3.new.text.items ++ w) c.as_slice-4.ensures in
+    let word = c.in_ok-extend_from_slice.ensures.items ∙ ap (λ w. c.append_word-3.new.text.items ++ w) c.as_slice-4.ensures in
     let fourth = joined c.append_word-3.new.text.items (codes " FROM ") c.extend_from_slice.new.self.items
     (shown_path c.args.path.now) c.append_path.new.text.items word c.in_ok-append_path.ensures in
     grown_by_four c.args.text.now.items (codes "TAKEN " ++ c.args.taken.now) (codes " FOR " ++ c.args.name.now)
