@@ -84,7 +84,10 @@ impl<'a> Syntax<'a> {
     fn refusal(&self, alloc: Global, shared: SharedPath<'_, 'a>) -> Result<Error, AllocError>
         ensures { IfOk result IsConflict }
     {
-        let (written, other) = (shared.written.shown_text(alloc)?, shared.other.shown_text(alloc)?);
+        let (written, other) = (
+            shared.written.shown_text(alloc)?,
+            shared.other.shown_text(alloc)?,
+        );
         let text = format!(in alloc;
             "the path '{}' of '{written}', which is written, is also that of '{other}'",
             OneLine(shared.path),

@@ -18,9 +18,7 @@ use plm80_console::{
 use plm80_files::{IMAGE, REGIONS};
 use plm80_names::{NAMES, NamedFiles, Names, Verdict, judge};
 use std::alloc::{AllocError, Global};
-use verify80_stores::{
-    Cause, Setter, Stores, find_causes, find_stores, first_outside_data, stores_text,
-};
+use verify80_stores::{Cause, Stores, find_causes, find_stores, first_outside_data, stores_text};
 
 const ABOUT: &str = "Verifies an image, and prints its stores that may leave data";
 
@@ -203,7 +201,7 @@ fn stores_of(
     let text = names.name(alloc, code, b"STORE ", text)?;
     let text = names.name(alloc, code, b"JUMP ", text)?;
     let causes = if explains {
-        find_causes(alloc, vouched, &stores)?
+        find_causes(alloc, vouched, quiet, &stores)?
     } else {
         Vec::new(alloc)
     };
@@ -216,17 +214,7 @@ fn stores_of(
 /// Says what sets the pair of each store and jump that is listed.
 fn explain_causes<C: Console>(console: &C, causes: &[Cause]) {
     for cause in causes {
-        let at = cause.at;
-        let pair = cause.pair_name();
-        match cause.setter {
-            Setter::Instruction(by) => {
-                console.explain(format_args!("{at:04X}: {pair} is set at {by:04X}"))
-            }
-            Setter::Count(by) => {
-                console.explain(format_args!("{at:04X}: {pair} is counted at {by:04X}"))
-            }
-            Setter::Nothing => console.explain(format_args!("{at:04X}: nothing sets {pair}")),
-        }
+        console.explain(format_args!("{cause}"));
     }
 }
 

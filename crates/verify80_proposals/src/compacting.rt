@@ -1,9 +1,9 @@
 //! The states that are left are put together.
 
 use crate::nodes::{NOWHERE, Node, Nodes, place_of};
-use crate::program::ReachedProgram;
 use crate::proposing::Proposal;
 use std::alloc::{AllocError, Global};
+use verify80_needs::ReachedProgram;
 use verify80_states::{APART, CallReturns, Placed};
 
 /// The place that a list of places has at an index.
@@ -34,6 +34,7 @@ pub(crate) fn compact(
             know_return: Vec::new(alloc),
         },
         variables: Vec::new(alloc),
+        crowded: nodes.crowded(alloc)?,
     };
     proposal
         .hints

@@ -2,11 +2,10 @@
 //!
 //! Instructions that may follow one another without a call or a return are a group: a procedure, or several that share a piece of code.
 
-use crate::marks::mark;
-use crate::program::ReachedProgram;
 use decode80::Flow;
 use std::alloc::{AllocError, Global};
 use verify80::ProcRow;
+use verify80_needs::{ReachedProgram, mark};
 use verify80_states::{CallReturns, Placed, is_marked};
 
 /// How often the calls are gone through, at most.
@@ -81,7 +80,7 @@ impl Groups {
     ///
     /// # Errors
     /// `AllocError` if memory runs out.
-    pub fn called(&self, alloc: Global) -> Result<Vec<bool>, AllocError> {
+    pub fn marks_of_called(&self, alloc: Global) -> Result<Vec<bool>, AllocError> {
         let mut marks = vec![in alloc; false; 65_536]?;
         for (_, callee) in &self.calls {
             if is_marked(&self.returns, *callee) {

@@ -1,8 +1,8 @@
 //! States at one address are joined.
 
 use crate::nodes::{Group, NOWHERE, Nodes, sum_of};
-use crate::units::{PARTS, Units};
 use std::alloc::{AllocError, Global};
+use verify80_needs::{PARTS, Units};
 
 impl Nodes {
     /// No longer tells apart the states at an address by those parts that tell the most of them apart, as many as it takes until there are
@@ -48,11 +48,11 @@ impl Nodes {
         let mut joined = self.group(at).joined;
         let mut counted = Vec::new(alloc);
         for part in 0..PARTS {
-            if !joined.intersects(Units::numbered(part)) {
+            if !joined.intersects(Units::of_number(part)) {
                 let count = self.count_apart(
                     alloc,
                     places,
-                    Units::ALL.difference(Units::numbered(part)),
+                    Units::ALL.difference(Units::of_number(part)),
                 )?;
                 counted.push((count, PARTS.saturating_sub(part)))?;
             }
@@ -62,7 +62,11 @@ impl Nodes {
             let Some((_, part)) = counted.pop() else {
                 break;
             };
-            joined = joined.union(Units::numbered(PARTS.saturating_sub(part)));
+            joined = joined.union(Units::of_number(PARTS.saturating_sub(part)));
+            if joined.intersects(Units::A) {
+                // What A was compared with tells states apart by A too.
+                joined = joined.union(Units::TEST);
+            }
             if self.count_apart(alloc, places, joined)? < most {
                 return Ok(joined);
             }

@@ -2,14 +2,14 @@
 //!
 //! Proved: nothing rests on it.
 //!
-//! States are followed from the start, several at an address: a loop with constant bounds is walked through. A state keeps only what a
-//! later store, jump by HL or condition may depend on. Where an address has too many, those registers that tell the most of them apart
-//! are no longer distinguished there: their states are joined, and joined spans grow to ends of data, of pages and to words that the
-//! program names, before they grow to any word.
+//! States are followed from the start, several at an address: a loop with constant bounds is walked through. A state keeps only what is
+//! needed (`verify80_needs`). Where an address has too many, those registers that tell the most of them apart are no longer distinguished
+//! there: their states are joined, and joined spans grow to landmarks before they grow to any word.
 //!
 //! | Item | What it is |
 //! |---|---|
 //! | [`propose_table`] | one table after the other |
+//! | [`crowded_states`] | where states are joined, since there are too many |
 //! | [`Proposal`] | a table of states, and its hints |
 //! | [`ReachedProgram`] | the program that they are proposed for |
 //! | [`Groups`] | which of its procedures return |
@@ -18,19 +18,11 @@
 mod compacting;
 mod groups;
 mod joining;
-mod landmarks;
-mod marks;
-mod moving;
-mod needs;
 mod nodes;
-mod program;
 mod proposals;
 mod proposing;
-mod slots;
-mod units;
-mod variables;
 
 pub use groups::Groups;
-pub use program::ReachedProgram;
-pub use proposals::propose_table;
+pub use proposals::{crowded_states, propose_table};
 pub use proposing::Proposal;
+pub use verify80_needs::ReachedProgram;

@@ -1,13 +1,11 @@
 //! The states that are known so far, by address.
 
-use crate::landmarks::Landmarks;
-use crate::needs::Needs;
-use crate::program::ReachedProgram;
-use crate::slots::widened_cells;
-use crate::units::{PARTS, Units, are_alike, value_of};
-use crate::variables::{Variables, stored_bytes};
 use decode80::Instr;
 use std::alloc::{AllocError, Global};
+use verify80_needs::{
+    Landmarks, Needs, PARTS, ReachedProgram, Units, Variables, are_alike, stored_bytes, value_of,
+    widened_cells,
+};
 use verify80_spans::ByteSpan;
 use verify80_states::{State, Variable};
 
@@ -175,7 +173,7 @@ impl Nodes {
     /// # Errors
     /// `AllocError` if memory runs out.
     pub fn enter(&mut self, alloc: Global, at: u16, state: State) -> Result<u32, AllocError> {
-        let state = self.needs.needed(at, state, &self.variables);
+        let state = self.needs.cut(at, state, &self.variables);
         if let Some(place) = self.find_around(at, state) {
             return Ok(place);
         }
@@ -377,6 +375,23 @@ impl Nodes {
             }
         }
         is_changed
+    }
+
+    /// The addresses at which states were joined, unless each has one from some time on.
+    ///
+    /// # Errors
+    /// `AllocError` if memory runs out.
+    pub fn crowded(&self, alloc: Global) -> Result<Option<Vec<u16>>, AllocError> {
+        if self.is_late {
+            return Ok(None);
+        }
+        let mut crowded = Vec::new(alloc);
+        for number in 0..65_536_u32 {
+            if self.group(number as u16).joined != self.never {
+                crowded.push(number as u16)?;
+            }
+        }
+        Ok(Some(crowded))
     }
 
     /// The variables.

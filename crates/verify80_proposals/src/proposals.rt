@@ -1,9 +1,9 @@
 //! Tables of states are proposed, one after the other.
 
 use crate::groups::Groups;
-use crate::program::ReachedProgram;
 use crate::proposing::{Limits, Proposal, propose};
 use std::alloc::{AllocError, Global};
+use verify80_needs::{ReachedProgram, mark};
 
 /// How many states an address has, at most: a loop of 4,096 turns is walked through.
 const MOST_STATES: u32 = 4352;
@@ -46,6 +46,30 @@ pub fn propose_table(
     }
 }
 
+/// Marks for the addresses at which states are joined in the first table, since there are too many; `None` if there are too many ways.
+///
+/// # Errors
+/// `AllocError` only if memory runs out.
+pub fn crowded_states(
+    alloc: Global,
+    program: ReachedProgram<'_>,
+    groups: &Groups,
+) -> Result<Option<Vec<bool>>, AllocError> {
+    for number in 0..2_usize {
+        if let Some(proposal) = propose_table(alloc, program, groups, number)? {
+            let Some(crowded) = proposal.crowded else {
+                return Ok(None);
+            };
+            let mut marks = vec![in alloc; false; 65_536]?;
+            for at in &crowded {
+                mark(&mut marks, *at);
+            }
+            return Ok(Some(marks));
+        }
+    }
+    Ok(None)
+}
+
 /// A table in which calls are told apart, with as many states at an address as can be followed; `None` if none can be told apart.
 fn propose_told_apart(
     alloc: Global,
@@ -75,7 +99,7 @@ fn try_told_apart(
     most: u32,
     left: &mut usize,
 ) -> Result<Option<Proposal>, AllocError> {
-    let mut knows = groups.called(alloc)?;
+    let mut knows = groups.marks_of_called(alloc)?;
     let limits = Limits {
         states: most,
         ways: TRIAL_WAYS,

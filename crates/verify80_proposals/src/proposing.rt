@@ -1,13 +1,10 @@
 //! A table of states is proposed.
 
 use crate::compacting::compact;
-use crate::landmarks::Landmarks;
-use crate::needs::Needs;
 use crate::nodes::{NOWHERE, Node, Nodes, place_of};
-use crate::program::ReachedProgram;
-use crate::variables::Variables;
 use decode80::{Instr, Operand, Operation};
 use std::alloc::{AllocError, Global};
+use verify80_needs::{Landmarks, Needs, ReachedProgram, Variables};
 use verify80_spans::ByteSpan;
 use verify80_states::{APART, CallReturns, Placed, State, Variable};
 
@@ -19,6 +16,8 @@ pub struct Proposal {
     pub hints: Vec<u32>,
     pub returns: CallReturns,
     pub variables: Vec<Variable>,
+    /// The addresses at which states were joined, since there were too many; `None` if all were.
+    pub crowded: Option<Vec<u16>>,
 }
 
 /// How many bytes of A are told apart, at most.

@@ -11,7 +11,7 @@ use Rattle.machine80.specs.declared.registers.Registers.{Registers}
 use Rattle.machine80.specs.Step.{Machine}
 use Rattle.machine80.specs.Flags.{holds as holds_of}
 use Rattle.verify80_spans.specs.declared.byte_span.ByteSpan.{ByteSpan}
-use Rattle.verify80_states.specs.declared.states.state.Words.{Words}
+use Rattle.verify80_states.specs.declared.states.words.Words.{Words}
 use Rattle.verify80_states.specs.declared.states.state.State.{State}
 use Rattle.verify80_states.specs.Bytes.{AreBytes}
 use Rattle.verify80_spans.specs.Span.{ByteWithin, IsKnown, byte_alone, only, without, below, from}

@@ -10,8 +10,8 @@ use Rattle.machine80.specs.Cpu.{word, register_of}
 use Rattle.machine80.specs.Effects.{byte_in}
 use Rattle.machine80.specs.Step.{Machine}
 use Rattle.verify80_spans.specs.declared.span.Span.{Span}
-use Rattle.verify80_states.specs.declared.states.state.PairSpan.{PairSpan}
-use Rattle.verify80_states.specs.declared.states.state.Words.{Words}
+use Rattle.verify80_states.specs.declared.states.pairs.PairSpan.{PairSpan}
+use Rattle.verify80_states.specs.declared.states.words.Words.{Words}
 use Rattle.verify80_states.specs.declared.states.state.State.{State}
 use Rattle.verify80_states.specs.declared.states.variables.Variable.{Variable}
 use Rattle.verify80_states.specs.Variables.{HoldsSet, is_bit}

@@ -23,7 +23,7 @@ use Rattle.machine80.specs.Cpu.{word, high_of, low_of}
 use Rattle.machine80.specs.Effects.{push_bytes, stores, stored, changed}
 use Rattle.machine80.specs.Step.{guard, first_outside, ends_at}
 use Rattle.verify80_spans.specs.declared.span.Span.{Span}
-use Rattle.verify80_states.specs.declared.states.state.Words.{Words}
+use Rattle.verify80_states.specs.declared.states.words.Words.{Words}
 use Rattle.verify80_states.specs.declared.states.state.State.{State}
 use Rattle.verify80_spans.specs.Span.{Within, word_alone}
 use Rattle.verify80_states.specs.State.{HoldsRegisters, HoldsWord, HoldsWords, IsOnStack, no_words, pushed, popped}

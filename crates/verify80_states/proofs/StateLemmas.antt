@@ -15,7 +15,7 @@ use Rattle.verify80_spans.specs.declared.span.Span.{Span}
 use Rattle.verify80_spans.specs.declared.byte_span.ByteSpan.{ByteSpan}
 use Rattle.verify80_spans.specs.declared.byte_span.Outcome.{Outcome}
 use Rattle.verify80_states.specs.declared.states.cells.Cells.{Cells}
-use Rattle.verify80_states.specs.declared.states.state.PairSpan.{PairSpan}
+use Rattle.verify80_states.specs.declared.states.pairs.PairSpan.{PairSpan}
 use Rattle.verify80_states.specs.declared.states.state.State.{State}
 use Rattle.verify80_states.specs.Bytes.{AreBytes}
 use Rattle.verify80_spans.specs.Span.{Within, ByteWithin, IsKnown, any_byte, high_of, joined, zero_of, sign_of}

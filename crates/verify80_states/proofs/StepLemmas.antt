@@ -15,7 +15,7 @@ use Rattle.machine80.specs.Effects.{stored, stores}
 use Rattle.machine80.specs.Ports.{next_input}
 use Rattle.machine80.specs.Step.{Machine, Turn, Next, Stop, fetch, guard, guarded, execute, turn_of, jump_end, proceeded, with_input, step_on, step_of}
 use Rattle.verify80_states.specs.declared.states.cells.Cells.{Cells}
-use Rattle.verify80_states.specs.declared.states.state.Words.{Words}
+use Rattle.verify80_states.specs.declared.states.words.Words.{Words}
 use Rattle.verify80_states.specs.declared.states.state.State.{State}
 use Rattle.verify80_states.specs.Bytes.{AreBytes, HasBytes, HoldsBytes}
 use Rattle.verify80_spans.specs.Span.{any_byte}

@@ -20,7 +20,7 @@ use Rattle.verify80_spans.specs.declared.span.Span.{Span}
 use Rattle.verify80_spans.specs.declared.byte_span.ByteSpan.{ByteSpan}
 use Rattle.verify80_spans.specs.declared.byte_span.Outcome.{Outcome}
 use Rattle.verify80_states.specs.declared.states.cells.Cells.{Cells}
-use Rattle.verify80_states.specs.declared.states.state.Words.{Words}
+use Rattle.verify80_states.specs.declared.states.words.Words.{Words}
 use Rattle.verify80_states.specs.declared.states.state.State.{State}
 use Rattle.verify80_spans.specs.Span.{any_word, any_byte, word_alone, byte_alone, is_alone, next_span, previous_span, next_byte, previous_byte, sum_span, sum_carries, high_of, operated, rotated, complemented, uncarried}
 use Rattle.verify80_states.specs.declared.states.variables.Variable.{Variable}

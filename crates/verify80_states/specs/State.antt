@@ -17,8 +17,8 @@ use Rattle.machine80.specs.Step.{Machine}
 use Rattle.verify80_spans.specs.declared.span.Span.{Span}
 use Rattle.verify80_spans.specs.declared.byte_span.ByteSpan.{ByteSpan}
 use Rattle.verify80_spans.specs.declared.byte_span.Outcome.{Outcome}
-use Rattle.verify80_states.specs.declared.states.state.PairSpan.{PairSpan}
-use Rattle.verify80_states.specs.declared.states.state.Words.{Words}
+use Rattle.verify80_states.specs.declared.states.pairs.PairSpan.{PairSpan}
+use Rattle.verify80_states.specs.declared.states.words.Words.{Words}
 use Rattle.verify80_states.specs.declared.states.state.State.{State}
 use Rattle.verify80_spans.specs.Span.{Within, ByteWithin, IsInside, IsByteInside, IsKnown, any_word, any_byte, is_byte_alone, meet, meet_bytes, high_of, low_of, joined, zero_of, sign_of}
 use Rattle.verify80_states.specs.declared.states.variables.Variable.{Variable}

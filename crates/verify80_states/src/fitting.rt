@@ -9,11 +9,15 @@
 //! | [`fitting_states_hold`] | runs keep to a table that fits, as a contract |
 
 mod calls;
+mod empty_table;
 mod fitting;
 mod laws;
 mod marks;
+mod reached;
 
 pub use calls::CallReturns;
-pub use fitting::{APART, Placed, anything, fits, reached_at, targets_at};
+pub use empty_table::anything;
+pub use fitting::{APART, Placed, fits};
 pub use laws::fitting_states_hold;
 pub use marks::is_marked;
+pub use reached::{reached_at, targets_at};

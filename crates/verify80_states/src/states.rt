@@ -11,12 +11,17 @@
 mod cells;
 mod conditions;
 mod following;
+mod memory_after;
+mod pairs;
 mod state;
 mod variables;
+mod words;
 
 pub use cells::{Cell, Cells};
 pub use conditions::given;
-pub(crate) use following::is_steady;
 pub use following::{index_words, state_after};
-pub use state::{PairSpan, State, Words};
+pub(crate) use memory_after::is_steady;
+pub use pairs::PairSpan;
+pub use state::State;
 pub use variables::{Variable, is_bit};
+pub use words::Words;

@@ -8,7 +8,7 @@
 //! | [`Stores`], [`OpenStore`] | what is found |
 //! | [`stores_text`] | the same, as it is printed |
 //! | [`first_outside_data`] | the first address of a range that is no data, so that it can't be quiet as a whole |
-//! | [`find_causes`], [`Cause`] | what sets the pairs of stores and jumps that are listed: advice |
+//! | [`find_causes`], [`Cause`], [`Setter`], [`Reason`] | what sets the pairs of stores and jumps that are listed, and why nothing is known of them: advice |
 //! | [`watched_runs_go_as_listed`] | what is found holds of the runs of the watched machine, as a contract |
 //! | [`Span`] | the words from a first to a last one |
 //! | [`bytes_stay_bytes`] | a machine's registers and memory hold bytes, as a contract |
@@ -25,15 +25,18 @@ mod marks;
 mod pointer;
 mod quiet;
 mod quiet_ranges;
+mod reasons;
 mod setters;
 mod showing;
 mod stack_pointer;
 mod stores;
 
-pub use causes::{Cause, Setter, find_causes};
+pub use causes::{Cause, find_causes};
 pub use finding::find_stores;
 pub use laws::watched_runs_go_as_listed;
 pub use lines::stores_text;
 pub use quiet_ranges::first_outside_data;
+pub use reasons::Reason;
+pub use setters::Setter;
 pub use stores::{OpenStore, Stores};
 pub use verify80_states::{Span, bytes_stay_bytes};

@@ -1,13 +1,24 @@
-//! The nearest instructions that set a pair, by ways of the program.
+//! The nearest instructions that set a register or a pair, by ways of the program.
 
-use crate::causes::Setter;
-use decode80::{Fetched, Flow, Instr, Pair};
+use decode80::{Fetched, Flow, Instr, Pair, Register, Writes};
 use std::alloc::{AllocError, Global};
 use verify80_proposals::{Groups, ReachedProgram};
+use verify80_states::is_marked;
+
+/// What sets a pair.
+#[derive(Clone, Copy, Debug, PartialEq, Eq)]
+pub enum Setter {
+    /// The instruction at an address.
+    Instruction(u16),
+    /// The instruction at an address, which counts it in a loop.
+    Count(u16),
+    /// None, since the program begins.
+    Nothing,
+}
 
 /// By address the nearest instruction before it, of each kind, that sets a pair: 65,536 places each.
 #[derive(Drop)]
-pub(crate) struct Setters {
+struct PairSetters {
     /// To what isn't known.
     unknown: Vec<Option<u16>>,
     /// INX and DCX.
@@ -16,79 +27,151 @@ pub(crate) struct Setters {
     loaded: Vec<Option<u16>>,
 }
 
-impl Setters {
-    /// Those of a program.
-    ///
-    /// # Errors
-    /// `AllocError` if memory runs out.
-    pub fn of(
+impl PairSetters {
+    fn new(
         alloc: Global,
         program: ReachedProgram<'_>,
         groups: &Groups,
         pair: Pair,
+    ) -> Result<PairSetters, AllocError> {
+        Ok(PairSetters {
+            unknown: spread(alloc, program, groups, Kind::Unknown(pair))?,
+            counted: spread(alloc, program, groups, Kind::Counted(pair))?,
+            loaded: spread(alloc, program, groups, Kind::Loaded(pair))?,
+        })
+    }
+}
+
+/// By address the nearest instructions before it that set each pair, and A.
+#[derive(Drop)]
+pub(crate) struct Setters {
+    bc: PairSetters,
+    de: PairSetters,
+    hl: PairSetters,
+    a: Vec<Option<u16>>,
+}
+
+impl Setters {
+    /// The setters of a program.
+    ///
+    /// # Errors
+    /// `AllocError` if memory runs out.
+    pub fn new(
+        alloc: Global,
+        program: ReachedProgram<'_>,
+        groups: &Groups,
     ) -> Result<Setters, AllocError> {
         Ok(Setters {
-            unknown: spread(alloc, program, groups, pair, Kind::Unknown)?,
-            counted: spread(alloc, program, groups, pair, Kind::Counted)?,
-            loaded: spread(alloc, program, groups, pair, Kind::Loaded)?,
+            bc: PairSetters::new(alloc, program, groups, Pair::Bc)?,
+            de: PairSetters::new(alloc, program, groups, Pair::De)?,
+            hl: PairSetters::new(alloc, program, groups, Pair::Hl)?,
+            a: spread(alloc, program, groups, Kind::Accumulator)?,
         })
     }
 
-    /// What sets the pair before an address.
-    pub fn setter(&self, at: u16) -> Setter {
-        if let Some(by) = found_at(&self.unknown, at) {
+    fn pair(&self, pair: Pair) -> &PairSetters {
+        match pair {
+            Pair::Bc => &self.bc,
+            Pair::De => &self.de,
+            Pair::Hl | Pair::Sp => &self.hl,
+        }
+    }
+
+    /// What sets a pair before an address.
+    pub fn setter(&self, at: u16, pair: Pair) -> Setter {
+        let setters = self.pair(pair);
+        if let Some(by) = found_at(&setters.unknown, at) {
             Setter::Instruction(by)
-        } else if let Some(by) = found_at(&self.counted, at) {
+        } else if let Some(by) = found_at(&setters.counted, at) {
             Setter::Count(by)
-        } else if let Some(by) = found_at(&self.loaded, at) {
+        } else if let Some(by) = found_at(&setters.loaded, at) {
             Setter::Instruction(by)
         } else {
             Setter::Nothing
         }
     }
+
+    /// The instruction that sets a pair before an address to what isn't known.
+    pub fn unknown(&self, at: u16, pair: Pair) -> Option<u16> {
+        found_at(&self.pair(pair).unknown, at)
+    }
+
+    /// The LXI that sets a pair before an address.
+    pub fn loaded(&self, at: u16, pair: Pair) -> Option<u16> {
+        found_at(&self.pair(pair).loaded, at)
+    }
+
+    /// The instruction that sets A before an address.
+    pub fn accumulator(&self, at: u16) -> Option<u16> {
+        found_at(&self.a, at)
+    }
 }
 
 /// The address that is found for another.
-fn found_at(found: &[Option<u16>], at: u16) -> Option<u16> {
+pub(crate) fn found_at(found: &[Option<u16>], at: u16) -> Option<u16> {
     match found.get(usize::from(at)) {
         Some(found) => *found,
         None => None,
     }
 }
 
-/// How an instruction sets a pair.
-#[derive(Clone, Copy, PartialEq, Eq)]
-enum Kind {
-    Unknown,
-    Counted,
-    Loaded,
+/// What instructions are looked for.
+#[derive(Clone, Copy)]
+pub(crate) enum Kind<'a> {
+    /// They set a pair to what isn't known.
+    Unknown(Pair),
+    /// They count a pair.
+    Counted(Pair),
+    /// They load a pair with a word.
+    Loaded(Pair),
+    /// They set A.
+    Accumulator,
+    /// Their addresses are marked.
+    Marked(&'a [bool]),
 }
 
-/// How an instruction sets a pair, if it does.
-fn kind_of(instr: Instr, pair: Pair) -> Option<Kind> {
-    if !instr.facts().writes.includes(pair) {
-        return None;
+impl Kind<'_> {
+    /// Whether the instruction at an address is one of them.
+    fn has(self, at: u16, instr: Instr) -> bool {
+        let writes = instr.writes();
+        match (self, instr) {
+            (Kind::Counted(pair), Instr::Inx(_) | Instr::Dcx(_))
+            | (Kind::Loaded(pair), Instr::Lxi(_, _)) => writes.includes(pair),
+            (Kind::Counted(_) | Kind::Loaded(_), _)
+            | (Kind::Unknown(_), Instr::Inx(_) | Instr::Dcx(_) | Instr::Lxi(_, _)) => false,
+            (Kind::Unknown(pair), _) => writes.includes(pair),
+            (Kind::Accumulator, _) => writes == Writes::One(Register::A),
+            (Kind::Marked(marks), _) => is_marked(marks, at),
+        }
     }
-    match instr {
-        Instr::Inx(_) | Instr::Dcx(_) => Some(Kind::Counted),
-        Instr::Lxi(_, _) => Some(Kind::Loaded),
-        _ => Some(Kind::Unknown),
+
+    /// Whether what was set before an instruction is still there behind it.
+    fn passes(self, instr: Instr) -> bool {
+        match (self, instr) {
+            (Kind::Marked(_), _) | (_, Instr::Inx(_) | Instr::Dcx(_)) => true,
+            (Kind::Unknown(pair) | Kind::Counted(pair) | Kind::Loaded(pair), _) => {
+                !instr.writes().includes(pair)
+            }
+            (Kind::Accumulator, _) => instr.writes() != Writes::One(Register::A),
+        }
     }
 }
 
-/// By address the nearest instruction of a kind from which a way leads there that doesn't set the pair anew.
-fn spread(
+/// By address the nearest instruction of a kind from which a way leads there that doesn't set the same anew.
+///
+/// # Errors
+/// `AllocError` if memory runs out.
+pub(crate) fn spread(
     alloc: Global,
     program: ReachedProgram<'_>,
     groups: &Groups,
-    pair: Pair,
-    kind: Kind,
+    kind: Kind<'_>,
 ) -> Result<Vec<Option<u16>>, AllocError> {
     let mut ways = Ways::new(alloc, program, groups)?;
     for number in 0..65_536_u32 {
         let at = u16::MAX - number as u16;
         if let Some(found) = program.at(at) {
-            if kind_of(found.instr, pair) == Some(kind) {
+            if kind.has(at, found.instr) {
                 ways.follow(program, groups, at, found, at)?;
             }
         }
@@ -101,7 +184,7 @@ fn spread(
         let (at, by) = (*at, *by);
         place = place.saturating_add(1);
         if let Some(found) = program.at(at) {
-            if let None | Some(Kind::Counted) = kind_of(found.instr, pair) {
+            if kind.passes(found.instr) {
                 ways.follow(program, groups, at, found, by)?;
             }
         }

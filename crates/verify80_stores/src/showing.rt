@@ -205,6 +205,7 @@ fn fitting_table(
         hints,
         returns,
         variables,
+        crowded: _,
     } = found?;
     if fits(
         image, &table, &hints, &returns, &variables, code, reached, marks,

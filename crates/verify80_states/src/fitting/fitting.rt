@@ -18,15 +18,13 @@ ghost use Rattle.verify80_states.specs.Calls.{AccountsFor, KeepsCalls, KnowsRetu
 ghost use Rattle.verify80_states.specs.FittingTable.{AllFit};
 ghost use Rattle.verify80_states.specs.Runs.{IsKept};
 
-use crate::bytes::bytes_stay_bytes;
 use crate::fitting::calls::CallReturns;
 use crate::fitting::laws::fitting_states_hold;
 use crate::fitting::marks::is_marked;
+use crate::fitting::reached::{reached_at, targets_at};
 use crate::states::{State, Variable, given, is_steady, state_after};
 use decode80::{Fetched, Flow};
-use image80::laws::code_data_and_stack_are_apart;
 use image80::{Image, Regions};
-use std::alloc::{AllocError, Global};
 use verify80_spans::{ByteSpan, Span};
 
 /// The hints from here on name no place: less this, each says where those of A's bytes begin, one for each that A may be.
@@ -356,33 +354,6 @@ pub fn fits(
     fit.all_fit()
 }
 
-/// A table that fits each image: its state at each address says nothing.
-///
-/// # Errors
-/// `AllocError` if memory runs out.
-pub fn anything(
-    alloc: Global,
-    image: &Image,
-    reached: &[Option<Fetched>],
-) -> Result<Vec<Placed>, AllocError>
-    requires reached { AreReached (code_of image.now) reached.now }
-    requires whole { length reached.now ≡ 65536 }
-    requires rules { AreRegions image.now.regions }
-    ensures { IfOk result (λ table. (is_quiet : ℕ → Bool) → IsKept image.now is_quiet table.items) }
-{
-    bytes_stay_bytes();
-    code_data_and_stack_are_apart();
-    let mut table = Vec::with_capacity(alloc, 65_536)?;
-    for at in 0..65_536_usize {
-        table.push(Placed {
-            at: at as u16,
-            state: State::ANY,
-            hint: 0,
-        })?;
-    }
-    Ok(table)
-}
-
 /// Whether a table says something of quiet addresses alone.
 fn all_know_quiet(table: &[Placed], quiet: &[bool]) -> bool
     ensures { result ≡ true → KnowsQuiet (is_marked quiet.now) table.now }
@@ -402,24 +373,4 @@ fn are_quiet(variables: &[Variable], quiet: &[bool]) -> bool
     variables
         .iter()
         .all(|variable| is_marked(quiet, variable.at))
-}
-
-/// The instruction that is reached at an address.
-pub fn reached_at(reached: &[Option<Fetched>], at: u16) -> Option<Fetched>
-    ensures { result ≡ found_at reached.now at }
-{
-    match reached.get(usize::from(at)) {
-        Some(found) => *found,
-        None => None,
-    }
-}
-
-/// The targets that are declared for an address.
-pub fn targets_at(regions: &Regions, at: u16) -> &[u16]
-    ensures { result.now ≡ declared_targets regions.now at }
-{
-    match regions.targets(at) {
-        Some(targets) => targets,
-        None => &[],
-    }
 }

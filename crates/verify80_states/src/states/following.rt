@@ -1,13 +1,14 @@
 //! What becomes of a state at an instruction.
 
 ghost use Rattle.std.specs.Prelude.{◌≡◌};
-ghost use Rattle.verify80_states.specs.Following.{byte_at, known_word, loaded_at, loaded, moved, counted, resulted, tested, operand_bytes, after_operation, added_carry, turned, exchanged_pairs, index_words, popped_to, registers_after, pushed_words, called, returned, words_after, cells_after, only_address, address_outside, source_after, is_steady, state_after};
+ghost use Rattle.verify80_states.specs.Following.{byte_at, known_word, loaded_at, loaded, moved, counted, resulted, tested, operand_bytes, after_operation, added_carry, turned, exchanged_pairs, index_words, popped_to, registers_after, pushed_words, called, returned, words_after, state_after};
 ghost use Rattle.verify80_spans.specs.Span.{uncarried};
 ghost use Rattle.verify80_states.specs.State.{compared_with, with_outcome};
 
 use crate::states::cells::Cells;
-use crate::states::state::{State, Words};
-use crate::states::variables::Variable;
+use crate::states::memory_after::{cells_after, source_after};
+use crate::states::state::State;
+use crate::states::words::Words;
 use decode80::{IndexPair, Instr, Operand, Operation, Pair, Register, StackPair, ahead};
 use verify80_spans::{ByteSpan, Outcome, Span, operated, rotated};
 
@@ -42,7 +43,7 @@ fn loaded_at(code: &[Option<u8>], cells: Cells, at: u16) -> ByteSpan
 }
 
 /// A byte that is read at one of these addresses.
-fn loaded(code: &[Option<u8>], cells: Cells, at: Span) -> ByteSpan
+pub(crate) fn loaded(code: &[Option<u8>], cells: Cells, at: Span) -> ByteSpan
     ensures { result ≡ loaded code.now cells at }
 {
     if at.is_alone() {
@@ -341,67 +342,6 @@ fn words_after(instr: Instr, taken: bool, next: u16, state: State) -> Words
     }
 }
 
-/// The bytes of memory that are known after an instruction.
-fn cells_after(code: &[Option<u8>], instr: Instr, state: State) -> Cells
-    ensures { result ≡ cells_after code.now instr state }
-{
-    let cells = state.cells;
-    let pointed = state.hl.words;
-    match instr {
-        Instr::Store(register) => cells.stored(pointed, state.byte(register)),
-        Instr::MviMemory(byte) => cells.stored(pointed, ByteSpan::alone(byte)),
-        Instr::InrMemory => cells.stored(pointed, loaded(code, cells, pointed).next()),
-        Instr::DcrMemory => cells.stored(pointed, loaded(code, cells, pointed).previous()),
-        Instr::Stax(pair) => cells.stored(index_words(state, pair), state.a),
-        Instr::Sta(address) => cells.stored(Span::alone(address), state.a),
-        Instr::Shld(address) => cells
-            .stored(Span::alone(address), state.hl.low)
-            .stored(Span::alone(ahead(address, 1)), state.hl.high()),
-        _ => cells,
-    }
-}
-
-/// An address, if it is the only one of a span.
-fn only_address(span: Span) -> Option<u16>
-    ensures { result ≡ only_address span }
-{
-    if span.is_alone() {
-        Some(span.first)
-    } else {
-        None
-    }
-}
-
-/// An address that is outside of a span.
-fn address_outside(span: Span, address: Option<u16>) -> Option<u16>
-    ensures { result ≡ address_outside span address }
-{
-    match address {
-        Some(at) if span.first <= at && at <= span.last => None,
-        other => other,
-    }
-}
-
-/// The address of a byte that A has after an instruction, given what is left of that when the registers are written.
-fn source_after(instr: Instr, state: State, left: Option<u16>) -> Option<u16>
-    ensures { result ≡ source_after instr state left }
-{
-    let pointed = state.hl.words;
-    match instr {
-        Instr::Lda(address) | Instr::Sta(address) => Some(address),
-        Instr::Load(Register::A) | Instr::Store(Register::A) => only_address(pointed),
-        Instr::Store(_) | Instr::MviMemory(_) | Instr::InrMemory | Instr::DcrMemory => {
-            address_outside(pointed, left)
-        }
-        Instr::Stax(pair) => address_outside(index_words(state, pair), left),
-        Instr::Shld(address) => address_outside(
-            Span::alone(ahead(address, 1)),
-            address_outside(Span::alone(address), left),
-        ),
-        _ => left,
-    }
-}
-
 /// What is known after an instruction, given what is known before it, the bytes of code by address, and whether its call or return is
 /// taken; `next` is the address after it.
 ///
@@ -416,26 +356,5 @@ pub fn state_after(code: &[Option<u8>], instr: Instr, taken: bool, next: u16, st
         source: source_after(instr, state, after.source),
         set: state.set,
         ..after
-    }
-}
-
-/// Whether what an instruction stores where a variable may be is one of the variable's bytes.
-pub(crate) fn is_steady(code: &[Option<u8>], instr: Instr, state: State, variable: Variable) -> bool
-    ensures { result ≡ is_steady code.now instr state variable }
-{
-    let cells = state.cells;
-    let pointed = state.hl.words;
-    match instr {
-        Instr::Store(register) => variable.takes(pointed, state.byte(register)),
-        Instr::MviMemory(byte) => variable.takes(pointed, ByteSpan::alone(byte)),
-        Instr::InrMemory => variable.takes(pointed, loaded(code, cells, pointed).next()),
-        Instr::DcrMemory => variable.takes(pointed, loaded(code, cells, pointed).previous()),
-        Instr::Stax(pair) => variable.takes(index_words(state, pair), state.a),
-        Instr::Sta(address) => variable.takes(Span::alone(address), state.a),
-        Instr::Shld(address) => {
-            variable.takes(Span::alone(address), state.hl.low)
-                && variable.takes(Span::alone(ahead(address, 1)), state.hl.high())
-        }
-        _ => true,
     }
 }

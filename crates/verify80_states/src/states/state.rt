@@ -2,150 +2,11 @@
 
 use crate::fitting::is_marked;
 use crate::states::cells::Cells;
+use crate::states::pairs::PairSpan;
 use crate::states::variables::{Variable, is_bit};
+use crate::states::words::Words;
 use decode80::{Pair, Register};
 use verify80_spans::{ByteSpan, Outcome, Span};
-
-/// What a pair may be: its words, and its low bytes, which may be fewer than those of the words.
-#[derive(Clone, Copy, Debug, PartialEq, Eq)]
-pub struct PairSpan {
-    pub words: Span,
-    pub low: ByteSpan,
-}
-
-impl PairSpan {
-    ghost use Rattle.std.specs.Prelude.{◌≡◌, ◌↔◌, true};
-    ghost use Rattle.verify80_spans.specs.Span.{high_of};
-    ghost use Rattle.verify80_states.specs.State.{pair_of_words, pair_of_halves, cut_high, cut_low, IsPairInside};
-
-    /// Any word.
-    pub const ANY: PairSpan = PairSpan {
-        words: Span::ANY,
-        low: ByteSpan::ANY,
-    };
-
-    /// A pair of these words.
-    pub fn of_words(words: Span) -> PairSpan
-        ensures { result ≡ pair_of_words words }
-    {
-        PairSpan {
-            words,
-            low: words.low(),
-        }
-    }
-
-    /// A pair of these halves.
-    pub fn of_halves(high: ByteSpan, low: ByteSpan) -> PairSpan
-        ensures { result ≡ pair_of_halves high low }
-    {
-        PairSpan {
-            words: Span::of_halves(high, low),
-            low,
-        }
-    }
-
-    /// What its high byte may be.
-    pub fn high(self) -> ByteSpan
-        ensures { result ≡ high_of self.words }
-    {
-        self.words.high()
-    }
-
-    /// The pair whose high byte is one of these too.
-    fn cut_high(self, byte: ByteSpan) -> PairSpan
-        ensures { result ≡ cut_high self byte }
-    {
-        PairSpan {
-            words: self.words.meet(Span::of_halves(byte, ByteSpan::ANY)),
-            low: self.low,
-        }
-    }
-
-    /// The pair whose low byte is one of these too.
-    fn cut_low(self, byte: ByteSpan) -> PairSpan
-        ensures { result ≡ cut_low self byte }
-    {
-        let low = self.low.meet(byte);
-        PairSpan {
-            words: self.words.meet(Span::of_halves(self.high(), low)),
-            low,
-        }
-    }
-
-    /// Whether all that this pair may be the other may be.
-    fn is_inside(self, other: PairSpan) -> bool
-        ensures { (result ≡ true) ↔ IsPairInside self other }
-    {
-        self.words.is_inside(other.words) && self.low.is_inside(other.low)
-    }
-}
-
-/// What the words from the stack pointer on may be, as far as the program has written them.
-#[derive(Clone, Copy, Debug, PartialEq, Eq)]
-pub struct Words {
-    pub first: Option<Span>,
-    pub second: Option<Span>,
-    pub third: Option<Span>,
-    pub fourth: Option<Span>,
-}
-
-impl Words {
-    ghost use Rattle.std.specs.Prelude.{◌≡◌, true};
-    ghost use Rattle.verify80_states.specs.State.{pushed, popped, AreWordsInside};
-
-    /// None is known.
-    pub const NONE: Words = Words {
-        first: None,
-        second: None,
-        third: None,
-        fourth: None,
-    };
-
-    /// The words when one is pushed.
-    pub fn pushed(self, word: Option<Span>) -> Words
-        ensures { result ≡ pushed self word }
-    {
-        Words {
-            first: word,
-            second: self.first,
-            third: self.second,
-            fourth: self.third,
-        }
-    }
-
-    /// The words when one is popped.
-    pub fn popped(self) -> Words
-        ensures { result ≡ popped self }
-    {
-        Words {
-            first: self.second,
-            second: self.third,
-            third: self.fourth,
-            fourth: None,
-        }
-    }
-
-    /// Whether these words say all that the others do.
-    fn are_inside(self, other: Words) -> bool
-        ensures { result ≡ true → AreWordsInside self other }
-    {
-        is_word_inside(self.first, other.first)
-            && is_word_inside(self.second, other.second)
-            && is_word_inside(self.third, other.third)
-            && is_word_inside(self.fourth, other.fourth)
-    }
-}
-
-/// Whether what is known of a word says all that another knowledge does.
-fn is_word_inside(inner: Option<Span>, outer: Option<Span>) -> bool
-    ensures { result ≡ true → IsWordInside inner outer }
-{
-    match (inner, outer) {
-        (_, None) => true,
-        (None, Some(_)) => false,
-        (Some(inner), Some(outer)) => inner.is_inside(outer),
-    }
-}
 
 /// What registers, flags, the words on top of the stack and some bytes of memory may be, before an instruction.
 #[derive(Clone, Copy, Debug, PartialEq, Eq)]
@@ -173,7 +34,7 @@ pub struct State {
 }
 
 ghost use Rattle.std.specs.Prelude.{◌≡◌, true};
-ghost use Rattle.verify80_states.specs.State.{copy_without, copy_outside, IsFlagInside, IsComparisonInside, IsCopyInside, IsWordInside};
+ghost use Rattle.verify80_states.specs.State.{copy_without, copy_outside, IsFlagInside, IsComparisonInside, IsCopyInside};
 
 /// The register that has A's byte when a register is written.
 fn copy_without(written: Register, copy: Register) -> Register

@@ -1,12 +1,12 @@
 //! What a later store, jump by HL or condition may depend on, at each address.
 
-use crate::moving::moved_through;
+use crate::moving::parts_before;
 use crate::program::ReachedProgram;
 use crate::slots::{
     SLOTS, Slots, cell_parts, find_places, find_pointers, placed_cells, pointer_at, slots_before,
     stored_parts, stored_slots,
 };
-use crate::units::{Units, reduced};
+use crate::units::{Units, reduce};
 use crate::variables::Variables;
 use decode80::{Fetched, Flow, Instr, Storing};
 use std::alloc::{AllocError, Global};
@@ -36,7 +36,7 @@ impl Need {
         }
     }
 
-    /// The same, and these parts.
+    /// The need of these parts too.
     fn with(self, parts: Units) -> Need {
         Need {
             parts: self.parts.union(parts),
@@ -47,7 +47,7 @@ impl Need {
 
 /// What is needed at each address, by address.
 #[derive(Drop)]
-pub(crate) struct Needs {
+pub struct Needs {
     needs: Vec<Need>,
     /// The bytes of memory that a state there names.
     named: Vec<Slots>,
@@ -107,7 +107,7 @@ impl Needs {
     pub fn readers(&self, alloc: Global) -> Result<Vec<(u16, u16)>, AllocError> {
         let mut readers = Vec::new(alloc);
         for number in 0..65_536_u32 {
-            let slots = self.named(number as u16);
+            let slots = self.names(number as u16);
             for place in 0..SLOTS {
                 if let Some(address) = slots.at(place) {
                     readers.push((address, number as u16))?;
@@ -118,7 +118,7 @@ impl Needs {
     }
 
     /// The bytes of memory that a state at an address names.
-    pub fn named(&self, at: u16) -> Slots {
+    pub fn names(&self, at: u16) -> Slots {
         match self.named.get(usize::from(at)) {
             Some(slots) => *slots,
             None => Slots::NONE,
@@ -126,9 +126,9 @@ impl Needs {
     }
 
     /// A state at an address with what is needed of it alone.
-    pub fn needed(&self, at: u16, state: State, variables: &Variables) -> State {
+    pub fn cut(&self, at: u16, state: State, variables: &Variables) -> State {
         let need = need_at(&self.needs, at);
-        let named = self.named(at);
+        let named = self.names(at);
         let set = variables.set_in(state);
         let placed = State {
             cells: placed_cells(state.cells, named, variables, set),
@@ -139,7 +139,7 @@ impl Needs {
             },
             ..state
         };
-        reduced(placed, need.parts.union(cell_parts(need.slots)))
+        reduce(placed, need.parts.union(cell_parts(need.slots)))
     }
 }
 
@@ -151,7 +151,7 @@ fn named_by(alloc: Global, reading: Reading<'_>, needs: &[Need]) -> Result<Vec<S
         let at = number as u16;
         if let Some(found) = reading.program.at(at) {
             let after = match found.instr.flow() {
-                _ if reading.is_local => reading.stored(at, found.instr),
+                _ if reading.is_local => reading.slots_stored(at, found.instr),
                 Flow::Continues | Flow::Pushes | Flow::Pops | Flow::Exchanges => {
                     need_at(needs, found.next).slots
                 }
@@ -201,7 +201,7 @@ fn note_behind(program: ReachedProgram<'_>, behind: &mut [Need], entry: u16, nee
 }
 
 /// What is needed before a return that is taken.
-fn returned(program: ReachedProgram<'_>, behind: &[Need], at: u16) -> Need {
+fn before_return(program: ReachedProgram<'_>, behind: &[Need], at: u16) -> Need {
     if !program.returns.know_return(at) {
         return Need::NONE;
     }
@@ -255,7 +255,7 @@ fn need_of_ways(
     let Fetched { instr, next } = found;
     match instr.flow() {
         Flow::Halts => Need::NONE,
-        Flow::Returns => returned(program, behind, at),
+        Flow::Returns => before_return(program, behind, at),
         Flow::Continues | Flow::Pushes | Flow::Pops | Flow::Exchanges => {
             reading.through(at, instr, need_at(needs, next))
         }
@@ -264,10 +264,10 @@ fn need_of_ways(
             .and(need_at(needs, to))
             .with(Units::of_condition(condition)),
         Flow::ReturnsIf(condition) => need_at(needs, next)
-            .and(returned(program, behind, at))
+            .and(before_return(program, behind, at))
             .with(Units::of_condition(condition)),
-        Flow::Calls(to) => called(need_at(needs, to)),
-        Flow::CallsIf(condition, to) => called(need_at(needs, to))
+        Flow::Calls(to) => before_call(need_at(needs, to)),
+        Flow::CallsIf(condition, to) => before_call(need_at(needs, to))
             .and(need_at(needs, next))
             .with(Units::of_condition(condition)),
         Flow::JumpsToHl => {
@@ -281,7 +281,7 @@ fn need_of_ways(
 }
 
 /// What is needed before a call, given what its callee needs.
-fn called(need: Need) -> Need {
+fn before_call(need: Need) -> Need {
     let parts = need.parts;
     Need {
         parts: parts.difference(Units::WORDS).union(parts.shallower()),
@@ -303,7 +303,7 @@ struct Reading<'a> {
 
 impl Reading<'_> {
     /// The bytes that the instruction at an address stores.
-    fn stored(self, at: u16, instr: Instr) -> Slots {
+    fn slots_stored(self, at: u16, instr: Instr) -> Slots {
         stored_slots(self.places, instr, pointer_at(self.pointers, at))
     }
 
@@ -316,7 +316,7 @@ impl Reading<'_> {
             Storing::Nowhere | Storing::Byte(_) | Storing::Word(_) => Units::NONE,
         };
         let (after, kept) = if self.is_local {
-            let stored = self.stored(at, instr);
+            let stored = self.slots_stored(at, instr);
             let counted = match instr {
                 Instr::InrMemory | Instr::DcrMemory => stored,
                 _ => Slots::NONE,
@@ -326,7 +326,7 @@ impl Reading<'_> {
             (need.slots, need.slots)
         };
         Need {
-            parts: moved_through(instr, need.parts)
+            parts: parts_before(instr, need.parts)
                 .union(pointed)
                 .union(stored_parts(instr, pointer, after)),
             slots: slots_before(self.places, instr, pointer, need.parts, kept),

@@ -1,12 +1,13 @@
 //! The parts of a state, by which it is cut down, and distinguished from others.
 
+use crate::cells::{cell_at, change_cells};
 use bitflags::{Flags, bitflags};
 use decode80::{Condition, IndexPair, Pair, Register, StackPair};
-use verify80_states::{ByteSpan, Cell, Cells, PairSpan, Span, State, Words};
+use verify80_states::{ByteSpan, Cell, PairSpan, Span, State, Words};
 
 /// A set of parts of a state: a bit for each.
 #[derive(Clone, Copy, Debug, PartialEq, Eq)]
-pub(crate) struct Units(u32);
+pub struct Units(u32);
 
 bitflags! {
     impl Units: u32 {
@@ -28,9 +29,9 @@ bitflags! {
         const TEST = 0x0000_0400;
         /// The flags that DAD, the rotations, STC and CMC write, and the comparison.
         const CARRIED = 0x0000_0500;
-        /// Those that INR and DCR write.
+        /// The flags that INR and DCR write.
         const COUNTED = 0x0000_0680;
-        /// Those that an operation on A writes.
+        /// The flags that an operation on A writes.
         const ALL_FLAGS = 0x0000_0780;
         const FIRST = 0x0000_0800;
         const SECOND = 0x0000_1000;
@@ -47,12 +48,17 @@ bitflags! {
 
 impl Units {
     /// The part of a number below 23.
-    pub fn numbered(part: usize) -> Units {
+    pub fn of_number(part: usize) -> Units {
         let mut bit = 1_u32;
         for _ in 0..part.min(22) {
             bit = bit.wrapping_mul(2);
         }
         Units(bit)
+    }
+
+    /// The byte of memory that a place has.
+    pub fn of_cell(place: usize) -> Units {
+        Units::of_number(place.min(7) + FIRST_CELL)
     }
 
     /// A register.
@@ -68,7 +74,7 @@ impl Units {
         }
     }
 
-    /// Both halves of a pair.
+    /// The halves of a pair.
     pub fn of_pair(pair: Pair) -> Units {
         match pair {
             Pair::Bc => Units::BC,
@@ -118,92 +124,57 @@ impl Units {
 }
 
 /// Whether two states agree in these parts.
-pub(crate) fn are_alike(one: State, other: State, parts: Units) -> bool {
-    reduced(one, parts)
+pub fn are_alike(one: State, other: State, parts: Units) -> bool {
+    reduce(one, parts)
         == State {
             set: one.set,
-            ..reduced(other, parts)
+            ..reduce(other, parts)
         }
 }
 
-/// A state of which only these parts are known.
-pub(crate) fn reduced(state: State, parts: Units) -> State {
+/// A state of which only these parts are known; each cell keeps its address.
+pub fn reduce(state: State, parts: Units) -> State {
     let keeps_a = parts.intersects(Units::A.union(Units::TEST));
     State {
         a: if keeps_a { state.a } else { ByteSpan::ANY },
-        bc: reduced_pair(
-            state.bc,
-            parts.intersects(Units::B),
-            parts.intersects(Units::C),
-        ),
-        de: reduced_pair(
-            state.de,
-            parts.intersects(Units::D),
-            parts.intersects(Units::E),
-        ),
-        hl: reduced_pair(
-            state.hl,
-            parts.intersects(Units::H),
-            parts.intersects(Units::L),
-        ),
+        bc: reduced_pair(state.bc, parts, Units::B, Units::C),
+        de: reduced_pair(state.de, parts, Units::D, Units::E),
+        hl: reduced_pair(state.hl, parts, Units::H, Units::L),
         copy: if keeps_a { state.copy } else { Register::A },
-        source: if keeps_a { state.source } else { None },
+        source: known_if(keeps_a, state.source),
         set: state.set,
-        zero: if parts.intersects(Units::ZERO) {
-            state.zero
-        } else {
-            None
-        },
-        carry: if parts.intersects(Units::CARRY) {
-            state.carry
-        } else {
-            None
-        },
-        sign: if parts.intersects(Units::SIGN) {
-            state.sign
-        } else {
-            None
-        },
-        compared: if parts.intersects(Units::TEST) {
-            state.compared
-        } else {
-            None
-        },
+        zero: known_if(parts.intersects(Units::ZERO), state.zero),
+        carry: known_if(parts.intersects(Units::CARRY), state.carry),
+        sign: known_if(parts.intersects(Units::SIGN), state.sign),
+        compared: known_if(parts.intersects(Units::TEST), state.compared),
         words: Words {
-            first: reduced_word(state.words.first, parts.intersects(Units::FIRST)),
-            second: reduced_word(state.words.second, parts.intersects(Units::SECOND)),
-            third: reduced_word(state.words.third, parts.intersects(Units::THIRD)),
-            fourth: reduced_word(state.words.fourth, parts.intersects(Units::FOURTH)),
+            first: known_if(parts.intersects(Units::FIRST), state.words.first),
+            second: known_if(parts.intersects(Units::SECOND), state.words.second),
+            third: known_if(parts.intersects(Units::THIRD), state.words.third),
+            fourth: known_if(parts.intersects(Units::FOURTH), state.words.fourth),
         },
-        cells: reduced_cells(state.cells, parts),
+        cells: change_cells(
+            state.cells,
+            |place, cell| Cell {
+                at: cell.at,
+                bytes: if parts.intersects(Units::of_cell(place)) {
+                    cell.bytes
+                } else {
+                    ByteSpan::ANY
+                },
+            },
+        ),
     }
 }
 
-/// Cells of which only these parts are known: each keeps its address.
-fn reduced_cells(cells: Cells, parts: Units) -> Cells {
-    Cells {
-        first: reduced_cell(cells.first, parts.intersects(Units::numbered(15))),
-        second: reduced_cell(cells.second, parts.intersects(Units::numbered(16))),
-        third: reduced_cell(cells.third, parts.intersects(Units::numbered(17))),
-        fourth: reduced_cell(cells.fourth, parts.intersects(Units::numbered(18))),
-        fifth: reduced_cell(cells.fifth, parts.intersects(Units::numbered(19))),
-        sixth: reduced_cell(cells.sixth, parts.intersects(Units::numbered(20))),
-        seventh: reduced_cell(cells.seventh, parts.intersects(Units::numbered(21))),
-        eighth: reduced_cell(cells.eighth, parts.intersects(Units::numbered(22))),
-    }
+/// What is known of a part, if it is to be.
+fn known_if<T: Copy>(is_kept: bool, known: Option<T>) -> Option<T> {
+    if is_kept { known } else { None }
 }
 
-/// A cell of which its bytes are to be known or not.
-fn reduced_cell(cell: Cell, is_kept: bool) -> Cell {
-    Cell {
-        at: cell.at,
-        bytes: if is_kept { cell.bytes } else { ByteSpan::ANY },
-    }
-}
-
-/// A pair of which only these halves are known.
-fn reduced_pair(pair: PairSpan, high: bool, low: bool) -> PairSpan {
-    match (high, low) {
+/// A pair of which those halves are known that are among these parts.
+fn reduced_pair(pair: PairSpan, parts: Units, high: Units, low: Units) -> PairSpan {
+    match (parts.intersects(high), parts.intersects(low)) {
         (true, true) => pair,
         (true, false) => PairSpan::of_halves(pair.high(), ByteSpan::ANY),
         (false, true) => PairSpan::of_halves(ByteSpan::ANY, pair.low),
@@ -211,16 +182,13 @@ fn reduced_pair(pair: PairSpan, high: bool, low: bool) -> PairSpan {
     }
 }
 
-/// A word, if it is to be known.
-fn reduced_word(word: Option<Span>, is_kept: bool) -> Option<Span> {
-    if is_kept { word } else { None }
-}
-
 /// How many parts there are.
-pub(crate) const PARTS: usize = 23;
+pub const PARTS: usize = 23;
+/// The number of the first of the bytes of memory.
+const FIRST_CELL: usize = 15;
 
 /// A part of a state as a number, by which states are distinguished; parts are numbered as their bits are.
-pub(crate) fn value_of(state: State, part: usize) -> u32 {
+pub fn value_of(state: State, part: usize) -> u32 {
     match part {
         0 => byte_value(state.a),
         1 => byte_value(state.bc.high()),
@@ -240,14 +208,7 @@ pub(crate) fn value_of(state: State, part: usize) -> u32 {
         12 => word_value(state.words.second),
         13 => word_value(state.words.third),
         14 => word_value(state.words.fourth),
-        15 => byte_value(state.cells.first.bytes),
-        16 => byte_value(state.cells.second.bytes),
-        17 => byte_value(state.cells.third.bytes),
-        18 => byte_value(state.cells.fourth.bytes),
-        19 => byte_value(state.cells.fifth.bytes),
-        20 => byte_value(state.cells.sixth.bytes),
-        21 => byte_value(state.cells.seventh.bytes),
-        _ => byte_value(state.cells.eighth.bytes),
+        _ => byte_value(cell_at(state.cells, part.saturating_sub(FIRST_CELL)).bytes),
     }
 }
 

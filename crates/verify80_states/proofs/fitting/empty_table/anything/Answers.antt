@@ -4,7 +4,7 @@ use Rattle.verify80_states.specs.declared.fitting.fitting.Placed.{Placed}
 use Rattle.verify80_states.specs.State.{anything}
 use Rattle.verify80_states.proofs.MemoryLemmas.{ground_of}
 use Rattle.verify80_states.proofs.TableLemmas.{nothing_is_kept, nothing_more}
-use Rattle.verify80_states.proofs.fitting.fitting.anything.Goals as goal
+use Rattle.verify80_states.proofs.fitting.empty_table.anything.Goals as goal
 
 pub loop-at-preserved : goal.loop-at-preserved
 loop-at-preserved c = record {

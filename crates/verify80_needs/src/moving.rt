@@ -4,11 +4,11 @@ use crate::units::Units;
 use decode80::{Instr, Operand, Operation, Pair, Rotation};
 
 /// The parts that are needed before an instruction, given those that are needed after it; not for what it stores.
-pub(crate) fn moved_through(instr: Instr, need: Units) -> Units {
+pub fn parts_before(instr: Instr, need: Units) -> Units {
     match instr {
-        Instr::Mov(to, from) => copied(need, Units::of(to), Units::of(from)),
-        Instr::Load(to) => copied(need, Units::of(to), Units::HL),
-        Instr::Mvi(to, _) => copied(need, Units::of(to), Units::NONE),
+        Instr::Mov(to, from) => before_copy(need, Units::of(to), Units::of(from)),
+        Instr::Load(to) => before_copy(need, Units::of(to), Units::HL),
+        Instr::Mvi(to, _) => before_copy(need, Units::of(to), Units::NONE),
         Instr::Inr(register) | Instr::Dcr(register) => {
             let counts = need.intersects(Units::of(register).union(Units::ZERO).union(Units::SIGN));
             let rest = need.difference(Units::COUNTED);
@@ -42,16 +42,16 @@ pub(crate) fn moved_through(instr: Instr, need: Units) -> Units {
                 rest
             }
         }
-        Instr::Operate(operation, operand) => operated(operation, operand, need),
-        Instr::Rotate(rotation) => rotated(rotation, need),
+        Instr::Operate(operation, operand) => before_operation(operation, operand, need),
+        Instr::Rotate(rotation) => before_rotation(rotation, need),
         Instr::Daa => need.difference(Units::ALL_FLAGS.union(Units::A)),
         Instr::Cma => need.difference(Units::TEST),
         Instr::Stc => need.difference(Units::CARRIED),
         Instr::Cmc => need.difference(Units::TEST),
-        Instr::Ldax(pair) => copied(need, Units::A, Units::of_index_pair(pair)),
-        Instr::Lda(_) | Instr::In(_) => copied(need, Units::A, Units::NONE),
+        Instr::Ldax(pair) => before_copy(need, Units::A, Units::of_index_pair(pair)),
+        Instr::Lda(_) | Instr::In(_) => before_copy(need, Units::A, Units::NONE),
         Instr::Lhld(_) => need.difference(Units::HL),
-        Instr::Xchg => exchanged(need),
+        Instr::Xchg => before_exchange(need),
         Instr::Push(pair) => {
             let rest = need.difference(Units::WORDS).union(need.shallower());
             if need.intersects(Units::FIRST) {
@@ -91,7 +91,7 @@ pub(crate) fn moved_through(instr: Instr, need: Units) -> Units {
 }
 
 /// What is needed before something is copied.
-fn copied(need: Units, to: Units, from: Units) -> Units {
+fn before_copy(need: Units, to: Units, from: Units) -> Units {
     let rest = if to == Units::A {
         need.difference(Units::A.union(Units::TEST))
     } else {
@@ -105,7 +105,7 @@ fn copied(need: Units, to: Units, from: Units) -> Units {
 }
 
 /// What is needed before DE and HL are exchanged.
-fn exchanged(need: Units) -> Units {
+fn before_exchange(need: Units) -> Units {
     let mut before = need.difference(Units::DE.union(Units::HL));
     for (from, to) in &[
         (Units::D, Units::H),
@@ -121,7 +121,7 @@ fn exchanged(need: Units) -> Units {
 }
 
 /// What is needed before an operation on A.
-fn operated(operation: Operation, operand: Operand, need: Units) -> Units {
+fn before_operation(operation: Operation, operand: Operand, need: Units) -> Units {
     let read = match operand {
         Operand::Register(register) => Units::of(register),
         Operand::Memory => Units::HL,
@@ -148,7 +148,7 @@ fn operated(operation: Operation, operand: Operand, need: Units) -> Units {
 }
 
 /// What is needed before a rotation.
-fn rotated(rotation: Rotation, need: Units) -> Units {
+fn before_rotation(rotation: Rotation, need: Units) -> Units {
     let rest = need.difference(Units::CARRIED);
     if !need.intersects(Units::A) {
         return rest;

@@ -1,7 +1,7 @@
 //! Marks by address.
 
 /// Marks an address.
-pub(crate) fn mark(marks: &mut [bool], at: u16) {
+pub fn mark(marks: &mut [bool], at: u16) {
     if let Some(place) = marks.get_mut(usize::from(at)) {
         *place = true;
     }

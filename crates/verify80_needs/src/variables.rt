@@ -11,7 +11,7 @@ const MOST: usize = 64;
 
 /// The variables of a program, as far as they have grown.
 #[derive(Drop)]
-pub(crate) struct Variables {
+pub struct Variables {
     list: Vec<Variable>,
     /// How often each has grown; 0 while nothing was stored there.
     growths: Vec<u32>,
@@ -42,7 +42,7 @@ impl Variables {
         &self.list
     }
 
-    /// The same.
+    /// The variables alone.
     pub fn into_list(self) -> Vec<Variable> {
         self.list
     }
@@ -126,7 +126,7 @@ impl Variables {
 }
 
 /// Where an instruction stores a byte, and which: one, or two if it stores a word.
-pub(crate) fn stored_bytes(instr: Instr, state: State) -> [Option<(Span, ByteSpan)>; 2] {
+pub fn stored_bytes(instr: Instr, state: State) -> [Option<(Span, ByteSpan)>; 2] {
     let pointed = state.hl.words;
     let held = if pointed.is_alone() {
         state.cells.bytes_at(pointed.first)

@@ -1,5 +1,6 @@
 //! The bytes of memory that a state may know, at each address: each has a place among eight, in all states the same.
 
+use crate::cells::change_cells;
 use crate::marks::mark;
 use crate::program::ReachedProgram;
 use crate::units::Units;
@@ -10,13 +11,13 @@ use verify80_spans::ByteSpan;
 use verify80_states::{Cell, Cells, is_marked};
 
 /// How many bytes a state may know.
-pub(crate) const SLOTS: usize = 8;
+pub const SLOTS: usize = 8;
 /// No address.
 const NONE: u16 = u16::MAX;
 
 /// The addresses of the bytes that are known, or are to be known: one for each place.
 #[derive(Clone, Copy, Debug, PartialEq, Eq)]
-pub(crate) struct Slots([u16; SLOTS]);
+pub struct Slots([u16; SLOTS]);
 
 impl Slots {
     pub const NONE: Slots = Slots([NONE; SLOTS]);
@@ -34,7 +35,7 @@ impl Slots {
         address != NONE && self.0.contains(&address)
     }
 
-    /// These, and an address at a place, if that is free or has a greater one.
+    /// The slots with an address at a place, if that is free or has a greater one.
     fn with(self, place: usize, address: u16) -> Slots {
         let Slots(mut slots) = self;
         if let Some(slot) = slots.get_mut(place) {
@@ -45,7 +46,7 @@ impl Slots {
         Slots(slots)
     }
 
-    /// These without an address.
+    /// The slots without an address.
     fn without(self, address: u16) -> Slots {
         let Slots(mut slots) = self;
         for slot in &mut slots {
@@ -56,7 +57,7 @@ impl Slots {
         Slots(slots)
     }
 
-    /// Those of both: of two at a place the lower.
+    /// The slots of both: of two at a place the lower.
     pub fn and(self, other: Slots) -> Slots {
         let mut both = self;
         for place in 0..SLOTS {
@@ -72,7 +73,7 @@ impl Slots {
 ///
 /// # Errors
 /// `AllocError` if memory runs out.
-pub(crate) fn find_places(
+pub fn find_places(
     alloc: Global,
     program: ReachedProgram<'_>,
     pointers: &[Option<u16>],
@@ -101,7 +102,7 @@ pub(crate) fn find_places(
 }
 
 /// The bytes of memory that an instruction stores by name, or through a known pointer, at their places.
-pub(crate) fn stored_slots(places: &[usize], instr: Instr, pointer: Option<u16>) -> Slots {
+pub fn stored_slots(places: &[usize], instr: Instr, pointer: Option<u16>) -> Slots {
     let (first, second) = match instr {
         Instr::Sta(address) => (Some(address), None),
         Instr::Shld(address) => (Some(address), Some(address.wrapping_add(1))),
@@ -134,7 +135,7 @@ fn bytes_read(instr: Instr, pointer: Option<u16>) -> [Option<u16>; 2] {
 ///
 /// # Errors
 /// `AllocError` if memory runs out.
-pub(crate) fn find_pointers(
+pub fn find_pointers(
     alloc: Global,
     program: ReachedProgram<'_>,
 ) -> Result<Vec<Option<u16>>, AllocError> {
@@ -153,14 +154,14 @@ pub(crate) fn find_pointers(
 }
 
 /// The word that HL is known to be before an address.
-pub(crate) fn pointer_at(pointers: &[Option<u16>], at: u16) -> Option<u16> {
+pub fn pointer_at(pointers: &[Option<u16>], at: u16) -> Option<u16> {
     match pointers.get(usize::from(at)) {
         Some(pointer) => *pointer,
         None => None,
     }
 }
 
-/// The same behind an instruction that goes on.
+/// The word that HL is known to be behind an instruction that goes on.
 fn pointer_after(found: Fetched, before: Option<u16>) -> Option<u16> {
     let facts = found.instr.facts();
     match (found.instr, facts.flow) {
@@ -174,7 +175,7 @@ fn pointer_after(found: Fetched, before: Option<u16>) -> Option<u16> {
 }
 
 /// The bytes that are to be known before an instruction, given those that are to be known after it, and which parts of a state.
-pub(crate) fn slots_before(
+pub fn slots_before(
     places: &[usize],
     instr: Instr,
     pointer: Option<u16>,
@@ -220,7 +221,7 @@ fn parts_read(instr: Instr) -> Units {
 }
 
 /// The registers of which an instruction stores a byte that is to be known after it.
-pub(crate) fn stored_parts(instr: Instr, pointer: Option<u16>, after: Slots) -> Units {
+pub fn stored_parts(instr: Instr, pointer: Option<u16>, after: Slots) -> Units {
     match instr {
         Instr::Sta(address) if after.has(address) => Units::A,
         Instr::Shld(address) => {
@@ -244,67 +245,41 @@ pub(crate) fn stored_parts(instr: Instr, pointer: Option<u16>, after: Slots) -> 
 }
 
 /// The bits of the cells that have an address.
-pub(crate) fn cell_parts(slots: Slots) -> Units {
+pub fn cell_parts(slots: Slots) -> Units {
     let mut parts = Units::NONE;
     for place in 0..SLOTS {
         if slots.at(place).is_some() {
-            parts = parts.union(Units::numbered(place.min(7) + 15));
+            parts = parts.union(Units::of_cell(place));
         }
     }
     parts
 }
 
 /// The cells of these addresses, by cells and variables: what is known of others is forgotten.
-pub(crate) fn placed_cells(cells: Cells, slots: Slots, variables: &Variables, set: u64) -> Cells {
-    Cells {
-        first: placed_cell(cells.first, slots.at(0), variables, set),
-        second: placed_cell(cells.second, slots.at(1), variables, set),
-        third: placed_cell(cells.third, slots.at(2), variables, set),
-        fourth: placed_cell(cells.fourth, slots.at(3), variables, set),
-        fifth: placed_cell(cells.fifth, slots.at(4), variables, set),
-        sixth: placed_cell(cells.sixth, slots.at(5), variables, set),
-        seventh: placed_cell(cells.seventh, slots.at(6), variables, set),
-        eighth: placed_cell(cells.eighth, slots.at(7), variables, set),
-    }
-}
-
-/// A cell of an address, if there is one.
-fn placed_cell(cell: Cell, address: Option<u16>, variables: &Variables, set: u64) -> Cell {
-    match address {
+pub fn placed_cells(cells: Cells, slots: Slots, variables: &Variables, set: u64) -> Cells {
+    change_cells(cells, |place, cell| match slots.at(place) {
         None => Cell::ANY,
         Some(at) if cell.at == at && cell.bytes != ByteSpan::ANY => cell,
         Some(at) => Cell {
             at,
             bytes: variables.bytes_at(set, at),
         },
-    }
+    })
 }
 
 /// Cells of which that of an address may be these bytes too.
-pub(crate) fn widened_cells(cells: Cells, address: u16, bytes: ByteSpan) -> Cells {
-    Cells {
-        first: widened_cell(cells.first, address, bytes),
-        second: widened_cell(cells.second, address, bytes),
-        third: widened_cell(cells.third, address, bytes),
-        fourth: widened_cell(cells.fourth, address, bytes),
-        fifth: widened_cell(cells.fifth, address, bytes),
-        sixth: widened_cell(cells.sixth, address, bytes),
-        seventh: widened_cell(cells.seventh, address, bytes),
-        eighth: widened_cell(cells.eighth, address, bytes),
-    }
-}
-
-/// The cell, or if it has the address one with these bytes too.
-fn widened_cell(cell: Cell, address: u16, bytes: ByteSpan) -> Cell {
-    if cell.at == address {
-        Cell {
-            at: address,
-            bytes: ByteSpan {
-                first: cell.bytes.first.min(bytes.first),
-                last: cell.bytes.last.max(bytes.last),
-            },
+pub fn widened_cells(cells: Cells, address: u16, bytes: ByteSpan) -> Cells {
+    change_cells(cells, |_, cell| {
+        if cell.at == address {
+            Cell {
+                at: address,
+                bytes: ByteSpan {
+                    first: cell.bytes.first.min(bytes.first),
+                    last: cell.bytes.last.max(bytes.last),
+                },
+            }
+        } else {
+            cell
         }
-    } else {
-        cell
-    }
+    })
 }

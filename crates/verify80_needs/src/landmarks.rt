@@ -1,11 +1,12 @@
 //! The numbers to which spans grow.
 
+use crate::cells::{cell_at, change_cells};
 use crate::marks::mark;
 use crate::program::ReachedProgram;
 use decode80::{Instr, Operand};
 use image80::RegionMap;
 use std::alloc::{AllocError, Global};
-use verify80_states::{ByteSpan, Cell, Cells, PairSpan, Span, State, Words, is_marked};
+use verify80_states::{ByteSpan, Cell, PairSpan, Span, State, Words, is_marked};
 
 /// How often a state takes in others as they are.
 const JOINS: u32 = 4;
@@ -66,7 +67,7 @@ impl Scale {
 
 /// The numbers to which spans grow: ends of data, of pages, and what the program names.
 #[derive(Drop)]
-pub(crate) struct Landmarks {
+pub struct Landmarks {
     words: Scale,
     bytes: Scale,
 }
@@ -101,16 +102,10 @@ impl Landmarks {
                 third: self.grown_word(old.words.third, new.words.third, growths),
                 fourth: self.grown_word(old.words.fourth, new.words.fourth, growths),
             },
-            cells: Cells {
-                first: self.grown_cell(old.cells.first, new.cells.first, growths),
-                second: self.grown_cell(old.cells.second, new.cells.second, growths),
-                third: self.grown_cell(old.cells.third, new.cells.third, growths),
-                fourth: self.grown_cell(old.cells.fourth, new.cells.fourth, growths),
-                fifth: self.grown_cell(old.cells.fifth, new.cells.fifth, growths),
-                sixth: self.grown_cell(old.cells.sixth, new.cells.sixth, growths),
-                seventh: self.grown_cell(old.cells.seventh, new.cells.seventh, growths),
-                eighth: self.grown_cell(old.cells.eighth, new.cells.eighth, growths),
-            },
+            cells: change_cells(
+                old.cells,
+                |place, cell| self.grown_cell(cell, cell_at(new.cells, place), growths),
+            ),
             ..with_same_flags(old, new)
         }
     }
@@ -189,26 +184,19 @@ fn with_same_flags(old: State, new: State) -> State {
         } else {
             State::ANY.copy
         },
-        zero: if old.zero == new.zero { old.zero } else { None },
-        carry: if old.carry == new.carry {
-            old.carry
-        } else {
-            None
-        },
-        sign: if old.sign == new.sign { old.sign } else { None },
-        compared: if old.compared == new.compared {
-            old.compared
-        } else {
-            None
-        },
-        source: if old.source == new.source {
-            old.source
-        } else {
-            None
-        },
+        zero: same(old.zero, new.zero),
+        carry: same(old.carry, new.carry),
+        sign: same(old.sign, new.sign),
+        compared: same(old.compared, new.compared),
+        source: same(old.source, new.source),
         set: old.set & new.set,
         ..old
     }
+}
+
+/// What both know, if they know the same.
+fn same<T: Copy + PartialEq>(old: Option<T>, new: Option<T>) -> Option<T> {
+    if old == new { old } else { None }
 }
 
 /// Marks the ends of data and of pages.

@@ -88,7 +88,7 @@ impl<'a> ReachedProgram<'a> {
                     next,
                     self.after(found, false, given(condition, false, state)?),
                 )),
-                _ => self.returned(to, next, state.set),
+                _ => self.way_behind_call(to, next, state.set),
             },
             Flow::ReturnsIf(condition) => match number {
                 0 => Some((
@@ -99,7 +99,7 @@ impl<'a> ReachedProgram<'a> {
             },
             Flow::Calls(to) => match number {
                 0 => Some((to, self.after(found, true, state))),
-                _ => self.returned(to, next, state.set),
+                _ => self.way_behind_call(to, next, state.set),
             },
             Flow::JumpsToHl => {
                 let to = *self.targets(at).get(number)?;
@@ -113,7 +113,7 @@ impl<'a> ReachedProgram<'a> {
     }
 
     /// Where a callee returns to, if it may return and its states don't know where to: then its variables alone are known there.
-    fn returned(self, entry: u16, next: u16, set: u64) -> Option<(u16, State)> {
+    fn way_behind_call(self, entry: u16, next: u16, set: u64) -> Option<(u16, State)> {
         if self.returns.may_return(entry) && !self.returns.know_return(entry) {
             Some((next, State { set, ..State::ANY }))
         } else {

@@ -1,0 +1,42 @@
+//! A table that says nothing.
+
+ghost use Rattle.std.specs.Prelude.{◌≡◌, ℕ, Bool, IfOk, length};
+ghost use Rattle.image80.specs.Regions.{AreRegions};
+ghost use Rattle.verify80.specs.Looking.{code_of};
+ghost use Rattle.verify80.specs.Reached.{AreReached};
+ghost use Rattle.verify80_states.specs.Runs.{IsKept};
+
+use crate::bytes::bytes_stay_bytes;
+use crate::fitting::fitting::Placed;
+use crate::states::State;
+use decode80::Fetched;
+use image80::Image;
+use image80::laws::code_data_and_stack_are_apart;
+use std::alloc::{AllocError, Global};
+
+/// A table that fits each image: its state at each address says nothing.
+///
+/// # Errors
+/// `AllocError` if memory runs out.
+pub fn anything(
+    alloc: Global,
+    image: &Image,
+    reached: &[Option<Fetched>],
+) -> Result<Vec<Placed>, AllocError>
+    requires reached { AreReached (code_of image.now) reached.now }
+    requires whole { length reached.now ≡ 65536 }
+    requires rules { AreRegions image.now.regions }
+    ensures { IfOk result (λ table. (is_quiet : ℕ → Bool) → IsKept image.now is_quiet table.items) }
+{
+    bytes_stay_bytes();
+    code_data_and_stack_are_apart();
+    let mut table = Vec::with_capacity(alloc, 65_536)?;
+    for at in 0..65_536_usize {
+        table.push(Placed {
+            at: at as u16,
+            state: State::ANY,
+            hint: 0,
+        })?;
+    }
+    Ok(table)
+}

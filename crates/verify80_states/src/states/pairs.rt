@@ -1,0 +1,77 @@
+//! What is known of a pair.
+
+use verify80_spans::{ByteSpan, Span};
+
+/// What a pair may be: its words, and its low bytes, which may be fewer than those of the words.
+#[derive(Clone, Copy, Debug, PartialEq, Eq)]
+pub struct PairSpan {
+    pub words: Span,
+    pub low: ByteSpan,
+}
+
+impl PairSpan {
+    ghost use Rattle.std.specs.Prelude.{◌≡◌, ◌↔◌, true};
+    ghost use Rattle.verify80_spans.specs.Span.{high_of};
+    ghost use Rattle.verify80_states.specs.State.{pair_of_words, pair_of_halves, cut_high, cut_low, IsPairInside};
+
+    /// Any word.
+    pub const ANY: PairSpan = PairSpan {
+        words: Span::ANY,
+        low: ByteSpan::ANY,
+    };
+
+    /// A pair of these words.
+    pub fn of_words(words: Span) -> PairSpan
+        ensures { result ≡ pair_of_words words }
+    {
+        PairSpan {
+            words,
+            low: words.low(),
+        }
+    }
+
+    /// A pair of these halves.
+    pub fn of_halves(high: ByteSpan, low: ByteSpan) -> PairSpan
+        ensures { result ≡ pair_of_halves high low }
+    {
+        PairSpan {
+            words: Span::of_halves(high, low),
+            low,
+        }
+    }
+
+    /// What its high byte may be.
+    pub fn high(self) -> ByteSpan
+        ensures { result ≡ high_of self.words }
+    {
+        self.words.high()
+    }
+
+    /// The pair whose high byte is one of these too.
+    pub(crate) fn cut_high(self, byte: ByteSpan) -> PairSpan
+        ensures { result ≡ cut_high self byte }
+    {
+        PairSpan {
+            words: self.words.meet(Span::of_halves(byte, ByteSpan::ANY)),
+            low: self.low,
+        }
+    }
+
+    /// The pair whose low byte is one of these too.
+    pub(crate) fn cut_low(self, byte: ByteSpan) -> PairSpan
+        ensures { result ≡ cut_low self byte }
+    {
+        let low = self.low.meet(byte);
+        PairSpan {
+            words: self.words.meet(Span::of_halves(self.high(), low)),
+            low,
+        }
+    }
+
+    /// Whether all that this pair may be the other may be.
+    pub(crate) fn is_inside(self, other: PairSpan) -> bool
+        ensures { (result ≡ true) ↔ IsPairInside self other }
+    {
+        self.words.is_inside(other.words) && self.low.is_inside(other.low)
+    }
+}
