@@ -6,10 +6,8 @@ use Rattle.clap.specs.Matches.{found_of, subcommand_name_of}
 use Rattle.clap.specs.Simple.{subcommand_rows_of}
 use Rattle.clap.specs.Walk.{rows_of}
 use Rattle.plm80_console.specs.Answer.{Gives, GivesUp}
-use Rattle.plm80_console.specs.ApartPaths.{AreApart}
 use Rattle.plm80_console.specs.Arguments.{argument_text}
 use Rattle.plm80_console.specs.Journal.{Journal, OnlyReports, and_reported}
-use Rattle.plm80_console.specs.declared.syntax.Syntax.{Syntax}
 use Rattle.plm80_names.specs.Arguments.{AreNamedFiles, asks_names, program_paths}
 use Rattle.plm80_names.specs.Verdict.{AnswersProgram}
 use Rattle.plm80_objects.specs.Absolute.{ExtractsFile, GivesDumps, GivesUpDumps}
@@ -26,6 +24,7 @@ use Rattle.plm80_programs.specs.Printed.{AnswersStores, PrintsCalls, PrintsListi
 use Rattle.plm80_programs.specs.Running.{CoversFiles, RunsFiles, TracesFiles}
 use Rattle.plm80_programs.specs.Suggest.{AnswersAdvice, AreSuggestArguments}
 use Rattle.plm80_programs.specs.Written.{AnswersRegions}
+use Rattle.plm80.specs.Apart.{AreApartIn}
 use Rattle.plm80.specs.declared.commands.arguments.Request.{Request}
 use Rattle.plm80.specs.declared.commands.arguments.Request.TheVariants as request
 
@@ -77,15 +76,13 @@ AreArgumentsOf matches (request.Module arguments) = arguments.object.now ≡ arg
 AreArgumentsOf matches (request.Find arguments) = AreFindArguments matches arguments
 AreArgumentsOf matches (request.Suggest arguments) = AreSuggestArguments matches arguments
 
--- it is the one that clap has read, by a table of its command; no argument has the path of one that is written
+-- it is the one that clap has read; no argument has the path of one that is written
 pub record IsRequestOf (matches : ArgMatches) (request : Request) : Type 0 where
   pub arguments : ArgMatches
   pub name : subcommand_name_of matches ≡ Some (command_name request)
   pub rows : Some (rows_of (found_of arguments)) ≡ option_map (λ p. p.1) (subcommand_rows_of matches)
   pub are : AreArgumentsOf arguments request
-  pub table : Syntax
-  pub named : bytes_eq table.name.now (command_name request) ≡ true
-  pub apart : AreApart arguments table.arguments.now
+  pub apart : AreApartIn arguments request
 
 -- it is done: its files were read, its answer was given, and the status is the answer's
 abbrev pub IsPerformed : Request → (old new : Journal) → (status : ℕ) → Type 0
@@ -116,24 +113,13 @@ abbrev pub IsFailed : Request → (old new : Journal) → Type 0
 IsFailed (request.Link arguments) old new = GivesUp (LinksFiles arguments) (map (λ path. path.now) arguments.files.items) old new
 IsFailed (request.Locate arguments) old new = GivesUp (LocatesFile arguments) (arguments.object.now ∷ []) old new
 IsFailed (request.Run arguments) old new = GivesUp (RunsFiles arguments) (run_paths arguments.files) old new
-IsFailed (request.List arguments) old new = OnlyReports old new
-IsFailed (request.Check files) old new = OnlyReports old new
-IsFailed (request.Explain arguments) old new = OnlyReports old new
 IsFailed (request.Library arguments) old new = GivesUpLibrary arguments.library.now old new
 IsFailed (request.Regions arguments) old new = GivesUp (AnswersRegions arguments.new.now) (arguments.old.now ∷ []) old new
 IsFailed (request.Cases arguments) old new = GivesUp (AnswersCases (cases_path arguments)) (arguments.image.now ∷ arguments.regions.now ∷ []) old new
-IsFailed (request.Map arguments) old new = OnlyReports old new
 IsFailed (request.Extract arguments) old new = GivesUp (ExtractsFile arguments) (arguments.image.now ∷ []) old new
 IsFailed (request.Absolute arguments) old new = GivesUpDumps arguments old new
-IsFailed (request.Stores arguments) old new = OnlyReports old new
-IsFailed (request.Compare arguments) old new = OnlyReports old new
 IsFailed (request.Inputs arguments) old new = GivesUp (AnswersWords arguments) ([]) old new
-IsFailed (request.Calls arguments) old new = OnlyReports old new
-IsFailed (request.Trace arguments) old new = OnlyReports old new
-IsFailed (request.Cover arguments) old new = OnlyReports old new
-IsFailed (request.Module arguments) old new = OnlyReports old new
-IsFailed (request.Find arguments) old new = OnlyReports old new
-IsFailed (request.Suggest arguments) old new = OnlyReports old new
+IsFailed _ old new = OnlyReports old new
 
 -- one of both, with the exit status
 abbrev pub IsDone : Request → (old new : Journal) → (status : ℕ) → Type 0

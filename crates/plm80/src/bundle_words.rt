@@ -23,7 +23,7 @@ pub fn explain_bundle<C: Console>(
     output: Option<ErrorKind>,
 ) {
     match fault {
-        BundleFault::Session(SessionFault::Write) => console.explain_failure(output),
+        BundleFault::Session(SessionFault::Write) => console.explain_output(output),
         BundleFault::Session(SessionFault::Regions(fault)) => {
             if begins_with_digits(after_line(text)) {
                 console.explain(SEVERAL_LINES);

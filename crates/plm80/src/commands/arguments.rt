@@ -1,26 +1,26 @@
 //! The command line, read by clap.
 
-ghost use Rattle.std.specs.Prelude.{◌≡◌, ◌⊎◌, ◌∷◌, [], true, false, None, Some, IfOk, IfErr, IfSome, codes, map};
-ghost use Rattle.std.specs.Str.{bytes_eq};
+ghost use Rattle.std.specs.Prelude.{◌≡◌, ◌⊎◌, false, None, IfOk, IfErr, IfSome, OnOk};
 ghost use Rattle.clap.specs.Matches.{has_subcommand};
 ghost use Rattle.clap.specs.Values.{kind_of};
 ghost use Rattle.plm80_console.specs.Refusals.{IsConflict};
 ghost use Rattle.clap.specs.declared.parser.matches.ArgMatches.{ArgMatches};
+ghost use Rattle.plm80.specs.Apart.{AreApartIn};
 ghost use Rattle.plm80.specs.Requests.{AreArgumentsOf, IsRequestOf, command_name};
 
+use super::program::{program, shown_error};
 use clap::error::ErrorKind;
-use clap::{ArgMatches, Command, Error};
-use plm80_console::{Console, Syntax, WHY};
+use clap::{ArgMatches, Error};
+use plm80_console::{Console, WHY};
 use plm80_names::NamedFiles;
 use plm80_objects::{
-    ABSOLUTE, AbsoluteArguments, COMPARE, CompareArguments, EXTRACT, ExtractArguments, FIND,
-    FindArguments, LIB, LINK, LOCATE, LibraryArguments, LinkArguments, LocateArguments, MAP,
-    MODULE, MapArguments, ModuleArguments,
+    ABSOLUTE, AbsoluteArguments, CompareArguments, EXTRACT, ExtractArguments, FindArguments, LIB,
+    LINK, LOCATE, LibraryArguments, LinkArguments, LocateArguments, MapArguments, ModuleArguments,
 };
 use plm80_programs::{
-    CALLS, CASES, CHECK, COVER, CallsArguments, CasesArguments, CoverArguments, EXPLAIN,
-    ExplainArguments, INPUTS, InputsArguments, LIST, ListArguments, REGIONS, RUN, RegionsArguments,
-    RunArguments, STORES, SUGGEST, StoresArguments, SuggestArguments, TRACE, TraceArguments,
+    CASES, CallsArguments, CasesArguments, CoverArguments, ExplainArguments, InputsArguments,
+    ListArguments, RUN, RegionsArguments, RunArguments, StoresArguments, SuggestArguments,
+    TraceArguments,
 };
 use std::alloc::{AllocError, Global};
 
@@ -50,89 +50,6 @@ pub enum Request<'a> {
     Suggest(SuggestArguments<'a>),
 }
 
-const ABOUT: &str = "Links, locates, verifies and runs 8080 programs from OMF-80 object files";
-
-const AFTER_HELP: &str = "\
-Without arguments it reads a bundle from standard input (an image in
-hexadecimal, its regions, a line INPUTS, its inputs) and prints the transcript
-of its run. Words below the line of a fault or a refusal explain it if standard
-error is a terminal, or by --why, alone or after a command, or PLM80_WHY=1 in
-the environment; PLM80_WHY=0 leaves them out. Files have at most 1048576 bytes,
-a bundle 4194312.
-
-The exit status is 0 if the command succeeded or the program halted; 1 if the
-verifier refuses the program, or as the help of stores, cases, suggest, compare
-and find says; 2 for a fault of the arguments or of a file, and for help; 3 if
-the program stops at an empty port, a refused output, a store outside data or a
-jump outside its declared targets; and 4 if its steps are used up.
-
-Example: plm80 locate readings.obj readings.img readings.regions
-         plm80 run readings.img readings.regions readings.inputs
-
-Faults and what to do: docs/FAULTS.md (installed: share/doc/plm80), man plm80.";
-
-/// The commands of object files, in the order of the help text. (Several functions make the commands, since one proof of all their
-/// texts is more than the prover takes.)
-fn object_commands() -> [Syntax<'static>; 5]
-    ensures { map (λ command. command.name.now) result ≡ codes "lib" ∷ codes "link" ∷ codes "locate" ∷ codes "map" ∷ codes "module" ∷ [] }
-{
-    [LIB, LINK, LOCATE, MAP, MODULE]
-}
-
-/// The commands that verify a located program, in the order of the help text.
-fn verifier_commands() -> [Syntax<'static>; 4]
-    ensures { map (λ command. command.name.now) result ≡ codes "check" ∷ codes "explain" ∷ codes "calls" ∷ codes "stores" ∷ [] }
-{
-    [CHECK, EXPLAIN, CALLS, STORES]
-}
-
-/// The commands that run one, in the order of the help text.
-fn run_commands() -> [Syntax<'static>; 4]
-    ensures { map (λ command. command.name.now) result ≡ codes "run" ∷ codes "trace" ∷ codes "cover" ∷ codes "inputs" ∷ [] }
-{
-    [RUN, TRACE, COVER, INPUTS]
-}
-
-/// The commands of PROMs, and of programs of which there are no object files, in the order of the help text.
-fn prom_commands() -> [Syntax<'static>; 8]
-    ensures { map (λ command. command.name.now) result ≡ codes "absolute" ∷ codes "extract" ∷ codes "compare" ∷ codes "find"
-        ∷ codes "suggest" ∷ codes "cases" ∷ codes "list" ∷ codes "regions" ∷ [] }
-{
-    [
-        ABSOLUTE, EXTRACT, COMPARE, FIND, SUGGEST, CASES, LIST, REGIONS,
-    ]
-}
-
-/// The command of a name.
-fn command_of(name: &str) -> Option<Syntax<'static>>
-    ensures { IfSome result (λ command. bytes_eq command.name.now name.now ≡ true) }
-{
-    for command in object_commands() {
-        if command.name == name {
-            return Some(command);
-        }
-    }
-    for command in verifier_commands() {
-        if command.name == name {
-            return Some(command);
-        }
-    }
-    for command in run_commands() {
-        if command.name == name {
-            return Some(command);
-        }
-    }
-    for command in prom_commands() {
-        if command.name == name {
-            return Some(command);
-        }
-    }
-    None
-}
-
-/// What `--version` prints.
-const VERSION: &str = "1.2";
-
 /// The command of a command line, whose first argument is the program's own name, and whether its faults are explained.
 pub fn read_arguments<'a, C: Console>(
     console: &C,
@@ -141,7 +58,10 @@ pub fn read_arguments<'a, C: Console>(
     ensures { IfOk result (λ asked. (matches : ArgMatches) × IsRequestOf matches asked.0) }
 {
     let alloc = console.alloc();
-    let matches = program(alloc)?.try_get_matches_from(arguments)?;
+    let matches = match program(alloc, "")?.try_get_matches_from(arguments) {
+        Ok(matches) => matches,
+        Err(error) => return Err(shown_error(alloc, arguments, error)),
+    };
     match asked_for(console, &matches)? {
         Some(request) => Ok((request, is_explained(&matches))),
         None => Err(refusal(alloc, ErrorKind::MissingSubcommand, "no command")),
@@ -179,34 +99,11 @@ fn refusal(alloc: Global, kind: ErrorKind, text: &str) -> Error
     }
 }
 
-/// The same, if memory doesn't run out.
+/// An error of the command line, if memory doesn't run out for it.
 fn refuse(alloc: Global, kind: ErrorKind, text: &str) -> Result<Error, AllocError>
     ensures { IfOk result (λ error. kind_of error ≡ kind) }
 {
-    program(alloc)?.error(kind, text)
-}
-
-/// The program with its commands, for clap.
-fn program<'a>(alloc: Global) -> Result<Command<'a>, AllocError> {
-    let mut program = Command::new(alloc, "plm80")
-        .version(VERSION)
-        .about(ABOUT)
-        .after_help(AFTER_HELP)
-        .subcommand_required(true)
-        .bin_name("plm80")?;
-    for command in object_commands() {
-        program = program.subcommand(command.command(alloc)?)?;
-    }
-    for command in verifier_commands() {
-        program = program.subcommand(command.command(alloc)?)?;
-    }
-    for command in run_commands() {
-        program = program.subcommand(command.command(alloc)?)?;
-    }
-    for command in prom_commands() {
-        program = program.subcommand(command.command(alloc)?)?;
-    }
-    Ok(program)
+    program(alloc, "")?.error(kind, text)
 }
 
 /// The command that clap has read. Arguments are refused by which it would write over a file that it reads, or write a file twice.
@@ -221,11 +118,58 @@ fn asked_for<'a, C: Console>(
     let Some((name, arguments)) = matches.subcommand() else {
         return Ok(None);
     };
-    let Some(command) = command_of(name) else {
-        return Ok(None);
-    };
-    command.refuse_shared_paths(console, arguments)?;
-    Ok(request_of(console.alloc(), name, arguments)?)
+    match request_of(console.alloc(), name, arguments)? {
+        Some(request) => Ok(Some(unless_shared(console, request, arguments)?)),
+        None => Ok(None),
+    }
+}
+
+/// The request, unless an argument of it has the path of a file that it writes.
+fn unless_shared<'a, C: Console>(
+    console: &C,
+    request: Request<'a>,
+    arguments: &ArgMatches<'a>,
+) -> Result<Request<'a>, Error>
+    ensures request { IfOk result (λ given. given ≡ request.entry) }
+    ensures apart { IfOk result (λ given. AreApartIn arguments.now given) }
+    ensures conflict { IfErr result IsConflict }
+{
+    refuse_shared_paths(console, &request, arguments)?;
+    Ok(request)
+}
+
+/// Refuses the arguments of a command by which it would write a file that it reads, or write a file twice.
+fn refuse_shared_paths<C: Console>(
+    console: &C,
+    request: &Request<'_>,
+    arguments: &ArgMatches<'_>,
+) -> Result<(), Error>
+    ensures apart { OnOk result (AreApartIn arguments.now request.now) }
+    ensures conflict { IfErr result IsConflict }
+{
+    match request {
+        Request::Link(_) => LINK.refuse_shared_paths(console, arguments),
+        Request::Library(_) => LIB.refuse_shared_paths(console, arguments),
+        Request::Locate(_) => LOCATE.refuse_shared_paths(console, arguments),
+        Request::Run(_) => RUN.refuse_shared_paths(console, arguments),
+        Request::Cases(_) => CASES.refuse_shared_paths(console, arguments),
+        Request::Extract(_) => EXTRACT.refuse_shared_paths(console, arguments),
+        Request::Absolute(_) => ABSOLUTE.refuse_shared_paths(console, arguments),
+        Request::List(_)
+        | Request::Check(_)
+        | Request::Explain(_)
+        | Request::Regions(_)
+        | Request::Map(_)
+        | Request::Stores(_)
+        | Request::Compare(_)
+        | Request::Inputs(_)
+        | Request::Calls(_)
+        | Request::Trace(_)
+        | Request::Cover(_)
+        | Request::Module(_)
+        | Request::Find(_)
+        | Request::Suggest(_) => Ok(()),
+    }
 }
 
 /// The request of the command with this name and these arguments.

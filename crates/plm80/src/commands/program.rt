@@ -1,0 +1,141 @@
+//! The program for clap: its commands in groups, and its help text.
+
+ghost use Rattle.std.specs.Prelude.{◌≡◌, ◌∷◌, [], codes, map};
+
+use clap::{Command, Error};
+use plm80_console::{OneLine, Syntax};
+use plm80_objects::{ABSOLUTE, COMPARE, EXTRACT, FIND, LIB, LINK, LOCATE, MAP, MODULE};
+use plm80_programs::{
+    CALLS, CASES, CHECK, COVER, EXPLAIN, INPUTS, LIST, REGIONS, RUN, STORES, SUGGEST, TRACE,
+};
+use std::alloc::{AllocError, Global};
+
+const ABOUT: &str = "Links, locates, verifies and runs 8080 programs from OMF-80 object files";
+
+const AFTER_HELP: &str = "\
+plm80 help COMMAND, or plm80 COMMAND --help, prints the help of a command.
+
+Without arguments it reads a bundle from standard input (an image in
+hexadecimal, its regions, a line INPUTS, its inputs) and prints the transcript
+of its run. Words below the line of a fault or a refusal explain it if standard
+error is a terminal, or by --why, alone or after a command, or PLM80_WHY=1 in
+the environment; PLM80_WHY=0 leaves them out. Files have at most 1048576 bytes,
+a bundle 4194312.
+
+The exit status is 0 if the command succeeded or the program halted; 1 if the
+verifier refuses the program, or as the help of stores, cases, suggest, compare
+and find says; 2 for a fault of the arguments or of a file, and for help; 3 if
+the program stops at an empty port, a refused output, a store outside data or a
+jump outside its declared targets; and 4 if its steps are used up.
+
+Example: plm80 locate readings.obj readings.img readings.regions
+         plm80 run readings.img readings.regions readings.inputs
+
+Faults and what to do: docs/FAULTS.md (installed: share/doc/plm80), man plm80.";
+
+/// The commands of object files, in the order of the help text. (Several functions make the commands, since one proof of all their
+/// texts is more than the prover takes.)
+pub(crate) fn object_commands() -> [Syntax<'static>; 5]
+    ensures { map (λ command. command.name.now) result ≡ codes "lib" ∷ codes "link" ∷ codes "locate" ∷ codes "map" ∷ codes "module" ∷ [] }
+{
+    [LIB, LINK, LOCATE, MAP, MODULE]
+}
+
+/// The commands that verify a located program, in the order of the help text.
+pub(crate) fn verifier_commands() -> [Syntax<'static>; 4]
+    ensures { map (λ command. command.name.now) result ≡ codes "check" ∷ codes "explain" ∷ codes "calls" ∷ codes "stores" ∷ [] }
+{
+    [CHECK, EXPLAIN, CALLS, STORES]
+}
+
+/// The commands that run one, in the order of the help text.
+pub(crate) fn run_commands() -> [Syntax<'static>; 4]
+    ensures { map (λ command. command.name.now) result ≡ codes "run" ∷ codes "trace" ∷ codes "cover" ∷ codes "inputs" ∷ [] }
+{
+    [RUN, TRACE, COVER, INPUTS]
+}
+
+/// The commands of PROMs, and of programs of which there are no object files, in the order of the help text.
+pub(crate) fn prom_commands() -> [Syntax<'static>; 8]
+    ensures { map (λ command. command.name.now) result ≡ codes "absolute" ∷ codes "extract" ∷ codes "compare" ∷ codes "find"
+        ∷ codes "suggest" ∷ codes "cases" ∷ codes "list" ∷ codes "regions" ∷ [] }
+{
+    [
+        ABSOLUTE, EXTRACT, COMPARE, FIND, SUGGEST, CASES, LIST, REGIONS,
+    ]
+}
+
+/// What `--version` prints.
+const VERSION: &str = "1.2";
+
+/// The program with its commands, for clap; `after` follows the list of its options.
+pub(crate) fn program<'a>(alloc: Global, after: &'a str) -> Result<Command<'a>, AllocError> {
+    let mut program = Command::new(alloc, "plm80")
+        .version(VERSION)
+        .about(ABOUT)
+        .override_usage("plm80 <COMMAND>")
+        .after_help(after)
+        .subcommand_required(true)
+        .bin_name("plm80")?;
+    for command in object_commands() {
+        program = program.subcommand(command.command(alloc)?.hide(true))?;
+    }
+    for command in verifier_commands() {
+        program = program.subcommand(command.command(alloc)?.hide(true))?;
+    }
+    for command in run_commands() {
+        program = program.subcommand(command.command(alloc)?.hide(true))?;
+    }
+    for command in prom_commands() {
+        program = program.subcommand(command.command(alloc)?.hide(true))?;
+    }
+    Ok(program)
+}
+
+/// What clap prints for a command line that it doesn't take, with this error, or that asks for help: with the commands in groups, and
+/// with control characters of the arguments shown.
+pub(crate) fn shown_error(alloc: Global, arguments: &[String], error: Error) -> Error {
+    match refused_again(alloc, arguments) {
+        Ok(Some(shown)) => shown,
+        Ok(None) => error,
+        Err(AllocError) => Error::from(AllocError),
+    }
+}
+
+/// The error of these arguments with control characters shown; `None` if there is none.
+fn refused_again(alloc: Global, arguments: &[String]) -> Result<Option<Error>, AllocError> {
+    let mut shown = Vec::new(alloc);
+    for argument in arguments {
+        shown.push(format!(in alloc; "{}", OneLine(argument.as_str()))?)?;
+    }
+    let after = help_text(alloc)?;
+    Ok(program(alloc, &after)?.try_get_matches_from(&shown).err())
+}
+
+/// What follows the options of the program in its help text: the commands in groups, and further words.
+fn help_text(alloc: Global) -> Result<String, AllocError> {
+    let mut text = String::new(alloc);
+    append_group(&mut text, "Object files", &object_commands())?;
+    append_group(&mut text, "Located programs", &verifier_commands())?;
+    append_group(&mut text, "Runs", &run_commands())?;
+    append_group(
+        &mut text,
+        "PROMs, and programs without object files",
+        &prom_commands(),
+    )?;
+    text.push_str(AFTER_HELP)?;
+    Ok(text)
+}
+
+/// Appends the commands of a group, each with what it does.
+fn append_group(
+    text: &mut String,
+    heading: &str,
+    commands: &[Syntax<'_>],
+) -> Result<(), AllocError> {
+    write!(text, "{heading}:\n")?;
+    for command in commands {
+        write!(text, "  {:<8}  {}\n", command.name, command.about)?;
+    }
+    text.push_str("\n")
+}
