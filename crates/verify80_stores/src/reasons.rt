@@ -43,6 +43,7 @@ impl Place {
 }
 
 /// Where a pair comes from.
+#[derive(Clone, Copy)]
 enum Origin {
     /// From memory of which nothing is known.
     Memory(Reason),
