@@ -57,17 +57,24 @@ pub fn crowded_states(
 ) -> Result<Option<Vec<bool>>, AllocError> {
     for number in 0..2_usize {
         if let Some(proposal) = propose_table(alloc, program, groups, number)? {
-            let Some(crowded) = proposal.crowded else {
-                return Ok(None);
-            };
-            let mut marks = vec![in alloc; false; 65_536]?;
-            for at in &crowded {
-                mark(&mut marks, *at);
-            }
-            return Ok(Some(marks));
+            return marks_at(alloc, &proposal.crowded);
         }
     }
     Ok(None)
+}
+
+/// Marks for these addresses, if there are any.
+fn marks_at(alloc: Global, addresses: &Option<Vec<u16>>) -> Result<Option<Vec<bool>>, AllocError> {
+    match addresses {
+        Some(addresses) => {
+            let mut marks = vec![in alloc; false; 65_536]?;
+            for at in addresses {
+                mark(&mut marks, *at);
+            }
+            Ok(Some(marks))
+        }
+        None => Ok(None),
+    }
 }
 
 /// A table in which calls are told apart, with as many states at an address as can be followed; `None` if none can be told apart.

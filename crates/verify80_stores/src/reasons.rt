@@ -43,6 +43,7 @@ impl Place {
 }
 
 /// Where a pair comes from.
+#[derive(Clone, Copy)]
 enum Origin {
     /// From memory of which nothing is known.
     Memory(Reason),
@@ -85,14 +86,18 @@ impl<'a> Reasons<'a> {
 
     /// Why nothing is known of a pair before an address, if that is seen.
     pub fn reason(&self, setters: &Setters, at: u16, pair: Pair) -> Option<Reason> {
-        match (self.origin(setters, at, pair), &self.joined) {
-            (Origin::Memory(reason), _) => Some(reason),
-            (Origin::Elsewhere, _) => None,
-            (Origin::Unclear, Some(joined)) => match found_at(joined, at) {
-                Some(there) => Some(Reason::TooManyStates(there)),
-                None => None,
-            },
-            (Origin::Unclear, None) => Some(Reason::TooManyWays),
+        match self.origin(setters, at, pair) {
+            Origin::Memory(reason) => Some(reason),
+            Origin::Elsewhere => None,
+            Origin::Unclear => self.search_reason(at),
+        }
+    }
+
+    /// What the search for states gave up before an address.
+    fn search_reason(&self, at: u16) -> Option<Reason> {
+        match &self.joined {
+            Some(joined) => Some(Reason::TooManyStates(found_at(joined, at)?)),
+            None => Some(Reason::TooManyWays),
         }
     }
 
