@@ -1,7 +1,7 @@
 //! What is wrong with a line of a text, in words.
 
 ghost use Rattle.std.specs.Prelude.{◌≡◌, option_copied, option_map};
-ghost use Rattle.plm80_files.specs.Lines.{ends_in_blank, has_comment, has_flaw, has_lower_case, has_odd_number, has_one_of, has_other_bytes, is_odd_number, line_at, part_at, without_return};
+ghost use Rattle.plm80_files.specs.Lines.{ends_in_blank, has_comment, has_flaw, has_lower_case, has_odd_number, has_other_bytes, is_odd_number, line_at, part_at, without_return};
 
 use plm80_console::{Console, are_digits};
 use thiserror::Error;
@@ -41,7 +41,7 @@ pub(crate) const FLAWS: &[LineFlaw] = &[
     LineFlaw::OddDigits,
 ];
 
-/// What may be wrong with a line whose words and digits are of upper case, in the order in which it is said.
+/// The same of a line whose words and digits are of upper case.
 pub(crate) const UPPER_FLAWS: &[LineFlaw] = &[
     LineFlaw::NotAscii,
     LineFlaw::CarriageReturn,
@@ -53,7 +53,7 @@ pub(crate) const UPPER_FLAWS: &[LineFlaw] = &[
     LineFlaw::LowerCase,
 ];
 
-/// What may be wrong with a first line, whose digit stands alone, in the order in which it is said.
+/// The same of a first line, whose digit stands alone.
 pub(crate) const VERSION_FLAWS: &[LineFlaw] = &[
     LineFlaw::NotAscii,
     LineFlaw::CarriageReturn,
@@ -82,18 +82,17 @@ pub(crate) fn explain_flaws<C: Console>(
     text: &[u8],
     number: usize,
     flaws: &[LineFlaw],
-) -> bool
-    ensures { result ≡ has_one_of flaws.now (line_at text.now number) }
-{
-    let Some(line) = line_of(text, number) else {
-        return false;
-    };
-    for flaw in flaws {
-        if line.has(*flaw) {
-            console.explain(*flaw);
+) -> bool {
+    let mut is_explained = false;
+    if let Some(line) = line_of(text, number) {
+        for flaw in flaws {
+            if line.has(*flaw) {
+                console.explain(*flaw);
+                is_explained = true;
+            }
         }
     }
-    flaws.iter().any(|flaw| line.has(*flaw))
+    is_explained
 }
 
 impl<'a> Line<'a> {

@@ -13,7 +13,7 @@ const END_OF_FILE: u8 = RecordKind::EndOfFile as u8;
 /// What CP/M fills the last part of a file with.
 const CONTROL_Z: u8 = 0x1A;
 
-/// Says that the object file of this path, which was read, has bytes behind its end record, as [`explain_unread_bytes`] does.
+/// As [`explain_unread_bytes`], of the file of this path, which was read.
 pub(crate) fn explain_unread<C: Console>(console: &C, path: &str) {
     if let Some(bytes) = console.text_to_explain(path) {
         explain_unread_bytes(console, path, &bytes);
