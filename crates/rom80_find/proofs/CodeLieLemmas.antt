@@ -2,7 +2,7 @@
 use Rattle.std.specs.Prelude.{◌≡◌, ℕ, zero, suc, ◌+◌, ◌%◌, ◌<◌, ◌≤◌, ◌==◌, ◌||◌, not, Bool, true, false, Option, Some, None, List, [], ◌∷◌, length, filter, slice_index_or}
 use Rattle.std.specs.List.{AllByRecursion, list_all}
 use Rattle.std.specs.Option.{option_map_or}
-use Rattle.std.proofs.Common.{refl, sym, ◌∙◌, ap, subst, arith, take, drop}
+use Rattle.std.proofs.Common.{refl, sym, ◌∙◌, ap, subst, arith}
 use Rattle.std.proofs.lemmas.Bool.{and_parts, and_from, eq-eqb, eqb-true, ne_eqb, true≢false}
 use Rattle.std.proofs.lemmas.Bool.Decides.{nat_tests}
 use Rattle.rom80_find.specs.Dump.{DumpValue, dump_byte}
@@ -179,31 +179,3 @@ below_filter count p (b ∷ bs) h = one (p b) refl (below_filter count p bs h.1)
     one : (t : Bool) → p b ≡ t → AreBelow count (filter p bs) → AreBelow count (filter p (b ∷ bs))
     one true e rest = rw e (h.0, rest)
     one false e rest = rw e rest
-
--- bytes that stand in a row among the code's
-below_front : (count n : ℕ) (code : List CodeByte) → AreBelow count code → AreBelow count (take n code)
-below_front count zero code h = tt
-below_front count (suc n) [] h = tt
-below_front count (suc n) (b ∷ bs) h = (h.0, below_front count n bs h.1)
-
-pub below_part : (count k n : ℕ) (code : List CodeByte) → AreBelow count code → AreBelow count (take n (drop k code))
-below_part count zero n code h = below_front count n code h
-below_part count (suc k) n [] h = below_front count n [] tt
-below_part count (suc k) n (b ∷ bs) h = below_part count k n bs h.1
-
-has_front : (dump : DumpValue) (address : ℕ) (value : ℕ → ℕ) (n : ℕ) (code : List CodeByte) → HasAll dump address value code → HasAll dump address value (take n code)
-has_front dump address value zero code h = tt
-has_front dump address value (suc n) [] h = tt
-has_front dump address value (suc n) (b ∷ bs) h = (h.0, has_front dump address value n bs h.1)
-
-has_part : (dump : DumpValue) (address : ℕ) (value : ℕ → ℕ) (k n : ℕ) (code : List CodeByte) → HasAll dump address value code
-    → HasAll dump address value (take n (drop k code))
-has_part dump address value zero n code h = has_front dump address value n code h
-has_part dump address value (suc k) n [] h = has_front dump address value n [] tt
-has_part dump address value (suc k) n (b ∷ bs) h = has_part dump address value k n bs h.1
-
-pub part_lies : (dump : DumpValue) (code : List CodeByte) (address k n : ℕ) → LiesAt dump code address → LiesAt dump (take n (drop k code)) address
-part_lies dump code address k n h = record {
-  value = h.value;
-  lies = record { absolute = h.lies.absolute; here = h.lies.here; bytes = has_part dump address h.value k n code h.lies.bytes };
-}

@@ -41,9 +41,3 @@ pub each_at : {A : Type 0} (P : A → Type 0) (xs : List A) (i : ℕ) (d : A) �
 each_at P [] i d h lt = elim lt [ ]
 each_at P (x ∷ xs) zero d h lt = h.0
 each_at P (x ∷ xs) (suc i) d h lt = each_at P xs i d h.1 (omega arith)
-
-pub each_more : {A : Type 0} (P : A → Type 0) (xs : List A) (i : ℕ) (d : A) → i < length xs → AllByRecursion P (take i xs) → P (get_or xs i d)
-    → AllByRecursion P (take (i + 1) xs)
-each_more P [] i d lt h here = elim lt [ ]
-each_more P (x ∷ xs) zero d lt h here = (here, tt)
-each_more P (x ∷ xs) (suc i) d lt h here = (h.0, each_more P xs i d (omega arith) h.1 here)

@@ -1,8 +1,7 @@
 -- Runs of equal bytes in a dump.
-use Rattle.std.specs.Prelude.{◌≡◌, ℕ, ◌+◌, ◌-◌, ◌%◌, ◌<◌, ◌≤◌, ◌&&◌, nat_le, Bool, true, false, Option, List, length, slice_index, IfSome}
-use Rattle.std.specs.List.{AllByRecursion, list_any}
+use Rattle.std.specs.Prelude.{◌≡◌, ℕ, ◌+◌, ◌-◌, ◌%◌, ◌<◌, ◌≤◌, Bool, true, false, Option, List, length, slice_index, IfSome}
+use Rattle.std.specs.List.{AllByRecursion}
 use Rattle.rom80_find.specs.Dump.{DumpValue, dump_byte}
-use Rattle.rom80_find.specs.declared.offsets.Offsets.{Offsets}
 use Rattle.rom80_find.specs.declared.pattern.code_byte.CodeByte.{CodeByte}
 use Rattle.rom80_find.specs.Places.{is_free, LiesAt}
 
@@ -17,17 +16,12 @@ pub record IsRepeated (dump : DumpValue) (low high address : ℕ) : Type 0 where
   pub same : (offset : ℕ) → low ≤ offset → offset ≤ high
       → dump_byte dump ((address + offset) % 65536) ≡ dump_byte dump ((address - 1 + offset) % 65536)
 
--- so at each offset of these runs
-pub record AreRepeated (dump : DumpValue) (runs : List Offsets) (address : ℕ) : Type 0 where
-  pub later : 1 ≤ address
-  pub each : AllByRecursion (λ r. IsRepeated dump r.low r.high address) runs
+-- the bytes have offsets from one to another
+abbrev pub AreFrom : (low : ℕ) → List CodeByte → Type 0
+AreFrom low code = AllByRecursion (λ b. low ≤ b.offset) code
 
--- one of the runs has the offset, and that of each byte
-abbrev pub is_within : List Offsets → (offset : ℕ) → Bool
-is_within runs offset = list_any (λ r. nat_le r.low offset && nat_le offset r.high) runs
-
-abbrev pub AreWithin : List Offsets → List CodeByte → Type 0
-AreWithin runs code = AllByRecursion (λ b. is_within runs b.offset ≡ true) code
+abbrev pub AreUpTo : (high : ℕ) → List CodeByte → Type 0
+AreUpTo high code = AllByRecursion (λ b. b.offset ≤ high) code
 
 -- they are of other values than those of absolute bytes and of CODE
 abbrev pub AreFree : List CodeByte → Type 0

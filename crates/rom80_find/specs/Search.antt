@@ -6,7 +6,7 @@ use Rattle.rom80_find.specs.declared.fixup_bytes.FixupBytes.{FixupBytes}
 use Rattle.rom80_find.specs.Dump.{DumpValue}
 use Rattle.rom80_find.specs.Places.{AreBelow, IsClearBut, is_known_fixup}
 use Rattle.rom80_find.specs.Lone.{is_crowded}
-use Rattle.rom80_find.specs.Runs.{AreFree, AreWithin}
+use Rattle.rom80_find.specs.Runs.{AreFree, AreFrom, AreUpTo}
 
 -- the dump, and the bytes in fixups of values that are known, and of others that aren't of one word
 pub record SearchValue : Type 0 where
@@ -24,5 +24,6 @@ pub record IsSearch (bytes : FixupBytes) (table : List Candidates) : Type 0 wher
   pub known : AreBelow (length table) bytes.known.items
   pub below : AreBelow (length table) bytes.free.items
   pub free : AreFree bytes.free.items
-  pub within : AreWithin bytes.runs.items bytes.free.items
+  pub low : AreFrom bytes.offsets.low bytes.free.items
+  pub high : AreUpTo bytes.offsets.high bytes.free.items
   pub clear : IsClearBut [] table

@@ -3,12 +3,12 @@
 ghost use Rattle.std.specs.Prelude.{◌≡◌, ◌<◌, true, IfOk};
 ghost use Rattle.rom80_find.specs.Dump.{dump_of};
 ghost use Rattle.rom80_find.specs.Marks.{IsRow};
-ghost use Rattle.rom80_find.specs.Runs.{AreRepeated};
+ghost use Rattle.rom80_find.specs.Runs.{IsRepeated};
 
 use crate::dump::Dump;
 use crate::marks::{marks_of, row_in};
 use crate::offsets::Offsets;
-use crate::runs::{are_repeated, run_starts};
+use crate::runs::{is_repeated, run_starts};
 use std::alloc::{AllocError, Global};
 use std::marker::Model;
 
@@ -57,10 +57,10 @@ impl<'a> IndexedDump<'a> {
     }
 
     /// Whether the dump has, at each of these offsets after the address, the byte that it has there after the address before it.
-    pub(crate) fn are_repeated(&self, runs: &[Offsets], address: u16) -> bool
-        ensures { result ≡ true → AreRepeated self.now runs.now address }
+    pub(crate) fn is_repeated(&self, offsets: Offsets, address: u16) -> bool
+        ensures { result ≡ true → IsRepeated self.now offsets.low offsets.high address }
     {
-        are_repeated(&self.starts, runs, address)
+        is_repeated(&self.starts, offsets, address)
     }
 
     /// The addresses of a byte, or of all of them in row 256, as bits.

@@ -2,7 +2,7 @@
 
 ghost use Rattle.std.specs.Prelude.{◌≡◌, ◌≢◌, ℕ, ◌+◌, ◌-◌, ◌%◌, ◌<◌, ◌≤◌, true, length, slice_index, List, IfOk};
 ghost use Rattle.rom80_find.specs.Dump.{DumpValue, dump_of, dump_byte};
-ghost use Rattle.rom80_find.specs.Runs.{AreRepeated, AreRunStarts, IsRepeated};
+ghost use Rattle.rom80_find.specs.Runs.{AreRunStarts, IsRepeated};
 
 use crate::dump::Dump;
 use crate::indexed_dump::ADDRESSES;
@@ -10,22 +10,9 @@ use crate::offsets::Offsets;
 use crate::table::table;
 use std::alloc::{AllocError, Global};
 
-/// Whether a dump whose runs have these starts has, at each offset of these runs after the address, the byte that it has there after
-/// the address before it.
-pub(crate) fn are_repeated(starts: &[u32], runs: &[Offsets], address: u16) -> bool
-    requires { length starts.now ≡ 131072 }
-    ensures { result ≡ true → (dump : DumpValue) → AreRunStarts dump 131072 starts.now → AreRepeated dump runs.now address }
-{
-    for offsets in runs {
-        if !is_repeated(starts, *offsets, address) {
-            return false;
-        }
-    }
-    0 < address
-}
-
-/// Whether it does at each of these offsets.
-fn is_repeated(starts: &[u32], offsets: Offsets, address: u16) -> bool
+/// Whether a dump whose runs have these starts has, at each of these offsets after the address, the byte that it has there after the
+/// address before it.
+pub(crate) fn is_repeated(starts: &[u32], offsets: Offsets, address: u16) -> bool
     requires { length starts.now ≡ 131072 }
     ensures { result ≡ true → (dump : DumpValue) → AreRunStarts dump 131072 starts.now → IsRepeated dump offsets.low offsets.high address }
 {

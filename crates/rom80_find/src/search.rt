@@ -9,7 +9,7 @@ use crate::candidates::Candidates;
 use crate::fixup_bytes::FixupBytes;
 use crate::indexed_dump::IndexedDump;
 use crate::pattern::CodeByte;
-use crate::solving::{count_fitting, lies_at};
+use crate::solving::lies_at;
 use crate::table::table;
 use std::alloc::{AllocError, Global};
 use std::marker::Model;
@@ -21,13 +21,7 @@ pub(crate) struct Search<'a> {
     dump: &'a IndexedDump<'a>,
     bytes: FixupBytes,
     table: Vec<Candidates>,
-    /// Which byte of an unknown value was the first that didn't fit, where one was sought last. At the next address one near it often
-    /// doesn't either.
-    failed: usize,
 }
-
-/// How many bytes before the one that didn't fit last, and from it on, are looked at first.
-const NEAR: usize = 32;
 
 impl<'a> Model for Search<'a> {
     ghost use Rattle.rom80_find.specs.Search.{SearchValue, IsSearch};
@@ -54,12 +48,7 @@ impl<'a> Search<'a> {
     {
         let bytes = FixupBytes::of(alloc, code, lone)?;
         let table = table(alloc, Candidates::Any, lone.len())?;
-        Ok(Search {
-            dump,
-            bytes,
-            table,
-            failed: 0,
-        })
+        Ok(Search { dump, bytes, table })
     }
 
     /// Whether there are values with which the dump has these bytes with CODE at the address. `alive` says whether it has
@@ -95,24 +84,12 @@ impl<'a> Search<'a> {
         )
     }
 
-    /// Whether there are values with which it has those of unknown values there. A few bytes are looked at first: if they lie nowhere,
-    /// all don't.
+    /// Whether there are values with which it has those of unknown values there.
     fn has_free(&mut self, address: u16) -> bool
         ensures same { self.new ≡ self.old }
         ensures lies { IsAnswer self.old.dump self.old.free address result }
     {
-        let dump = self.dump.dump();
-        let count = self.bytes.free.len();
-        let first = self.failed.saturating_sub(NEAR).min(count);
-        let last = self.failed.saturating_add(NEAR).min(count);
-        let near = &self.bytes.free[first..last];
-        let fitting = count_fitting(dump, address, near, &mut self.table);
-        if fitting < near.len() {
-            self.failed = first + fitting;
-            return false;
-        }
-        self.failed = count_fitting(dump, address, &self.bytes.free, &mut self.table);
-        self.failed == count
+        lies_at(self.dump.dump(), address, &self.bytes.free, &mut self.table)
     }
 
     /// Whether the module lies at an address, by the answer at the address before if the dump has the same bytes there.
@@ -134,6 +111,6 @@ impl<'a> Search<'a> {
     fn is_repeated(&self, address: u16) -> bool
         ensures { result ≡ true → (lies : Bool) → IsAnswerBefore self.now.dump self.now.free address (Some lies) → IsAnswer self.now.dump self.now.free address lies }
     {
-        self.dump.are_repeated(&self.bytes.runs, address)
+        self.dump.is_repeated(self.bytes.offsets, address)
     }
 }

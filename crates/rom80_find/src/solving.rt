@@ -53,32 +53,15 @@ pub(crate) fn lies_at(
     ensures no { result ≡ false → LiesAt (dump_of dump.entry) code.now address → ⊥ }
     ensures clear { IsClearBut [] table.new.items }
 {
-    count_fitting(dump, address, code, table) == code.len()
-}
-
-/// How many of the bytes, from the first on, were read until there are no values with which the dump has them with CODE at the address:
-/// all of them exactly if there are some. Before and after, every value may be every word in the table.
-pub(crate) fn count_fitting(
-    dump: Dump<'_>,
-    address: u16,
-    code: &[CodeByte],
-    table: &mut Vec<Candidates>,
-) -> usize
-    requires two { 2 ≤ length table.old.items }
-    requires below { AreBelow (length table.old.items) code.now }
-    requires clear { IsClearBut [] table.old.items }
-    ensures whole { length table.new.items ≡ length table.old.items }
-    ensures within { result ≤ length code.now }
-    ensures yes { result ≡ length code.now → LiesAt (dump_of dump.entry) code.now address }
-    ensures no { result < length code.now → LiesAt (dump_of dump.entry) code.now address → ⊥ }
-    ensures clear { IsClearBut [] table.new.items }
-{
-    if code.is_empty() || !reaches(dump, address, code) {
-        return 0;
+    if code.is_empty() {
+        return true;
+    }
+    if !reaches(dump, address, code) {
+        return false;
     }
     let fitting = solve(dump, address, code, table);
     clear(&code[..fitting], table);
-    fitting
+    fitting == code.len()
 }
 
 /// Whether the dump reaches as far as the last byte would lie.

@@ -20,6 +20,7 @@ invariant_of-result c =
       below = subst (λ (n : ℕ). AreBelow n bytes.free.items) (sym whole)
           (subst (λ (l : List CodeByte). AreBelow (length lone) l) (sym c.in_ok-bytes.ensures.free) (below_filter (length lone) (is_crowded lone) code c.requires.below));
       free = subst (λ (l : List CodeByte). AreFree l) (sym c.in_ok-bytes.ensures.free) (crowded_filter lone code);
-      within = c.in_ok-bytes.ensures.within;
+      low = c.in_ok-bytes.ensures.low;
+      high = c.in_ok-bytes.ensures.high;
       clear = λ number two all. c.in_ok-table.ensures.each number;
     }
