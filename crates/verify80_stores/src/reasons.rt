@@ -185,23 +185,23 @@ impl<'a> Reasons<'a> {
 
     /// Why nothing is known of the byte at an address.
     fn unknown(&self, at: u16) -> Option<Reason> {
-        let regions = &self.image.regions;
+        let image = self.image;
+        let regions = &image.regions;
         if regions.in_code(at) || is_marked(self.program.quiet, at) {
             None
         } else if regions.in_data(at) {
             Some(Reason::NotQuiet(at))
-        } else if self.has_byte(at) {
+        } else if has_byte(image, at) {
             Some(Reason::NotCode(at))
         } else {
             None
         }
     }
+}
 
-    /// Whether the image has a byte at an address.
-    fn has_byte(&self, at: u16) -> bool {
-        self.image.chunks.iter().any(|chunk| usize::from(at.wrapping_sub(chunk.address))
-            < chunk.bytes.len())
-    }
+/// Whether an image has a byte at an address.
+fn has_byte(image: &Image, at: u16) -> bool {
+    image.chunks.iter().any(|chunk| usize::from(at.wrapping_sub(chunk.address)) < chunk.bytes.len())
 }
 
 /// What an instruction that sets a place makes it of, if it is a register or a pair.
