@@ -6,7 +6,7 @@ ghost use Rattle.plm80_console.specs.Journal.{and_reported};
 ghost use Rattle.plm80.specs.Requests.{IsCommandDone, IsDone, IsFailed, IsPerformed};
 
 mod arguments;
-mod program;
+mod program_syntax;
 
 use arguments::{Request, read_arguments};
 use plm80_console::{Console, Reported};

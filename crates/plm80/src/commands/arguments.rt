@@ -8,7 +8,7 @@ ghost use Rattle.clap.specs.declared.parser.matches.ArgMatches.{ArgMatches};
 ghost use Rattle.plm80.specs.Apart.{AreApartIn};
 ghost use Rattle.plm80.specs.Requests.{AreArgumentsOf, IsRequestOf, command_name};
 
-use super::program::{program, shown_error};
+use super::program_syntax::{program, shown_error};
 use clap::error::ErrorKind;
 use clap::{ArgMatches, Error};
 use plm80_console::{Console, WHY};
