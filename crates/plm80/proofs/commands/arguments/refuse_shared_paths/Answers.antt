@@ -12,16 +12,22 @@ returns-in-Library-clause-apart g c = rw c.in-Library.is (unless_refused c.refus
     (λ path is. apart 0 _ path refl is 1 _ refl (λ e. let bad : 1 ≡ 0 = e in absurd (omega arith)) refl)))
 
 pub returns-in-Locate-clause-apart : goal.returns-in-Locate-clause-apart
-returns-in-Locate-clause-apart g c = rw c.in-Locate.is (unless_refused c.refuse_shared_paths-in-Locate.result c.refuse_shared_paths-in-Locate.ensures.apart (λ apart.
-    ((λ path is. apart 1 _ path refl is 0 _ refl (λ e. let bad : 0 ≡ 1 = e in absurd (omega arith)) refl)
-    , ((λ path is. apart 1 _ path refl is 2 _ refl (λ e. let bad : 2 ≡ 1 = e in absurd (omega arith)) refl)
-    , (λ path is. apart 2 _ path refl is 0 _ refl (λ e. let bad : 0 ≡ 2 = e in absurd (omega arith)) refl)))))
+returns-in-Locate-clause-apart g c = rw c.in-Locate.is (unless_refused c.refuse_shared_paths-in-Locate.result c.refuse_shared_paths-in-Locate.ensures.apart (λ apart. (
+  (λ path is. apart 1 _ path refl is 0 _ refl (λ e. let bad : 0 ≡ 1 = e in absurd (omega arith)) refl),
+  (
+    (λ path is. apart 1 _ path refl is 2 _ refl (λ e. let bad : 2 ≡ 1 = e in absurd (omega arith)) refl),
+    (λ path is. apart 2 _ path refl is 0 _ refl (λ e. let bad : 0 ≡ 2 = e in absurd (omega arith)) refl),
+  ),
+)))
 
 pub returns-in-Run-clause-apart : goal.returns-in-Run-clause-apart
-returns-in-Run-clause-apart g c = rw c.in-Run.is (unless_refused c.refuse_shared_paths-in-Run.result c.refuse_shared_paths-in-Run.ensures.apart (λ apart.
-    ((λ path is. apart 6 _ path refl is 0 _ refl (λ e. let bad : 0 ≡ 6 = e in absurd (omega arith)) refl)
-    , ((λ path is. apart 6 _ path refl is 1 _ refl (λ e. let bad : 1 ≡ 6 = e in absurd (omega arith)) refl)
-    , (λ path is. apart 6 _ path refl is 2 _ refl (λ e. let bad : 2 ≡ 6 = e in absurd (omega arith)) refl)))))
+returns-in-Run-clause-apart g c = rw c.in-Run.is (unless_refused c.refuse_shared_paths-in-Run.result c.refuse_shared_paths-in-Run.ensures.apart (λ apart. (
+  (λ path is. apart 6 _ path refl is 0 _ refl (λ e. let bad : 0 ≡ 6 = e in absurd (omega arith)) refl),
+  (
+    (λ path is. apart 6 _ path refl is 1 _ refl (λ e. let bad : 1 ≡ 6 = e in absurd (omega arith)) refl),
+    (λ path is. apart 6 _ path refl is 2 _ refl (λ e. let bad : 2 ≡ 6 = e in absurd (omega arith)) refl),
+  ),
+)))
 
 pub returns-in-Cases-clause-apart : goal.returns-in-Cases-clause-apart
 returns-in-Cases-clause-apart g c = rw c.in-Cases.is (unless_refused c.refuse_shared_paths-in-Cases.result c.refuse_shared_paths-in-Cases.ensures.apart (λ apart.
@@ -32,6 +38,7 @@ returns-in-Extract-clause-apart g c = rw c.in-Extract.is (unless_refused c.refus
     (λ path is. apart 1 _ path refl is 0 _ refl (λ e. let bad : 0 ≡ 1 = e in absurd (omega arith)) refl)))
 
 pub returns-in-Absolute-clause-apart : goal.returns-in-Absolute-clause-apart
-returns-in-Absolute-clause-apart g c = rw c.in-Absolute.is (unless_refused c.refuse_shared_paths-in-Absolute.result c.refuse_shared_paths-in-Absolute.ensures.apart (λ apart.
-    ((λ path is. apart 1 _ path refl is 0 _ refl (λ e. let bad : 0 ≡ 1 = e in absurd (omega arith)) refl)
-    , (λ path is. apart 1 _ path refl is 5 _ refl (λ e. let bad : 5 ≡ 1 = e in absurd (omega arith)) refl))))
+returns-in-Absolute-clause-apart g c = rw c.in-Absolute.is (unless_refused c.refuse_shared_paths-in-Absolute.result c.refuse_shared_paths-in-Absolute.ensures.apart (λ apart. (
+  (λ path is. apart 1 _ path refl is 0 _ refl (λ e. let bad : 0 ≡ 1 = e in absurd (omega arith)) refl),
+  (λ path is. apart 1 _ path refl is 5 _ refl (λ e. let bad : 5 ≡ 1 = e in absurd (omega arith)) refl),
+)))
