@@ -1,6 +1,6 @@
 -- When what two paths name is one file.
 -- (POSIX: the device and the serial number of a file are those of no other one.)
-use Rattle.std.specs.Prelude.{Bool, false, ◌==◌, ◌&&◌}
+use Rattle.std.specs.Prelude.{Bool, false, ◌==◌, ◌&&◌, string_bytes}
 use Rattle.std.specs.Str.{bytes_eq}
 use Rattle.plm80_host.specs.declared.same_file.Node.{Node}
 use Rattle.plm80_host.specs.declared.same_file.Place.{Place}
@@ -14,7 +14,7 @@ abbrev pub is_one_place : Place → Place → Bool
 is_one_place (File node) (File other) = is_one_node node other
 is_one_place (File node) (NewFile folder name) = false
 is_one_place (NewFile folder name) (File other) = false
-is_one_place (NewFile folder name) (NewFile other other_name) = is_one_node folder other && bytes_eq name.now other_name.now
+is_one_place (NewFile folder name) (NewFile other other_name) = is_one_node folder other && bytes_eq (string_bytes name) (string_bytes other_name)
 
 abbrev pub IsNewFile : Place → Type 0
 IsNewFile (File node) = ⊥

@@ -1,12 +1,28 @@
-//! Files that are opened when they are first read, and readers that keep why they failed.
+//! Files that are opened when they are first read, readers that keep why they failed, and why.
 
-ghost use Rattle.std.specs.Prelude.{◌≡◌, None};
+ghost use Rattle.std.specs.Prelude.{◌≡◌, ◌≢◌, None, Some, pos};
 ghost use Rattle.std.specs.Io.{ReadsAtMost};
+ghost use Rattle.std.specs.IoError.{error_kind, raw_os_error};
 
 use std::fs::File;
 use std::io;
 use std::io::{ErrorKind, Read};
 use std::marker::Model;
+
+/// The number of the error that the system gives for a descriptor that is closed.
+const CLOSED: i32 = 9;
+
+/// Why the system failed. std has no kind for a closed standard input or output: here it isn't connected.
+pub(crate) fn kind_of(error: &io::Error) -> ErrorKind
+    ensures closed { raw_os_error error.now ≡ Some (pos 9) → result ≡ ErrorKind.NotConnected }
+    ensures other { raw_os_error error.now ≢ Some (pos 9) → result ≡ error_kind error.now }
+{
+    if error.raw_os_error() == Some(CLOSED) {
+        ErrorKind::NotConnected
+    } else {
+        error.kind()
+    }
+}
 
 /// A file that is opened when it is first read, so that a missing file is reported when its turn comes.
 #[derive(Drop)]
@@ -68,7 +84,7 @@ impl<'a> Read for LateFile<'a> {
         match self.open_and_read(buffer) {
             Ok(count) => Ok(count),
             Err(error) => {
-                self.failure = Some(error.kind());
+                self.failure = Some(kind_of(&error));
                 Err(error)
             }
         }
@@ -116,7 +132,7 @@ impl<R: Read> Read for NotedReader<R> {
         match self.inner.read(buffer) {
             Ok(count) => Ok(count),
             Err(error) => {
-                self.failure = Some(error.kind());
+                self.failure = Some(kind_of(&error));
                 Err(error)
             }
         }

@@ -4,9 +4,9 @@ ghost use Rattle.std.specs.Prelude.{◌≡◌, [], IfOk};
 ghost use Rattle.plm80_console.specs.Journal.{and_reported, nothing_done};
 ghost use Rattle.plm80_host.specs.Noted.{noted};
 
-use crate::files::{LateFile, NotedReader};
+use crate::files::{LateFile, NotedReader, kind_of};
 use crate::notes::{Note, Notes};
-use plm80_console::{Console, NewFile, Reported, TakePieces};
+use plm80_console::{Console, NewFile, OneLine, Reported, TakePieces};
 use std::alloc::Global;
 use std::fmt::Display;
 use std::fs;
@@ -140,7 +140,7 @@ impl<'a> Console for HostConsole<'a> {
     }
 
     fn report<F: Display + Drop>(&mut self, fault: F) -> Reported {
-        let reported = Reported::print(self.rt, format_args!("plm80: {fault}\n"));
+        let reported = Reported::print(self.rt, format_args!("plm80: {}\n", OneLine(fault)));
         self.note(&Note::Reported);
         reported
     }
@@ -160,12 +160,12 @@ impl<'a> Console for HostConsole<'a> {
 
     fn explain<F: Display + Drop>(&self, words: F) {
         if self.why {
-            let _ = eprintln!(self.rt; "  {words}");
+            let _ = eprintln!(self.rt; "  {}", OneLine(words));
         }
     }
 
     fn remark<F: Display + Drop>(&self, words: F) {
-        let _ = eprintln!(self.rt; "plm80: {words}");
+        let _ = eprintln!(self.rt; "plm80: {}", OneLine(words));
     }
 
     fn text_to_explain(&self, path: &str) -> Option<Vec<u8>> {
@@ -243,7 +243,10 @@ impl<'a> HostConsole<'a> {
         match fault {
             ReadAllFault::Read => {
                 let reported = self.report("Read 1");
-                self.explain_failure(failure);
+                match failure {
+                    Some(ErrorKind::NotConnected) => self.explain("standard input is closed"),
+                    _ => self.explain_failure(failure),
+                }
                 reported
             }
             ReadAllFault::TooLong => self.report("TooLong 1"),
@@ -307,7 +310,7 @@ impl<'a> Sink for HostOutput<'a> {
             }
             Err(error) => {
                 self.failures += 1;
-                self.failure = Some(error.kind());
+                self.failure = Some(kind_of(&error));
                 Err(Failed)
             }
         }

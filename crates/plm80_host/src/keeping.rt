@@ -7,6 +7,8 @@ ghost use Rattle.plm80_console.specs.Replaced.{GaveUpKeeping, IsKept, IsReplaced
 use crate::host::HostConsole;
 use crate::notes::Note;
 use crate::path_parts::folder_and_name;
+use crate::replacing::create_private;
+use crate::size_limit::is_past_limit;
 use plm80_console::{Console, NewFile, Reported};
 use std::alloc::AllocError;
 use std::fs::{File, Permissions};
@@ -90,7 +92,7 @@ impl<'a> HostConsole<'a> {
     {
         for number in 0..u32::MAX {
             let kept = self.kept_path(path, number)?;
-            match File::create_new(self.rt, &kept) {
+            match create_private(self.rt, &kept) {
                 Ok(copy) => return Ok((kept, copy)),
                 Err(error) if error.kind() == ErrorKind::AlreadyExists => {}
                 Err(error) => return Err(CopyFault::At(kept, error.kind())),
@@ -121,7 +123,7 @@ impl<'a> HostConsole<'a> {
         ensures kept { IfOk result (λ _. self.new.notes.journal ≡ and_copied self.old.notes.journal kept.now) }
         ensures fault { IfErr result (λ _. self.new.notes.journal ≡ and_reported self.old.notes.journal) }
     {
-        match copy_and_sync(object, copy) {
+        match copy_and_sync(self.rt, object, copy) {
             Ok(()) => {
                 // With its folder on the disk the file's name outlasts a crash of the system. Not every file system can do it.
                 let (folder, _) = folder_and_name(kept);
@@ -167,9 +169,12 @@ impl From<AllocError> for CopyFault {
 }
 
 /// Writes all bytes of the object file to the copy and to the disk. The copy gets its permissions first.
-fn copy_and_sync(mut object: File, mut copy: File) -> io::Result<()> {
-    let mode = object.metadata()?.permissions().mode();
-    copy.set_permissions(Permissions::from_mode(mode & 0o777))?;
+fn copy_and_sync(rt: &HostRuntime, mut object: File, mut copy: File) -> io::Result<()> {
+    let metadata = object.metadata()?;
+    if is_past_limit(rt, metadata.len()) {
+        return Err(io::Error::from(ErrorKind::FileTooLarge));
+    }
+    copy.set_permissions(Permissions::from_mode(metadata.permissions().mode() & 0o777))?;
     io::copy(&mut object, &mut copy)?;
     copy.sync_all()
 }

@@ -18,6 +18,7 @@ mod notes;
 mod path_parts;
 mod replacing;
 mod same_file;
+mod size_limit;
 
 pub use host::{HostConsole, HostOutput};
 pub use notes::{Note, Notes};

@@ -23,7 +23,7 @@ impl Model for Notes {
 pub enum Note<'a> {
     /// The file of a path was read whole.
     Read(&'a str, &'a [u8]),
-    /// It was read in pieces.
+    /// The file of a path was read in pieces.
     ReadPieces(&'a str, &'a Notes),
     /// Standard input was read whole.
     Input(&'a [u8]),

@@ -1,7 +1,8 @@
 //! Files that are replaced whole or not at all.
 //!
 //! A file is written beside its place, synced, and renamed, so that the place has the old file or the new one, never a part. A
-//! place that is no regular file with one link, or beside which no file of the same owner can be made, is written in place.
+//! place that is no regular file with one link, or beside which no file of the same owner can be made, is written in place. What
+//! replaces a file can be opened by its owner alone until it has the old file's permissions.
 
 ghost use Rattle.std.specs.Prelude.{◌≡◌, ◌∷◌, [], IfErr, IfOk, string_bytes};
 ghost use Rattle.std.specs.IoError.{error_kind};
@@ -13,11 +14,12 @@ ghost use Rattle.plm80_console.specs.Journal.{and_reported, and_written};
 use crate::host::HostConsole;
 use crate::notes::Note;
 use crate::path_parts::folder_and_name;
+use crate::size_limit::is_past_limit;
 use plm80_console::{Console, NewFile, Reported};
 use std::alloc::AllocError;
 use std::fs::{File, Metadata, OpenOptions};
 use std::io::{ErrorKind, Write};
-use std::os::unix::fs::MetadataExt;
+use std::os::unix::fs::{MetadataExt, OpenOptionsExt};
 use std::{fs, io};
 
 /// How many bytes of a file's name its draft's name begins with, at most. With `.new` and a number it has at most 254: a file
@@ -39,7 +41,7 @@ impl<'a> Draft<'a> {
     }
 }
 
-/// Both drafts, with the one first that is written in place, if only one is, since that may fail as it is written.
+/// Two drafts, with the one first that is written in place, if only one is, since that may fail as it is written.
 fn in_order<'a>(first: Draft<'a>, second: Draft<'a>) -> (Draft<'a>, Draft<'a>)
     ensures { result ≡ in_order first.entry second.entry }
 {
@@ -203,7 +205,10 @@ impl<'a> HostConsole<'a> {
     fn try_draft<'f>(&self, file: NewFile<'f>) -> Result<Draft<'f>, DraftFault>
         ensures { IfOk result (IsDraftOf file.entry) }
     {
-        let old = match self.replaced(file.path)? {
+        if exceeds_limit(self.rt, file) {
+            return Err(DraftFault::System(ErrorKind::FileTooLarge));
+        }
+        let old = match self.find_replaced(file.path)? {
             Replaced::Nothing => None,
             Replaced::File(metadata) => Some(metadata),
             Replaced::Other => return Ok(Draft { file, beside: None }),
@@ -211,7 +216,7 @@ impl<'a> HostConsole<'a> {
         let beginning = with_short_name(file.path);
         for number in 0..u32::MAX {
             let beside = format!(in self.rt.alloc(); "{beginning}.new{number}")?;
-            match File::create_new(self.rt, &beside) {
+            match self.create_beside(&beside, old.is_some()) {
                 Ok(target) => return self.fill(target, beside, file, old),
                 Err(error) if error.kind() == ErrorKind::AlreadyExists => self.explain(format_args!(
                     "{beside} is there: if a run that was killed left it, remove it"
@@ -220,6 +225,15 @@ impl<'a> HostConsole<'a> {
             }
         }
         Err(DraftFault::System(ErrorKind::AlreadyExists))
+    }
+
+    /// A new file of this name; one that replaces another is its owner's alone.
+    fn create_beside(&self, beside: &str, replaces: bool) -> io::Result<File> {
+        if replaces {
+            create_private(self.rt, beside)
+        } else {
+            File::create_new(self.rt, beside)
+        }
     }
 
     /// Writes the bytes to the file beside the place, which gets the old file's permissions.
@@ -251,7 +265,7 @@ impl<'a> HostConsole<'a> {
     }
 
     /// What the path names now. An old file that can't be written is an error, as it is for one that is written in place.
-    fn replaced(&self, path: &str) -> io::Result<Replaced> {
+    fn find_replaced(&self, path: &str) -> io::Result<Replaced> {
         match fs::symlink_metadata(self.rt, path) {
             Err(error) if error.kind() == ErrorKind::NotFound => Ok(Replaced::Nothing),
             Err(_) => Ok(Replaced::Other),
@@ -288,6 +302,23 @@ fn with_short_name(path: &str) -> &str
         }
     }
     path
+}
+
+/// A new file of this name, which its owner alone can open.
+pub(crate) fn create_private(rt: &HostRuntime, path: &str) -> io::Result<File> {
+    OpenOptions::new()
+        .write(true)
+        .create_new(true)
+        .mode(0o600)
+        .open(rt, path)
+}
+
+/// Whether the file has more bytes than one may have at its place. A pipe or a device may have any number.
+fn exceeds_limit(rt: &HostRuntime, file: NewFile<'_>) -> bool {
+    match fs::metadata(rt, file.path) {
+        Ok(metadata) if !metadata.is_file() => false,
+        _ => is_past_limit(rt, file.bytes.len() as u64),
+    }
 }
 
 /// Gives the file the old one's permissions; whether it has its owner and group, too.

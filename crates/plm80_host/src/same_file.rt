@@ -1,21 +1,26 @@
 //! Whether two paths name one file.
 
-ghost use Rattle.std.specs.Prelude.{◌≡◌, ◌==◌, ◌&&◌, IfSome};
+ghost use Rattle.std.specs.Prelude.{◌≡◌, ◌==◌, ◌&&◌, IfOk, IfSome, string_bytes};
 ghost use Rattle.std.specs.Str.{bytes_eq};
+ghost use Rattle.plm80_host.specs.PathParts.{joined_path};
 ghost use Rattle.plm80_host.specs.Places.{IsNewFile, is_one_place};
 
 use crate::host::HostConsole;
 use crate::path_parts::folder_and_name;
+use std::alloc::{AllocError, Global};
 use std::fs;
 use std::fs::Metadata;
 use std::io::ErrorKind;
 use std::os::unix::fs::MetadataExt;
 
+/// How many symbolic links a path is followed through, as Linux does.
+const LINKS: usize = 40;
+
 impl<'a> HostConsole<'a> {
-    /// Whether both paths name one file.
+    /// Whether two paths name one file.
     pub(crate) fn is_one_place(&self, first: &str, second: &str) -> bool {
         match (place_of(self.rt, first), place_of(self.rt, second)) {
-            (Some(first), Some(second)) => first.is(second),
+            (Some(first), Some(second)) => first.is(&second),
             _ => false,
         }
     }
@@ -36,7 +41,7 @@ impl Node {
         }
     }
 
-    /// Whether both are one file or folder.
+    /// Whether two nodes are one file or folder.
     fn is(self, other: Node) -> bool
         ensures { result ≡ (self.device == other.device && self.number == other.number) }
     {
@@ -45,23 +50,23 @@ impl Node {
 }
 
 /// What a path names.
-#[derive(Clone, Copy)]
-enum Place<'a> {
+#[derive(Drop)]
+enum Place {
     /// A regular file that is there, whatever links lead to it.
     File(Node),
     /// A file of this name that would be made in this folder.
-    NewFile(Node, &'a str),
+    NewFile(Node, String),
 }
 
-impl<'a> Place<'a> {
-    /// Whether both are one file.
-    fn is(self, other: Place<'_>) -> bool
-        ensures { result ≡ is_one_place self.entry other.entry }
+impl Place {
+    /// Whether two places are one file.
+    fn is(&self, other: &Place) -> bool
+        ensures { result ≡ is_one_place self.now other.now }
     {
         match (self, other) {
-            (Place::File(node), Place::File(other)) => node.is(other),
+            (Place::File(node), Place::File(other)) => node.is(*other),
             (Place::NewFile(folder, name), Place::NewFile(other, other_name)) => {
-                folder.is(other) && name == other_name
+                folder.is(*other) && name.as_str() == other_name.as_str()
             }
             (Place::File(_), Place::NewFile(..)) | (Place::NewFile(..), Place::File(_)) => false,
         }
@@ -69,7 +74,7 @@ impl<'a> Place<'a> {
 }
 
 /// What the path names; `None` if that can't be read or written, or is a pipe or a device, which may be both at once.
-fn place_of<'m>(rt: &HostRuntime, path: &'m str) -> Option<Place<'m>> {
+fn place_of(rt: &HostRuntime, path: &str) -> Option<Place> {
     match fs::metadata(rt, path) {
         Ok(metadata) if metadata.is_file() => Some(Place::File(Node::of(&metadata))),
         Err(error) if error.kind() == ErrorKind::NotFound => new_file(rt, path),
@@ -77,16 +82,52 @@ fn place_of<'m>(rt: &HostRuntime, path: &'m str) -> Option<Place<'m>> {
     }
 }
 
-/// The file that would be made at the path; `None` if there can be none.
-fn new_file<'m>(rt: &HostRuntime, path: &'m str) -> Option<Place<'m>>
+/// The file that would be made at the path, by which no file is found; `None` if there can be none.
+fn new_file(rt: &HostRuntime, path: &str) -> Option<Place>
+    ensures { IfSome result IsNewFile }
+{
+    let mut path = String::from_str(rt.alloc(), path).ok()?;
+    for _ in 0..LINKS {
+        match next_path(rt, &path)? {
+            Some(target) => path = target,
+            None => return in_folder(rt, &path),
+        }
+    }
+    None
+}
+
+/// Where a symbolic link of this path leads; `Some(None)` if there is no link, and `None` if that can't be read.
+fn next_path(rt: &HostRuntime, path: &str) -> Option<Option<String>> {
+    match fs::read_link(rt, path) {
+        Ok(target) => {
+            let (folder, _) = folder_and_name(path);
+            Some(Some(join(rt.alloc(), folder, target.to_str()?).ok()?))
+        }
+        Err(error) if error.kind() == ErrorKind::NotFound => Some(None),
+        Err(_) => None,
+    }
+}
+
+/// A path that begins in this folder, unless it begins at the root.
+fn join(alloc: Global, folder: &str, path: &str) -> Result<String, AllocError>
+    ensures { IfOk result (λ joined. string_bytes joined ≡ joined_path folder.now path.now) }
+{
+    if path.starts_with('/') {
+        String::from_str(alloc, path)
+    } else {
+        format!(in alloc; "{folder}/{path}")
+    }
+}
+
+/// The file that would be made under this path, which no link has; `None` if there can be none.
+fn in_folder(rt: &HostRuntime, path: &str) -> Option<Place>
     ensures { IfSome result IsNewFile }
 {
     let (folder, name) = folder_and_name(path);
     if name == "" || name == "." || name == ".." {
         return None;
     }
-    match fs::metadata(rt, folder) {
-        Ok(metadata) => Some(Place::NewFile(Node::of(&metadata), name)),
-        Err(_) => None,
-    }
+    let folder = fs::metadata(rt, folder).ok()?;
+    let name = String::from_str(rt.alloc(), name).ok()?;
+    Some(Place::NewFile(Node::of(&folder), name))
 }
