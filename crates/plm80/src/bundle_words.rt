@@ -5,8 +5,8 @@ ghost use Rattle.std.specs.Char.{is_ascii_hexdigit};
 
 use loader80::SessionFault;
 use loader80_text::BundleFault;
-use plm80_console::Console;
-use plm80_files::{explain_line, explain_regions};
+use plm80_console::{Console, FailureWords};
+use plm80_files::{FLAWS, explain_flaws, explain_regions};
 use std::io::ErrorKind;
 
 /// The line between the regions and the inputs.
@@ -23,7 +23,9 @@ pub fn explain_bundle<C: Console>(
     output: Option<ErrorKind>,
 ) {
     match fault {
-        BundleFault::Session(SessionFault::Write) => console.explain_output(output),
+        BundleFault::Session(SessionFault::Write) => {
+            console.explain_any(FailureWords::of_output(output));
+        }
         BundleFault::Session(SessionFault::Regions(fault)) => {
             if begins_with_digits(after_line(text)) {
                 console.explain(SEVERAL_LINES);
@@ -31,10 +33,10 @@ pub fn explain_bundle<C: Console>(
             explain_regions(console, after_line(text), fault);
         }
         BundleFault::Session(SessionFault::Inputs(number)) => {
-            explain_line(console, after_inputs_line(text), number);
+            explain_flaws(console, after_inputs_line(text), number, FLAWS);
         }
         BundleFault::BadBundle => {
-            explain_line(console, text, 1);
+            explain_flaws(console, text, 1, FLAWS);
             if begins_with_digits(after_line(text)) {
                 console.explain(SEVERAL_LINES);
             }

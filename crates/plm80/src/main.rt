@@ -25,7 +25,7 @@ use loader80::{Outcome, SessionFault};
 pub use loader80_text::{BUNDLE_LIMIT, BundleFault, bundle};
 use plm80_console::{Console, Reported};
 use plm80_host::HostConsole;
-use plm80_programs::{explain_end, status_of};
+use plm80_programs::{EndWords, status_of};
 use std::alloc::{AllocError, Global};
 use std::env;
 use std::io::{ErrorKind, IsTerminal};
@@ -110,7 +110,7 @@ fn transcribe<C: Console>(console: &mut C) -> Result<u8, Reported>
     match bundle_status(answer) {
         Ok(status) => {
             if let Ok(outcome) = answer {
-                explain_end(console, outcome.end, outcome.at);
+                console.explain_any(EndWords::of(outcome.end, outcome.at));
             }
             Ok(status)
         }

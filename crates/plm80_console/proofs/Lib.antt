@@ -3,3 +3,4 @@ mod NumberLemmas
 mod PieceLemmas
 mod RangeLemmas
 mod SharedLemmas
+mod SyntaxLemmas

@@ -3,10 +3,12 @@ pub mod Journal
 pub mod Replaced
 pub mod ApartPaths
 pub mod Arguments
+pub mod FailureWords
 pub mod Kinds
 pub mod Pieces
 pub mod NumberText
 pub mod Ranges
 pub mod Refusals
+pub mod SyntaxTable
 -- what the crate's own functions promise one another: no public contract cites these
 pub mod SharedPaths

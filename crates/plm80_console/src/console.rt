@@ -7,6 +7,7 @@ ghost use Rattle.plm80_console.specs.Replaced.{GaveUpKeeping, IsReplacedKeeping,
 ghost use Rattle.plm80_console.specs.Journal.{IsTakenBack, Journal, OnlyReports, and_input, and_printed, and_read, and_reported, and_written};
 
 use crate::answer::{Answer, WrittenFiles};
+use crate::failure_words::FailureWords;
 use crate::new_file::NewFile;
 use crate::pieces::TakePieces;
 use crate::read_file::ReadFile;
@@ -121,25 +122,14 @@ pub trait Console {
         ensures { journal self.new ≡ and_reported (journal self.old) }
     {
         let reported = self.report("Write");
-        self.explain_output(failure);
+        self.explain_any(FailureWords::of_output(failure));
         reported
     }
 
-    /// Says why standard output takes nothing more, if it is known.
-    fn explain_output(&self, failure: Option<ErrorKind>) {
-        match failure {
-            Some(ErrorKind::NotConnected) => self.explain("standard output is closed"),
-            _ => self.explain_failure(failure),
-        }
-    }
-
-    /// Says why the system failed, if it is known.
-    fn explain_failure(&self, failure: Option<ErrorKind>) {
-        match failure {
-            Some(ErrorKind::NotFound) => self.explain("no such file or directory"),
-            Some(ErrorKind::InvalidFilename) => self.explain("a name in the path is too long"),
-            Some(ErrorKind::OutOfMemory) | None => {}
-            Some(kind) => self.explain(kind),
+    /// Prints these words below the fault that was reported, if there are any and they are asked for.
+    fn explain_any<F: Display + Drop>(&self, words: Option<F>) {
+        if let Some(words) = words {
+            self.explain(words);
         }
     }
 

@@ -9,6 +9,7 @@
 //! | [`OptionText`], [`ranges_of`] | an option with its value; a [`Console`] reads it as a number, a name, or ranges of addresses |
 //! | [`Answer`], [`WrittenFile`] | what a command answers: files, lines and a status; a [`Console`] does it |
 //! | [`ReadFile`], [`FaultOf`] | a file with its path; a fault with the path of its file |
+//! | [`FailureWords`] | why the system failed, in words |
 //! | [`TakePieces`] | what takes the pieces of a file |
 //! | [`OneLine`] | a text that stays in its line |
 #![tactic(auto)]
@@ -17,6 +18,7 @@ mod answer;
 mod argument_texts;
 mod comparison;
 mod console;
+mod failure_words;
 mod new_file;
 mod number_text;
 mod one_line;
@@ -31,6 +33,7 @@ mod syntax;
 pub use answer::{Answer, WrittenFile, WrittenFiles};
 pub use argument_texts::{argument_text, argument_values};
 pub use console::Console;
+pub use failure_words::FailureWords;
 pub use new_file::NewFile;
 pub use number_text::{
     are_digits, byte_of_digits, count_of_digits, length_of_digits, word_of_digits,

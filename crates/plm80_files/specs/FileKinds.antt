@@ -67,3 +67,9 @@ is_misplaced role.Regions other = false
 is_misplaced role.Inputs kind.ObjectFile = true
 is_misplaced role.Inputs kind.Regions = true
 is_misplaced role.Inputs other = false
+
+-- a file that is read by commands which read a text of regions beside it
+abbrev pub stands_beside_regions : FileKind → Bool
+stands_beside_regions kind.ObjectFile = true
+stands_beside_regions kind.Inputs = true
+stands_beside_regions other = false

@@ -1,6 +1,6 @@
 pub mod LinkFiles
--- what the crate's own functions promise one another: no public contract cites these
 pub mod FileKinds
 pub mod Lines
-pub mod RangeWords
 pub mod UnreadBytes
+-- what the crate's own functions promise one another: no public contract cites these
+pub mod RangeWords

@@ -61,6 +61,14 @@ has_flaw Comment line is_ended = has_comment line
 has_flaw OddDigits line is_ended = not (has_comment line) && has_odd_number (without_return line)
 has_flaw LowerCase line is_ended = not (has_comment line) && has_lower_case line
 
+-- a line, if there is one, has one of these flaws
+abbrev pub is_flawed_line : List LineFlaw → Option (List ℕ × Bool) → Bool
+is_flawed_line flaws None = false
+is_flawed_line flaws (Some line) = list_any (λ flaw. has_flaw flaw line.0 line.1) flaws
+
+abbrev pub is_flawed : (text : List ℕ) → (number : ℕ) → List LineFlaw → Bool
+is_flawed text number flaws = is_flawed_line flaws (line_at text number)
+
 -- the line of this number is a CASE line in a text of version 1
 abbrev pub is_case_line : (text : List ℕ) → Option (List ℕ × Bool) → Bool
 is_case_line text None = false

@@ -9,6 +9,7 @@ ghost use Rattle.plm80_files.specs.FileKinds.{
   is_misplaced,
   kind_of,
   kind_of_text,
+  stands_beside_regions,
 };
 
 use crate::line_words::{FLAWS, explain_flaws};
@@ -39,7 +40,7 @@ pub(crate) enum FileKind {
 
 /// What a file was to be, by its place among the arguments.
 #[derive(Clone, Copy, Debug, PartialEq, Eq)]
-pub(crate) enum FileRole {
+pub enum FileRole {
     ObjectFile,
     Image,
     Regions,
@@ -211,30 +212,24 @@ fn begins_with_digits(bytes: &[u8], count: usize) -> bool
 
 /// Says what these bytes seem to be, which were to be the file of this role, and which path it has, if that helps; whether it said
 /// what they seem to be.
-pub(crate) fn explain_file<C: Console>(console: &C, bytes: &[u8], role: FileRole) -> bool
+pub fn explain_file<C: Console>(console: &C, bytes: &[u8], role: FileRole) -> bool
     ensures { result ≡ is_explained role (kind_of bytes.now) }
 {
     let kind = FileKind::of(bytes);
     let words = role.words(kind);
-    if let Some(words) = words {
-        console.explain(words);
-    }
-    if let Some(words) = role.place(kind) {
-        console.explain(words);
-    }
+    console.explain_any(words);
+    console.explain_any(role.place(kind));
     words.is_some()
 }
 
-/// Says which path is that of the regions, if this text, which isn't theirs, seems to be another file of the command.
-pub fn explain_regions_place<C: Console>(console: &C, text: &[u8]) {
-    if matches!(FileKind::of(text), FileKind::ObjectFile | FileKind::Inputs) {
-        console.explain("REGIONS is the second path");
+/// Which path the regions have, if this text, which isn't theirs, seems to be another file of the command.
+pub fn place_of_regions(text: &[u8]) -> Option<&'static str>
+    ensures { is_some result ≡ stands_beside_regions (kind_of text.now) }
+{
+    match FileKind::of(text) {
+        FileKind::ObjectFile | FileKind::Inputs => Some("REGIONS is the second path"),
+        _ => None,
     }
-}
-
-/// Says what the file with these bytes seems to be, which was to be an image, unless it begins as one.
-pub fn explain_image<C: Console>(console: &C, bytes: &[u8]) {
-    explain_file(console, bytes, FileRole::Image);
 }
 
 /// Says what is wrong with the line of this number of a text that was to be that of inputs.

@@ -1,7 +1,8 @@
 //! What is wrong with a line of a text, in words.
 
 ghost use Rattle.std.specs.Prelude.{◌≡◌, option_copied, option_map};
-ghost use Rattle.plm80_files.specs.Lines.{ends_in_blank, has_comment, has_flaw, has_lower_case, has_odd_number, has_other_bytes, is_odd_number, line_at, part_at, without_return};
+ghost use Rattle.std.specs.List.{list_any};
+ghost use Rattle.plm80_files.specs.Lines.{ends_in_blank, has_comment, has_flaw, has_lower_case, has_odd_number, has_other_bytes, is_flawed, is_odd_number, line_at, part_at, without_return};
 
 use plm80_console::{Console, are_digits};
 use thiserror::Error;
@@ -11,7 +12,7 @@ const CONTROL_Z: u8 = 0x1A;
 
 /// What is often wrong with a line.
 #[derive(Clone, Copy, Debug, Error)]
-pub(crate) enum LineFlaw {
+pub enum LineFlaw {
     #[error("the line has bytes that aren't ASCII: write the text without UTF-16 and without a byte order mark")]
     NotAscii,
     #[error("the line ends in CR LF: write LF alone")]
@@ -31,7 +32,7 @@ pub(crate) enum LineFlaw {
 }
 
 /// What may be wrong with any line, in the order in which it is said.
-pub(crate) const FLAWS: &[LineFlaw] = &[
+pub const FLAWS: &[LineFlaw] = &[
     LineFlaw::NotAscii,
     LineFlaw::CarriageReturn,
     LineFlaw::ControlZ,
@@ -70,32 +71,34 @@ pub(crate) struct Line<'a> {
     pub(crate) is_ended: bool,
 }
 
-/// Says what is wrong with the line of this number, counted from 1, if it has one of the forms that occur most: each in a line of its
-/// own.
-pub fn explain_line<C: Console>(console: &C, text: &[u8], number: usize) {
-    explain_flaws(console, text, number, FLAWS);
-}
-
 /// Says which of these flaws the line of this number has, each in a line of its own; whether it has one.
-pub(crate) fn explain_flaws<C: Console>(
+pub fn explain_flaws<C: Console>(
     console: &C,
     text: &[u8],
     number: usize,
     flaws: &[LineFlaw],
-) -> bool {
-    let mut is_explained = false;
-    if let Some(line) = line_of(text, number) {
-        for flaw in flaws {
-            if line.has(*flaw) {
-                console.explain(*flaw);
-                is_explained = true;
-            }
-        }
+) -> bool
+    ensures { result ≡ is_flawed text.now number flaws.now }
+{
+    match line_of(text, number) {
+        Some(line) => line.explain(console, flaws),
+        None => false,
     }
-    is_explained
 }
 
 impl<'a> Line<'a> {
+    /// Says which of these flaws the line has, each in a line of its own; whether it has one.
+    fn explain<C: Console>(self, console: &C, flaws: &[LineFlaw]) -> bool
+        ensures { let line = self.entry in result ≡ list_any (λ flaw. has_flaw flaw line.bytes.now line.is_ended) flaws.now }
+    {
+        for flaw in flaws {
+            if self.has(*flaw) {
+                console.explain(*flaw);
+            }
+        }
+        flaws.iter().any(|flaw| self.has(*flaw))
+    }
+
     /// Whether the line has this flaw.
     fn has(self, flaw: LineFlaw) -> bool
         ensures { result ≡ has_flaw flaw self.entry.bytes.now self.entry.is_ended }

@@ -5,7 +5,7 @@ ghost use Rattle.plm80_console.specs.Journal.{OnlyReports};
 ghost use Rattle.plm80_files.specs.LinkFiles.{FaultsEither, HasTakenEither, IsLinkFileRead, SpellsEither};
 
 use crate::file_fault::FileFault;
-use crate::unread_bytes::explain_unread;
+use crate::unread_bytes::UnreadBytes;
 use omf_core::RecordKind;
 use omf_library::{Library, LibraryFeed};
 use omf_module::{FileFeed, Module};
@@ -92,7 +92,7 @@ pub fn read_link_file<C: Console>(console: &mut C, path: &str) -> Result<LinkFil
     console.read_in_pieces(path, &mut feed)?;
     match feed.finish() {
         Ok(file) => {
-            explain_unread(console, path);
+            console.explain_any(UnreadBytes::again(console, path));
             Ok(file)
         }
         Err(fault) => Err(fault.report(console, path)),

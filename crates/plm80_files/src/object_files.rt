@@ -5,7 +5,7 @@ ghost use Rattle.plm80_console.specs.Journal.{OnlyReports};
 ghost use Rattle.plm80_files.specs.LinkFiles.{AreModulesRead};
 
 use crate::file_fault::FileFault;
-use crate::unread_bytes::explain_unread;
+use crate::unread_bytes::UnreadBytes;
 use omf_module::{FileFeed, Module};
 use plm80_console::{Console, Reported};
 
@@ -18,7 +18,7 @@ pub fn read_modules<C: Console>(console: &mut C, path: &str) -> Result<Vec<Modul
     console.read_in_pieces(path, &mut feed)?;
     match feed.finish() {
         Ok(modules) => {
-            explain_unread(console, path);
+            console.explain_any(UnreadBytes::again(console, path));
             Ok(modules)
         }
         Err(fault) => Err(FileFault::Module(fault).report(console, path)),

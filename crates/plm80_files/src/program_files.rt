@@ -6,9 +6,9 @@ ghost use Rattle.image80_file.specs.ImageFile.{SpellsImage, without_regions};
 ghost use Rattle.plm80_console.specs.Journal.{OnlyReports, and_reported};
 
 use crate::file_fault::OBJECT_WORDS;
-use crate::file_kinds::{FileRole, explain_file, explain_regions_place};
+use crate::file_kinds::{FileRole, explain_file, place_of_regions};
 use crate::regions_words::explain_regions;
-use crate::unread_bytes::explain_unread_bytes;
+use crate::unread_bytes::UnreadBytes;
 use image80::{Image, Regions, RegionsFault, read_regions};
 use image80_file::{ImageFault, read_image};
 use plm80_console::{Argument, Console, Kind, Reported};
@@ -37,7 +37,7 @@ pub fn regions_of<C: Console>(console: &mut C, path: &str, text: &[u8]) -> Resul
         Ok(regions) => Ok(regions),
         Err(fault) => {
             let reported = report_regions(console, path, text, fault);
-            explain_regions_place(console, text);
+            console.explain_any(place_of_regions(text));
             Err(reported)
         }
     }
@@ -74,16 +74,14 @@ pub fn image_of<C: Console>(
 {
     match read_image(console.alloc(), bytes, regions) {
         Ok(image) => {
-            explain_unread_bytes(console, path, bytes);
+            console.explain_any(UnreadBytes::of(path, bytes));
             Ok(image)
         }
         Err((_, ImageFault::Memory)) => Err(console.report_memory()),
         Err((_, fault)) => {
             let reported = console.report_file(path, fault);
             if !explain_file(console, bytes, FileRole::Image) {
-                if let Some(words) = words_for(fault) {
-                    console.explain(words);
-                }
+                console.explain_any(words_for(fault));
             }
             Err(reported)
         }

@@ -2,7 +2,7 @@
 
 ghost use Rattle.std.specs.Prelude.{◌≡◌, ◌≢◌, IfOk, IfSome};
 ghost use Rattle.plm80_files.specs.Lines.{needs_version_2};
-ghost use Rattle.plm80_files.specs.RangeWords.{IsBehindKeyword, IsInWords};
+ghost use Rattle.plm80_files.specs.RangeWords.{IsBehindKeyword, IsInWords, IsRangeLine, ShareAddress};
 
 use crate::file_kinds::{FileRole, explain_file};
 use crate::line_words::{UPPER_FLAWS, VERSION_FLAWS, explain_flaws, line_of};
@@ -10,6 +10,7 @@ use image80::{Range, RegionsFault};
 use plm80_console::{Console, word_of_digits};
 use std::alloc::{AllocError, Global};
 use std::str;
+use thiserror::Error;
 
 /// How many addresses there are.
 const ADDRESSES: usize = 65_536;
@@ -39,30 +40,62 @@ pub fn explain_regions<C: Console>(console: &C, text: &[u8], fault: RegionsFault
                 console.explain(RANGE_LINE);
             }
         }
-        RegionsFault::RegionsOverlap => explain_overlap(console, text),
+        RegionsFault::RegionsOverlap if console.explains() => {
+            if let Some((first, second)) = overlap_in(console.alloc(), text) {
+                console.explain(first);
+                console.explain(second);
+            }
+        }
         RegionsFault::NoStack => {
             console.explain(
                 "a line such as STACK 3100 0010 is missing; an empty stack is STACK 0000 0000",
             );
         }
-        RegionsFault::Memory => {}
+        RegionsFault::RegionsOverlap | RegionsFault::Memory => {}
     }
 }
 
-/// Says which two lines share an address. If memory runs out for that, it says nothing.
-fn explain_overlap<C: Console>(console: &C, text: &[u8]) {
-    if !console.explains() {
-        return;
+/// A line with a range, as words show it.
+#[derive(Clone, Copy, Debug, Error)]
+#[error("line {number}: {words}")]
+struct RangeLine<'a> {
+    number: usize,
+    words: &'a str,
+    range: Range,
+}
+
+/// The line of this number, if it has a range.
+fn range_line(text: &[u8], number: usize) -> Option<RangeLine<'_>>
+    ensures { IfSome result (IsRangeLine text.now number) }
+{
+    let bytes = line_of(text, number)?.bytes;
+    let range = range_of(bytes)?;
+    match str::from_utf8(bytes) {
+        Ok(words) => Some(RangeLine {
+            number,
+            words,
+            range,
+        }),
+        Err(_) => None,
     }
-    let Ok(Some((first, second))) = overlapping_lines(console.alloc(), text) else {
-        return;
+}
+
+/// The first line that has an address of an earlier one, behind that. If memory runs out for it, there is none.
+fn overlap_in(alloc: Global, text: &[u8]) -> Option<(RangeLine<'_>, RangeLine<'_>)>
+    ensures { IfSome result (λ lines. ShareAddress text.now lines.0 lines.1) }
+{
+    let Ok(Some((first, second))) = overlapping_lines(alloc, text) else {
+        return None;
     };
-    for number in [first, second] {
-        if let Some(line) = line_of(text, number) {
-            if let Ok(words) = str::from_utf8(line.bytes) {
-                console.explain(format_args!("line {number}: {words}"));
-            }
-        }
+    let (first, second) = (range_line(text, first)?, range_line(text, second)?);
+    let address = first.range.first.max(second.range.first);
+    if first.number < second.number
+        && first.range.contains(address)
+        && second.range.contains(address)
+    {
+        Some((first, second))
+    } else {
+        None
     }
 }
 

@@ -1,11 +1,11 @@
 //! Bytes of an object file that aren't read, in words.
 
-ghost use Rattle.std.specs.Prelude.{◌≡◌, ◌==◌, ◌||◌, Some, IfSome, slice_get};
-ghost use Rattle.std.specs.List.{list_all};
-ghost use Rattle.plm80_files.specs.UnreadBytes.{IsBehindEnd, after_record};
+ghost use Rattle.std.specs.Prelude.{◌≡◌, ℕ, List, Some, IfSome, slice_get};
+ghost use Rattle.plm80_files.specs.UnreadBytes.{AreUnread, IsBehindEnd, after_record, is_filling};
 
 use omf_core::RecordKind;
 use plm80_console::Console;
+use thiserror::Error;
 
 /// The type of the record with which an object file ends.
 const END_OF_FILE: u8 = RecordKind::EndOfFile as u8;
@@ -13,28 +13,44 @@ const END_OF_FILE: u8 = RecordKind::EndOfFile as u8;
 /// What CP/M fills the last part of a file with.
 const CONTROL_Z: u8 = 0x1A;
 
-/// As [`explain_unread_bytes`], of the file of this path, which was read.
-pub(crate) fn explain_unread<C: Console>(console: &C, path: &str) {
-    if let Some(bytes) = console.text_to_explain(path) {
-        explain_unread_bytes(console, path, &bytes);
-    }
+/// Words on the bytes of an object file that aren't read: how many there are behind its end record.
+#[derive(Clone, Copy, Debug, Error)]
+#[error("{count} bytes behind the end record of {path} aren't read")]
+pub struct UnreadBytes<'a> {
+    pub path: &'a str,
+    pub count: usize,
 }
 
-/// Says that an object file has bytes behind its end record, which aren't read, unless these only fill it up.
-pub fn explain_unread_bytes<C: Console>(console: &C, path: &str, bytes: &[u8]) {
-    if !console.explains() {
-        return;
+impl<'a> UnreadBytes<'a> {
+    /// Of the file of this path, which has these bytes; none if the bytes behind its end record only fill it up.
+    pub fn of(path: &'a str, bytes: &[u8]) -> Option<UnreadBytes<'a>>
+        ensures path { IfSome result (λ unread. unread.path.now ≡ path.now) }
+        ensures bytes { IfSome result (λ unread. AreUnread bytes.now unread.count) }
+    {
+        let unread = behind_end(bytes);
+        if is_filling(unread) {
+            None
+        } else {
+            Some(UnreadBytes {
+                path,
+                count: unread.len(),
+            })
+        }
     }
-    let unread = behind_end(bytes);
-    if !is_filling(unread) {
-        let count = unread.len();
-        console.explain(format_args!("{count} bytes behind the end record of {path} aren't read"));
+
+    /// Of the file of this path, which was read; none if it can't be read again, or words aren't asked for.
+    pub(crate) fn again<C: Console>(console: &C, path: &'a str) -> Option<UnreadBytes<'a>>
+        ensures path { IfSome result (λ unread. unread.path.now ≡ path.now) }
+        ensures bytes { IfSome result (λ unread. (bytes : List ℕ) × AreUnread bytes unread.count) }
+    {
+        let bytes = console.text_to_explain(path)?;
+        UnreadBytes::of(path, &bytes)
     }
 }
 
 /// Whether bytes only fill up a file.
 fn is_filling(bytes: &[u8]) -> bool
-    ensures { result ≡ list_all (λ byte. byte == 0 || byte == 0x1A) bytes.now }
+    ensures { result ≡ is_filling bytes.now }
 {
     bytes.iter().all(|byte| *byte == 0 || *byte == CONTROL_Z)
 }

@@ -6,7 +6,7 @@ ghost use Rattle.plm80_host.specs.Noted.{noted};
 
 use crate::files::{LateFile, NotedReader, kind_of};
 use crate::notes::{Note, Notes};
-use plm80_console::{Console, NewFile, OneLine, Reported, TakePieces};
+use plm80_console::{Console, FailureWords, NewFile, OneLine, Reported, TakePieces};
 use std::alloc::Global;
 use std::fmt::Display;
 use std::fs;
@@ -210,7 +210,7 @@ impl<'a> HostConsole<'a> {
         ensures { self.new.notes.journal ≡ and_reported self.old.notes.journal }
     {
         let reported = self.report_file(path, fault);
-        self.explain_failure(failure);
+        self.explain_any(FailureWords::of(failure));
         reported
     }
 
@@ -245,7 +245,7 @@ impl<'a> HostConsole<'a> {
                 let reported = self.report("Read 1");
                 match failure {
                     Some(ErrorKind::NotConnected) => self.explain("standard input is closed"),
-                    _ => self.explain_failure(failure),
+                    _ => self.explain_any(FailureWords::of(failure)),
                 }
                 reported
             }

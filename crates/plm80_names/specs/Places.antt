@@ -1,6 +1,6 @@
 -- What is at an address: an instruction, and a range of the regions.
 -- (8080 Assembly Language Programming Manual: instructions of one to three bytes. The words for ranges are those of a regions text.)
-use Rattle.std.specs.Prelude.{◌≡◌, ◌⊎◌, ℕ, ◌+◌, ◌%◌, true, Option, Some, option_map, List, codes, find}
+use Rattle.std.specs.Prelude.{◌≡◌, ◌⊎◌, ℕ, ◌+◌, ◌%◌, true, false, Option, None, Some, MatchOption, option_map, List, codes, find}
 use Rattle.decode80.specs.declared.instr.Instr.{Instr}
 use Rattle.decode80.specs.Decoded.{decoded}
 use Rattle.image80.specs.declared.range.Range.{Range}
@@ -8,6 +8,7 @@ use Rattle.image80.specs.Image.{Located, byte_at}
 use Rattle.image80.specs.Range.{in_range}
 use Rattle.image80.specs.Regions.{Areas}
 use Rattle.plm80_names.specs.declared.refusal_words.Place.{Place}
+use Rattle.plm80_names.specs.declared.refusal_words.PlaceWords.{PlaceWords}
 
 -- the instruction that the image's bytes spell at an address; addresses go on at 0000 after FFFF
 abbrev pub instr_at : Located → (at : ℕ) → Option Instr
@@ -27,3 +28,18 @@ IsPlaceInRam areas address place =
 
 abbrev pub IsPlaceOf : Areas → (address : ℕ) → Place → Type 0
 IsPlaceOf areas address place = ((place.word.now ≡ codes "CODE") × has address areas.code place.range) ⊎ IsPlaceInRam areas address place
+
+-- no range has it
+abbrev pub HasNone : (address : ℕ) → List Range → Type 0
+HasNone address ranges = find (λ r. in_range r address) ranges ≡ None
+
+abbrev pub IsOutsideRam : Areas → (address : ℕ) → Type 0
+IsOutsideRam areas address = HasNone address areas.data_ranges × (in_range areas.stack address ≡ false)
+
+abbrev pub IsInNoRange : Areas → (address : ℕ) → Type 0
+IsInNoRange areas address = HasNone address areas.code × IsOutsideRam areas address
+
+-- the address with its range, or without one that has it
+abbrev pub ArePlaceWords : Areas → (address : ℕ) → PlaceWords → Type 0
+ArePlaceWords areas address words =
+    (words.address ≡ address) × MatchOption words.place (IsInNoRange areas address) (IsPlaceOf areas address)

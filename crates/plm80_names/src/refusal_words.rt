@@ -1,13 +1,13 @@
 //! What is at the address of a refusal, in words.
 
-ghost use Rattle.std.specs.Prelude.{◌≡◌, ℕ, List, [], true, false, find, option_copied, IfOk, IfSome};
+ghost use Rattle.std.specs.Prelude.{◌≡◌, ℕ, List, [], true, false, find, option_copied, IfNone, IfOk, IfSome};
 ghost use Rattle.place80_text.specs.ImagePublics.{HasPublics};
 ghost use Rattle.decode80.specs.Text.{text as text_of};
 ghost use Rattle.image80.specs.Range.{in_range};
 ghost use Rattle.image80.specs.Regions.{in_data};
 ghost use Rattle.verify80.specs.Looking.{code_of};
 ghost use Rattle.verify80_flow.specs.Faults.{Holds};
-ghost use Rattle.plm80_names.specs.Places.{IsPlaceInRam, IsPlaceInStack, IsPlaceOf, instr_at};
+ghost use Rattle.plm80_names.specs.Places.{IsInNoRange, IsOutsideRam, IsPlaceInRam, IsPlaceInStack, IsPlaceOf, ArePlaceWords, instr_at};
 
 use decode80::{Instr, Pair, decode, direct_bytes, write_text};
 use image80::{Image, Range, read_regions};
@@ -16,7 +16,8 @@ use loader80::{Refusal, vouch};
 use place80_text::read_publics;
 use plm80_console::{Console, Reported};
 use std::alloc::{AllocError, Global};
-use std::fmt::Display;
+use std::fmt;
+use std::fmt::{Display, Formatter};
 use std::str;
 
 /// A range of an image's regions, and the word that begins its line.
@@ -24,6 +25,38 @@ use std::str;
 struct Place {
     word: &'static str,
     range: Range,
+}
+
+/// An address, and the range that has it, if one does.
+#[derive(Clone, Copy)]
+struct PlaceWords {
+    address: u16,
+    place: Option<Place>,
+}
+
+impl PlaceWords {
+    /// The address, with the range of the image that has it.
+    fn of(image: &Image, address: u16) -> PlaceWords
+        ensures { ArePlaceWords image.now.regions address result }
+    {
+        PlaceWords {
+            address,
+            place: place_of(image, address),
+        }
+    }
+}
+
+impl Display for PlaceWords {
+    fn fmt<W: fmt::Write>(&self, formatter: &mut Formatter<W>) -> fmt::Result {
+        let address = self.address;
+        match self.place {
+            Some(Place { word, range }) => {
+                let (first, length) = (range.first, range.length);
+                write!(formatter, "{address:04X} is in {word} {first:04X} {length:04X}")
+            }
+            None => write!(formatter, "{address:04X} is in no range"),
+        }
+    }
 }
 
 /// Words on what a command has given of the program in the files of these paths, if they are asked for. If it is a refusal, and the command
@@ -84,7 +117,7 @@ fn explain_place<C: Console>(console: &C, image: &Image, refusal: Refusal) {
                 "not all bytes of the instruction at {at:04X} are in CODE"
             ));
         }
-        Refusal::FetchOutside(at) => explain_range(console, image, "", at),
+        Refusal::FetchOutside(at) => console.explain(PlaceWords::of(image, at)),
         Refusal::UnusedOpcode(at) => {
             let byte = image.byte(at);
             console.explain(format_args!("{at:04X} has {byte:02X}, no instruction of the 8080"));
@@ -93,24 +126,6 @@ fn explain_place<C: Console>(console: &C, image: &Image, refusal: Refusal) {
             console.explain(format_args!("give STACK so many: locate --stack-size {need:X}"));
         }
         _ => explain_instruction(console, image, refusal),
-    }
-}
-
-/// Says in which range an address is, behind other words.
-fn explain_range<C: Console, W: Display + Drop>(
-    console: &C,
-    image: &Image,
-    before: W,
-    address: u16,
-) {
-    match place_of(image, address) {
-        Some(place) => {
-            let (word, first, length) = (place.word, place.range.first, place.range.length);
-            console.explain(format_args!(
-                "{before}{address:04X} is in {word} {first:04X} {length:04X}"
-            ));
-        }
-        None => console.explain(format_args!("{before}{address:04X} is in no range")),
     }
 }
 
@@ -130,7 +145,7 @@ fn explain_instruction<C: Console>(console: &C, image: &Image, refusal: Refusal)
     match refusal {
         Refusal::DirectStore(_) => {
             if let Some(address) = stored_outside(image, instr) {
-                explain_range(console, image, format_args!("{text}: "), address);
+                console.explain(format_args!("{text}: {}", PlaceWords::of(image, address)));
             }
         }
         Refusal::SetsStack(_) if instr == Instr::Lxi(Pair::Sp, top) => {
@@ -186,7 +201,8 @@ fn stored_outside(image: &Image, instr: Instr) -> Option<u16>
 
 /// The range that has an address.
 fn place_of(image: &Image, address: u16) -> Option<Place>
-    ensures { IfSome result (IsPlaceOf image.now.regions address) }
+    ensures some { IfSome result (IsPlaceOf image.now.regions address) }
+    ensures none { IfNone result (IsInNoRange image.now.regions address) }
 {
     match range_of(image.regions.code(), address) {
         Some(range) => Some(Place {
@@ -199,7 +215,8 @@ fn place_of(image: &Image, address: u16) -> Option<Place>
 
 /// The range of data that has an address, or the stack.
 fn place_in_ram(image: &Image, address: u16) -> Option<Place>
-    ensures { IfSome result (IsPlaceInRam image.now.regions address) }
+    ensures some { IfSome result (IsPlaceInRam image.now.regions address) }
+    ensures none { IfNone result (IsOutsideRam image.now.regions address) }
 {
     match range_of(image.regions.data_ranges(), address) {
         Some(range) => Some(Place {
@@ -212,7 +229,8 @@ fn place_in_ram(image: &Image, address: u16) -> Option<Place>
 
 /// The stack, if it has an address.
 fn place_in_stack(image: &Image, address: u16) -> Option<Place>
-    ensures { IfSome result (IsPlaceInStack image.now.regions address) }
+    ensures some { IfSome result (IsPlaceInStack image.now.regions address) }
+    ensures none { IfNone result (in_range image.now.regions.stack address ≡ false) }
 {
     let range = image.regions.stack();
     if range.contains(address) {

@@ -1,6 +1,6 @@
 -- What `cases` prints, writes and reports of an image.
 -- (That each PCHL has its line, its note or both, is this project's own.)
-use Rattle.std.specs.Prelude.{◌≡◌, ◌≤◌, ℕ, Bool, true, false, List, [], ◌∷◌, All, None, Option, Some, length, map, filter, filter_map}
+use Rattle.std.specs.Prelude.{◌≡◌, ◌≤◌, ◌<◌, ℕ, Bool, true, false, List, [], ◌∷◌, All, None, Option, Some, length, map, filter, filter_map}
 use Rattle.std.specs.List.{range_with_len}
 use Rattle.image80.specs.Case.{DeclaredCase}
 use Rattle.image80.specs.Image.{Located}
@@ -38,6 +38,17 @@ pub record FindsCases (image : Located) (cases : List DeclaredCase) (notes : Lis
   pub taken : List Bool
   pub searched : IsSearched image reached taken
   pub found : AreFoundBelow image reached taken 65536 cases notes
+
+-- the lines of the cases that the tables of an image suggest, up to an address, have more bytes than a text of regions may have
+pub record HasLongCases (image : Located) : Type 0 where
+  pub reached : List Bool
+  pub taken : List Bool
+  pub searched : IsSearched image reached taken
+  pub limit : ℕ
+  pub cases : List DeclaredCase
+  pub notes : List Note
+  pub found : AreFoundBelow image reached taken limit cases notes
+  pub too_long : text_limit < length (cases_text cases)
 
 -- the regions with cases, as a file that is written; none if no path is given
 abbrev pub AreAddedTo : (out : Option (List ℕ)) → Areas → List DeclaredCase → List FileValue → Type 0

@@ -1,8 +1,10 @@
--- The exit statuses of commands. (This project's own.)
+-- The exit statuses of commands, and words on the end of a run. (This project's own.)
 use Rattle.std.specs.Prelude.{ℕ, ◌==◌, ◌&&◌, Bool, true, false, Option, None, Some, List, length, if◌then◌else◌}
 use Rattle.std.specs.List.{list_any}
 use Rattle.machine80.specs.declared.end.End.{End}
-use Rattle.machine80.specs.declared.end.End.TheVariants.{Halt}
+use Rattle.machine80.specs.declared.end.End.TheVariants.{Halt, InputEnd, OutputRefused}
+use Rattle.plm80_programs.specs.declared.status.EndWords.{EndWords}
+use Rattle.plm80_programs.specs.declared.status.EndWords.TheVariants as words
 use Rattle.verify80_cases.specs.declared.search.Note.{Note}
 use Rattle.verify80_cases.specs.declared.search.Note.TheVariants.{MayEnd, Tableless, Returns}
 use Rattle.verify80_stores.specs.declared.stores.Stores.{Stores}
@@ -12,6 +14,12 @@ abbrev pub end_status : Option End → ℕ
 end_status None = 4
 end_status (Some Halt) = 0
 end_status (Some _) = 3
+
+-- of which ends words say where the instruction stands: those at a port
+abbrev pub end_words : Option End → (at : ℕ) → Option EndWords
+end_words (Some (InputEnd port)) at = Some (words.NoInput at port)
+end_words (Some (OutputRefused port)) at = Some (words.OutputRefused at port)
+end_words other at = None
 
 -- of the stores of a program: 0 if none of them, no jump and no use of SP is listed
 abbrev pub stores_status : Stores → ℕ

@@ -1,6 +1,6 @@
 -- What `suggest` prints of an image, and reports.
 -- (The status is this project's own.)
-use Rattle.std.specs.Prelude.{◌≡◌, ◌≤◌, ℕ, List, [], ◌∷◌, codes, length, map}
+use Rattle.std.specs.Prelude.{◌≡◌, ◌≤◌, ℕ, List, [], ◌∷◌, Option, None, Some, codes, length, map}
 use Rattle.clap.specs.declared.parser.matches.ArgMatches.{ArgMatches}
 use Rattle.image80.specs.declared.range.Range.{Range}
 use Rattle.image80.specs.Image.{Located}
@@ -8,13 +8,22 @@ use Rattle.image80.specs.RegionsText.{regions_text}
 use Rattle.image80_file.specs.ImageFile.{SpellsImage, without_regions}
 use Rattle.stream80.specs.WholeText.{text_limit}
 use Rattle.verify80_suggest.specs.declared.suggesting.Advice.{Advice}
+use Rattle.verify80_suggest.specs.declared.setters.Setter.{Setter}
 use Rattle.verify80_suggest.specs.Suggestion.{IsSuggestion}
 use Rattle.plm80_console.specs.Answer.{AnswerValue, prints}
 use Rattle.plm80_console.specs.Journal.{FileValue}
 use Rattle.plm80_console.specs.Arguments.{argument_text, argument_values}
 use Rattle.plm80_programs.specs.declared.suggest.SuggestArguments.{SuggestArguments}
 use Rattle.plm80_console.specs.Ranges.{AreRangesOf}
+use Rattle.plm80_programs.specs.declared.suggest.StackWords.{StackWords}
+use Rattle.plm80_programs.specs.declared.suggest.StackWords.TheVariants as words
 use Rattle.plm80_programs.specs.Status.{notes_status}
+
+-- of which stacks there are words: of one that no LXI SP sets, and of one that several set
+abbrev pub stack_words : (first second : Option Setter) → Option StackWords
+stack_words None second = Some words.Missing
+stack_words (Some first) (Some second) = Some (words.Several first.at second.at)
+stack_words (Some first) None = None
 
 -- the regions that an image suggests are printed; the status is that of the notes
 pub record AdvisesRegions (image : Located) (rom ram : List Range) (advice : Advice) (answer : AnswerValue) : Type 0 where

@@ -1,15 +1,16 @@
 //! `plm80 cases`: the CASE lines that the tables of an image suggest.
 
-ghost use Rattle.std.specs.Prelude.{◌≡◌, ◌<◌, ◌++◌, ◌∷◌, [], List, false, None, Some, option_map, IfErr, IfNone, IfOk, IfSome, OnOk};
+ghost use Rattle.std.specs.Prelude.{◌≡◌, ◌<◌, ◌++◌, ◌∷◌, [], List, false, None, Some, length, option_map, IfErr, IfNone, IfOk, IfSome, IsErrOf, OnOk};
 ghost use Rattle.std.specs.Io.KnownBytes.{Appends};
 ghost use Rattle.std.specs.List.{cons_option, list_any};
 ghost use Rattle.image80.specs.Case.{DeclaredCase};
 ghost use Rattle.image80.specs.RegionsText.{cases_text};
+ghost use Rattle.stream80.specs.WholeText.{text_limit};
 ghost use Rattle.verify80_cases.specs.Suggested.{case_of, is_open};
 ghost use Rattle.plm80_console.specs.Answer.{Gives, GivesUp, IsAnswered, IsGivenUp};
 ghost use Rattle.plm80_console.specs.Journal.{OnlyReports, and_reported};
 ghost use Rattle.plm80_programs.specs.Arguments.{AreCasesArguments, cases_path};
-ghost use Rattle.plm80_programs.specs.Cases.{AnswersCases, FindsCases, IsFoundAt, PrintsCases};
+ghost use Rattle.plm80_programs.specs.Cases.{AnswersCases, FindsCases, HasLongCases, IsFoundAt, PrintsCases};
 ghost use Rattle.plm80_programs.specs.Status.{lacks_table, notes_status};
 
 use crate::helpers::endings::report_lines;
@@ -209,7 +210,7 @@ fn added_cases<'a>(
 
 /// Why cases aren't added to regions.
 #[derive(Clone, Copy)]
-enum AddingFault {
+pub(crate) enum AddingFault {
     /// The text would have more bytes than a text of regions may have.
     TooLong,
     /// The text with the lines is no text of regions; or out of memory.
@@ -254,16 +255,17 @@ fn report_regions_fault<C: Console>(console: &mut C, path: &str, fault: AddingFa
 
 /// Cases with their lines, no more than a text of regions can have, and what there is to say of the PCHLs.
 #[derive(Drop)]
-struct KeptCases {
+pub(crate) struct KeptCases {
     cases: Vec<Case>,
     lines: Vec<u8>,
     notes: Vec<Note>,
 }
 
 /// The cases that an image suggests.
-fn kept_cases(alloc: Global, image: &Image) -> Result<KeptCases, AddingFault>
+pub(crate) fn kept_cases(alloc: Global, image: &Image) -> Result<KeptCases, AddingFault>
     ensures found { IfOk result (λ kept. FindsCases image.now kept.cases.items kept.notes.items) }
     ensures lines { IfOk result (λ kept. kept.lines.items ≡ cases_text kept.cases.items) }
+    ensures too_long { IsErrOf result AddingFault.TooLong → HasLongCases image.now }
 {
     let code = ImageCode::new(alloc, image)?;
     let search = Search::of(alloc, &code)?;
@@ -286,6 +288,8 @@ impl KeptCases {
         ensures cases { OnOk result (self.new.cases.items ≡ self.old.cases.items ++ cons_option found.case []) }
         ensures lines { OnOk result (self.new.lines.items ≡ self.old.lines.items ++ cases_text (cons_option found.case [])) }
         ensures notes { OnOk result (self.new.notes.items ≡ self.old.notes.items ++ cons_option found.note []) }
+        ensures too_long { IsErrOf result AddingFault.TooLong
+            → text_limit < length (self.old.lines.items ++ cases_text (cons_option found.case [])) }
     {
         push_given(&mut self.notes, found.note)?;
         if let Some(case) = found.case {

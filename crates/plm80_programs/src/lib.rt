@@ -16,7 +16,7 @@
 //! | [`trace_files`] | `trace`: the instructions of a run, a line each |
 //! | [`cover_files`] | `cover`: the code, with how often a run began each instruction |
 //! | [`write_inputs_file`] | `inputs`: the text of a run's inputs, from words |
-//! | [`status_of`], [`explain_end`] | the exit status of a run; words on how it ended |
+//! | [`status_of`], [`EndWords`] | the exit status of a run; words on how it ended |
 #![tactic(auto)]
 
 mod all_refusals;
@@ -44,7 +44,7 @@ pub use inputs::{INPUTS, InputsArguments, write_inputs_file};
 pub use list::{LIST, ListArguments, list_files};
 pub use regions::{REGIONS, RegionsArguments, migrate_file};
 pub use run::{RUN, RunArguments, run_files};
-pub use status::{explain_end, status_of};
+pub use status::{EndWords, status_of};
 pub use stores::{STORES, StoresArguments, list_stores};
 pub use suggest::{SUGGEST, SuggestArguments, advise_file};
 pub use trace::{TRACE, TraceArguments, trace_files};

@@ -1,10 +1,10 @@
 //! The exit status of a run, and words on how it ended.
 
 ghost use Rattle.std.specs.Prelude.{◌≡◌};
-ghost use Rattle.plm80_programs.specs.Status.{end_status};
+ghost use Rattle.plm80_programs.specs.Status.{end_status, end_words};
 
 use machine80::End;
-use plm80_console::Console;
+use thiserror::Error;
 
 /// The exit status of a run that ended so; `None` if its steps were used up.
 pub fn status_of(end: Option<End>) -> u8
@@ -17,16 +17,24 @@ pub fn status_of(end: Option<End>) -> u8
     }
 }
 
-/// Says where the instruction stands at whose port a run ended, which its last line doesn't say. The program counter is that before
-/// the step that ended it.
-pub fn explain_end<C: Console>(console: &C, end: Option<End>, at: u16) {
-    match end {
-        Some(End::InputEnd(port)) => console.explain(format_args!(
-            "the IN at {at:04X} finds no byte at port {port:02X}: INPUTS has none left for it"
-        )),
-        Some(End::OutputRefused(port)) => console.explain(format_args!(
-            "the OUT at {at:04X} to port {port:02X} is one more than --outputs allows"
-        )),
-        _ => {}
+/// Words on a run that ended at a port: where the instruction stands, which its last line doesn't say.
+#[derive(Clone, Copy, Debug, Error)]
+pub enum EndWords {
+    #[error("the IN at {at:04X} finds no byte at port {port:02X}: INPUTS has none left for it")]
+    NoInput { at: u16, port: u8 },
+    #[error("the OUT at {at:04X} to port {port:02X} is one more than --outputs allows")]
+    OutputRefused { at: u16, port: u8 },
+}
+
+impl EndWords {
+    /// Of a run that ended so; none if it didn't end at a port. The program counter is that before the step that ended it.
+    pub fn of(end: Option<End>, at: u16) -> Option<EndWords>
+        ensures { result ≡ end_words «end» at }
+    {
+        match end {
+            Some(End::InputEnd(port)) => Some(EndWords::NoInput { at, port }),
+            Some(End::OutputRefused(port)) => Some(EndWords::OutputRefused { at, port }),
+            _ => None,
+        }
     }
 }

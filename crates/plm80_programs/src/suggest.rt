@@ -1,13 +1,13 @@
 //! `plm80 suggest`: the regions that an image's bytes suggest.
 
-ghost use Rattle.std.specs.Prelude.{◌≡◌, ◌∷◌, [], false, IfErr, IfOk};
+ghost use Rattle.std.specs.Prelude.{◌≡◌, ◌∷◌, [], IfErr, IfOk, IsErrOf};
 ghost use Rattle.image80_file.specs.ImageFile.{SpellsImage, without_regions};
-ghost use Rattle.verify80_cases.specs.Suggested.{is_open};
 ghost use Rattle.plm80_console.specs.Answer.{Gives};
 ghost use Rattle.plm80_console.specs.Journal.{OnlyReports};
-ghost use Rattle.plm80_programs.specs.Suggest.{AdvisesRegions, AnswersAdvice, AreSuggestArguments};
+ghost use Rattle.plm80_programs.specs.Cases.{HasLongCases};
+ghost use Rattle.plm80_programs.specs.Suggest.{AdvisesRegions, AnswersAdvice, AreSuggestArguments, stack_words};
 
-use crate::cases::{notes_status, remark_notes};
+use crate::cases::{AddingFault, kept_cases, notes_status, remark_notes};
 use clap::ArgMatches;
 use image80::{Image, Range, write_regions};
 use loader80::TEXT_LIMIT;
@@ -18,9 +18,8 @@ use plm80_console::{
 };
 use plm80_files::{IMAGE, image_of, regions_of};
 use std::alloc::{AllocError, Global};
-use verify80::ImageCode;
-use verify80_cases::Search;
-use verify80_suggest::{Advice, base_regions, suggest_regions};
+use thiserror::Error;
+use verify80_suggest::{Advice, Setter, base_regions, suggest_regions};
 
 /// The arguments of `suggest`.
 #[derive(Drop)]
@@ -106,7 +105,9 @@ pub fn advise_file<C: Console>(
     match advised(console.alloc(), image, &rom, &ram) {
         Ok(printed) => {
             let status = console.give(printed.answer)?;
-            remark_on_stack(console, &printed.advice);
+            if let Some(words) = StackWords::of(printed.advice.first, printed.advice.second) {
+                console.remark(words);
+            }
             remark_notes(console, &printed.advice.notes);
             Ok(status)
         }
@@ -144,10 +145,8 @@ fn advised(
 {
     let mut image = image;
     image.regions = base_regions(alloc, &image, rom)?;
-    // Together its cases may have thousands of times as many targets as it has bytes, so they aren't kept before they are counted.
-    if are_cases_too_long(alloc, &image)? {
-        return Err(LengthFault::TooLong);
-    }
+    // Together its cases may have thousands of times as many targets as it has bytes.
+    refuse_long_cases(alloc, &image)?;
     let advice = suggest_regions(alloc, &mut image, rom, ram)?;
     let mut text = Vec::new(alloc);
     write_regions(alloc, &image.regions, &mut text)?;
@@ -161,57 +160,38 @@ fn advised(
     })
 }
 
-/// Whether the lines of the cases that an image suggests have more bytes than a text of regions may have.
-fn are_cases_too_long(alloc: Global, image: &Image) -> Result<bool, AllocError> {
-    let code = ImageCode::new(alloc, image)?;
-    let search = Search::of(alloc, &code)?;
-    let mut length = 0usize;
-    for address in 0..65_536_u32 {
-        length = length.saturating_add(line_length(alloc, image, &code, &search, address as u16)?);
-        if length > TEXT_LIMIT {
-            return Ok(true);
-        }
-    }
-    Ok(false)
-}
-
-/// How many bytes the line of the case has that is suggested for the PCHL at an address; none if no case is.
-fn line_length(
-    alloc: Global,
-    image: &Image,
-    code: &ImageCode<'_>,
-    search: &Search,
-    at: u16,
-) -> Result<usize, AllocError>
-    requires { code.now ≡ image.now }
-    ensures { IfOk result (λ length. is_open image.now search.now.reached at ≡ false → length ≡ 0) }
+/// Refuses an image whose tables suggest cases that have more bytes in their lines than a text of regions may have.
+fn refuse_long_cases(alloc: Global, image: &Image) -> Result<(), LengthFault>
+    ensures { IsErrOf result LengthFault.TooLong → HasLongCases image.now }
 {
-    if !search.is_open(image, code, at) {
-        return Ok(0);
-    }
-    match search.suggest(alloc, image, code, at)? {
-        Some(found) => Ok(
-            found
-                .case
-                .targets
-                .len()
-                .saturating_mul(5)
-                .saturating_add(10),
-        ),
-        None => Ok(0),
+    match kept_cases(alloc, image) {
+        Ok(_) => Ok(()),
+        Err(AddingFault::TooLong) => Err(LengthFault::TooLong),
+        Err(AddingFault::Regions(_)) => Err(LengthFault::Memory),
     }
 }
 
-/// Says that there is no LXI SP, or several.
-fn remark_on_stack<C: Console>(console: &C, advice: &Advice) {
-    match (advice.first, advice.second) {
-        (None, _) => console.remark("there is no LXI SP: the stack is empty"),
-        (Some(first), Some(second)) => {
-            let (first, second) = (first.at, second.at);
-            console.remark(format_args!(
-                "the stack is that of the LXI SP at {first:04X}, there is another one at {second:04X}"
-            ));
+/// Words on the stack that is suggested, unless there is one LXI SP alone.
+#[derive(Clone, Copy, Debug, Error)]
+enum StackWords {
+    #[error("there is no LXI SP: the stack is empty")]
+    Missing,
+    #[error("the stack is that of the LXI SP at {first:04X}, there is another one at {second:04X}")]
+    Several { first: u16, second: u16 },
+}
+
+impl StackWords {
+    /// Of the first LXI SP that is reached, and of the second one.
+    fn of(first: Option<Setter>, second: Option<Setter>) -> Option<StackWords>
+        ensures { result ≡ stack_words first second }
+    {
+        match (first, second) {
+            (None, _) => Some(StackWords::Missing),
+            (Some(first), Some(second)) => Some(StackWords::Several {
+                first: first.at,
+                second: second.at,
+            }),
+            (Some(_), None) => None,
         }
-        (Some(_), None) => {}
     }
 }

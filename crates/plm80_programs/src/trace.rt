@@ -7,7 +7,7 @@ ghost use Rattle.plm80_console.specs.Journal.{OnlyReports};
 ghost use Rattle.plm80_programs.specs.Arguments.{AreTraceArguments, run_paths};
 ghost use Rattle.plm80_programs.specs.Running.{AnswersRun, IsSpanOf, IsTraceOf, TracesFiles, TracesRun, trace_ending, trace_lines};
 
-use crate::explain_end;
+use crate::EndWords;
 use crate::helpers::endings::{Traced, report_lines, trace_ending_of, write_traced};
 use crate::helpers::run_arguments::{INPUTS, LimitTexts, OUTPUTS, RunFiles, STEPS};
 use clap::ArgMatches;
@@ -207,7 +207,7 @@ fn end_trace<C: Console>(
     };
     let status = console.give(ending)?;
     match ended {
-        Some(ended) => explain_end(console, ended.end, ended.cpu.pc()),
+        Some(ended) => console.explain_any(EndWords::of(ended.end, ended.cpu.pc())),
         None => console.explain("more instructions follow: --from and --count choose others"),
     }
     Ok(status)

@@ -8,12 +8,12 @@ ghost use Rattle.plm80_programs.specs.Arguments.{run_paths};
 ghost use Rattle.plm80_programs.specs.Running.{AnswersSession, AnswersTexts, fault_path, session_status, texts_of};
 
 use crate::helpers::run_arguments::{RunFiles, RunTexts};
-use crate::{explain_end, status_of};
+use crate::{EndWords, status_of};
 use loader80::{Outcome, SessionFault, session};
 use loader80_trace::Limits;
 use plm80_console::{Console, ReadFile, Reported};
 use plm80_files::{
-    explain_image, explain_inputs, explain_regions, explain_regions_place, explain_unread_bytes,
+    FileRole, UnreadBytes, explain_file, explain_inputs, explain_regions, place_of_regions,
 };
 use plm80_names::explain_given;
 use std::alloc::Global;
@@ -49,8 +49,8 @@ fn print_session<C: Console>(
     let failure = console.take_back(output);
     if let Ok(outcome) = &answer {
         let image = &texts.program.image;
-        explain_unread_bytes(console, image.path, &image.bytes);
-        explain_end(console, outcome.end, outcome.at);
+        console.explain_any(UnreadBytes::of(image.path, &image.bytes));
+        console.explain_any(EndWords::of(outcome.end, outcome.at));
     }
     match session_status(answer) {
         Ok(status) => Ok(status),
@@ -131,10 +131,12 @@ fn report_text<C: Console>(console: &mut C, file: &ReadFile<'_>, fault: SessionF
 {
     let reported = console.report_file(file.path, fault);
     match fault {
-        SessionFault::Image(_) => explain_image(console, &file.bytes),
+        SessionFault::Image(_) => {
+            explain_file(console, &file.bytes, FileRole::Image);
+        }
         SessionFault::Regions(fault) => {
             explain_regions(console, &file.bytes, fault);
-            explain_regions_place(console, &file.bytes);
+            console.explain_any(place_of_regions(&file.bytes));
         }
         SessionFault::Inputs(number) => explain_inputs(console, &file.bytes, number),
         _ => {}

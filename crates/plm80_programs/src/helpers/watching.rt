@@ -8,7 +8,7 @@ ghost use Rattle.plm80_console.specs.Answer.{GaveUp, Gives, GivesUp, IsAnswered,
 ghost use Rattle.plm80_programs.specs.Arguments.{dump_path, run_paths};
 ghost use Rattle.plm80_programs.specs.Running.{AnswersRun, EndsRun, WatchesRun, last_lines, with_memory};
 
-use crate::explain_end;
+use crate::EndWords;
 use crate::helpers::endings::{Traced, ending_of, report_lines, write_traced};
 use crate::helpers::run_arguments::RunFiles;
 use loader80::{Ended, Vouched, front_text};
@@ -99,7 +99,7 @@ fn end_run<C: Console>(console: &mut C, watched: Watched<'_>) -> Result<u8, Repo
 {
     let Watched { ended, answer } = watched;
     let status = console.give(answer)?;
-    explain_end(console, ended.end, ended.cpu.pc());
+    console.explain_any(EndWords::of(ended.end, ended.cpu.pc()));
     Ok(status)
 }
 

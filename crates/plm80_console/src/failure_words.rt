@@ -1,0 +1,46 @@
+//! Why the system failed, in words.
+
+ghost use Rattle.std.specs.Prelude.{◌≡◌, ◌⊎◌, None, Some, IfNone, IfSome};
+ghost use Rattle.plm80_console.specs.FailureWords.{failure_of};
+
+use std::io::ErrorKind;
+use thiserror::Error;
+
+/// Words on why the system failed.
+#[derive(Clone, Copy, Debug, Error)]
+pub enum FailureWords {
+    #[error("standard output is closed")]
+    OutputClosed,
+    #[error("no such file or directory")]
+    NotFound,
+    #[error("a name in the path is too long")]
+    NameTooLong,
+    #[error("{0}")]
+    Other(ErrorKind),
+}
+
+impl FailureWords {
+    /// Of a failure; none if it isn't known, or if memory ran out.
+    pub fn of(failure: Option<ErrorKind>) -> Option<FailureWords>
+        ensures failure { IfSome result (λ words. failure ≡ Some (failure_of words)) }
+        ensures none { IfNone result ((failure ≡ None) ⊎ (failure ≡ Some ErrorKind.OutOfMemory)) }
+    {
+        match failure? {
+            ErrorKind::NotFound => Some(FailureWords::NotFound),
+            ErrorKind::InvalidFilename => Some(FailureWords::NameTooLong),
+            ErrorKind::OutOfMemory => None,
+            kind => Some(FailureWords::Other(kind)),
+        }
+    }
+
+    /// Of a failure at standard output, which may be closed.
+    pub fn of_output(failure: Option<ErrorKind>) -> Option<FailureWords>
+        ensures failure { IfSome result (λ words. failure ≡ Some (failure_of words)) }
+        ensures none { IfNone result ((failure ≡ None) ⊎ (failure ≡ Some ErrorKind.OutOfMemory)) }
+    {
+        match failure {
+            Some(ErrorKind::NotConnected) => Some(FailureWords::OutputClosed),
+            _ => FailureWords::of(failure),
+        }
+    }
+}
