@@ -1,12 +1,12 @@
 -- The arguments of a command for clap, one after another.
-use Rattle.std.specs.Prelude.{◌≡◌, ℕ, ◌+◌, ◌<◌, Bool, List, [], ◌∷◌, ◌++◌, length, map, take}
-use Rattle.std.proofs.Common.{◌∙◌, ap, get_or, sym}
-use Rattle.std.proofs.lemmas.List.{map-append, take_more}
+use Rattle.std.specs.Prelude.{◌≡◌, ℕ, ◌≤◌, Bool, List, [], ◌∷◌, ◌++◌, Result, Ok, Err, IfOk, length, map, take}
+use Rattle.std.proofs.Common.{◌∙◌, ap}
+use Rattle.std.proofs.lemmas.List.{map-append, take_all}
 use Rattle.clap.specs.Built.{AddsArg}
 use Rattle.clap.specs.Facts.{args_of}
 use Rattle.clap.specs.declared.builder.arg.Arg.{Arg}
 use Rattle.clap.specs.declared.builder.command.Command.{Command}
-use Rattle.plm80_console.specs.SyntaxTable.{argument_in, argument_of, arguments_in, arguments_of}
+use Rattle.plm80_console.specs.SyntaxTable.{argument_in, arguments_in, arguments_of}
 use Rattle.plm80_console.specs.declared.syntax.Argument.{Argument}
 
 -- what a command has with one argument more
@@ -17,11 +17,11 @@ one_more command new arg own adds is =
     ap (map argument_in) adds.args ∙ (map-append argument_in (args_of command) (adds.arg ∷ [])
     ∙ ap (λ (a : List ℕ × Bool). arguments_in command ++ a ∷ []) same)
 
--- those of a table up to an index
-pub table_more : (command new : Command) (arg : Arg) (arguments : List Argument) (i : ℕ) (d : Argument) → i < length arguments
-    → arguments_in command ≡ arguments_of (take i arguments) → AddsArg command arg new
-    → argument_in arg ≡ argument_of (get_or arguments i d) → arguments_in new ≡ arguments_of (take (i + 1) arguments)
-table_more command new arg arguments i d lt so_far adds is =
-    one_more command new arg (argument_of (get_or arguments i d)) adds is
-    ∙ (ap (λ (as : List (List ℕ × Bool)). as ++ argument_of (get_or arguments i d) ∷ []) so_far
-    ∙ sym (ap arguments_of (take_more arguments i d lt) ∙ map-append argument_of (take i arguments) (get_or arguments i d ∷ [])))
+-- those of a table, and then one more
+pub table_and : {E : Type 0} (command : Command) (arg : Arg) (arguments : List Argument) (i : ℕ) (own : List ℕ × Bool) (r : Result Command E)
+    → arguments_in command ≡ arguments_of (take i arguments) → length arguments ≤ i → argument_in arg ≡ own
+    → IfOk r (λ new. AddsArg command arg new) → IfOk r (λ new. arguments_in new ≡ arguments_of arguments ++ own ∷ [])
+table_and command arg arguments i own (Ok new) so_far ends is adds =
+    one_more command new arg own adds is
+    ∙ ap (λ (table : List (List ℕ × Bool)). table ++ own ∷ []) (so_far ∙ ap arguments_of (take_all i arguments ends))
+table_and command arg arguments i own (Err e) so_far ends is adds = tt

@@ -1,7 +1,7 @@
 //! A command for clap: its name, its help text and its arguments, as a table.
 
 ghost use Rattle.std.specs.Prelude.{◌≡◌, ◌++◌, ◌∷◌, [], Some, true, false, codes, IfOk};
-ghost use Rattle.clap.specs.Words.{fields_of};
+ghost use Rattle.clap.specs.Simple.{app_of};
 ghost use Rattle.plm80_console.specs.Kinds.{is_required};
 ghost use Rattle.plm80_console.specs.SyntaxTable.{arguments_in, arguments_of};
 
@@ -60,7 +60,7 @@ pub enum Kind<'a> {
 impl<'a> Syntax<'a> {
     /// The command with its arguments, for clap.
     pub fn command(&self, alloc: Global) -> Result<Command<'a>, AllocError>
-        ensures name { IfOk result (λ command. (fields_of command).name.now ≡ self.now.name.now) }
+        ensures name { IfOk result (λ command. (app_of command).top.name ≡ self.now.name.now) }
         ensures arguments { IfOk result (λ command. arguments_in command ≡ arguments_of self.now.arguments.now ++ (codes "why", false) ∷ []) }
     {
         let mut command = Command::new(alloc, self.name)

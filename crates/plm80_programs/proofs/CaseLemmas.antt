@@ -1,5 +1,5 @@
 -- The cases and the notes of the addresses below one.
-use Rattle.std.specs.Prelude.{◌≡◌, ℕ, zero, suc, ◌+◌, Bool, true, false, if◌then◌else◌, List, [], ◌∷◌, ◌++◌, IfSome, Option, None, Some, filter, filter_map, codes, refl}
+use Rattle.std.specs.Prelude.{◌≡◌, ℕ, zero, suc, ◌+◌, ◌<◌, Bool, true, false, if◌then◌else◌, List, [], ◌∷◌, ◌++◌, IfSome, Option, None, Some, filter, filter_map, length, codes, refl}
 use Rattle.std.specs.List.{cons_option, range_with_len}
 use Rattle.std.proofs.Common.{◌∙◌, ap, append-nil, arith, subst, sym}
 use Rattle.std.specs.Io.KnownBytes.{Appends}
@@ -14,7 +14,8 @@ use Rattle.verify80_cases.specs.declared.search.Note.{Note}
 use Rattle.verify80_cases.specs.declared.search.SuggestedCase.{SuggestedCase}
 use Rattle.verify80_cases.specs.Suggested.{Finding, IsFinding, IsNote, IsSearched, IsSuggestedCase, case_of, is_open}
 use Rattle.plm80_programs.specs.declared.cases.FoundCase.{FoundCase}
-use Rattle.plm80_programs.specs.Cases.{AreFoundBelow, FindsCases, IsFoundAt}
+use Rattle.stream80.specs.WholeText.{text_limit}
+use Rattle.plm80_programs.specs.Cases.{AreFoundBelow, FindsCases, HasLongCases, IsFoundAt}
 
 range_more : (a n j : ℕ) → a + n ≡ j → range_with_len a (suc n) ≡ range_with_len a n ++ j ∷ []
 range_more a zero j e = ap (λ (k : ℕ). k ∷ []) (let is : a ≡ j = omega (arith, e) in is)
@@ -121,6 +122,23 @@ module _ (image : Located) (reached taken : List Bool) where
       found = kept_more image reached taken at cases notes kept.found found after_cases after_notes here cases_are notes_are;
       lines_are = lines_more cases (cons_option found.case []) after_cases lines after_lines kept.lines_are lines_are cases_are;
     }
+
+-- ---- lines that are too long
+
+pub long_cases : (image : Located) (reached taken : List Bool) (at : ℕ) (cases : List DeclaredCase) (notes : List Note) (lines : List ℕ)
+    → Kept image reached taken at cases notes lines → IsSearched image reached taken → (found : FoundCase)
+    → IsFoundAt image reached taken at found → text_limit < length (lines ++ cases_text (cons_option found.case [])) → HasLongCases image
+long_cases image reached taken at cases notes lines kept searched found here long = record {
+  reached = reached;
+  taken = taken;
+  searched = searched;
+  limit = at + 1;
+  cases = cases ++ cons_option found.case [];
+  notes = notes ++ cons_option found.note [];
+  found = one_more image reached taken at cases notes kept.found found here;
+  too_long = subst (λ (l : List ℕ). text_limit < length l)
+      (ap (λ (l : List ℕ). l ++ cases_text (cons_option found.case [])) kept.lines_are ∙ sym (cases_more cases (cons_option found.case []))) long;
+}
 
 -- ---- lines that are written as they are found
 
