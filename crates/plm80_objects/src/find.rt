@@ -9,6 +9,7 @@ ghost use Rattle.plm80_objects.specs.Find.{AreFilesRead, FindsIn, FindsModules, 
 ghost use Rattle.plm80_objects.specs.RomFaults.{IsRefused};
 
 use crate::helpers::dump_words::explain_dump;
+use crate::helpers::image_words::explain_images;
 use crate::helpers::rom_faults::report_rom_fault;
 use clap::ArgMatches;
 use omf_core::RecordKind;
@@ -84,7 +85,7 @@ impl<'a> FindArguments<'a> {
 }
 
 /// Prints where the modules of the files lie in the dump, and gives the exit status. The dump is checked before another file is
-/// opened, and each of these before the next one. Then it says what the dump seems to be, if that is asked for.
+/// opened, and each of these before the next one. Then it says what the dump seems to be and which files are images, if that is asked for.
 pub fn find_modules<C: Console>(
     console: &mut C,
     arguments: &FindArguments<'_>,
@@ -96,8 +97,12 @@ pub fn find_modules<C: Console>(
     let done = find_in_dump(console, arguments);
     explain_dump(console, arguments.dump);
     explain_libraries(console, &arguments.files);
+    explain_images(console, &arguments.files, IMAGE_ADVICE);
     done
 }
+
+/// What to do with an image among the files.
+const IMAGE_ADVICE: &str = "plm80 compare shows where a dump differs from it";
 
 /// The first byte of a library.
 const LIBRARY_HEADER: u8 = RecordKind::LibraryHeader as u8;
