@@ -120,7 +120,7 @@ fn explain_libraries<C: Console>(console: &C, paths: &[&str]) {
     }
 }
 
-/// The same, without words on the dump.
+/// Prints where the modules of the files lie in the dump, and gives the exit status. It says nothing of the files.
 fn find_in_dump<C: Console>(console: &mut C, arguments: &FindArguments<'_>) -> Result<u8, Reported>
     ensures done { IfOk result (Gives (FindsModules arguments.now) (arguments.now.dump.now ∷ map (λ path. path.now) arguments.now.files.items)
         (C.journal console.old) (C.journal console.new)) }
@@ -141,7 +141,7 @@ fn find_in<C: Console>(console: &mut C, dump: Dump<'_>, paths: &[&str]) -> Resul
     ensures fault { IfErr result (λ _. OnlyReports (C.journal console.old) (C.journal console.new)) }
 {
     let files = read_all(console, paths)?;
-    let answer = found(console.alloc(), dump, &files);
+    let answer = find_all(console.alloc(), dump, &files);
     console.give_if_made(answer)
 }
 
@@ -180,7 +180,11 @@ fn dump_of<'a, 'b>(first: u16, file: &'b ReadFile<'a>) -> Result<Dump<'b>, Fault
 }
 
 /// What is found of the modules of files, one after another. The status is 1 if a module of an object file is missing.
-fn found(alloc: Global, dump: Dump<'_>, files: &[LinkFile]) -> Result<Answer<'static>, AllocError>
+fn find_all(
+    alloc: Global,
+    dump: Dump<'_>,
+    files: &[LinkFile],
+) -> Result<Answer<'static>, AllocError>
     ensures found { IfOk result (PrintsFound (dump_of dump.entry) files.now) }
     ensures no_file { IfOk result (λ answer. answer.files ≡ []) }
 {

@@ -152,7 +152,7 @@ fn link_read<C: Console>(
     ensures fault { IfErr result (λ _. IsGivenUp (LinksInto arguments.now.out.now arguments.now.lines name.now files.now)
         (C.journal console.old) (C.journal console.new)) }
 {
-    let linked = linked(console, name, files)?;
+    let linked = link_modules(console, name, files)?;
     let (out, lines) = (arguments.out, arguments.lines);
     let answer = answer(console.alloc(), out, lines, &linked, files);
     console.give_if_made(answer)
@@ -229,7 +229,7 @@ fn push_modules(roots: &mut Vec<Module>, mut modules: Vec<Module>) -> Result<(),
 }
 
 /// What the files are linked into.
-fn linked<C: Console>(
+fn link_modules<C: Console>(
     console: &mut C,
     name: &Name,
     files: &LinkFiles<'_>,
