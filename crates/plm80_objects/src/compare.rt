@@ -109,7 +109,7 @@ pub fn compare_files<C: Console>(
     done
 }
 
-/// The same, without words on the dump.
+/// Prints where the image and the dump differ; the status is 1 if they do. It says nothing of the dump.
 fn print_differences<C: Console>(
     console: &mut C,
     arguments: CompareArguments<'_>,
@@ -125,14 +125,14 @@ fn print_differences<C: Console>(
     let none = no_regions(console.alloc());
     let image = image_of(console, file.path, &file.bytes, none)?;
     let names = Names::of(console, arguments.names, file.path, &file.bytes)?;
-    match compared(console.alloc(), &image, &names, first, &dump, fill) {
+    match compare_dump(console.alloc(), &image, &names, first, &dump, fill) {
         Ok(answer) => console.give(answer),
         Err(fault) => Err(report_rom_fault(console, fault)),
     }
 }
 
 /// Where an image and a dump from an address on differ.
-fn compared<'a>(
+fn compare_dump<'a>(
     alloc: Global,
     image: &Image,
     names: &Names,

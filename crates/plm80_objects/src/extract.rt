@@ -127,7 +127,7 @@ pub fn extract_file<C: Console>(
     let file = console.read_file(arguments.image)?;
     let none = no_regions(console.alloc());
     let image = image_of(console, file.path, &file.bytes, none)?;
-    match extracted(console.alloc(), arguments, extent, &image) {
+    match extract_bytes(console.alloc(), arguments, extent, &image) {
         Ok(answer) => {
             let given = console.give(answer);
             if given.is_ok() {
@@ -176,7 +176,7 @@ fn extent_of<C: Console>(
 }
 
 /// The bytes of an image over a range, which go to the file, and the line of their sum if it is asked for.
-fn extracted<'a>(
+fn extract_bytes<'a>(
     alloc: Global,
     arguments: ExtractArguments<'a>,
     extent: Extent,

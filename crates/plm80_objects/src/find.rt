@@ -9,6 +9,7 @@ ghost use Rattle.plm80_objects.specs.Find.{AreFilesRead, FindsIn, FindsModules, 
 ghost use Rattle.plm80_objects.specs.RomFaults.{IsRefused};
 
 use crate::helpers::dump_words::explain_dump;
+use crate::helpers::image_words::explain_images;
 use crate::helpers::rom_faults::report_rom_fault;
 use clap::ArgMatches;
 use omf_core::RecordKind;
@@ -84,7 +85,7 @@ impl<'a> FindArguments<'a> {
 }
 
 /// Prints where the modules of the files lie in the dump, and gives the exit status. The dump is checked before another file is
-/// opened, and each of these before the next one. Then it says what the dump seems to be, if that is asked for.
+/// opened, and each of these before the next one. Then it says what the dump seems to be and which files are images, if that is asked for.
 pub fn find_modules<C: Console>(
     console: &mut C,
     arguments: &FindArguments<'_>,
@@ -96,8 +97,12 @@ pub fn find_modules<C: Console>(
     let done = find_in_dump(console, arguments);
     explain_dump(console, arguments.dump);
     explain_libraries(console, &arguments.files);
+    explain_images(console, &arguments.files, IMAGE_ADVICE);
     done
 }
+
+/// What to do with an image among the files.
+const IMAGE_ADVICE: &str = "plm80 compare shows where a dump differs from it";
 
 /// The first byte of a library.
 const LIBRARY_HEADER: u8 = RecordKind::LibraryHeader as u8;
@@ -115,7 +120,7 @@ fn explain_libraries<C: Console>(console: &C, paths: &[&str]) {
     }
 }
 
-/// The same, without words on the dump.
+/// Prints where the modules of the files lie in the dump, and gives the exit status. It says nothing of the files.
 fn find_in_dump<C: Console>(console: &mut C, arguments: &FindArguments<'_>) -> Result<u8, Reported>
     ensures done { IfOk result (Gives (FindsModules arguments.now) (arguments.now.dump.now ∷ map (λ path. path.now) arguments.now.files.items)
         (C.journal console.old) (C.journal console.new)) }
@@ -136,7 +141,7 @@ fn find_in<C: Console>(console: &mut C, dump: Dump<'_>, paths: &[&str]) -> Resul
     ensures fault { IfErr result (λ _. OnlyReports (C.journal console.old) (C.journal console.new)) }
 {
     let files = read_all(console, paths)?;
-    let answer = found(console.alloc(), dump, &files);
+    let answer = find_all(console.alloc(), dump, &files);
     console.give_if_made(answer)
 }
 
@@ -175,7 +180,11 @@ fn dump_of<'a, 'b>(first: u16, file: &'b ReadFile<'a>) -> Result<Dump<'b>, Fault
 }
 
 /// What is found of the modules of files, one after another. The status is 1 if a module of an object file is missing.
-fn found(alloc: Global, dump: Dump<'_>, files: &[LinkFile]) -> Result<Answer<'static>, AllocError>
+fn find_all(
+    alloc: Global,
+    dump: Dump<'_>,
+    files: &[LinkFile],
+) -> Result<Answer<'static>, AllocError>
     ensures found { IfOk result (PrintsFound (dump_of dump.entry) files.now) }
     ensures no_file { IfOk result (λ answer. answer.files ≡ []) }
 {

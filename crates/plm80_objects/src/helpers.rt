@@ -6,6 +6,7 @@ pub(crate) mod causes;
 pub(crate) mod decimal_words;
 pub(crate) mod dump_words;
 pub(crate) mod empty_segments;
+pub(crate) mod image_words;
 pub(crate) mod link_lines;
 pub(crate) mod locate_options;
 pub(crate) mod rom_faults;

@@ -9,6 +9,7 @@ ghost use Rattle.plm80_console.specs.Journal.{OnlyReports};
 ghost use Rattle.plm80_objects.specs.Link.{AddsFile, AddsLibrary, AddsModules, AreLinkFilesRead, LinksFiles, LinksInto, WritesLinked};
 
 use crate::helpers::causes::report_link_fault;
+use crate::helpers::image_words::explain_images;
 use crate::helpers::link_lines::{LinkLines, lines_of};
 use clap::ArgMatches;
 use link80::{Linked, link};
@@ -101,6 +102,10 @@ impl<'a> LinkArguments<'a> {
     }
 }
 
+/// What to do with an image among the files.
+const IMAGE_ADVICE: &str =
+    "its bytes keep their addresses; link the object files that it was made of";
+
 /// The path of an object file, and how many modules it has.
 #[derive(Clone, Copy)]
 pub(crate) struct RootFile<'a> {
@@ -118,7 +123,7 @@ pub(crate) struct LinkFiles<'a> {
 }
 
 /// Links the modules of the files, writes the linked one and prints which were taken and which names are unresolved. No file
-/// is created or changed before every other fault is excluded.
+/// is created or changed before every other fault is excluded. Then it says which files are images, if that is asked for.
 pub fn link_files<C: Console>(
     console: &mut C,
     arguments: &LinkArguments<'_>,
@@ -130,7 +135,9 @@ pub fn link_files<C: Console>(
 {
     let name = arguments.name.module_name(console)?;
     let files = read_files(console, &arguments.files)?;
-    link_read(console, arguments, &name, &files)
+    let done = link_read(console, arguments, &name, &files);
+    explain_images(console, &arguments.files, IMAGE_ADVICE);
+    done
 }
 
 /// Links what was read, and writes the linked module.
@@ -145,7 +152,7 @@ fn link_read<C: Console>(
     ensures fault { IfErr result (λ _. IsGivenUp (LinksInto arguments.now.out.now arguments.now.lines name.now files.now)
         (C.journal console.old) (C.journal console.new)) }
 {
-    let linked = linked(console, name, files)?;
+    let linked = link_modules(console, name, files)?;
     let (out, lines) = (arguments.out, arguments.lines);
     let answer = answer(console.alloc(), out, lines, &linked, files);
     console.give_if_made(answer)
@@ -222,7 +229,7 @@ fn push_modules(roots: &mut Vec<Module>, mut modules: Vec<Module>) -> Result<(),
 }
 
 /// What the files are linked into.
-fn linked<C: Console>(
+fn link_modules<C: Console>(
     console: &mut C,
     name: &Name,
     files: &LinkFiles<'_>,

@@ -150,7 +150,7 @@ pub fn locate_file<C: Console>(
     };
     let modules = read_program(console, arguments.object)?;
     let program = &modules[0];
-    match located(console.alloc(), arguments, program, &options, board) {
+    match locate_program(console.alloc(), arguments, program, &options, board) {
         Ok(answer) => {
             let given = console.give(answer);
             if given.is_ok() && console.explains() {
@@ -165,9 +165,9 @@ pub fn locate_file<C: Console>(
 /// Why a program isn't located.
 #[derive(Drop)]
 enum LocateFault {
-    /// Its segments can't be placed.
+    /// The segments of the program can't be placed.
     Place(PlaceFault),
-    /// The board has no memory for one of them.
+    /// The board has no memory for a segment.
     Unmapped(Unmapped),
 }
 
@@ -207,7 +207,7 @@ fn report_fault<C: Console>(
 }
 
 /// The files of a program at its places, with a restart and with its publics if they are asked for.
-fn located<'a>(
+fn locate_program<'a>(
     alloc: Global,
     arguments: &LocateArguments<'a>,
     program: &Module,

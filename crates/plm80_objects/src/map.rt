@@ -85,14 +85,18 @@ pub fn map_file<C: Console>(console: &mut C, arguments: MapArguments<'_>) -> Res
     let options = arguments.options.numbers(console)?;
     let modules = read_program(console, arguments.object)?;
     let program = &modules[0];
-    match mapped(console.alloc(), program, &options) {
+    match map_program(console.alloc(), program, &options) {
         Ok(answer) => console.give(answer),
         Err(fault) => Err(report_place_fault(console, program, &options, fault)),
     }
 }
 
 /// The map of a program.
-fn mapped(alloc: Global, program: &Module, options: &Options) -> Result<Answer<'static>, PlaceFault>
+fn map_program(
+    alloc: Global,
+    program: &Module,
+    options: &Options,
+) -> Result<Answer<'static>, PlaceFault>
     ensures map { IfOk result (λ answer. IsMap (layout_of options.now program.now) program.now answer.lines) }
     ensures printed { IfOk result (λ answer. answer ≡ prints answer.lines 0) }
     ensures none { OnOk result (locate_fault options.now program.now ≡ None) }

@@ -71,7 +71,7 @@ pub fn describe_file<C: Console>(
     ensures fault { IfErr result (λ _. OnlyReports (C.journal console.old) (C.journal console.new)) }
 {
     let modules = read_described(console, arguments.object)?;
-    let answer = described(console.alloc(), &modules);
+    let answer = describe_modules(console.alloc(), &modules);
     console.give_if_made(answer)
 }
 
@@ -124,7 +124,7 @@ fn header_from(bytes: &[u8], from: usize) -> Option<(usize, usize)>
 }
 
 /// The lines of all modules, in order.
-fn described(alloc: Global, modules: &[Module]) -> Result<Answer<'static>, AllocError>
+fn describe_modules(alloc: Global, modules: &[Module]) -> Result<Answer<'static>, AllocError>
     ensures described { IfOk result (DescribesModules modules.now) }
     ensures no_file { IfOk result (λ answer. answer.files ≡ []) }
 {

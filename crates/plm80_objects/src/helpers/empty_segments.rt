@@ -37,7 +37,7 @@ pub(crate) fn explain_empty_segments<C: Console>(
     for (id, option) in texts.bases() {
         if let Some(option) = option {
             if is_empty(&layout.segments, id) {
-                let (name, text, word) = (option.name(), option.text(), shown(id));
+                let (name, text, word) = (option.name(), option.text(), segment_word(id));
                 console.explain(format_args!("--{name} {text}: {word} is empty"));
                 has_empty = true;
             }
@@ -46,7 +46,7 @@ pub(crate) fn explain_empty_segments<C: Console>(
     if has_empty {
         for placed in &layout.segments {
             if placed.length > 0 {
-                let (word, base, length) = (shown(placed.id), placed.base, placed.length);
+                let (word, base, length) = (segment_word(placed.id), placed.base, placed.length);
                 console.explain(format_args!("{word} {base:04X} {length:04X}"));
             }
         }
@@ -63,7 +63,7 @@ fn is_empty(segments: &[Placed], id: u8) -> bool
 }
 
 /// The word for the segment of this id.
-fn shown(id: u8) -> &'static str
+fn segment_word(id: u8) -> &'static str
     ensures { (result.now ≡ segment_word id) ⊎ (result.now ≡ []) }
 {
     match str::from_utf8(word_of(id)) {

@@ -2,7 +2,7 @@
 use Rattle.std.specs.Prelude.{take}
 use Rattle.rom80_find.specs.Dump.{dump_of}
 use Rattle.plm80_objects.specs.Find.{PrintsFiles}
-use Rattle.plm80_objects.proofs.find.found.Given as goal
+use Rattle.plm80_objects.proofs.find.find_all.Given as goal
 
 abbrev pub invariant-loop-file : goal.invariant-loop-file
 invariant-loop-file l = PrintsFiles (dump_of l.dump) (take l.file-index l.files) l.are_there l.text.items
