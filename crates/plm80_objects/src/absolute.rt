@@ -1,13 +1,13 @@
 //! `plm80 absolute`: the image of bytes as they are.
 
-ghost use Rattle.std.specs.Prelude.{◌≡◌, ◌+◌, ◌<◌, ◌≤◌, ◌↔◌, ◌++◌, ◌∷◌, [], IsTrue, IfOk, IfErr, OnOk};
-ghost use Rattle.rom80.specs.Rom.{chunks_of};
+ghost use Rattle.std.specs.Prelude.{◌≡◌, ◌||◌, ◌++◌, ◌∷◌, ℕ, [], length, IfOk, IfErr, OnOk};
+ghost use Rattle.rom80.specs.Rom.{chunks_of, is_among, is_covered};
 ghost use Rattle.plm80_console.specs.Journal.{OnlyReports};
 ghost use Rattle.plm80_objects.specs.Absolute.{AreDumpsRead, AreRomFiles, GivesDumps, GivesUpDumps, IsRomFile, WritesImage};
 ghost use Rattle.plm80_objects.specs.Arguments.{AreAbsoluteArguments};
 ghost use Rattle.plm80_objects.specs.RomFaults.{IsRefusedWith};
 
-use crate::helpers::dump_words::explain_dump;
+use crate::helpers::dump_words::DumpWords;
 use crate::helpers::rom_faults::report_rom_fault;
 use clap::ArgMatches;
 use image80_file::write_image;
@@ -119,10 +119,10 @@ pub fn write_absolute<C: Console>(
     ensures fault { IfErr result (λ _. GivesUpDumps arguments.now (C.journal console.old) (C.journal console.new)) }
 {
     let done = write_dumps(console, arguments);
-    explain_dump(console, arguments.bytes);
+    console.explain_any(DumpWords::of(console, arguments.bytes));
     for further in &arguments.further {
         if let Some((_, path)) = further.split_once('=') {
-            explain_dump(console, path);
+            console.explain_any(DumpWords::of(console, path));
         }
     }
     done
@@ -209,6 +209,7 @@ fn read_dumps<C: Console>(
     start: u16,
 ) -> Result<(Dumps, bool), Reported>
     ensures dumps { IfOk result (λ read. AreDumpsRead files.now (C.journal console.old) (C.journal console.new) read.0) }
+    ensures start { IfOk result (λ read. read.1 ≡ is_covered read.0 start) }
     ensures fault { IfErr result (λ _. OnlyReports (C.journal console.old) (C.journal console.new)) }
 {
     let mut dumps = Dumps::new(console.alloc());
@@ -226,7 +227,7 @@ fn read_dumps<C: Console>(
 
 /// Whether bytes from a first address on have one at another.
 fn has_byte(first: u16, count: usize, address: u16) -> bool
-    ensures { IsTrue result ↔ (first ≤ address) × (address < first + count) }
+    ensures { result ≡ is_among first count address }
 {
     match address.checked_sub(first) {
         Some(offset) => usize::from(offset) < count,
@@ -242,6 +243,8 @@ fn add_dump<'a>(
     file: &ReadFile<'a>,
 ) -> Result<(), FaultOf<'a, RomFault>>
     ensures added { OnOk result (dumps.new ≡ dumps.old ++ chunks_of first file.now.bytes.items) }
+    ensures covered { OnOk result ((address : ℕ) → is_covered dumps.new address
+        ≡ (is_covered dumps.old address || is_among first (length file.now.bytes.items) address)) }
     ensures fault { IfErr result (λ f. (f.path.now ≡ file.now.path.now) × IsRefusedWith dumps.old first file.now.bytes.items f.fault) }
 {
     match dumps.add(alloc, first, &file.bytes) {

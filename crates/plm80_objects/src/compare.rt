@@ -12,7 +12,7 @@ ghost use Rattle.plm80_objects.specs.RomFaults.{IsRefused};
 
 use crate::extract::{FILL, fill_of};
 use crate::helpers::byte_words::explain_bytes;
-use crate::helpers::dump_words::explain_dump;
+use crate::helpers::dump_words::DumpWords;
 use crate::helpers::rom_faults::report_rom_fault;
 use clap::ArgMatches;
 use image80::Image;
@@ -105,7 +105,7 @@ pub fn compare_files<C: Console>(
         explain_bytes(console, arguments.image, arguments.dump, first, fill);
     }
     explain_given(console, &done, arguments.names, arguments.image, None);
-    explain_dump(console, arguments.dump);
+    console.explain_any(DumpWords::of(console, arguments.dump));
     done
 }
 

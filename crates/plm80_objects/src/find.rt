@@ -8,7 +8,7 @@ ghost use Rattle.plm80_objects.specs.Arguments.{AreFindArguments};
 ghost use Rattle.plm80_objects.specs.Find.{AreFilesRead, FindsIn, FindsModules, PrintsFile, PrintsFound};
 ghost use Rattle.plm80_objects.specs.RomFaults.{IsRefused};
 
-use crate::helpers::dump_words::explain_dump;
+use crate::helpers::dump_words::DumpWords;
 use crate::helpers::image_words::explain_images;
 use crate::helpers::rom_faults::report_rom_fault;
 use clap::ArgMatches;
@@ -95,7 +95,7 @@ pub fn find_modules<C: Console>(
     ensures fault { IfErr result (λ _. OnlyReports (C.journal console.old) (C.journal console.new)) }
 {
     let done = find_in_dump(console, arguments);
-    explain_dump(console, arguments.dump);
+    console.explain_any(DumpWords::of(console, arguments.dump));
     explain_libraries(console, &arguments.files);
     explain_images(console, &arguments.files, IMAGE_ADVICE);
     done

@@ -1,37 +1,57 @@
 //! What a dump seems to be, in words, if it isn't bytes as they are.
 
+ghost use Rattle.std.specs.Prelude.{◌≡◌, ℕ, List, Some, IfSome};
+ghost use Rattle.rom80.specs.DumpKinds.{dump_kind};
+
 use plm80_console::Console;
 use rom80::DumpKind;
+use std::fmt;
+use std::fmt::{Display, Formatter};
 
-/// Says what the dump of this path seems to be and which command makes bytes of it, if it doesn't seem to be bytes. If it can't be read
-/// again, it says nothing.
-pub(crate) fn explain_dump<C: Console>(console: &C, path: &str) {
-    let Some(bytes) = console.text_to_explain(path) else {
-        return;
-    };
-    let Some(kind) = DumpKind::of(&bytes) else {
-        return;
-    };
-    let (seems, command, options) = match kind {
-        DumpKind::IntelHex => (
-            "Intel HEX; its bytes",
-            "objcopy -I ihex -O binary --gap-fill 0xFF",
-            "",
-        ),
-        DumpKind::SRecords => (
-            "S-records; their bytes",
-            "objcopy -I srec -O binary --gap-fill 0xFF",
-            "",
-        ),
-        DumpKind::HexDump => ("a text of xxd; its bytes", "xxd -r", ""),
-        DumpKind::PlainHexDump => ("hexadecimal digits; their bytes", "xxd -r -p", ""),
-        DumpKind::ObjectFile => (
-            "an object file; an image's bytes",
-            "plm80 extract",
-            " --first FIRST --length LENGTH",
-        ),
-    };
-    console.explain(format_args!(
-        "{path} seems to be {seems}: {command} {path} {path}.rom{options}"
-    ));
+/// Words on a dump that doesn't seem to be bytes as they are: what it seems to be, and which command makes bytes of it.
+#[derive(Clone, Copy)]
+pub(crate) struct DumpWords<'a> {
+    path: &'a str,
+    kind: DumpKind,
+}
+
+impl<'a> DumpWords<'a> {
+    /// Of the dump of this path; none if it seems to be bytes, can't be read again, or words aren't asked for.
+    pub(crate) fn of<C: Console>(console: &C, path: &'a str) -> Option<DumpWords<'a>>
+        ensures path { IfSome result (λ words. words.path.now ≡ path.now) }
+        ensures kind { IfSome result (λ words. (bytes : List ℕ) × (dump_kind bytes ≡ Some words.kind)) }
+    {
+        let bytes = console.text_to_explain(path)?;
+        let kind = DumpKind::of(&bytes)?;
+        Some(DumpWords { path, kind })
+    }
+}
+
+impl<'a> Display for DumpWords<'a> {
+    fn fmt<W: fmt::Write>(&self, formatter: &mut Formatter<W>) -> fmt::Result {
+        let path = self.path;
+        let (seems, command, options) = match self.kind {
+            DumpKind::IntelHex => (
+                "Intel HEX; its bytes",
+                "objcopy -I ihex -O binary --gap-fill 0xFF",
+                "",
+            ),
+            DumpKind::SRecords => (
+                "S-records; their bytes",
+                "objcopy -I srec -O binary --gap-fill 0xFF",
+                "",
+            ),
+            DumpKind::HexDump => ("a text of xxd; its bytes", "xxd -r", ""),
+            DumpKind::PlainHexDump => ("hexadecimal digits; their bytes", "xxd -r -p", ""),
+            DumpKind::ObjectFile => (
+                "an object file; an image's bytes",
+                "plm80 extract",
+                " --first FIRST --length LENGTH",
+            ),
+        };
+        write!(
+            formatter,
+            "{path} seems to be {seems}: {command} {path} {path}.rom{options}"
+        )
+    }
 }
