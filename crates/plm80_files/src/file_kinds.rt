@@ -134,9 +134,10 @@ impl FileKind {
         ensures { is_some result ≡ is_misplaced FileRole.Image self }
     {
         match self {
-            FileKind::Regions | FileKind::Inputs | FileKind::Unknown => {
-                Some("IMAGE is the first path")
-            }
+            FileKind::Regions | FileKind::Inputs => Some("IMAGE is the first path"),
+            FileKind::Unknown => Some(
+                "IMAGE is the first path; of a PROM's bytes plm80 absolute makes one",
+            ),
             FileKind::Empty
             | FileKind::ObjectFile
             | FileKind::Library

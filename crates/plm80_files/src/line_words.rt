@@ -25,7 +25,7 @@ pub enum LineFlaw {
     Blank,
     #[error("the line has a ; but these texts have no comments")]
     Comment,
-    #[error("the line has an odd number of digits")]
+    #[error("a number of the line has an odd number of digits")]
     OddDigits,
     #[error("the line has lower case: digits and words are of upper case, and numbers have no h")]
     LowerCase,

@@ -16,9 +16,8 @@ use loader80::{Refusal, vouch};
 use place80_text::read_publics;
 use plm80_console::{Console, Reported};
 use std::alloc::{AllocError, Global};
-use std::fmt;
 use std::fmt::{Display, Formatter};
-use std::str;
+use std::{fmt, str};
 
 /// A range of an image's regions, and the word that begins its line.
 #[derive(Clone, Copy)]
@@ -52,7 +51,10 @@ impl Display for PlaceWords {
         match self.place {
             Some(Place { word, range }) => {
                 let (first, length) = (range.first, range.length);
-                write!(formatter, "{address:04X} is in {word} {first:04X} {length:04X}")
+                write!(
+                    formatter,
+                    "{address:04X} is in {word} {first:04X} {length:04X}"
+                )
             }
             None => write!(formatter, "{address:04X} is in no range"),
         }
@@ -117,7 +119,14 @@ fn explain_place<C: Console>(console: &C, image: &Image, refusal: Refusal) {
                 "not all bytes of the instruction at {at:04X} are in CODE"
             ));
         }
-        Refusal::FetchOutside(at) => console.explain(PlaceWords::of(image, at)),
+        Refusal::FetchOutside(at) => {
+            let words = PlaceWords::of(image, at);
+            let is_nowhere = words.place.is_none();
+            console.explain(words);
+            if is_nowhere {
+                console.explain("if code of another PROM is there, absolute --rom adds it");
+            }
+        }
         Refusal::UnusedOpcode(at) => {
             let byte = image.byte(at);
             console.explain(format_args!("{at:04X} has {byte:02X}, no instruction of the 8080"));
@@ -156,6 +165,9 @@ fn explain_instruction<C: Console>(console: &C, image: &Image, refusal: Refusal)
         }
         Refusal::EnablesInterrupts(_) => {
             console.explain(format_args!("{text}: no HLT in CODE follows it"));
+            console.explain(
+                "docs/FIRMWARE.md verifies the rest of such a program ('An EPROM that is refused')",
+            );
         }
         Refusal::Pchl(_) => {
             console.explain(format_args!(

@@ -2,7 +2,7 @@
 use Rattle.std.specs.Prelude.{ℕ, ◌==◌, ◌&&◌, Bool, true, false, Option, None, Some, List, length, if◌then◌else◌}
 use Rattle.std.specs.List.{list_any}
 use Rattle.machine80.specs.declared.end.End.{End}
-use Rattle.machine80.specs.declared.end.End.TheVariants.{Halt, InputEnd, OutputRefused}
+use Rattle.machine80.specs.declared.end.End.TheVariants.{Halt, InputEnd, OutputRefused, StoreOutside, JumpOutside}
 use Rattle.plm80_programs.specs.declared.status.EndWords.{EndWords}
 use Rattle.plm80_programs.specs.declared.status.EndWords.TheVariants as words
 use Rattle.verify80_cases.specs.declared.search.Note.{Note}
@@ -15,10 +15,12 @@ end_status None = 4
 end_status (Some Halt) = 0
 end_status (Some _) = 3
 
--- of which ends words say where the instruction stands: those at a port
+-- of which ends words say where the instruction stands: those at a port, a store or a PCHL
 abbrev pub end_words : Option End → (at : ℕ) → Option EndWords
 end_words (Some (InputEnd port)) at = Some (words.NoInput at port)
 end_words (Some (OutputRefused port)) at = Some (words.OutputRefused at port)
+end_words (Some (StoreOutside address)) at = Some (words.StoreOutside at)
+end_words (Some (JumpOutside address)) at = Some (words.JumpOutside at)
 end_words other at = None
 
 -- of the stores of a program: 0 if none of them, no jump and no use of SP is listed

@@ -388,9 +388,13 @@ pub(crate) fn remark_notes<C: Console>(console: &C, notes: &[Note]) {
                 console.remark(format_args!("the table at {table:04X} may end at {end:04X}"))
             }
             Note::Tableless(at) => {
-                console.remark(format_args!("no table is seen for the PCHL at {at:04X}"))
+                console.remark(format_args!("no table is seen for the PCHL at {at:04X}"));
+                console.explain("write its CASE line by hand: docs/USING.md, 'A DO CASE'");
             }
-            Note::Returns(at) => console.remark(format_args!("the PCHL at {at:04X} returns")),
+            Note::Returns(at) => {
+                console.remark(format_args!("the PCHL at {at:04X} returns"));
+                console.explain("end its procedure with RET in place of POP H and PCHL");
+            }
         }
     }
 }

@@ -17,23 +17,29 @@ pub fn status_of(end: Option<End>) -> u8
     }
 }
 
-/// Words on a run that ended at a port: where the instruction stands, which its last line doesn't say.
+/// Words on a run that ended at a port, a store or a PCHL: where the instruction stands, which its last line doesn't say.
 #[derive(Clone, Copy, Debug, Error)]
 pub enum EndWords {
     #[error("the IN at {at:04X} finds no byte at port {port:02X}: INPUTS has none left for it")]
     NoInput { at: u16, port: u8 },
     #[error("the OUT at {at:04X} to port {port:02X} is one more than --outputs allows")]
     OutputRefused { at: u16, port: u8 },
+    #[error("the store at {at:04X} goes outside DATA: is a DATA line missing, or is its address wrong?")]
+    StoreOutside { at: u16 },
+    #[error("the PCHL at {at:04X} goes to no target of its CASE line")]
+    JumpOutside { at: u16 },
 }
 
 impl EndWords {
-    /// Of a run that ended so; none if it didn't end at a port. The program counter is that before the step that ended it.
+    /// Of a run that ended so; none if it ended in another way. The program counter is that before the step that ended it.
     pub fn of(end: Option<End>, at: u16) -> Option<EndWords>
         ensures { result ≡ end_words «end» at }
     {
         match end {
             Some(End::InputEnd(port)) => Some(EndWords::NoInput { at, port }),
             Some(End::OutputRefused(port)) => Some(EndWords::OutputRefused { at, port }),
+            Some(End::StoreOutside(_)) => Some(EndWords::StoreOutside { at }),
+            Some(End::JumpOutside(_)) => Some(EndWords::JumpOutside { at }),
             _ => None,
         }
     }
