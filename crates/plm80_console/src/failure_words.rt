@@ -20,7 +20,7 @@ pub enum FailureWords {
 }
 
 impl FailureWords {
-    /// Of a failure; none if it isn't known, or if memory ran out.
+    /// Words on a failure; none if it isn't known, or if memory ran out.
     pub fn of(failure: Option<ErrorKind>) -> Option<FailureWords>
         ensures failure { IfSome result (λ words. failure ≡ Some (failure_of words)) }
         ensures none { IfNone result ((failure ≡ None) ⊎ (failure ≡ Some ErrorKind.OutOfMemory)) }
@@ -33,7 +33,7 @@ impl FailureWords {
         }
     }
 
-    /// Of a failure at standard output, which may be closed.
+    /// Words on a failure at standard output, which may be closed.
     pub fn of_output(failure: Option<ErrorKind>) -> Option<FailureWords>
         ensures failure { IfSome result (λ words. failure ≡ Some (failure_of words)) }
         ensures none { IfNone result ((failure ≡ None) ⊎ (failure ≡ Some ErrorKind.OutOfMemory)) }

@@ -14,9 +14,9 @@ pub(crate) const OBJECT_WORDS: &str = "docs/FAULTS.md says what to look for ther
 /// Why an object file or a library isn't read.
 #[derive(Clone, Copy, Debug)]
 pub enum FileFault {
-    /// Its bytes are no object file.
+    /// The bytes are no object file.
     Module(ModuleFault),
-    /// Its bytes are no library.
+    /// The bytes are no library.
     Library(LibraryFault),
 }
 

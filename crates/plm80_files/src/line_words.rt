@@ -42,7 +42,7 @@ pub const FLAWS: &[LineFlaw] = &[
     LineFlaw::OddDigits,
 ];
 
-/// The same of a line whose words and digits are of upper case.
+/// The flaws of a line whose words and digits are of upper case.
 pub(crate) const UPPER_FLAWS: &[LineFlaw] = &[
     LineFlaw::NotAscii,
     LineFlaw::CarriageReturn,
@@ -54,7 +54,7 @@ pub(crate) const UPPER_FLAWS: &[LineFlaw] = &[
     LineFlaw::LowerCase,
 ];
 
-/// The same of a first line, whose digit stands alone.
+/// The flaws of a first line, whose digit stands alone.
 pub(crate) const VERSION_FLAWS: &[LineFlaw] = &[
     LineFlaw::NotAscii,
     LineFlaw::CarriageReturn,

@@ -22,7 +22,7 @@ pub struct UnreadBytes<'a> {
 }
 
 impl<'a> UnreadBytes<'a> {
-    /// Of the file of this path, which has these bytes; none if the bytes behind its end record only fill it up.
+    /// The unread bytes of the file of this path, which has these bytes; none if the bytes behind its end record only fill it up.
     pub fn of(path: &'a str, bytes: &[u8]) -> Option<UnreadBytes<'a>>
         ensures path { IfSome result (λ unread. unread.path.now ≡ path.now) }
         ensures bytes { IfSome result (λ unread. AreUnread bytes.now unread.count) }
@@ -38,7 +38,7 @@ impl<'a> UnreadBytes<'a> {
         }
     }
 
-    /// Of the file of this path, which was read; none if it can't be read again, or words aren't asked for.
+    /// The unread bytes of the file of this path, which was read; none if it can't be read again, or words aren't asked for.
     pub(crate) fn again<C: Console>(console: &C, path: &'a str) -> Option<UnreadBytes<'a>>
         ensures path { IfSome result (λ unread. unread.path.now ≡ path.now) }
         ensures bytes { IfSome result (λ unread. (bytes : List ℕ) × AreUnread bytes unread.count) }

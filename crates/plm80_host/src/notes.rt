@@ -18,7 +18,7 @@ impl Model for Notes {
     ghost also_owns = { λ _. ftrue };
 }
 
-/// One thing that was done.
+/// A thing that was done at the host.
 #[derive(Clone, Copy)]
 pub enum Note<'a> {
     /// The file of a path was read whole.
@@ -52,7 +52,7 @@ impl Notes {
         Notes {}
     }
 
-    /// One thing more.
+    /// The notes with one thing more.
     pub fn with(&self, _note: &Note<'_>) -> Notes
         ensures { result.journal ≡ noted self.now.journal _note.now }
     {

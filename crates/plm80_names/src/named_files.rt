@@ -64,7 +64,7 @@ impl<'a> NamedFiles<'a> {
 }
 
 impl<'a> ProgramTexts<'a> {
-    /// Both files, the image first.
+    /// Reads the image and the regions, in this order.
     pub fn read<C: Console>(
         console: &mut C,
         image: &'a str,

@@ -13,9 +13,9 @@ use std::alloc::{AllocError, Global};
 /// What the verifier says of an image.
 #[derive(Drop)]
 pub enum Verdict {
-    /// It is accepted.
+    /// The image is accepted.
     Accepted(Vouched),
-    /// It is refused: the line of its refusal, with the name of the address.
+    /// The image is refused: the line of its refusal, with the name of the address.
     Refused(Vec<u8>),
 }
 

@@ -103,14 +103,14 @@ fn append_rest(
     Ok(1)
 }
 
-/// Whether one of those that are shown has the number and the address of a refusal.
+/// Whether one of the shown refusals has the number and the address of this one.
 fn is_among(shown: &[ShownRefusal], refusal: Refusal) -> bool
     ensures { result ≡ list_any (is_of refusal) shown.now }
 {
     shown.iter().any(|one| is_of(one, refusal))
 }
 
-/// Whether it has the number and the address of a refusal.
+/// Whether a shown refusal has the number and the address of this one.
 fn is_of(one: &ShownRefusal, refusal: Refusal) -> bool
     ensures { result ≡ is_of refusal one.now }
 {

@@ -81,7 +81,7 @@ pub fn write_inputs_file<C: Console>(
 /// Why words give no file of inputs.
 #[derive(Clone, Copy)]
 enum InputsFileFault<'a> {
-    /// This word names no inputs.
+    /// A word that names no inputs.
     BadInput(&'a str),
     /// The text would have more bytes than a loader reads.
     TooLong,

@@ -31,7 +31,7 @@ pub enum EndWords {
 }
 
 impl EndWords {
-    /// Of a run that ended so; none if it ended in another way. The program counter is that before the step that ended it.
+    /// Words on a run that ended so; none if it ended in another way. The program counter is that before the step that ended it.
     pub fn of(end: Option<End>, at: u16) -> Option<EndWords>
         ensures { result ≡ end_words «end» at }
     {

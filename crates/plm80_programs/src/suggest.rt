@@ -181,7 +181,7 @@ enum StackWords {
 }
 
 impl StackWords {
-    /// Of the first LXI SP that is reached, and of the second one.
+    /// Words on the first LXI SP that is reached, and the second one.
     fn of(first: Option<Setter>, second: Option<Setter>) -> Option<StackWords>
         ensures { result ≡ stack_words first second }
     {

@@ -16,7 +16,7 @@ pub(crate) struct DumpWords<'a> {
 }
 
 impl<'a> DumpWords<'a> {
-    /// Of the dump of this path; none if it seems to be bytes, can't be read again, or words aren't asked for.
+    /// Words on the dump of this path; none if it seems to be bytes, can't be read again, or words aren't asked for.
     pub(crate) fn of<C: Console>(console: &C, path: &'a str) -> Option<DumpWords<'a>>
         ensures path { IfSome result (λ words. words.path.now ≡ path.now) }
         ensures kind { IfSome result (λ words. (bytes : List ℕ) × (dump_kind bytes ≡ Some words.kind)) }
