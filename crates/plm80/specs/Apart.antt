@@ -1,4 +1,4 @@
--- Which arguments of a command are apart: none has the path of a file that the command writes, letter for letter.
+-- Which arguments of a command are apart: those whose paths differ, letter for letter, from that of a file that it writes.
 -- (Which arguments may share a file is this project's own: regions may replace those that they were made of.)
 use Rattle.std.specs.Prelude.{◌≡◌, ℕ, Bool, false, Some, List, codes}
 use Rattle.clap.specs.declared.parser.matches.ArgMatches.{ArgMatches}

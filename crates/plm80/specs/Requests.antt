@@ -76,7 +76,7 @@ AreArgumentsOf matches (request.Module arguments) = arguments.object.now ≡ arg
 AreArgumentsOf matches (request.Find arguments) = AreFindArguments matches arguments
 AreArgumentsOf matches (request.Suggest arguments) = AreSuggestArguments matches arguments
 
--- it is the one that clap has read; no argument has the path of one that is written
+-- it is the one that clap has read; letter for letter no written path is another one's, but regions may replace regions
 pub record IsRequestOf (matches : ArgMatches) (request : Request) : Type 0 where
   pub arguments : ArgMatches
   pub name : subcommand_name_of matches ≡ Some (command_name request)
@@ -108,7 +108,7 @@ IsPerformed (request.Module arguments) old new status = Gives (AnswersModules De
 IsPerformed (request.Find arguments) old new status = Gives (FindsModules arguments) (arguments.dump.now ∷ map (λ path. path.now) arguments.files.items) old new status
 IsPerformed (request.Suggest arguments) old new status = Gives (AnswersAdvice arguments) (arguments.image.now ∷ []) old new status
 
--- it isn't: a fault was reported. Twelve commands have written nothing; the nine that write files may have written some of their answer's
+-- it isn't: a fault was reported. Twelve commands have written no file; the nine that write files may have written some of their answer's
 abbrev pub IsFailed : Request → (old new : Journal) → Type 0
 IsFailed (request.Link arguments) old new = GivesUp (LinksFiles arguments) (map (λ path. path.now) arguments.files.items) old new
 IsFailed (request.Locate arguments) old new = GivesUp (LocatesFile arguments) (arguments.object.now ∷ []) old new

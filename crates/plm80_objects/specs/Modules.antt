@@ -91,7 +91,7 @@ pub record WritesLibrary (arguments : LibraryArguments) (old new : Journal) (sta
   pub replaced : IsReplacedKeeping arguments.library.now (library_bytes modules) between new
   pub status_is : status ≡ 0
 
--- it wasn't, which was reported, and nothing was written
+-- it wasn't, which was reported; the library's path may be spoiled, or a copy kept
 pub data GivesUpLibrary (path : List ℕ) (old new : Journal) : Type 0 where
   before : OnlyReports old new → GivesUpLibrary path old new
   within : (files : List FileValue) → GaveUpKeeping path (and_read_files old files) new → GivesUpLibrary path old new
