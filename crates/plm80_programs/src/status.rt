@@ -24,9 +24,9 @@ pub enum EndWords {
     NoInput { at: u16, port: u8 },
     #[error("the OUT at {at:04X} to port {port:02X} is one more than --outputs allows")]
     OutputRefused { at: u16, port: u8 },
-    #[error("the store at {at:04X} goes outside DATA: is a DATA line missing, or is its address wrong?")]
+    #[error("the store at {at:04X} isn't to DATA: its pointer is wrong (run --last 5 shows the way), or a DATA line is missing")]
     StoreOutside { at: u16 },
-    #[error("the PCHL at {at:04X} goes to no target of its CASE line")]
+    #[error("the PCHL at {at:04X} goes to no target of its CASE line: that lacks it, or the address is wrong")]
     JumpOutside { at: u16 },
 }
 
