@@ -60,14 +60,3 @@ pub record AnswersProgram (Answers : Located → List Public → AnswerValue →
   pub publics : List Public
   pub are_read : AreOfFiles asked image_file.bytes regions_file.bytes image publics
   pub answers : Answers image publics answer
-
--- the exit status of the answer to files: an image, its regions and its names
-pub record IsStatusFor (Answers : Located → List Public → AnswerValue → Type 0) (asked : Bool) (status : ℕ) : Type 0 where
-  pub file : List ℕ
-  pub text : List ℕ
-  pub image : Located
-  pub publics : List Public
-  pub are_read : AreOfFiles asked file text image publics
-  pub answer : AnswerValue
-  pub answers : Answers image publics answer
-  pub status_is : status ≡ answer.status

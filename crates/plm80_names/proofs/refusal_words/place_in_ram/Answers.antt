@@ -6,8 +6,8 @@ use Rattle.image80.specs.Image.{Located}
 use Rattle.image80.specs.Range.{in_range}
 use Rattle.plm80_names.proofs.refusal_words.place_in_ram.Goals as goal
 
-pub returns-in-Some : goal.returns-in-Some
-returns-in-Some c =
+pub returns-in-Some-clause-some : goal.returns-in-Some-clause-some
+returns-in-Some-clause-some c =
     inl (
       refl,
       ap (λ (i : Located). find (λ r. in_range r c.args.address) i.regions.data_ranges) (sym c.image.view_is)
