@@ -95,7 +95,13 @@ pub fn find_modules<C: Console>(
     ensures fault { IfErr result (λ _. OnlyReports (C.journal console.old) (C.journal console.new)) }
 {
     let done = find_in_dump(console, arguments);
-    console.explain_any(DumpWords::of(console, arguments.dump));
+    let words = DumpWords::of(console, arguments.dump);
+    console.explain_any(words);
+    if let Some(words) = words {
+        if words.is_of_object_file() {
+            console.explain("DUMP is the first path");
+        }
+    }
     explain_libraries(console, &arguments.files);
     explain_images(console, &arguments.files, IMAGE_ADVICE);
     done

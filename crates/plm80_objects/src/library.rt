@@ -12,6 +12,7 @@ use omf_module::Module;
 use plm80_console::{Argument, Console, Kind, Reported, Syntax, argument_text, argument_values};
 use plm80_files::{append_modules, read_modules};
 use std::alloc::{AllocError, Global};
+use stream80::TEXT_LIMIT;
 
 /// The arguments of `lib`.
 #[derive(Drop)]
@@ -78,6 +79,9 @@ pub fn write_library_file<C: Console>(
     match library_of(console.alloc(), &modules) {
         Ok(library) => {
             console.replace_keeping_objects(arguments.library, &library)?;
+            if library.len() > TEXT_LIMIT {
+                console.explain("it has more than 1048576 bytes, which no command reads: make two");
+            }
             Ok(0)
         }
         Err(LibraryPutFault::Memory) => Err(console.report_memory()),

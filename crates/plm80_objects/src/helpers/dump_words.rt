@@ -1,6 +1,6 @@
 //! What a dump seems to be, in words, if it isn't bytes as they are.
 
-ghost use Rattle.std.specs.Prelude.{◌≡◌, ℕ, List, Some, IfSome};
+ghost use Rattle.std.specs.Prelude.{◌≡◌, ℕ, List, Some, true, IfSome};
 ghost use Rattle.rom80.specs.DumpKinds.{dump_kind};
 
 use plm80_console::Console;
@@ -24,6 +24,13 @@ impl<'a> DumpWords<'a> {
         let bytes = console.text_to_explain(path)?;
         let kind = DumpKind::of(&bytes)?;
         Some(DumpWords { path, kind })
+    }
+
+    /// Whether the dump seems to be an object file.
+    pub(crate) fn is_of_object_file(self) -> bool
+        ensures { result ≡ true → self.kind ≡ DumpKind.ObjectFile }
+    {
+        matches!(self.kind, DumpKind::ObjectFile)
     }
 }
 
