@@ -25,5 +25,5 @@ loop-rom-preserved g c = record {
       dumps_more (take c.loop-rom.rom-index c.args.files.now) (take (c.loop-rom.rom-index + 1) c.args.files.now) _ c.in_ok-file.file.bytes.items
       (g.C.Console.journal c.args.console.now) (g.C.Console.journal c.loop-rom.console) (g.C.Console.journal c.read_file.new.self) c.loop-rom.dumps c.add_dump.new.dumps
       c.loop-rom.invariant.read (sym (take_more c.args.files.now c.loop-rom.rom-index _ c.loop-rom-test.true)) c.in_ok-file.ensures.read c.in-Ok.ensures.added;
-  start = ?;
+  start = cc (c.loop-rom.invariant.start, c.has_byte-has_start.ensures, c.len.ensures, c.in-Ok.ensures.covered c.args.start);
 }

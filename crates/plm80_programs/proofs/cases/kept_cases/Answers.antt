@@ -1,10 +1,10 @@
 use Rattle.std.specs.Prelude.{◌≡◌, Option, IfNone, IfSome, false}
-use Rattle.std.proofs.Common.{arith, subst, sym}
+use Rattle.std.proofs.Common.{arith, rules, subst, sym}
 use Rattle.image80.specs.Image.{Located}
 use Rattle.verify80_cases.specs.Suggested.{IsSearched, Searched, is_open}
 use Rattle.plm80_programs.specs.declared.cases.FoundCase.{FoundCase}
 use Rattle.plm80_programs.specs.Cases.{IsFoundAt}
-use Rattle.plm80_programs.proofs.CaseLemmas.{finds_cases, kept_next, kept_nothing, kept_passed}
+use Rattle.plm80_programs.proofs.CaseLemmas.{finds_cases, kept_next, kept_nothing, kept_passed, long_cases}
 use Rattle.plm80_programs.proofs.cases.kept_cases.Goals as goal
 use Rattle.plm80_programs.proofs.cases.kept_cases.Goals.{in-Some+in_ok-add, in_default}
 
@@ -51,3 +51,19 @@ returns-clause-found c =
 
 pub returns-clause-lines : goal.returns-clause-lines
 returns-clause-lines c = c.loop-address.invariant.lines_are
+
+pub returns-in_err-add-clause-too_long : goal.returns-in_err-add-clause-too_long
+returns-in_err-add-clause-too_long c = λ is.
+    let image = c.args.image.now in
+    let reached = c.search.inside.reached.items in
+    let taken = c.search.inside.taken.items in
+    let at = c.loop-address.address in
+    let kept = c.loop-address.kept in
+    let searched : IsSearched image reached taken =
+    subst (λ (s : Searched). IsSearched image s.reached s.taken) (sym c.search.view_is)
+    (subst (λ (i : Located). IsSearched i c.in_ok-search.search.reached c.in_ok-search.search.taken) c.in_ok-code.ensures c.in_ok-search.ensures) in
+    let some : IfSome c.in_ok-found.field-0 (IsFoundAt image reached taken at) =
+    subst (λ (s : Searched). IfSome c.in_ok-found.field-0 (IsFoundAt image s.reached s.taken at)) (sym c.search.view_is) c.in_ok-found.ensures.some in
+    long_cases image reached taken at kept.cases.items kept.notes.items kept.lines.items c.loop-address.invariant searched c.in-Some.found
+    (subst (λ (o : Option FoundCase). IfSome o (IsFoundAt image reached taken at)) c.in-Some.is some)
+    (c.in_err-add.ensures.too_long (search rules))
