@@ -97,10 +97,10 @@ pub fn find_modules<C: Console>(
     let done = find_in_dump(console, arguments);
     let words = DumpWords::of(console, arguments.dump);
     console.explain_any(words);
-    if let Some(words) = words {
-        if words.is_of_object_file() {
-            console.explain("DUMP is the first path");
-        }
+    if let (Err(_), Some(words)) = (&done, words)
+        && words.is_of_object_file()
+    {
+        console.explain("DUMP is the first path");
     }
     explain_libraries(console, &arguments.files);
     explain_images(console, &arguments.files, IMAGE_ADVICE);
