@@ -74,6 +74,18 @@ fn chain_of<C: Code>(
     if !search.grow(alloc, program, limit)? {
         return Err(Unexplained::Limit);
     }
+    chain_among(alloc, program, &search, bytes)
+}
+
+/// A chain of calls of the points of a search that adds up to a sum.
+fn chain_among<C: Code>(
+    alloc: Global,
+    program: &C,
+    search: &Search,
+    bytes: u64,
+) -> Result<Chain, Unexplained>
+    ensures { IfOk result (ChainsTo (C.code program.now) bytes) }
+{
     let points = search.points.as_slice();
     let Some(links) = find_links(alloc, program, points, search.calls.as_slice(), bytes)? else {
         return Err(Unexplained::NotShown);
