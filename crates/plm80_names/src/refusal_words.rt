@@ -16,9 +16,8 @@ use loader80::{Refusal, vouch};
 use place80_text::read_publics;
 use plm80_console::{Console, Reported};
 use std::alloc::{AllocError, Global};
-use std::fmt;
 use std::fmt::{Display, Formatter};
-use std::str;
+use std::{fmt, str};
 
 /// A range of an image's regions, and the word that begins its line.
 #[derive(Clone, Copy)]
@@ -52,7 +51,10 @@ impl Display for PlaceWords {
         match self.place {
             Some(Place { word, range }) => {
                 let (first, length) = (range.first, range.length);
-                write!(formatter, "{address:04X} is in {word} {first:04X} {length:04X}")
+                write!(
+                    formatter,
+                    "{address:04X} is in {word} {first:04X} {length:04X}"
+                )
             }
             None => write!(formatter, "{address:04X} is in no range"),
         }
