@@ -3,8 +3,7 @@ use Rattle.std.specs.Prelude.{◌≡◌, ℕ, List, [], ◌∷◌, Some, All, le
 use Rattle.std.proofs.Common.{◌∙◌, arith, subst, zero, suc}
 use Rattle.std.proofs.lemmas.List.{length-set}
 use Rattle.std.proofs.lemmas.List.Elements.{All-nil, All-head, All-tail, All-set, All-drop}
-use Rattle.machine80.specs.Effects.{byte_in, word_in, stored}
-use Rattle.machine80.specs.Ports.{waiting, next_input, without_next}
+use Rattle.machine80.specs.{Effects.byte_in, Effects.word_in, Effects.stored, Ports.waiting, Ports.next_input, Ports.without_next}
 use Rattle.decode80.specs.Fetch.{ahead}
 use Rattle.verify80_states.specs.Bytes.{IsByte, IsWord, HasBytes}
 use Rattle.verify80_states.proofs.ArithmeticBounds.{word_of_bytes}

@@ -4,8 +4,7 @@ use Rattle.std.proofs.Common.{◌∙◌, ap, sym, subst, inl, inr, true≢false}
 use Rattle.decode80.specs.declared.flow.Flow.{Flow}
 use Rattle.decode80.specs.declared.flow.Flow.TheVariants.{Jumps, JumpsIf, JumpsToHl, Calls, CallsIf, Returns, ReturnsIf, Halts}
 use Rattle.machine80.specs.declared.flags.Flags.{Flags}
-use Rattle.machine80.specs.Flags.{holds}
-use Rattle.machine80.specs.World.{is_return_taken, places_by}
+use Rattle.machine80.specs.{Flags.holds, World.is_return_taken, World.places_by}
 use Rattle.verify80_states.specs.Fitting.{CallsEntry}
 use Rattle.verify80_states.specs.Calls.{AccountsFor, AccountsForCall, ReturnFacts, IsWithin, Owes, never, none, waits}
 use Rattle.verify80_states.proofs.WayLemmas.{Leads}

@@ -2,19 +2,14 @@
 use Rattle.std.specs.Prelude.{◌≡◌, ℕ, ◌/◌, ◌%◌, Bool, true, false, List, [], ◌∷◌, ◌++◌, Option, None, Some, length, refl, if◌then◌else◌}
 use Rattle.std.proofs.Common.{subst}
 use Rattle.std.proofs.lemmas.List.Elements.{All-nil, All-cons}
-use Rattle.decode80.specs.declared.instr.Instr.{Instr}
+use Rattle.decode80.specs.declared.{instr.Instr.Instr, fetching.Fetched.Fetched}
 use Rattle.decode80.specs.declared.instr.Instr.TheVariants.{Mov, Load, Store, Mvi, MviMemory, Lxi, Dad, Inx, Dcx, Inr, InrMemory, Dcr, DcrMemory, Operate, Jmp, JumpIf, Call, CallIf, Ret, ReturnIf, Rst, Push, Pop, Stax, Ldax, Shld, Lhld, Sta, Lda, Rotate, Daa, Cma, Stc, Cmc, Xthl, Pchl, Xchg, Sphl, In, Out, Hlt}
 use Rattle.decode80.specs.declared.operation.Operand.TheVariants.{Register as InRegister, Memory, Immediate}
-use Rattle.decode80.specs.declared.fetching.Fetched.{Fetched}
-use Rattle.decode80.specs.Fetch.{ahead, behind}
-use Rattle.decode80.specs.Spelling.{HasOperandInRange}
+use Rattle.decode80.specs.{Fetch.ahead, Fetch.behind, Spelling.HasOperandInRange}
 use Rattle.image80.specs.Regions.{Areas, targets_at}
-use Rattle.machine80.specs.declared.cpu.Cpu.{Cpu}
-use Rattle.machine80.specs.declared.end.End.{End}
-use Rattle.machine80.specs.Flags.{holds}
-use Rattle.machine80.specs.Arithmetic.{increment_answer, decrement_answer, pair_sum}
+use Rattle.machine80.specs.declared.{cpu.Cpu.Cpu, end.End.End}
+use Rattle.machine80.specs.{Flags.holds, Arithmetic.increment_answer, Arithmetic.decrement_answer, Arithmetic.pair_sum, Ports.next_input, Ports.without_next}
 use Rattle.machine80.specs.Cpu.{register_of, with_register, hl_of, pair_of, index_pair_of}
-use Rattle.machine80.specs.Ports.{next_input, without_next}
 use Rattle.machine80.specs.Effects.{byte_in, word_in, push_bytes, stores, changed, target}
 use Rattle.machine80.specs.Step.{Machine, Turn, Next, Stop, fetch, guard, guarded, execute, with_input, proceeded, turn_of, jump_end, step_on, step_of}
 use Rattle.verify80_states.specs.Bytes.{IsByte, IsWord, HasBytes, AreBytes, HoldsBytes, HasAddresses, BytesStayBytes, AddressesStayAddresses, MemoryKeepsItsLength, FetchedOperandsAreBounded}

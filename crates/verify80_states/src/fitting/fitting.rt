@@ -261,8 +261,9 @@ impl Fit<'_> {
         ensures { result ≡ true → KnowsReturn self.now.variables.now self.now.table.now (λ t. state_after self.now.code.now found.instr true found.next t) state }
     {
         match state.words.first {
-            Some(span) => {
-                span.is_alone() && self.covers(hint, span.first, self.after(found, true, state))
+            Some(word) => {
+                word.words.is_alone()
+                    && self.covers(hint, word.words.first, self.after(found, true, state))
             }
             None => false,
         }
