@@ -9,10 +9,7 @@ use Rattle.verify80_stores.specs.declared.stores.OpenStore.{OpenStore}
 use Rattle.verify80_states.specs.Following.{entry_in}
 use Rattle.verify80_stores.specs.Pointers.{stores_by_pair}
 use Rattle.verify80_stores.specs.Listing.{AreAllBelow, AreOpenBelow, IsListed, is_marked_at}
-
--- below a bound, or at it
-split : (a n : ℕ) → a < n + 1 → (a < n) ⊎ (a ≡ n)
-split a n h = grind arith
+use Rattle.verify80_stores.proofs.VecLemmas.{split}
 
 pub all_none : (is : ℕ → Bool) → AreAllBelow is 0 []
 all_none is = record {

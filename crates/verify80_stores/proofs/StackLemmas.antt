@@ -5,12 +5,9 @@ use Rattle.std.specs.Result.{result_ok}
 use Rattle.std.proofs.Common.{◌∙◌, ap, sym, subst, arith, inl, inr, true≢false}
 use Rattle.std.proofs.lemmas.Bool.{cases_lt, eqb-true}
 use Rattle.std.proofs.lemmas.List.{get_or_past}
-use Rattle.decode80.specs.declared.fetching.Fetched.{Fetched}
-use Rattle.decode80.specs.declared.fetching.FetchFault.{FetchFault}
-use Rattle.decode80.specs.Facts.{flow}
-use Rattle.decode80.specs.Fetch.{fetch as fetch_in}
-use Rattle.image80.specs.Image.{Located, memory_of}
-use Rattle.image80.specs.Regions.{in_code}
+use Rattle.decode80.specs.declared.{fetching.Fetched.Fetched, fetching.FetchFault.FetchFault}
+use Rattle.decode80.specs.{Facts.flow, Fetch.fetch as fetch_in}
+use Rattle.image80.specs.{Image.Located, Image.memory_of, Regions.in_code}
 use Rattle.machine80.specs.Step.{fetch}
 use Rattle.verify80.specs.Boards.{HasAt, IsUnset, starts, goes_on, SetsStack, sets_sp, uses_sp}
 use Rattle.verify80_states.specs.Marks.{is_marked}

@@ -1,6 +1,5 @@
 use Rattle.std.proofs.Common.{◌≡◌, ◌<◌, ℕ, true}
-use Rattle.image80.specs.Range.{in_range}
-use Rattle.image80.specs.Regions.{in_data}
+use Rattle.image80.specs.{Range.in_range, Regions.in_data}
 use Rattle.verify80_stores.proofs.quiet_ranges.first_outside_data.Given as goal
 
 abbrev pub invariant-loop-place : goal.invariant-loop-place
