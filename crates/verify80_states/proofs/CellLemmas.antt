@@ -1,26 +1,6 @@
 -- What is known of bytes of memory, along stores and where it is read.
-use Rattle.std.specs.Prelude.{◌≡◌, ◌≢◌, ◌⊎◌, ◌<◌, ◌&&◌, ◌==◌, ℕ, ◌/◌, ◌%◌, Bool, true, false, List, [], ◌∷◌, Option, None, Some, nat_le, length, slice_index, slice_set, refl, if◌then◌else◌}
-use Rattle.std.proofs.Common.{subst, sym, ap, ◌∙◌, arith, get_or, inl, inr}
-use Rattle.std.proofs.lemmas.Bool.{eqb-true}
-use Rattle.std.proofs.lemmas.Bool.Decides.{nat_tests}
-use Rattle.std.proofs.lemmas.List.{get_or-set_same, length-set}
-use Rattle.decode80.specs.declared.{instr.Instr.Instr, pair.IndexPair.IndexPair, pair.IndexPair.TheVariants.Bc as IndexBc, pair.IndexPair.TheVariants.De as IndexDe}
-use Rattle.decode80.specs.declared.instr.Instr.TheVariants.{Store, MviMemory, InrMemory, DcrMemory, Stax, Sta, Shld, Push, Call, CallIf, Rst, Xthl}
-use Rattle.decode80.specs.{Fetch.ahead, Fetch.behind, Spelling.HasOperandInRange}
-use Rattle.image80.specs.{Range.in_range, Regions.Areas, Regions.in_data}
-use Rattle.machine80.specs.declared.{registers.Registers.Registers, cpu.Cpu.Cpu}
-use Rattle.machine80.specs.declared.end.End.TheVariants.{Direct, Stack, StoreOutside}
-use Rattle.machine80.specs.{Arithmetic.byte_answer, Arithmetic.increment_answer, Arithmetic.decrement_answer, Flags.holds as holds_of, Cpu.hl_of, Cpu.index_pair_of}
-use Rattle.machine80.specs.Effects.{byte_in, push_bytes, stores, stored}
-use Rattle.machine80.specs.Step.{guard, first_outside, ends_at}
-use Rattle.verify80_spans.specs.declared.{span.Span.Span, byte_span.ByteSpan.ByteSpan}
-use Rattle.verify80_states.specs.declared.{states.cells.Cell.Cell, states.cells.Cells.Cells, states.variables.Variable.Variable, states.state.State.State, fitting.fitting.Placed.Placed}
-use Rattle.verify80_states.specs.{Variables.HoldsSet, Variables.IsSaid, Bytes.HasBytes, Bytes.AreBytes, Fitting.KnowsQuiet, Steps.ReadsCode}
-use Rattle.verify80_spans.specs.Span.{Within, ByteWithin, any_byte, byte_alone, word_alone, is_alone, next_byte, previous_byte, meet_bytes}
-use Rattle.verify80_spans.specs.Span.{high_of as high_bytes}
-use Rattle.verify80_states.specs.Cells.{HoldsCell, EachCell, HoldsCells, IsSaidByCell, IsCellInside, AreCellsInside, IsQuietCell, AreQuietCells, any_cell, no_cells, map_cells, cut_cell, cut_cells, stored_cell, stored_cells}
-use Rattle.verify80_states.specs.State.{HoldsRegisters, HoldsSource, IsQuietSource, IsQuietState, anything, byte_of}
-use Rattle.verify80_states.specs.Following.{loaded, index_words, cells_after}
+use Rattle.verify80_states.proofs.Names.{◌≡◌, ◌≢◌, ◌⊎◌, ◌<◌, ◌&&◌, ◌==◌, ℕ, ◌/◌, ◌%◌, Bool, true, false, List, [], ◌∷◌, Option, None, Some, nat_le, length, slice_index, slice_set, refl, if◌then◌else◌, subst, sym, ap, ◌∙◌, arith, get_or, inl, inr, eqb-true, nat_tests, get_or-set_same, length-set, Instr, IndexPair, IndexBc, IndexDe, Store, MviMemory, InrMemory, DcrMemory, Stax, Sta, Shld, Push, Call, CallIf, Rst, Xthl, ahead, behind, HasOperandInRange, in_range, Areas, in_data, Registers, Cpu, Direct, Stack, StoreOutside, holds_of, hl_of, index_pair_of, byte_in, push_bytes, stores, stored, guard, first_outside, ends_at, Span, ByteSpan, Cell, Cells, Variable, State, Placed, HoldsSet, IsSaid, HasBytes, AreBytes, KnowsQuiet, ReadsCode, Within, ByteWithin, any_byte, byte_alone, word_alone, is_alone, next_byte, previous_byte, meet_bytes, high_bytes, HoldsCell, EachCell, HoldsCells, IsSaidByCell, IsCellInside, AreCellsInside, IsQuietCell, AreQuietCells, any_cell, no_cells, map_cells, cut_cell, cut_cells, stored_cell, stored_cells, HoldsRegisters, HoldsSource, IsQuietSource, IsQuietState, anything, byte_of, loaded, index_words, cells_after}
+use Rattle.machine80.specs.{Arithmetic.byte_answer, Arithmetic.increment_answer, Arithmetic.decrement_answer}
 use Rattle.verify80_states.proofs.{ByteLemmas.byte_at as memory_byte, ByteLemmas.stored_bytes, RegisterBytes.bc_is_word, RegisterBytes.de_is_word, RegisterBytes.hl_is_word}
 use Rattle.verify80_states.proofs.{ArithmeticBounds.ahead_is_word, StepBytes.one_store, StateLemmas.byte_holds, FollowLemmas.loaded_within, FollowLemmas.index_within}
 use Rattle.verify80_states.proofs.SpanLemmas.{any_byte_within, alone_within, high_within, next_byte_within, previous_byte_within, byte_inside_within, meet_bytes_within}

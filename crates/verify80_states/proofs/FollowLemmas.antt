@@ -1,30 +1,10 @@
 -- Registers and flags at each kind of instruction.
-use Rattle.std.specs.Prelude.{◌≡◌, ◌<◌, ◌==◌, [], ℕ, ◌+◌, ◌-◌, ◌*◌, ◌/◌, ◌%◌, Bool, true, false, not, List, Option, None, Some, nat_lt, bit_and, bit_or, bit_xor, refl}
-use Rattle.std.proofs.Common.{arith, sym, ap}
-use Rattle.std.proofs.lemmas.Bool.Decides.{nat_tests}
-use Rattle.std.specs.Int.Bits.{and_self, or_self, xor_self}
-use Rattle.decode80.specs.declared.{register.Register.Register, pair.Pair.Pair, pair.IndexPair.IndexPair, pair.IndexPair.TheVariants.Bc as IndexBc, pair.IndexPair.TheVariants.De as IndexDe}
-use Rattle.decode80.specs.declared.register.Register.TheVariants.{A, H, L}
-use Rattle.decode80.specs.declared.pair.Pair.TheVariants.{Bc, De, Hl, Sp}
-use Rattle.decode80.specs.declared.pair.StackPair.TheVariants.{Bc as StackBc, De as StackDe, Hl as StackHl, Psw}
-use Rattle.decode80.specs.declared.{instr.Instr.Instr, operation.Operation.Operation, operation.Operand.Operand, rotation.Rotation.Rotation}
-use Rattle.decode80.specs.declared.instr.Instr.TheVariants.{Mov, Load, Mvi, Lxi, Dad, Inx, Dcx, Inr, InrMemory, Dcr, DcrMemory, Operate, Pop, Ldax, Lhld, Lda, Rotate, Daa, Cma, Stc, Cmc, Xthl, Xchg, In}
-use Rattle.decode80.specs.declared.operation.Operation.TheVariants.{Add, AddCarry, Subtract, SubtractBorrow, And, ExclusiveOr, Or, Compare}
-use Rattle.decode80.specs.declared.operation.Operand.TheVariants.{Register as InRegister, Memory, Immediate}
-use Rattle.decode80.specs.declared.rotation.Rotation.TheVariants.{Left, Right, LeftThroughCarry, RightThroughCarry}
-use Rattle.decode80.specs.{Fetch.ahead, Fetch.behind, Spelling.HasOperandInRange}
-use Rattle.image80.specs.Regions.{Areas}
-use Rattle.machine80.specs.declared.{flags.Flags.Flags, registers.Registers.Registers, cpu.Cpu.Cpu}
-use Rattle.machine80.specs.{Flags.bit_of, Flags.flags_of_result, Flags.flags_from, Effects.byte_in, Effects.operand_of, Effects.changed}
-use Rattle.machine80.specs.Arithmetic.{byte_answer, sum_answer, difference_answer, operation_answer, increment_answer, decrement_answer, decimal_answer, rotation_answer, pair_sum, pair_sum_flags, complement_of, carry_set, carry_turned}
-use Rattle.machine80.specs.Cpu.{word, register_of, with_register, hl_of, pair_of, with_pair, index_pair_of}
-use Rattle.verify80_spans.specs.declared.{span.Span.Span, byte_span.ByteSpan.ByteSpan, byte_span.Outcome.Outcome}
-use Rattle.verify80_states.specs.declared.{states.pairs.PairSpan.PairSpan, states.state.State.State, states.cells.Cells.Cells}
-use Rattle.verify80_states.specs.{Bytes.HasBytes, Bytes.AreBytes, Steps.ReadsCode, Cells.HoldsCells}
-use Rattle.verify80_spans.specs.Span.{Within, ByteWithin, IsKnown, any_byte, word_alone, byte_alone, is_alone, is_byte_alone, next_byte, previous_byte, high_of, operated, doubled, rotated, complemented, uncarried}
-use Rattle.verify80_states.specs.State.{HoldsPair, HoldsRegisters, HoldsWord, HoldsWords, Compares, any_pair, pair_of_words, next_pair, previous_pair, sum_pair, compared_with, byte_of, span_of, with_byte, with_span, with_outcome}
+use Rattle.verify80_states.proofs.Names.{◌≡◌, ◌<◌, ◌==◌, [], ℕ, ◌+◌, ◌-◌, ◌*◌, ◌/◌, ◌%◌, Bool, true, false, not, List, Option, None, Some, nat_lt, bit_and, bit_or, bit_xor, refl, arith, sym, ap, nat_tests, and_self, or_self, xor_self, Register, Pair, IndexPair, IndexBc, IndexDe, A, H, L, Bc, De, Hl, Sp, StackBc, StackDe, StackHl, Psw, Instr, Operation, Operand, Rotation, Mov, Load, Mvi, Lxi, Dad, Inx, Dcx, Inr, InrMemory, Dcr, DcrMemory, Operate, Pop, Ldax, Lhld, Lda, Rotate, Daa, Cma, Stc, Cmc, Xthl, Xchg, In, Add, AddCarry, Subtract, SubtractBorrow, And, ExclusiveOr, Or, Compare, InRegister, Memory, Immediate, Left, Right, LeftThroughCarry, RightThroughCarry, HasOperandInRange, Areas, Flags, Registers, Cpu, flags_from, byte_in, operand_of, changed, decimal_answer, word, register_of, with_register, hl_of, pair_of, with_pair, index_pair_of, Span, ByteSpan, Outcome, PairSpan, State, Cells, HasBytes, AreBytes, ReadsCode, HoldsCells, Within, ByteWithin, any_byte, word_alone, byte_alone, is_alone, is_byte_alone, next_byte, previous_byte, operated, doubled, rotated, complemented, uncarried, HoldsPair, HoldsRegisters, HoldsWord, HoldsWords, Compares, any_pair, pair_of_words, next_pair, previous_pair, sum_pair, compared_with, byte_of, span_of, with_byte, with_span, with_outcome, known_pair, loaded_at, loaded, moved, counted, resulted, tested, is_accumulator, operand_bytes, after_operation, added_carry, turned, exchanged, index_words, registers_after}
+use Rattle.verify80_spans.specs.Span.{IsKnown, high_of}
+use Rattle.decode80.specs.{Fetch.ahead, Fetch.behind}
+use Rattle.machine80.specs.{Flags.bit_of, Flags.flags_of_result}
+use Rattle.machine80.specs.Arithmetic.{byte_answer, sum_answer, difference_answer, operation_answer, increment_answer, decrement_answer, rotation_answer, pair_sum, pair_sum_flags, complement_of, carry_set, carry_turned}
 use Rattle.verify80_states.proofs.{CellReads.read_within, ByteLemmas.byte_at as memory_byte, ArithmeticBounds.decimal_is_byte, RegisterBytes.register_is_byte, RegisterBytes.register_written}
-use Rattle.verify80_states.specs.Following.{known_pair, loaded_at, loaded, moved, counted, resulted, tested, is_accumulator, operand_bytes, after_operation, added_carry, turned, exchanged, index_words, registers_after}
 use Rattle.verify80_states.proofs.SpanLemmas.{any_byte_within, alone_within, next_byte_within, previous_byte_within, carries}
 use Rattle.verify80_states.proofs.OutcomeLemmas.{Makes, result_of, carry_of, operated_makes, is_first, by_span}
 use Rattle.verify80_states.proofs.StateLemmas.{split_holds, high_holds, byte_holds, with_byte_holds, bc_written_holds, de_written_holds, hl_written_holds, with_span_holds, outcome_holds, carry_holds, any_flags_hold, compared_holds, copy_holds, next_holds, previous_holds, sum_holds, any_pair_holds, any_sum_holds}

@@ -1,16 +1,7 @@
 -- What a state says, one says that is around it.
-use Rattle.std.specs.Prelude.{◌≡◌, ◌⊎◌, ℕ, Bool, true, List, Option, None, Some, refl}
-use Rattle.std.proofs.Common.{subst, inl, inr}
-use Rattle.decode80.specs.declared.{register.Register.Register, register.Register.TheVariants.A}
-use Rattle.decode80.specs.Fetch.{ahead}
-use Rattle.image80.specs.Regions.{Areas}
-use Rattle.machine80.specs.declared.registers.Registers.{Registers}
-use Rattle.machine80.specs.{Cpu.word, Cpu.register_of, Effects.byte_in, Step.Machine}
-use Rattle.verify80_states.specs.declared.{states.pairs.PairSpan.PairSpan, states.words.Words.Words, states.state.State.State, states.variables.Variable.Variable}
-use Rattle.verify80_states.specs.{Variables.HoldsSet, Variables.is_bit, Cells.bytes_at, Bytes.HasBytes}
+use Rattle.verify80_states.proofs.Names.{◌≡◌, ◌⊎◌, ℕ, Bool, true, List, Option, None, Some, refl, subst, inl, inr, Register, A, ahead, Areas, Registers, word, register_of, byte_in, Machine, PairSpan, Words, State, Variable, HoldsSet, is_bit, bytes_at, HasBytes, ByteWithin, IsByteInside, Holds, HoldsPair, HoldsWord, HoldsWords, HoldsSource, Compares, IsPairInside, IsFlagInside, IsComparisonInside, IsCopyInside, IsWordInside, AreWordsInside, IsStateInside}
+use Rattle.verify80_spans.specs.Span.{IsKnown}
 use Rattle.verify80_states.proofs.{CellReads.cells_within, SpanLemmas.inside_within, SpanLemmas.byte_inside_within, CellLemmas.cells_around}
-use Rattle.verify80_spans.specs.Span.{ByteWithin, IsByteInside, IsKnown}
-use Rattle.verify80_states.specs.State.{Holds, HoldsPair, HoldsWord, HoldsWords, HoldsSource, Compares, IsPairInside, IsFlagInside, IsComparisonInside, IsCopyInside, IsWordInside, AreWordsInside, IsStateInside}
 
 pair_around : (p q : PairSpan) (h l : ℕ) → IsPairInside p q → HoldsPair p h l → HoldsPair q h l
 pair_around p q h l inside holds = record { words = inside_within p.words q.words (word h l) inside.words holds.words; low = byte_inside_within p.low q.low l inside.low holds.low }

@@ -1,28 +1,6 @@
 -- Runs keep to a table that fits.
-use Rattle.std.specs.Prelude.{◌≡◌, ◌⊎◌, ℕ, zero, suc, Bool, true, false, List, [], Option, None, Some, Ok, IsSome, drop, length, slice_get, slice_index, refl, if◌then◌else◌}
-use Rattle.std.proofs.Common.{subst, sym, ap, ◌∙◌, inl, inr, arith, true≢false}
-use Rattle.std.proofs.lemmas.Bool.Decides.{nat_tests}
-use Rattle.std.proofs.lemmas.Option.{get_or_from_slice_get, slice_get_within}
-use Rattle.decode80.specs.declared.{condition.Condition.Condition, instr.Instr.TheVariants.Pchl, fetching.Fetched.Fetched, flow.Flow.Flow}
-use Rattle.decode80.specs.declared.flow.Flow.TheVariants.{Jumps, JumpsIf, JumpsToHl, Calls, CallsIf, Returns, ReturnsIf, Halts}
-use Rattle.decode80.specs.Facts.{flow}
-use Rattle.image80.specs.{Regions.Areas, Regions.in_data, Regions.targets_at, Image.Located}
-use Rattle.machine80.specs.declared.cpu.Cpu.{Cpu}
-use Rattle.machine80.specs.{Flags.holds as holds_of, Cpu.hl_of, Run.world_of}
-use Rattle.machine80.specs.Effects.{byte_in, goes_to, target, word_in}
-use Rattle.machine80.specs.Step.{Machine, Turn, Next, Stop, fetch, step_of}
-use Rattle.machine80.specs.World.{World, world_at, turn_at, next_world, following, world_after, places_by, places_then, refuses, returns, is_return_taken, fetched_by, FetchesInside, IsNewest}
-use Rattle.verify80.specs.{Looking.code_of, Looking.declared_targets, Starts.IsStart, Starts.IsWorldFrom, Starts.NeverGoesWrongFromPowerOn}
-use Rattle.verify80.specs.{Reached.IsReached, Reached.StandsOnWalk, Reached.StaysOnWalks, Boards.LeavesProgram, Boards.with_memory}
-use Rattle.verify80_states.specs.declared.{states.pairs.PairSpan.PairSpan, states.state.State.State, states.variables.Variable.Variable, fitting.fitting.Placed.Placed}
-use Rattle.verify80_states.specs.{Variables.HoldsSet, Cells.no_cells, Following.is_steady, Following.state_after, Given.given, FittingTable.Fits}
-use Rattle.verify80_states.specs.Bytes.{AreBytes, HoldsBytes, BytesStayBytes, FetchedOperandsAreBounded, MemoryKeepsItsLength}
-use Rattle.verify80_spans.specs.Span.{Within, ByteWithin, byte_alone}
-use Rattle.verify80_states.specs.State.{Holds, HoldsWord, IsQuietState, anything, unknown_but, no_words, cut}
-use Rattle.verify80_states.specs.Steps.{is_taken, ReadsCode, AreCodeBytes, HasCode}
-use Rattle.verify80_states.specs.Fitting.{Has, Covers, CoversAfter, FitsBy, KnowsQuiet}
-use Rattle.verify80_states.specs.Calls.{AccountsFor, ReturnFacts, KeepsCalls, KnowsReturn, KnowsReturnIf, KnowsReturnsOf, Owes, none, IsBehind}
-use Rattle.verify80_states.specs.Runs.{KeepsTo, KeepsToCalls, IsKnown, IsKept}
+use Rattle.verify80_states.proofs.Names.{◌≡◌, ◌⊎◌, ℕ, zero, suc, Bool, true, false, List, [], Option, None, Some, Ok, IsSome, drop, length, slice_get, slice_index, refl, if◌then◌else◌, subst, sym, ap, ◌∙◌, inl, inr, arith, true≢false, nat_tests, get_or_from_slice_get, slice_get_within, Condition, Pchl, Fetched, Flow, Jumps, JumpsIf, JumpsToHl, Calls, CallsIf, Returns, ReturnsIf, Halts, flow, Areas, in_data, targets_at, Located, Cpu, holds_of, hl_of, world_of, byte_in, goes_to, target, word_in, Machine, Turn, Next, Stop, fetch, step_of, World, world_at, turn_at, next_world, following, world_after, places_by, places_then, refuses, returns, is_return_taken, fetched_by, FetchesInside, IsNewest, code_of, declared_targets, IsStart, IsWorldFrom, NeverGoesWrongFromPowerOn, IsReached, StandsOnWalk, StaysOnWalks, LeavesProgram, with_memory, PairSpan, State, Variable, Placed, HoldsSet, no_cells, is_steady, state_after, given, Fits, AreBytes, HoldsBytes, BytesStayBytes, FetchedOperandsAreBounded, MemoryKeepsItsLength, Within, ByteWithin, byte_alone, Holds, HoldsWord, IsQuietState, anything, unknown_but, no_words, cut, is_taken, ReadsCode, AreCodeBytes, HasCode, Has, Covers, CoversAfter, FitsBy, KnowsQuiet, AccountsFor, ReturnFacts, KeepsCalls, KnowsReturn, KnowsReturnIf, KnowsReturnsOf, Owes, none, IsBehind, KeepsTo, KeepsToCalls, IsKept}
+use Rattle.verify80_states.specs.Runs.{IsKnown}
 use Rattle.verify80_states.proofs.{StateLemmas.anything_holds, MemoryLemmas.Ground, MemoryLemmas.none_hold, MemoryLemmas.words_stay, SpanLemmas.alone_within}
 use Rattle.verify80_states.proofs.CellLemmas.{cells_beside, source_beside, state_quieter, none_hold as no_cells_hold}
 use Rattle.verify80_states.proofs.{VariableLemmas.none_named, VariableLemmas.tested_of, VariableLemmas.variable_stays, GivenLemmas.given_holds, GivenLemmas.cut_set, GivenLemmas.cut_state}

@@ -1,25 +1,7 @@
 -- The memory after a step: code stays, and the words on the stack are as the state has them.
-use Rattle.std.specs.Prelude.{◌≡◌, ◌≢◌, ◌<◌, ◌≤◌, ℕ, zero, suc, ◌+◌, ◌/◌, ◌%◌, Bool, true, false, not, List, [], ◌∷◌, Option, None, Some, length, slice_index, slice_set, refl, if◌then◌else◌}
-use Rattle.std.proofs.Common.{subst, sym, ap, ◌∙◌, arith, cond, get_or-set_other, true≢false}
-use Rattle.std.proofs.lemmas.List.{get_or-set_same, length-set}
-use Rattle.std.proofs.lemmas.List.Elements.{All-contains, Contains-append_left, Contains-append_right, Contains-push}
-use Rattle.std.proofs.lemmas.Bool.Decides.{nat_tests}
-use Rattle.decode80.specs.declared.{instr.Instr.Instr, pair.Pair.TheVariants.Sp, pair.StackPair.StackPair}
-use Rattle.decode80.specs.declared.instr.Instr.TheVariants.{Store, MviMemory, InrMemory, DcrMemory, Stax, Sta, Shld, Push, Pop, Call, CallIf, Ret, ReturnIf, Rst, Xthl, Lxi, Inx, Dcx, Sphl}
-use Rattle.decode80.specs.declared.pair.StackPair.TheVariants.{Bc as StackBc, De as StackDe, Hl as StackHl, Psw}
-use Rattle.decode80.specs.{Facts.flow, Fetch.ahead, Fetch.behind}
-use Rattle.image80.specs.declared.range.Range.{Range}
-use Rattle.image80.specs.Range.{in_range, IsInMemory}
-use Rattle.image80.specs.Regions.{Areas, AreRegions, all_ranges, in_code, in_data, top_of}
-use Rattle.machine80.specs.declared.{registers.Registers.Registers, cpu.Cpu.Cpu, end.End.End}
-use Rattle.machine80.specs.declared.end.End.TheVariants.{Direct, Stack, StoreOutside}
-use Rattle.machine80.specs.{Flags.holds as holds_of, Flags.flags_byte, Cpu.high_of, Cpu.low_of, Step.guard, Step.first_outside, Step.ends_at}
-use Rattle.machine80.specs.Effects.{push_bytes, stores, stored, changed}
-use Rattle.verify80_states.specs.declared.{states.pairs.PairSpan.PairSpan, states.words.Words.Words, states.state.State.State}
-use Rattle.verify80_spans.specs.Span.{any_byte, word_alone}
-use Rattle.verify80_states.specs.State.{HoldsPair, HoldsRegisters, HoldsWord, HoldsWords, IsOnStack, pair_of_words, no_words, pushed, popped}
-use Rattle.verify80_states.specs.Following.{pushed_pair, called, returned, words_after}
-use Rattle.verify80_states.specs.Steps.{is_taken}
+use Rattle.verify80_states.proofs.Names.{◌≡◌, ◌≢◌, ◌<◌, ◌≤◌, ℕ, zero, suc, ◌+◌, ◌/◌, ◌%◌, Bool, true, false, not, List, [], ◌∷◌, Option, None, Some, length, slice_index, slice_set, refl, if◌then◌else◌, subst, sym, ap, ◌∙◌, arith, cond, get_or-set_other, true≢false, get_or-set_same, length-set, All-contains, Contains-append_left, Contains-append_right, Contains-push, nat_tests, Instr, Sp, StackPair, Store, MviMemory, InrMemory, DcrMemory, Stax, Sta, Shld, Push, Pop, Call, CallIf, Ret, ReturnIf, Rst, Xthl, Lxi, Inx, Dcx, Sphl, StackBc, StackDe, StackHl, Psw, flow, Range, in_range, IsInMemory, Areas, AreRegions, all_ranges, in_code, in_data, top_of, Registers, Cpu, End, Direct, Stack, StoreOutside, holds_of, flags_byte, guard, first_outside, ends_at, push_bytes, stores, stored, changed, PairSpan, Words, State, any_byte, word_alone, HoldsPair, HoldsRegisters, HoldsWord, HoldsWords, IsOnStack, pair_of_words, no_words, pushed, popped, pushed_pair, called, returned, words_after, is_taken}
+use Rattle.machine80.specs.Cpu.{high_of, low_of}
+use Rattle.decode80.specs.{Fetch.ahead, Fetch.behind}
 use Rattle.verify80_states.proofs.{ArithmeticBounds.flags_are_byte, SpanLemmas.any_byte_within, StateLemmas.halves_hold, StateLemmas.split_holds}
 
 -- the rules of regions: code, data and stack share no address, and the stack is in memory

@@ -1,12 +1,6 @@
 -- Registers and pairs of bytes, read and written.
-use Rattle.std.specs.Prelude.{ℕ, ◌/◌, ◌%◌}
-use Rattle.decode80.specs.declared.{register.Register.Register, pair.Pair.Pair, pair.StackPair.StackPair, pair.IndexPair.TheVariants.Bc as IndexBc, pair.IndexPair.TheVariants.De as IndexDe}
-use Rattle.decode80.specs.declared.register.Register.TheVariants.{A, B, C, D, E, H, L}
-use Rattle.decode80.specs.declared.pair.Pair.TheVariants.{Bc, De, Hl, Sp}
-use Rattle.decode80.specs.declared.pair.StackPair.TheVariants.{Bc as StackBc, De as StackDe, Hl as StackHl, Psw}
-use Rattle.machine80.specs.declared.{flags.Flags.Flags, registers.Registers.Registers, cpu.Cpu.Cpu}
-use Rattle.machine80.specs.Cpu.{register_of, with_register, hl_of, with_pair, index_pair_of, high_of, low_of, with_stack_pair}
-use Rattle.verify80_states.specs.Bytes.{IsByte, IsWord, AreBytes}
+use Rattle.verify80_states.proofs.Names.{ℕ, ◌/◌, ◌%◌, Register, Pair, StackPair, IndexBc, IndexDe, A, B, C, D, E, H, L, Bc, De, Hl, Sp, StackBc, StackDe, StackHl, Psw, Flags, Registers, Cpu, register_of, with_register, hl_of, with_pair, index_pair_of, with_stack_pair, IsByte, IsWord, AreBytes}
+use Rattle.machine80.specs.Cpu.{high_of, low_of}
 use Rattle.verify80_states.proofs.ArithmeticBounds.{word_of_bytes, high_byte, low_byte, flags_are_byte}
 
 -- read

@@ -1,18 +1,7 @@
 -- What a state says when registers and flags are written.
-use Rattle.std.specs.Prelude.{◌≡◌, ◌<◌, ◌==◌, ℕ, ◌+◌, ◌/◌, ◌%◌, Bool, true, false, Option, Some, nat_lt, nat_le, refl}
-use Rattle.std.proofs.Common.{arith, subst, sym}
-use Rattle.std.proofs.lemmas.Bool.Decides.{nat_tests}
-use Rattle.decode80.specs.declared.{register.Register.Register, pair.Pair.Pair}
-use Rattle.decode80.specs.declared.register.Register.TheVariants.{A, B, C, D, E, H, L}
-use Rattle.decode80.specs.declared.pair.Pair.TheVariants.{Bc, De, Hl, Sp}
-use Rattle.machine80.specs.declared.{flags.Flags.Flags, registers.Registers.Registers, cpu.Cpu.Cpu}
+use Rattle.verify80_states.proofs.Names.{◌≡◌, ◌<◌, ◌==◌, ℕ, ◌+◌, ◌/◌, ◌%◌, Bool, true, false, Option, Some, nat_lt, nat_le, refl, arith, subst, sym, nat_tests, Register, Pair, A, B, C, D, E, H, L, Bc, De, Hl, Sp, Flags, Registers, Cpu, word, register_of, with_register, with_pair, Span, ByteSpan, Outcome, Cells, PairSpan, State, AreBytes, Within, ByteWithin, any_byte, byte_alone, next_span, previous_span, next_byte, previous_byte, sum_span, sum_of, joined, zero_of, sign_of, HoldsPair, HoldsRegisters, Compares, any_pair, anything, pair_of_words, pair_of_halves, byte_of, copy_without, copy_outside, with_byte, with_span, with_outcome, with_carry, with_any_flags, cut_high, cut_low, cut_copy, cut, next_pair, previous_pair, sum_pair}
+use Rattle.verify80_spans.specs.Span.{IsKnown, high_of}
 use Rattle.machine80.specs.Flags.{flags_of_result}
-use Rattle.machine80.specs.Cpu.{word, register_of, with_register, with_pair}
-use Rattle.verify80_spans.specs.declared.{span.Span.Span, byte_span.ByteSpan.ByteSpan, byte_span.Outcome.Outcome}
-use Rattle.verify80_states.specs.declared.{states.cells.Cells.Cells, states.pairs.PairSpan.PairSpan, states.state.State.State}
-use Rattle.verify80_states.specs.Bytes.{AreBytes}
-use Rattle.verify80_spans.specs.Span.{Within, ByteWithin, IsKnown, any_byte, byte_alone, next_span, previous_span, next_byte, previous_byte, sum_span, sum_of, high_of, joined, zero_of, sign_of}
-use Rattle.verify80_states.specs.State.{HoldsPair, HoldsRegisters, Compares, any_pair, anything, pair_of_words, pair_of_halves, byte_of, copy_without, copy_outside, with_byte, with_span, with_outcome, with_carry, with_any_flags, cut_high, cut_low, cut_copy, cut, next_pair, previous_pair, sum_pair}
 use Rattle.verify80_states.proofs.SpanLemmas.{high_within, low_within, joined_within, any_word_within, any_byte_within, alone_within, next_within, previous_within, next_byte_within, previous_byte_within, sum_within, meet_within, meet_bytes_within, known_if}
 use Rattle.verify80_states.proofs.{ArithmeticBounds.word_of_bytes, OutcomeLemmas.Makes, OutcomeLemmas.sum_makes}
 

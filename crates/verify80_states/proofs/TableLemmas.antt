@@ -1,17 +1,5 @@
 -- A table that fits what is reached fits the program.
-use Rattle.std.specs.Prelude.{◌≡◌, ◌⊎◌, ◌+◌, ◌++◌, ℕ, zero, suc, ◌<◌, Bool, false, List, [], ◌∷◌, All, Option, None, Some, Ok, length, slice_get, slice_index_or, refl}
-use Rattle.std.proofs.Common.{subst, sym, ap, ◌∙◌, arith, inl, inr, true}
-use Rattle.decode80.specs.declared.{fetching.Fetched.Fetched, flow.Flow.Flow}
-use Rattle.decode80.specs.declared.flow.Flow.TheVariants.{Continues, Pushes, Pops, Exchanges}
-use Rattle.image80.specs.Image.{Located}
-use Rattle.machine80.specs.{World.World, Run.world_of}
-use Rattle.frames80.specs.{Code.Code, Lists.slice_get-last}
-use Rattle.verify80.specs.Looking.{code_of}
-use Rattle.verify80.specs.Reached.{AreReached, IsReached, StandsOnWalk, found_at}
-use Rattle.verify80_states.specs.declared.{fitting.fitting.Placed.Placed, states.state.State.State, states.variables.Variable.Variable}
-use Rattle.verify80_states.specs.{Bytes.HoldsBytes, Bytes.MemoryKeepsItsLength, State.IsQuietState, State.anything, Steps.HasCode, Calls.ReturnFacts, Calls.never, Calls.no_returns}
-use Rattle.verify80_states.specs.Fitting.{Has, Covers, FitsBy, KnowsQuiet}
-use Rattle.verify80_states.specs.{FittingTable.AllFit, FittingTable.Fits, FittingTable.SaysNothingAt, Runs.KeepsToCalls, Runs.IsKept}
+use Rattle.verify80_states.proofs.Names.{◌≡◌, ◌⊎◌, ◌+◌, ◌++◌, ℕ, zero, suc, ◌<◌, Bool, false, List, [], ◌∷◌, All, Option, None, Some, Ok, length, slice_get, slice_index_or, refl, subst, sym, ap, ◌∙◌, arith, inl, inr, true, Fetched, Flow, Continues, Pushes, Pops, Exchanges, Located, World, world_of, Code, slice_get-last, code_of, AreReached, IsReached, StandsOnWalk, found_at, Placed, State, Variable, HoldsBytes, MemoryKeepsItsLength, IsQuietState, anything, HasCode, ReturnFacts, never, no_returns, Has, Covers, FitsBy, KnowsQuiet, AllFit, Fits, SaysNothingAt, KeepsToCalls, IsKept}
 use Rattle.verify80_states.proofs.{MemoryLemmas.Ground, CellLemmas.none_quiet, KeepLemmas.nothing_holds, KeepLemmas.code_stays, KeepLemmas.still_keeps}
 
 -- an entry that is there is within the table

@@ -1,16 +1,5 @@
 -- What is shown by one table, and by another one too.
-use Rattle.std.specs.Prelude.{◌≡◌, ◌≢◌, ◌⊎◌, ◌<◌, ◌+◌, ◌&&◌, ℕ, suc, Bool, true, false, List, [], ◌∷◌, Any, Option, Some, length, slice_set, refl}
-use Rattle.std.proofs.Common.{subst, sym, ◌∙◌, inl, inr, arith, get_or-set_other, true≢false}
-use Rattle.std.proofs.lemmas.List.{get_or-set_same, length-set}
-use Rattle.decode80.specs.declared.fetching.Fetched.{Fetched}
-use Rattle.image80.specs.declared.range.Range.{Range}
-use Rattle.image80.specs.{Range.in_ranges, Regions.Areas, Regions.in_data, Image.Located}
-use Rattle.verify80.specs.{Looking.declared_targets, Reached.found_at}
-use Rattle.verify80_spans.specs.declared.span.Span.{Span}
-use Rattle.verify80_states.specs.declared.fitting.fitting.Placed.{Placed}
-use Rattle.verify80_states.specs.{Marks.is_marked, Runs.IsKept}
-use Rattle.verify80_stores.specs.{Boards.is_quiet, Opening.StaysIn, Listing.AreOpenMarks, Listing.AreSpans}
-use Rattle.verify80_stores.specs.Shown.{AreShown, BothBelow, IsShutAt, KeptTable}
+use Rattle.verify80_stores.proofs.Names.{◌≡◌, ◌≢◌, ◌⊎◌, ◌<◌, ◌+◌, ◌&&◌, ℕ, suc, Bool, true, false, List, [], ◌∷◌, Any, Option, Some, length, slice_set, refl, subst, sym, ◌∙◌, inl, inr, arith, get_or-set_other, true≢false, get_or-set_same, length-set, Fetched, Range, in_ranges, Areas, in_data, Located, declared_targets, found_at, Span, Placed, is_marked, IsKept, is_quiet, StaysIn, AreOpenMarks, AreSpans, AreShown, BothBelow, IsShutAt, KeptTable}
 use Rattle.verify80_stores.proofs.{ReachedLemmas.entry_within, TallyLemmas.marks_set, VecLemmas.nat_same}
 
 first_of : (a b : Bool) → (a && b) ≡ true → a ≡ true

@@ -1,29 +1,5 @@
 -- The stores of runs, by what is listed.
-use Rattle.std.specs.Prelude.{◌≡◌, ◌≢◌, ◌⊎◌, ℕ, zero, suc, ◌<◌, ◌&&◌, ◌||◌, ◌==◌, Bool, true, false, not, List, [], ◌∷◌, All, Any, Contains, Option, None, Some, Ok, length, slice_get, refl, if◌then◌else◌}
-use Rattle.std.specs.List.{list_any}
-use Rattle.std.specs.Option.{option_map_or}
-use Rattle.std.proofs.lemmas.Bool.Decides.{nat_tests}
-use Rattle.std.proofs.Common.{subst, sym, ap, ◌∙◌, inl, inr, arith, get_or}
-use Rattle.std.proofs.lemmas.List.Elements.{Contains-get_or, All-nil, All-cons}
-use Rattle.decode80.specs.declared.{instr.Instr.Instr, pair.IndexPair.TheVariants.Bc, pair.IndexPair.TheVariants.De, fetching.Fetched.Fetched}
-use Rattle.decode80.specs.declared.instr.Instr.TheVariants.{Store, MviMemory, InrMemory, DcrMemory, Stax, In, Out, Pchl, Hlt}
-use Rattle.decode80.specs.Fetch.{direct_bytes}
-use Rattle.image80.specs.{Range.in_range, Regions.Areas, Regions.in_data, Regions.targets_at, Image.Located}
-use Rattle.machine80.specs.declared.{end.End.End, registers.Registers.Registers}
-use Rattle.machine80.specs.declared.end.End.TheVariants.{InputEnd, OutputRefused, StoreOutside, JumpOutside, Fetch, Stack, Direct}
-use Rattle.machine80.specs.{Cpu.hl_of, Cpu.index_pair_of, Ports.next_input, Effects.pointed_bytes, Effects.stack_bytes}
-use Rattle.machine80.specs.Step.{Machine, Stop, first_outside, ends_at, guard, guarded, execute, turn_of, leads_outside, proceeded, with_input, step_on}
-use Rattle.machine80.specs.World.{World, turn_at, fetched_by, refuses, IsProperEnd}
-use Rattle.verify80.specs.{Looking.code_of, Looking.declared_targets, Looking.is_pchl, Starts.IsStart, Starts.IsWorldFrom, Starts.NeverGoesWrongFromPowerOn, Reached.StandsOnWalk, Reached.StaysOnWalks}
-use Rattle.verify80.specs.Reached.{AreReached, found_at}
-use Rattle.verify80_spans.specs.declared.span.Span.{Span}
-use Rattle.verify80_states.specs.declared.{states.state.State.State, fitting.fitting.Placed.Placed}
-use Rattle.verify80_states.specs.{Bytes.HoldsBytes, State.HoldsRegisters, Following.entry_in, Marks.is_marked, Runs.KeepsTo, Runs.RunsKeepTo}
-use Rattle.verify80_spans.specs.Span.{Within}
-use Rattle.verify80_stores.specs.{Shown.AreShown, Shown.IsShutAt, Shown.KeptTable, Pointers.stores_by_pair, Opening.pointer_span, Opening.IsLeftOpen}
-use Rattle.verify80_stores.specs.declared.stores.OpenStore.{OpenStore}
-use Rattle.verify80_stores.specs.Stores.{IsReachedAs, AreReachedAs, IsOpen, GoesAsListed, EndsAsListed, StoresGoAsListed, AreStoresOf}
-use Rattle.verify80_stores.specs.Listing.{AreAllBelow, AreOpenBelow, IsSpanned, IsLeftAt, IsListed, is_kind, is_at, is_marked_at}
+use Rattle.verify80_stores.proofs.Names.{◌≡◌, ◌≢◌, ◌⊎◌, ℕ, zero, suc, ◌<◌, ◌&&◌, ◌||◌, ◌==◌, Bool, true, false, not, List, [], ◌∷◌, All, Any, Contains, Option, None, Some, Ok, length, slice_get, refl, if◌then◌else◌, list_any, option_map_or, nat_tests, subst, sym, ap, ◌∙◌, inl, inr, arith, get_or, Contains-get_or, All-nil, All-cons, Instr, Bc, De, Fetched, Store, MviMemory, InrMemory, DcrMemory, Stax, In, Out, Pchl, Hlt, direct_bytes, in_range, Areas, in_data, targets_at, Located, End, Registers, InputEnd, OutputRefused, StoreOutside, JumpOutside, Fetch, Stack, Direct, hl_of, index_pair_of, next_input, pointed_bytes, stack_bytes, Machine, Stop, first_outside, ends_at, guard, guarded, execute, turn_of, leads_outside, proceeded, with_input, step_on, World, turn_at, fetched_by, refuses, IsProperEnd, code_of, declared_targets, is_pchl, IsStart, IsWorldFrom, NeverGoesWrongFromPowerOn, StandsOnWalk, StaysOnWalks, AreReached, found_at, Span, State, Placed, HoldsBytes, HoldsRegisters, entry_in, is_marked, KeepsTo, RunsKeepTo, Within, AreShown, IsShutAt, KeptTable, stores_by_pair, pointer_span, IsLeftOpen, OpenStore, IsReachedAs, AreReachedAs, IsOpen, GoesAsListed, EndsAsListed, StoresGoAsListed, AreStoresOf, AreAllBelow, AreOpenBelow, IsSpanned, IsLeftAt, IsListed, is_kind, is_at, is_marked_at}
 use Rattle.verify80_stores.proofs.{HullLemmas.inside_within, ReachedLemmas.there_if_reached}
 
 -- an instruction that stores by a pair is such a store

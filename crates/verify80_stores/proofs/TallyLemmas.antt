@@ -1,17 +1,5 @@
 -- What is noted by address of the states of a table, place by place.
-use Rattle.std.specs.Prelude.{◌≡◌, ◌≢◌, ◌⊎◌, ℕ, ◌<◌, ◌+◌, Bool, true, false, List, Option, None, Some, ◌≤◌, length, slice_get, slice_index, slice_set, refl, if◌then◌else◌}
-use Rattle.std.proofs.Common.{subst, sym, ap, ◌∙◌, inl, inr, arith, get_or-set_other}
-use Rattle.std.proofs.lemmas.List.{get_or-set_same, length-set}
-use Rattle.std.proofs.lemmas.Option.{slice_get_within}
-use Rattle.decode80.specs.declared.fetching.Fetched.{Fetched}
-use Rattle.image80.specs.{Regions.Areas, Regions.in_code, Image.Located, Image.memory_of}
-use Rattle.verify80.specs.{Looking.declared_targets, Reached.found_at}
-use Rattle.verify80_spans.specs.declared.span.Span.{Span}
-use Rattle.verify80_states.specs.declared.fitting.fitting.Placed.{Placed}
-use Rattle.verify80_spans.specs.Span.{IsInside}
-use Rattle.verify80_states.specs.{Following.entry_in, Steps.AreCodeBytes, Steps.code_in, Marks.is_marked}
-use Rattle.verify80_stores.specs.Opening.{pointer_span, span_in, joined_span, StaysIn, IsLeftOpen}
-use Rattle.verify80_stores.specs.Listing.{AreOpenMarks, AreSpans, IsLeftAt, IsSpanned}
+use Rattle.verify80_stores.proofs.Names.{◌≡◌, ◌≢◌, ◌⊎◌, ℕ, ◌<◌, ◌+◌, Bool, true, false, List, Option, None, Some, ◌≤◌, length, slice_get, slice_index, slice_set, refl, if◌then◌else◌, subst, sym, ap, ◌∙◌, inl, inr, arith, get_or-set_other, get_or-set_same, length-set, slice_get_within, Fetched, Areas, in_code, Located, memory_of, declared_targets, found_at, Span, Placed, IsInside, entry_in, AreCodeBytes, code_in, is_marked, pointer_span, span_in, joined_span, StaysIn, IsLeftOpen, AreOpenMarks, AreSpans, IsLeftAt, IsSpanned}
 use Rattle.verify80_stores.proofs.HullLemmas.{hull_left, hull_right, inside_again, inside_itself}
 use Rattle.verify80_stores.proofs.VecLemmas.{nat_same, split, marked_here, marked_elsewhere, entry_here, entry_elsewhere}
 

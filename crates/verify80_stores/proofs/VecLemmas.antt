@@ -1,8 +1,5 @@
 -- Vectors by address, read and written.
-use Rattle.std.specs.Prelude.{◌≡◌, ◌≢◌, ◌⊎◌, ℕ, zero, suc, ◌+◌, ◌<◌, Bool, true, false, List, [], ◌∷◌, Option, None, Some, length, replicate, slice_get, slice_index_or, slice_set, refl}
-use Rattle.std.proofs.Common.{sym, ◌∙◌, arith, get_or, get_or-set_other}
-use Rattle.std.proofs.lemmas.List.{get_or-set_same}
-use Rattle.verify80_states.specs.{Following.entry_in, Marks.is_marked}
+use Rattle.verify80_stores.proofs.Names.{◌≡◌, ◌≢◌, ◌⊎◌, ℕ, zero, suc, ◌+◌, ◌<◌, Bool, true, false, List, [], ◌∷◌, Option, None, Some, length, replicate, slice_get, slice_index_or, slice_set, refl, sym, ◌∙◌, arith, get_or, get_or-set_other, get_or-set_same, entry_in, is_marked}
 
 -- two ways to read a table of entries
 same_entry : {A : Type 0} (table : List (Option A)) (at : ℕ) → entry_in (slice_get table at) ≡ slice_index_or table at None

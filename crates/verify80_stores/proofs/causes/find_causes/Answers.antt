@@ -1,9 +1,4 @@
-use Rattle.std.proofs.Common.{◌≡◌, ◌∙◌, IfSome, List, Option, subst}
-use Rattle.std.proofs.lemmas.List.Elements.{All-push}
-use Rattle.image80.specs.declared.range.Range.{Range}
-use Rattle.image80.specs.Image.{Located}
-use Rattle.verify80_stores.specs.declared.{causes.Cause.Cause, reasons.Reason.Reason}
-use Rattle.verify80_stores.specs.Reasons.{IsSo}
+use Rattle.verify80_stores.proofs.Names.{◌≡◌, ◌∙◌, IfSome, List, Option, subst, All-push, Range, Located, Cause, Reason, IsSo}
 use Rattle.verify80_stores.proofs.causes.find_causes.Goals as goal
 
 -- what is so of the image that is looked at is so of the one that is vouched for

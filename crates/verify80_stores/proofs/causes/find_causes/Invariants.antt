@@ -1,5 +1,4 @@
-use Rattle.std.specs.Prelude.{All, IfSome}
-use Rattle.verify80_stores.specs.Reasons.{IsSo}
+use Rattle.verify80_stores.proofs.Names.{All, IfSome, IsSo}
 use Rattle.verify80_stores.proofs.causes.find_causes.Given as goal
 
 abbrev pub invariant-loop-open : goal.invariant-loop-open

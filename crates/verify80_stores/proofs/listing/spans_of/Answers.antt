@@ -1,4 +1,4 @@
-use Rattle.std.proofs.Common.{sym}
+use Rattle.verify80_stores.proofs.Names.{sym}
 use Rattle.verify80_stores.proofs.VecLemmas.{got_some}
 use Rattle.verify80_stores.proofs.listing.spans_of.Goals.{in-Some, in_default}
 use Rattle.verify80_stores.proofs.TallyLemmas.{spans_none, spans_more, spans_kept, spans_all}

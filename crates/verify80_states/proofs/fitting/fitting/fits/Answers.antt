@@ -1,7 +1,4 @@
-use Rattle.std.proofs.Common.{◌∙◌, refl, ap, sym, subst}
-use Rattle.image80.specs.{Image.Located, Regions.Areas}
-use Rattle.verify80_states.specs.declared.states.variables.Variable.{Variable}
-use Rattle.verify80_states.specs.{State.anything, Marks.is_marked, Fitting.Has, Calls.returns_of, FittingTable.AllFit}
+use Rattle.verify80_states.proofs.Names.{◌∙◌, refl, ap, sym, subst, Located, Areas, Variable, anything, is_marked, Has, returns_of, AllFit}
 use Rattle.verify80_states.proofs.{CellLemmas.knows_quieter, VariableLemmas.tested_of, TableLemmas.fits_program}
 use Rattle.verify80_states.proofs.fitting.fitting.fits.Goals as goal
 
