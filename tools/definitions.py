@@ -30,7 +30,8 @@ def imports_of(text):
     for path, items in USE.findall(text):
         for item in items.split(","):
             old, _, new = item.strip().partition(" as ")
-            found.setdefault((new or old).strip(), set()).add((tuple(path.split(".")), old))
+            *inner, name = old.split(".")
+            found.setdefault((new or name).strip(), set()).add(((*path.split("."), *inner), name))
     return found
 
 

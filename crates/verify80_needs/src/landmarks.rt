@@ -144,9 +144,14 @@ impl Landmarks {
         }
     }
 
-    fn grown_word(&self, old: Option<Span>, new: Option<Span>, growths: u32) -> Option<Span> {
+    fn grown_word(
+        &self,
+        old: Option<PairSpan>,
+        new: Option<PairSpan>,
+        growths: u32,
+    ) -> Option<PairSpan> {
         match (old, new) {
-            (Some(old), Some(new)) => Some(grown(&self.words, old, new, growths)),
+            (Some(old), Some(new)) => Some(self.grown_pair(old, new, growths)),
             _ => None,
         }
     }

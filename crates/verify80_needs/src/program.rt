@@ -2,7 +2,7 @@
 
 use decode80::{Fetched, Flow, Instr};
 use image80::Regions;
-use verify80_states::{CallReturns, State, given, state_after};
+use verify80_states::{CallReturns, PairSpan, State, given, state_after};
 
 /// A program: its code, its instructions that may be reached, and which of its procedures return.
 #[derive(Clone, Copy)]
@@ -123,9 +123,9 @@ impl<'a> ReachedProgram<'a> {
 
     /// Where a return goes, and with what, if the states there are to know it, and this one does.
     fn back(self, at: u16, found: Fetched, state: State) -> Option<(u16, State)> {
-        let span = state.words.first?;
-        if self.returns.know_return(at) && span.is_alone() {
-            Some((span.first, self.after(found, true, state)))
+        let PairSpan { words, .. } = state.words.first?;
+        if self.returns.know_return(at) && words.is_alone() {
+            Some((words.first, self.after(found, true, state)))
         } else {
             None
         }
@@ -141,7 +141,7 @@ impl<'a> ReachedProgram<'a> {
         match left {
             None => true,
             Some(left) => match left.words.first {
-                Some(span) => span.is_alone(),
+                Some(word) => word.words.is_alone(),
                 None => false,
             },
         }

@@ -3,7 +3,7 @@
 use crate::cells::{cell_at, change_cells};
 use bitflags::{Flags, bitflags};
 use decode80::{Condition, IndexPair, Pair, Register, StackPair};
-use verify80_states::{ByteSpan, Cell, PairSpan, Span, State, Words};
+use verify80_states::{ByteSpan, Cell, PairSpan, State, Words};
 
 /// A set of parts of a state: a bit for each.
 #[derive(Clone, Copy, Debug, PartialEq, Eq)]
@@ -224,9 +224,12 @@ fn flag_value(flag: Option<bool>) -> u32 {
     }
 }
 
-fn word_value(word: Option<Span>) -> u32 {
+fn word_value(word: Option<PairSpan>) -> u32 {
     match word {
         None => 65535,
-        Some(span) => 65536 * u32::from(span.first) + u32::from(span.last),
+        Some(pair) => {
+            let words = 65536 * u32::from(pair.words.first) + u32::from(pair.words.last);
+            words.wrapping_add(byte_value(pair.low))
+        }
     }
 }

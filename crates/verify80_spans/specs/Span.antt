@@ -1,13 +1,10 @@
 -- Spans of words and of bytes, and what becomes of them by the arithmetic of pairs and of registers. (The arithmetic is that of the
 -- Intel 8080 Microcomputer Systems User's Manual, chapter 4; that spans are followed is this project's own.)
 use Rattle.std.specs.Prelude.{◌≡◌, ◌≤◌, ℕ, ◌+◌, ◌-◌, ◌*◌, ◌/◌, ◌%◌, ◌==◌, ◌&&◌, Bool, true, false, Option, None, Some, nat_le, nat_lt, min, max, bit_and, bit_or, bit_xor, if◌then◌else◌}
-use Rattle.decode80.specs.declared.operation.Operation.{Operation}
+use Rattle.decode80.specs.declared.{operation.Operation.Operation, rotation.Rotation.Rotation}
 use Rattle.decode80.specs.declared.operation.Operation.TheVariants.{Add, AddCarry, Subtract, SubtractBorrow, And, ExclusiveOr, Or, Compare}
-use Rattle.decode80.specs.declared.rotation.Rotation.{Rotation}
 use Rattle.decode80.specs.declared.rotation.Rotation.TheVariants.{Left, Right, LeftThroughCarry, RightThroughCarry}
-use Rattle.verify80_spans.specs.declared.span.Span.{Span}
-use Rattle.verify80_spans.specs.declared.byte_span.ByteSpan.{ByteSpan}
-use Rattle.verify80_spans.specs.declared.byte_span.Outcome.{Outcome}
+use Rattle.verify80_spans.specs.declared.{span.Span.Span, byte_span.ByteSpan.ByteSpan, byte_span.Outcome.Outcome}
 
 -- a number is one of a span
 pub record Within (span : Span) (n : ℕ) : Type 0 where

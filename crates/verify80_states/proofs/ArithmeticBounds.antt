@@ -1,21 +1,8 @@
 -- What the arithmetic answers of bytes is a byte, and of words a word.
-use Rattle.std.specs.Prelude.{◌<◌, ℕ, ◌+◌, ◌*◌, ◌/◌, ◌%◌, Bool, true, false, if◌then◌else◌}
-use Rattle.std.proofs.Common.{arith}
-use Rattle.std.proofs.lemmas.Nat.{or_of_8, xor_of_8}
-use Rattle.std.specs.Int.Bits.{and_lt}
-use Rattle.decode80.specs.declared.operation.Operation.{Operation}
-use Rattle.decode80.specs.declared.operation.Operation.TheVariants.{Add, AddCarry, Subtract, SubtractBorrow, And, ExclusiveOr, Or, Compare}
-use Rattle.decode80.specs.declared.rotation.Rotation.{Rotation}
-use Rattle.decode80.specs.declared.rotation.Rotation.TheVariants.{Left, Right, LeftThroughCarry, RightThroughCarry}
-use Rattle.decode80.specs.declared.restart.Restart.{Restart}
-use Rattle.decode80.specs.declared.restart.Restart.TheVariants.{Vector0}
-use Rattle.decode80.specs.Restart.{restart_number}
-use Rattle.decode80.specs.Fetch.{ahead, behind}
-use Rattle.machine80.specs.declared.flags.Flags.{Flags}
-use Rattle.machine80.specs.Flags.{bit_of, flags_byte}
+use Rattle.verify80_states.proofs.Names.{◌<◌, ℕ, ◌+◌, ◌*◌, ◌/◌, ◌%◌, Bool, true, false, if◌then◌else◌, arith, or_of_8, xor_of_8, and_lt, Operation, Rotation, Restart, Vector0, Add, AddCarry, Subtract, SubtractBorrow, And, ExclusiveOr, Or, Compare, Left, Right, LeftThroughCarry, RightThroughCarry, restart_number, Flags, word, IsByte, IsWord}
+use Rattle.decode80.specs.{Fetch.ahead, Fetch.behind}
+use Rattle.machine80.specs.{Flags.bit_of, Flags.flags_byte}
 use Rattle.machine80.specs.Arithmetic.{byte_answer, sum_answer, difference_answer, operation_answer, increment_answer, decrement_answer, decimal_answer, rotation_answer, pair_sum, complement_of}
-use Rattle.machine80.specs.Cpu.{word}
-use Rattle.verify80_states.specs.Bytes.{IsByte, IsWord}
 
 -- words and their bytes
 pub word_of_bytes : (high low : ℕ) → IsByte high → IsByte low → IsWord (word high low)
@@ -43,10 +30,6 @@ unfolding pair_sum
 pair_sum_is_word hl pair = word_mod (hl + pair)
 
 -- one of two numbers
-pub either_is_byte : (t : Bool) (x y : ℕ) → IsByte x → IsByte y → IsByte (if t then x else y)
-either_is_byte true x y hx hy = hx
-either_is_byte false x y hx hy = hy
-
 pub either_is_word : (t : Bool) (x y : ℕ) → IsWord x → IsWord y → IsWord (if t then x else y)
 either_is_word true x y hx hy = hx
 either_is_word false x y hx hy = hy

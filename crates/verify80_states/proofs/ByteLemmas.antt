@@ -1,12 +1,5 @@
 -- Memory and waiting inputs of bytes, read and written.
-use Rattle.std.specs.Prelude.{◌≡◌, ℕ, List, [], ◌∷◌, Some, All, length, drop, slice_get, slice_index, slice_set, refl}
-use Rattle.std.proofs.Common.{◌∙◌, arith, subst, zero, suc}
-use Rattle.std.proofs.lemmas.List.{length-set}
-use Rattle.std.proofs.lemmas.List.Elements.{All-nil, All-head, All-tail, All-set, All-drop}
-use Rattle.machine80.specs.Effects.{byte_in, word_in, stored}
-use Rattle.machine80.specs.Ports.{waiting, next_input, without_next}
-use Rattle.decode80.specs.Fetch.{ahead}
-use Rattle.verify80_states.specs.Bytes.{IsByte, IsWord, HasBytes}
+use Rattle.verify80_states.proofs.Names.{◌≡◌, ℕ, List, [], ◌∷◌, Some, All, length, drop, slice_get, slice_index, slice_set, refl, ◌∙◌, arith, subst, zero, suc, length-set, All-nil, All-head, All-tail, All-set, All-drop, byte_in, word_in, stored, waiting, next_input, without_next, ahead, IsByte, IsWord, HasBytes}
 use Rattle.verify80_states.proofs.ArithmeticBounds.{word_of_bytes}
 
 -- read; past its end a memory reads as 0

@@ -1,13 +1,5 @@
 -- What is owed to open calls along a step.
-use Rattle.std.specs.Prelude.{◌≡◌, ◌⊎◌, ℕ, Bool, true, false, List, [], ◌∷◌, drop, refl, if◌then◌else◌}
-use Rattle.std.proofs.Common.{◌∙◌, ap, sym, subst, inl, inr, true≢false}
-use Rattle.decode80.specs.declared.flow.Flow.{Flow}
-use Rattle.decode80.specs.declared.flow.Flow.TheVariants.{Jumps, JumpsIf, JumpsToHl, Calls, CallsIf, Returns, ReturnsIf, Halts}
-use Rattle.machine80.specs.declared.flags.Flags.{Flags}
-use Rattle.machine80.specs.Flags.{holds}
-use Rattle.machine80.specs.World.{is_return_taken, places_by}
-use Rattle.verify80_states.specs.Fitting.{CallsEntry}
-use Rattle.verify80_states.specs.Calls.{AccountsFor, AccountsForCall, ReturnFacts, IsWithin, Owes, never, none, waits}
+use Rattle.verify80_states.proofs.Names.{◌≡◌, ◌⊎◌, ℕ, Bool, true, false, List, [], ◌∷◌, drop, refl, if◌then◌else◌, ◌∙◌, ap, sym, subst, inl, inr, true≢false, Flow, Jumps, JumpsIf, JumpsToHl, Calls, CallsIf, Returns, ReturnsIf, Halts, Flags, holds, is_return_taken, places_by, CallsEntry, AccountsFor, AccountsForCall, ReturnFacts, IsWithin, Owes, never, none, waits}
 use Rattle.verify80_states.proofs.WayLemmas.{Leads}
 
 still_false : (a b : Bool) → (b ≡ true → a ≡ true) → a ≡ false → b ≡ false

@@ -1,48 +1,9 @@
 -- What is known of bytes of memory, along stores and where it is read.
-use Rattle.std.specs.Prelude.{◌≡◌, ◌≢◌, ◌⊎◌, ◌<◌, ◌&&◌, ◌==◌, ℕ, ◌/◌, ◌%◌, Bool, true, false, List, [], ◌∷◌, Option, None, Some, nat_le, length, slice_index, slice_set, refl, if◌then◌else◌}
-use Rattle.std.proofs.Common.{subst, sym, ap, ◌∙◌, arith, get_or, inl, inr}
-use Rattle.std.proofs.lemmas.Bool.{eqb-true}
-use Rattle.std.proofs.lemmas.Bool.Decides.{nat_tests}
-use Rattle.std.proofs.lemmas.List.{get_or-set_same, length-set}
-use Rattle.decode80.specs.declared.instr.Instr.{Instr}
-use Rattle.decode80.specs.declared.instr.Instr.TheVariants.{Store, MviMemory, InrMemory, DcrMemory, Stax, Sta, Shld, Push, Call, CallIf, Rst, Xthl}
-use Rattle.decode80.specs.declared.pair.IndexPair.{IndexPair}
-use Rattle.decode80.specs.declared.pair.IndexPair.TheVariants.{Bc as IndexBc, De as IndexDe}
-use Rattle.decode80.specs.Fetch.{ahead, behind}
-use Rattle.decode80.specs.Spelling.{HasOperandInRange}
-use Rattle.image80.specs.Range.{in_range}
-use Rattle.image80.specs.Regions.{Areas, in_data}
-use Rattle.machine80.specs.declared.registers.Registers.{Registers}
-use Rattle.machine80.specs.declared.cpu.Cpu.{Cpu}
-use Rattle.machine80.specs.declared.end.End.TheVariants.{Direct, Stack, StoreOutside}
-use Rattle.machine80.specs.Arithmetic.{byte_answer, increment_answer, decrement_answer}
-use Rattle.machine80.specs.Flags.{holds as holds_of}
-use Rattle.machine80.specs.Cpu.{hl_of, index_pair_of}
-use Rattle.machine80.specs.Effects.{byte_in, push_bytes, stores, stored}
-use Rattle.machine80.specs.Step.{guard, first_outside, ends_at}
-use Rattle.verify80_spans.specs.declared.span.Span.{Span}
-use Rattle.verify80_spans.specs.declared.byte_span.ByteSpan.{ByteSpan}
-use Rattle.verify80_states.specs.declared.states.cells.Cell.{Cell}
-use Rattle.verify80_states.specs.declared.states.cells.Cells.{Cells}
-use Rattle.verify80_states.specs.declared.states.variables.Variable.{Variable}
-use Rattle.verify80_states.specs.declared.states.state.State.{State}
-use Rattle.verify80_states.specs.Variables.{HoldsSet, IsSaid}
-use Rattle.verify80_states.specs.Bytes.{HasBytes, AreBytes}
-use Rattle.verify80_spans.specs.Span.{Within, ByteWithin, any_byte, byte_alone, word_alone, is_alone, next_byte, previous_byte, meet_bytes}
-use Rattle.verify80_spans.specs.Span.{high_of as high_bytes}
-use Rattle.verify80_states.specs.Cells.{HoldsCell, EachCell, HoldsCells, IsSaidByCell, IsCellInside, AreCellsInside, IsQuietCell, AreQuietCells, any_cell, no_cells, map_cells, cut_cell, cut_cells, stored_cell, stored_cells}
-use Rattle.verify80_states.specs.State.{HoldsRegisters, HoldsSource, IsQuietSource, IsQuietState, anything, byte_of}
-use Rattle.verify80_states.specs.declared.fitting.fitting.Placed.{Placed}
-use Rattle.verify80_states.specs.Fitting.{KnowsQuiet}
-use Rattle.verify80_states.specs.Steps.{ReadsCode}
-use Rattle.verify80_states.specs.Following.{loaded, index_words, cells_after}
-use Rattle.verify80_states.proofs.ByteLemmas.{byte_at as memory_byte, stored_bytes}
-use Rattle.verify80_states.proofs.RegisterBytes.{bc_is_word, de_is_word, hl_is_word}
-use Rattle.verify80_states.proofs.ArithmeticBounds.{ahead_is_word}
+use Rattle.verify80_states.proofs.Names.{◌≡◌, ◌≢◌, ◌⊎◌, ◌<◌, ◌&&◌, ◌==◌, ℕ, ◌/◌, ◌%◌, Bool, true, false, List, [], ◌∷◌, Option, None, Some, nat_le, length, slice_index, slice_set, refl, if◌then◌else◌, subst, sym, ap, ◌∙◌, arith, get_or, inl, inr, eqb-true, nat_tests, get_or-set_same, length-set, Instr, IndexPair, IndexBc, IndexDe, Store, MviMemory, InrMemory, DcrMemory, Stax, Sta, Shld, Push, Call, CallIf, Rst, Xthl, ahead, behind, HasOperandInRange, in_range, Areas, in_data, Registers, Cpu, Direct, Stack, StoreOutside, holds_of, hl_of, index_pair_of, byte_in, push_bytes, stores, stored, guard, first_outside, ends_at, Span, ByteSpan, Cell, Cells, Variable, State, Placed, HoldsSet, IsSaid, HasBytes, AreBytes, KnowsQuiet, ReadsCode, Within, ByteWithin, any_byte, byte_alone, word_alone, is_alone, next_byte, previous_byte, meet_bytes, high_bytes, HoldsCell, EachCell, HoldsCells, IsSaidByCell, IsCellInside, AreCellsInside, IsQuietCell, AreQuietCells, any_cell, no_cells, map_cells, cut_cell, cut_cells, stored_cell, stored_cells, HoldsRegisters, HoldsSource, IsQuietSource, IsQuietState, anything, byte_of, loaded, index_words, cells_after}
+use Rattle.machine80.specs.{Arithmetic.byte_answer, Arithmetic.increment_answer, Arithmetic.decrement_answer}
+use Rattle.verify80_states.proofs.{ByteLemmas.byte_at as memory_byte, ByteLemmas.stored_bytes, RegisterBytes.bc_is_word, RegisterBytes.de_is_word, RegisterBytes.hl_is_word}
+use Rattle.verify80_states.proofs.{ArithmeticBounds.ahead_is_word, StepBytes.one_store, StateLemmas.byte_holds, FollowLemmas.loaded_within, FollowLemmas.index_within}
 use Rattle.verify80_states.proofs.SpanLemmas.{any_byte_within, alone_within, high_within, next_byte_within, previous_byte_within, byte_inside_within, meet_bytes_within}
-use Rattle.verify80_states.proofs.StepBytes.{one_store}
-use Rattle.verify80_states.proofs.StateLemmas.{byte_holds}
-use Rattle.verify80_states.proofs.FollowLemmas.{loaded_within, index_within}
 use Rattle.verify80_states.proofs.MemoryLemmas.{Ground, stack_apart, passed_two, one_stored, two_stored}
 
 -- what holds of each cell holds of what becomes of it

@@ -1,19 +1,6 @@
 -- What is read of bytes that are known.
-use Rattle.std.specs.Prelude.{◌≡◌, ◌==◌, ℕ, Bool, true, false, List, Option, None, Some, refl}
-use Rattle.std.proofs.Common.{subst, sym}
-use Rattle.std.proofs.lemmas.Bool.{eqb-true}
-use Rattle.machine80.specs.Effects.{byte_in}
-use Rattle.verify80_spans.specs.declared.byte_span.ByteSpan.{ByteSpan}
-use Rattle.verify80_states.specs.declared.states.cells.Cell.{Cell}
-use Rattle.verify80_states.specs.declared.states.cells.Cells.{Cells}
-use Rattle.verify80_states.specs.Bytes.{HasBytes}
-use Rattle.verify80_spans.specs.Span.{ByteWithin, byte_alone}
-use Rattle.verify80_states.specs.Cells.{HoldsCell, HoldsCells, cell_or, bytes_at}
-use Rattle.verify80_states.specs.Steps.{ReadsCode}
-use Rattle.verify80_states.specs.Following.{byte_at, code_or, loaded_at}
-use Rattle.verify80_states.proofs.ByteLemmas.{byte_at as memory_byte}
-use Rattle.verify80_states.proofs.SpanLemmas.{any_byte_within, alone_within}
-use Rattle.verify80_states.proofs.OutcomeLemmas.{by_span}
+use Rattle.verify80_states.proofs.Names.{◌≡◌, ◌==◌, ℕ, Bool, true, false, List, Option, None, Some, refl, subst, sym, eqb-true, byte_in, ByteSpan, Cell, Cells, HasBytes, ReadsCode, byte_at, code_or, loaded_at, ByteWithin, byte_alone, HoldsCell, HoldsCells, cell_or, bytes_at}
+use Rattle.verify80_states.proofs.{ByteLemmas.byte_at as memory_byte, SpanLemmas.any_byte_within, SpanLemmas.alone_within, OutcomeLemmas.by_span}
 
 within_by : (c : Cell) (memory : List ℕ) (at : ℕ) (otherwise : ByteSpan) (b : Bool) → (c.at == at) ≡ b → HoldsCell c memory → ByteWithin otherwise (byte_in memory at) → ByteWithin (cell_or c at otherwise) (byte_in memory at)
 within_by c memory at otherwise true same holds other =

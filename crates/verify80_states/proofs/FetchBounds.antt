@@ -1,19 +1,8 @@
 -- What is fetched from bytes has an operand in its range.
-use Rattle.std.specs.Prelude.{◌≡◌, ◌<◌, ℕ, Bool, true, false, Option, None, Some, Result, Ok, Err, slice_index, refl, if◌then◌else◌}
-use Rattle.std.specs.Result.{result_ok}
-use Rattle.std.proofs.Common.{subst}
-use Rattle.decode80.specs.declared.instr.Instr.{Instr}
-use Rattle.decode80.specs.declared.fetching.Fetched.{Fetched}
-use Rattle.decode80.specs.declared.fetching.FetchFault.{FetchFault}
-use Rattle.decode80.specs.declared.fetching.FetchFault.TheVariants.{Outside}
-use Rattle.decode80.specs.Decoded.{decoded}
-use Rattle.decode80.specs.Spelling.{HasOperandInRange}
-use Rattle.decode80.specs.Fetch.{ahead, all_code, admitted_if_used, fetch as fetch_in}
-use Rattle.image80.specs.Regions.{in_code}
+use Rattle.verify80_states.proofs.Names.{◌≡◌, ◌<◌, ℕ, Bool, true, false, Option, None, Some, Result, Ok, Err, slice_index, refl, if◌then◌else◌, result_ok, subst, Instr, Fetched, FetchFault, Outside, decoded, HasOperandInRange, ahead, all_code, admitted_if_used, in_code, IsByte, IsBounded, FetchedOperandsAreBounded}
+use Rattle.decode80.specs.Fetch.{fetch as fetch_in}
 use Rattle.machine80.specs.Step.{fetch}
-use Rattle.verify80_states.specs.Bytes.{IsByte, IsBounded, FetchedOperandsAreBounded}
-use Rattle.verify80_states.proofs.ArithmeticBounds.{ahead_is_word}
-use Rattle.verify80_states.proofs.ByteLemmas.{byte_at}
+use Rattle.verify80_states.proofs.{ArithmeticBounds.ahead_is_word, ByteLemmas.byte_at}
 
 -- what decode80 says of decoded operands
 abbrev pub DecodesInRange : Type 0

@@ -1,51 +1,13 @@
 -- Registers and flags at each kind of instruction.
-use Rattle.std.specs.Prelude.{◌≡◌, ◌<◌, ◌==◌, [], ℕ, ◌+◌, ◌-◌, ◌*◌, ◌/◌, ◌%◌, Bool, true, false, not, List, Option, None, Some, nat_lt, bit_and, bit_or, bit_xor, refl}
-use Rattle.std.proofs.Common.{arith, sym, ap}
-use Rattle.std.proofs.lemmas.Bool.Decides.{nat_tests}
-use Rattle.std.specs.Int.Bits.{and_self, or_self, xor_self}
-use Rattle.decode80.specs.declared.register.Register.{Register}
-use Rattle.decode80.specs.declared.register.Register.TheVariants.{A, H, L}
-use Rattle.decode80.specs.declared.pair.Pair.{Pair}
-use Rattle.decode80.specs.declared.pair.Pair.TheVariants.{Bc, De, Hl, Sp}
-use Rattle.decode80.specs.declared.pair.StackPair.TheVariants.{Bc as StackBc, De as StackDe, Hl as StackHl, Psw}
-use Rattle.decode80.specs.declared.pair.IndexPair.{IndexPair}
-use Rattle.decode80.specs.declared.pair.IndexPair.TheVariants.{Bc as IndexBc, De as IndexDe}
-use Rattle.decode80.specs.declared.instr.Instr.{Instr}
-use Rattle.decode80.specs.declared.instr.Instr.TheVariants.{Mov, Load, Mvi, Lxi, Dad, Inx, Dcx, Inr, InrMemory, Dcr, DcrMemory, Operate, Pop, Ldax, Lhld, Lda, Rotate, Daa, Cma, Stc, Cmc, Xthl, Xchg, In}
-use Rattle.decode80.specs.declared.operation.Operation.{Operation}
-use Rattle.decode80.specs.declared.operation.Operation.TheVariants.{Add, AddCarry, Subtract, SubtractBorrow, And, ExclusiveOr, Or, Compare}
-use Rattle.decode80.specs.declared.operation.Operand.{Operand}
-use Rattle.decode80.specs.declared.operation.Operand.TheVariants.{Register as InRegister, Memory, Immediate}
-use Rattle.decode80.specs.declared.rotation.Rotation.{Rotation}
-use Rattle.decode80.specs.declared.rotation.Rotation.TheVariants.{Left, Right, LeftThroughCarry, RightThroughCarry}
-use Rattle.decode80.specs.Fetch.{ahead, behind}
-use Rattle.decode80.specs.Spelling.{HasOperandInRange}
-use Rattle.image80.specs.Regions.{Areas}
-use Rattle.machine80.specs.declared.flags.Flags.{Flags}
-use Rattle.machine80.specs.declared.registers.Registers.{Registers}
-use Rattle.machine80.specs.declared.cpu.Cpu.{Cpu}
-use Rattle.machine80.specs.Flags.{bit_of, flags_of_result, flags_from}
-use Rattle.machine80.specs.Arithmetic.{byte_answer, sum_answer, difference_answer, operation_answer, increment_answer, decrement_answer, decimal_answer, rotation_answer, pair_sum, pair_sum_flags, complement_of, carry_set, carry_turned}
-use Rattle.machine80.specs.Cpu.{register_of, with_register, hl_of, pair_of, with_pair, index_pair_of}
-use Rattle.machine80.specs.Effects.{byte_in, word_in, operand_of, changed}
-use Rattle.verify80_spans.specs.declared.span.Span.{Span}
-use Rattle.verify80_spans.specs.declared.byte_span.ByteSpan.{ByteSpan}
-use Rattle.verify80_spans.specs.declared.byte_span.Outcome.{Outcome}
-use Rattle.verify80_states.specs.declared.states.state.State.{State}
-use Rattle.verify80_states.specs.Bytes.{HasBytes, AreBytes}
-use Rattle.verify80_spans.specs.Span.{Within, ByteWithin, IsKnown, any_word, any_byte, word_alone, byte_alone, is_alone, is_byte_alone, next_span, previous_span, next_byte, previous_byte, sum_span, high_of, operated, doubled, rotated, complemented, uncarried}
-use Rattle.verify80_states.specs.State.{HoldsRegisters, HoldsWord, HoldsWords, Compares, compared_with, byte_of, words_of, with_byte, with_words, with_outcome}
-use Rattle.verify80_states.specs.Steps.{ReadsCode}
-use Rattle.verify80_states.specs.declared.states.cells.Cells.{Cells}
-use Rattle.verify80_states.specs.Cells.{HoldsCells}
-use Rattle.verify80_states.proofs.CellReads.{read_within}
-use Rattle.verify80_states.specs.Following.{known_word, loaded_at, loaded, moved, counted, resulted, tested, is_accumulator, operand_bytes, after_operation, added_carry, turned, exchanged, index_words, registers_after}
-use Rattle.verify80_states.proofs.ByteLemmas.{byte_at as memory_byte, word_at}
-use Rattle.verify80_states.proofs.ArithmeticBounds.{decimal_is_byte}
-use Rattle.verify80_states.proofs.RegisterBytes.{register_is_byte, register_written, bc_is_word, de_is_word, hl_is_word}
-use Rattle.verify80_states.proofs.SpanLemmas.{any_word_within, any_byte_within, alone_within, high_within, next_within, previous_within, next_byte_within, previous_byte_within, sum_within, sum_any, carries}
+use Rattle.verify80_states.proofs.Names.{◌≡◌, ◌<◌, ◌==◌, [], ℕ, ◌+◌, ◌-◌, ◌*◌, ◌/◌, ◌%◌, Bool, true, false, not, List, Option, None, Some, nat_lt, bit_and, bit_or, bit_xor, refl, arith, sym, ap, nat_tests, and_self, or_self, xor_self, Register, Pair, IndexPair, IndexBc, IndexDe, A, H, L, Bc, De, Hl, Sp, StackBc, StackDe, StackHl, Psw, Instr, Operation, Operand, Rotation, Mov, Load, Mvi, Lxi, Dad, Inx, Dcx, Inr, InrMemory, Dcr, DcrMemory, Operate, Pop, Ldax, Lhld, Lda, Rotate, Daa, Cma, Stc, Cmc, Xthl, Xchg, In, Add, AddCarry, Subtract, SubtractBorrow, And, ExclusiveOr, Or, Compare, InRegister, Memory, Immediate, Left, Right, LeftThroughCarry, RightThroughCarry, HasOperandInRange, Areas, Flags, Registers, Cpu, flags_from, byte_in, operand_of, changed, decimal_answer, word, register_of, with_register, hl_of, pair_of, with_pair, index_pair_of, Span, ByteSpan, Outcome, PairSpan, State, Cells, HasBytes, AreBytes, ReadsCode, HoldsCells, Within, ByteWithin, any_byte, word_alone, byte_alone, is_alone, is_byte_alone, next_byte, previous_byte, operated, doubled, rotated, complemented, uncarried, HoldsPair, HoldsRegisters, HoldsWord, HoldsWords, Compares, any_pair, pair_of_words, next_pair, previous_pair, sum_pair, compared_with, byte_of, span_of, with_byte, with_span, with_outcome, known_pair, loaded_at, loaded, moved, counted, resulted, tested, is_accumulator, operand_bytes, after_operation, added_carry, turned, exchanged, index_words, registers_after}
+use Rattle.verify80_spans.specs.Span.{IsKnown, high_of}
+use Rattle.decode80.specs.{Fetch.ahead, Fetch.behind}
+use Rattle.machine80.specs.{Flags.bit_of, Flags.flags_of_result}
+use Rattle.machine80.specs.Arithmetic.{byte_answer, sum_answer, difference_answer, operation_answer, increment_answer, decrement_answer, rotation_answer, pair_sum, pair_sum_flags, complement_of, carry_set, carry_turned}
+use Rattle.verify80_states.proofs.{CellReads.read_within, ByteLemmas.byte_at as memory_byte, ArithmeticBounds.decimal_is_byte, RegisterBytes.register_is_byte, RegisterBytes.register_written}
+use Rattle.verify80_states.proofs.SpanLemmas.{any_byte_within, alone_within, next_byte_within, previous_byte_within, carries}
 use Rattle.verify80_states.proofs.OutcomeLemmas.{Makes, result_of, carry_of, operated_makes, is_first, by_span}
-use Rattle.verify80_states.proofs.StateLemmas.{words_hold, byte_holds, with_byte_holds, bc_written_holds, de_written_holds, hl_written_holds, with_words_holds, outcome_holds, carry_holds, any_flags_hold, compared_holds, copy_holds}
+use Rattle.verify80_states.proofs.StateLemmas.{split_holds, high_holds, byte_holds, with_byte_holds, bc_written_holds, de_written_holds, hl_written_holds, with_span_holds, outcome_holds, carry_holds, any_flags_hold, compared_holds, copy_holds, next_holds, previous_holds, sum_holds, any_pair_holds, any_sum_holds}
 
 -- what is read
 pub word_first : (s : Span) (n : ℕ) → is_alone s ≡ true → Within s n → s.first ≡ n
@@ -61,10 +23,9 @@ loaded_go code cells memory s n false alone reads holds bytes inside =
 pub loaded_within : (code : List (Option ℕ)) (cells : Cells) (memory : List ℕ) (s : Span) (n : ℕ) → ReadsCode code memory → HoldsCells cells memory → HasBytes memory → Within s n → ByteWithin (loaded code cells s) (byte_in memory n)
 loaded_within code cells memory s n reads holds bytes inside = loaded_go code cells memory s n (is_alone s) refl reads holds bytes inside
 
-popped_within : (regions : Areas) (o : Option Span) (memory : List ℕ) (sp : ℕ) → HoldsWord regions o memory sp sp → HasBytes memory → Within (known_word o) (word_in memory sp)
-popped_within regions None memory sp holds bytes =
-    any_word_within (word_in memory sp) (word_at memory sp bytes)
-popped_within regions (Some span) memory sp holds bytes = holds.within
+popped_holds : (regions : Areas) (o : Option PairSpan) (memory : List ℕ) (sp : ℕ) → HoldsWord regions o memory sp sp → HasBytes memory → HoldsPair (known_pair o) (byte_in memory (ahead sp 1)) (byte_in memory sp)
+popped_holds regions None memory sp holds bytes = any_pair_holds _ _ (memory_byte memory (ahead sp 1) bytes) (memory_byte memory sp bytes)
+popped_holds regions (Some pair) memory sp holds bytes = holds.within
 
 -- a register is copied
 copied : (r : Registers) (from : Register) → register_of (with_register r A (register_of r from)) from ≡ register_of r from
@@ -324,30 +285,33 @@ pub index_within : (s : State) (r : Registers) (pair : IndexPair) → HoldsRegis
 index_within s r IndexBc holds = holds.bc.words
 index_within s r IndexDe holds = holds.de.words
 
-up_within : (s : Span) (n : ℕ) → n < 65536 → Within s n → Within (next_span s) (ahead n 1)
+abbrev Counts : (PairSpan → PairSpan) → (ℕ → ℕ) → Type 0
+Counts count step = (p : PairSpan) (h l : ℕ) → h < 256 → l < 256 → HoldsPair p h l → (let n = step (word h l) in HoldsPair (count p) (n / 256) (n % 256))
+
+up_holds : Counts next_pair (λ n. ahead n 1)
 unfolding ahead
-up_within s n small inside = next_within s n small inside
+up_holds = next_holds
 
-down_within : (s : Span) (n : ℕ) → n < 65536 → Within s n → Within (previous_span s) (behind n 1)
+down_holds : Counts previous_pair (λ n. behind n 1)
 unfolding behind
-down_within s n small inside = previous_within s n small inside
+down_holds = previous_holds
 
-counts : (count : Span → Span) (step : ℕ → ℕ) (s : State) (cpu : Cpu) (pair : Pair) → ((span : Span) (n : ℕ) → n < 65536 → Within span n → Within (count span) (step n)) → AreBytes cpu.registers → HoldsRegisters s cpu.registers →
-    HoldsRegisters (with_words s pair (count (words_of s pair))) (with_pair cpu pair (step (pair_of cpu pair))).registers
-counts count step s cpu Bc law bytes holds = with_words_holds s cpu Bc (count s.bc.words) _ holds (law s.bc.words _ (bc_is_word cpu.registers bytes) holds.bc.words)
-counts count step s cpu De law bytes holds = with_words_holds s cpu De (count s.de.words) _ holds (law s.de.words _ (de_is_word cpu.registers bytes) holds.de.words)
-counts count step s cpu Hl law bytes holds = with_words_holds s cpu Hl (count s.hl.words) _ holds (law s.hl.words _ (hl_is_word cpu.registers bytes) holds.hl.words)
+counts : (count : PairSpan → PairSpan) (step : ℕ → ℕ) (s : State) (cpu : Cpu) (pair : Pair) → Counts count step → AreBytes cpu.registers → HoldsRegisters s cpu.registers →
+    HoldsRegisters (with_span s pair (count (span_of s pair))) (with_pair cpu pair (step (pair_of cpu pair))).registers
+counts count step s cpu Bc law bytes holds = with_span_holds s cpu Bc (count s.bc) _ holds (law s.bc _ _ bytes.b bytes.c holds.bc)
+counts count step s cpu De law bytes holds = with_span_holds s cpu De (count s.de) _ holds (law s.de _ _ bytes.d bytes.e holds.de)
+counts count step s cpu Hl law bytes holds = with_span_holds s cpu Hl (count s.hl) _ holds (law s.hl _ _ bytes.h bytes.l holds.hl)
 counts count step s cpu Sp law bytes holds = holds
 
-adds : (s : State) (cpu : Cpu) (span : Span) (n : ℕ) (known : Option Bool) → AreBytes cpu.registers → HoldsRegisters s cpu.registers → Within (sum_span s.hl.words span) ((hl_of cpu.registers + n) % 65536) →
+adds : (s : State) (cpu : Cpu) (span : PairSpan) (n : ℕ) (known : Option Bool) → HoldsRegisters s cpu.registers → (let sum = (hl_of cpu.registers + n) % 65536 in HoldsPair (sum_pair s.hl span) (sum / 256) (sum % 256)) →
     IsKnown known (nat_lt 65535 (hl_of cpu.registers + n)) → (let sum = pair_sum (hl_of cpu.registers) n in
-    HoldsRegisters (record (with_words s Hl (sum_span s.hl.words span)) { carry = known; compared = None })
+    HoldsRegisters (record (with_span s Hl (sum_pair s.hl span)) { carry = known; compared = None })
     (record cpu.registers { h = sum / 256; l = sum % 256; flags = pair_sum_flags (hl_of cpu.registers) n cpu.registers.flags }))
 unfolding pair_sum pair_sum_flags
-adds s cpu span n known bytes holds inside carry =
+adds s cpu span n known holds inside carry =
     let sum = (hl_of cpu.registers + n) % 65536 in
-    carry_holds (with_words s Hl (sum_span s.hl.words span)) (record cpu.registers { h = sum / 256; l = sum % 256 }) known (nat_lt 65535 (hl_of cpu.registers + n))
-    (with_words_holds s cpu Hl (sum_span s.hl.words span) sum holds inside) carry
+    carry_holds (with_span s Hl (sum_pair s.hl span)) (record cpu.registers { h = sum / 256; l = sum % 256 }) known (nat_lt 65535 (hl_of cpu.registers + n))
+    (with_span_holds s cpu Hl (sum_pair s.hl span) sum holds inside) carry
 
 module _ (code : List (Option ℕ)) (memory : List ℕ) (reads : ReadsCode code memory) (held : HasBytes memory) where
   loads : (s : State) (r : Registers) (to : Register) (span : Span) (at : ℕ) → AreBytes r → HoldsRegisters s r → HoldsCells s.cells memory → Within span at → HoldsRegisters (with_byte s to (loaded code s.cells span)) (with_register r to (byte_in memory at))
@@ -376,20 +340,19 @@ module _ (code : List (Option ℕ)) (memory : List ℕ) (reads : ReadsCode code 
   changed_registers regions DcrMemory cpu s small bytes holds words cells =
       memory_down s cpu.registers (loaded code s.cells s.hl.words) (byte_in memory (hl_of cpu.registers)) holds (memory_byte memory (hl_of cpu.registers) held)
       (loaded_within code s.cells memory s.hl.words (hl_of cpu.registers) reads cells held holds.hl.words)
-  changed_registers regions (Lxi pair n) cpu s small bytes holds words cells = with_words_holds s cpu pair (word_alone n) n holds (record { above = omega arith; below = omega arith })
-  changed_registers regions (Inx pair) cpu s small bytes holds words cells = counts next_span (λ n. ahead n 1) s cpu pair up_within bytes holds
-  changed_registers regions (Dcx pair) cpu s small bytes holds words cells = counts previous_span (λ n. behind n 1) s cpu pair down_within bytes holds
-  changed_registers regions (Dad Bc) cpu s small bytes holds words cells = adds s cpu s.bc.words _ (added_carry s Bc) bytes holds
-      (sum_within s.hl.words s.bc.words _ _ (hl_is_word cpu.registers bytes) (bc_is_word cpu.registers bytes) holds.hl.words holds.bc.words)
+  changed_registers regions (Lxi pair n) cpu s small bytes holds words cells = with_span_holds s cpu pair (pair_of_words (word_alone n)) n holds (split_holds (word_alone n) n (record { above = omega arith; below = omega arith }))
+  changed_registers regions (Inx pair) cpu s small bytes holds words cells = counts next_pair (λ n. ahead n 1) s cpu pair up_holds bytes holds
+  changed_registers regions (Dcx pair) cpu s small bytes holds words cells = counts previous_pair (λ n. behind n 1) s cpu pair down_holds bytes holds
+  changed_registers regions (Dad Bc) cpu s small bytes holds words cells = adds s cpu s.bc _ (added_carry s Bc) holds
+      (sum_holds s.hl s.bc _ _ _ _ bytes.h bytes.l bytes.b bytes.c holds.hl holds.bc)
       (carries s.hl.words s.bc.words _ _ holds.hl.words holds.bc.words)
-  changed_registers regions (Dad De) cpu s small bytes holds words cells = adds s cpu s.de.words _ (added_carry s De) bytes holds
-      (sum_within s.hl.words s.de.words _ _ (hl_is_word cpu.registers bytes) (de_is_word cpu.registers bytes) holds.hl.words holds.de.words)
+  changed_registers regions (Dad De) cpu s small bytes holds words cells = adds s cpu s.de _ (added_carry s De) holds
+      (sum_holds s.hl s.de _ _ _ _ bytes.h bytes.l bytes.d bytes.e holds.hl holds.de)
       (carries s.hl.words s.de.words _ _ holds.hl.words holds.de.words)
-  changed_registers regions (Dad Hl) cpu s small bytes holds words cells = adds s cpu s.hl.words _ (added_carry s Hl) bytes holds
-      (sum_within s.hl.words s.hl.words _ _ (hl_is_word cpu.registers bytes) (hl_is_word cpu.registers bytes) holds.hl.words holds.hl.words)
+  changed_registers regions (Dad Hl) cpu s small bytes holds words cells = adds s cpu s.hl _ (added_carry s Hl) holds
+      (sum_holds s.hl s.hl _ _ _ _ bytes.h bytes.l bytes.h bytes.l holds.hl holds.hl)
       (carries s.hl.words s.hl.words _ _ holds.hl.words holds.hl.words)
-  changed_registers regions (Dad Sp) cpu s small bytes holds words cells = adds s cpu any_word cpu.sp None bytes holds
-      (sum_any s.hl.words (hl_of cpu.registers) _ (hl_is_word cpu.registers bytes) (omega arith) holds.hl.words) tt
+  changed_registers regions (Dad Sp) cpu s small bytes holds words cells = adds s cpu any_pair cpu.sp None holds (any_sum_holds s.hl _ _ cpu.sp bytes.h bytes.l holds.hl) tt
   changed_registers regions (Operate o operand) cpu s small bytes holds words cells =
       operates o (is_accumulator operand) s cpu.registers (operand_bytes code operand s) (operand_of operand memory cpu.registers) bytes (operand_small o operand cpu.registers small bytes) holds
       (operand_within operand s cpu.registers bytes holds cells) (is_itself operand memory cpu.registers)
@@ -408,17 +371,14 @@ module _ (code : List (Option ℕ)) (memory : List ℕ) (reads : ReadsCode code 
       (register_written cpu.registers H high (memory_byte memory (ahead address 1) held) bytes) one (read_within code s.cells memory address reads cells held)
   changed_registers regions Xchg cpu s small bytes holds words cells =
       record { a = holds.a; bc = holds.bc; de = holds.hl; hl = holds.de; copy = exchanges_copy s.copy cpu.registers holds.copy; flags = holds.flags }
-  changed_registers regions (Pop StackBc) cpu s small bytes holds words cells = bc_written_holds s cpu.registers (known_word s.words.first) _ _ holds
-      (words_hold (known_word s.words.first) _ _ (memory_byte memory cpu.sp held) (popped_within regions s.words.first memory cpu.sp words.first held))
-  changed_registers regions (Pop StackDe) cpu s small bytes holds words cells = de_written_holds s cpu.registers (known_word s.words.first) _ _ holds
-      (words_hold (known_word s.words.first) _ _ (memory_byte memory cpu.sp held) (popped_within regions s.words.first memory cpu.sp words.first held))
-  changed_registers regions (Pop StackHl) cpu s small bytes holds words cells = hl_written_holds s cpu.registers (known_word s.words.first) _ _ holds
-      (words_hold (known_word s.words.first) _ _ (memory_byte memory cpu.sp held) (popped_within regions s.words.first memory cpu.sp words.first held))
+  changed_registers regions (Pop StackBc) cpu s small bytes holds words cells = bc_written_holds s cpu.registers (known_pair s.words.first) _ _ holds (popped_holds regions s.words.first memory cpu.sp words.first held)
+  changed_registers regions (Pop StackDe) cpu s small bytes holds words cells = de_written_holds s cpu.registers (known_pair s.words.first) _ _ holds (popped_holds regions s.words.first memory cpu.sp words.first held)
+  changed_registers regions (Pop StackHl) cpu s small bytes holds words cells = hl_written_holds s cpu.registers (known_pair s.words.first) _ _ holds (popped_holds regions s.words.first memory cpu.sp words.first held)
   changed_registers regions (Pop Psw) cpu s small bytes holds words cells =
-      any_flags_hold (with_byte s A (high_of (known_word s.words.first))) (record cpu.registers { a = byte_in memory (ahead cpu.sp 1) }) (flags_from (byte_in memory cpu.sp))
-      (with_byte_holds s cpu.registers A (high_of (known_word s.words.first)) (byte_in memory (ahead cpu.sp 1)) bytes holds
-      (high_within (known_word s.words.first) _ (byte_in memory cpu.sp) (memory_byte memory cpu.sp held) (popped_within regions s.words.first memory cpu.sp words.first held)))
-  changed_registers regions Xthl cpu s small bytes holds words cells = hl_written_holds s cpu.registers (known_word s.words.first) _ _ holds
-      (words_hold (known_word s.words.first) _ _ (memory_byte memory cpu.sp held) (popped_within regions s.words.first memory cpu.sp words.first held))
+      let high = high_of (known_pair s.words.first).words in
+      any_flags_hold (with_byte s A high) (record cpu.registers { a = byte_in memory (ahead cpu.sp 1) }) (flags_from (byte_in memory cpu.sp))
+      (with_byte_holds s cpu.registers A high (byte_in memory (ahead cpu.sp 1)) bytes holds
+      (high_holds (known_pair s.words.first) _ (byte_in memory cpu.sp) (memory_byte memory cpu.sp held) (popped_holds regions s.words.first memory cpu.sp words.first held)))
+  changed_registers regions Xthl cpu s small bytes holds words cells = hl_written_holds s cpu.registers (known_pair s.words.first) _ _ holds (popped_holds regions s.words.first memory cpu.sp words.first held)
   changed_registers regions (In port) cpu s small bytes holds words cells = with_byte_holds s cpu.registers A any_byte cpu.registers.a bytes holds (any_byte_within cpu.registers.a bytes.a)
   changed_registers regions i cpu s small bytes holds words cells = holds

@@ -1,24 +1,8 @@
 -- What a condition leaves of a state holds if the condition does.
-use Rattle.std.specs.Prelude.{◌≡◌, ◌==◌, ◌+◌, ◌-◌, ℕ, Bool, true, false, not, Option, None, Some, nat_lt, nat_le, min, max, refl}
-use Rattle.std.proofs.Common.{arith, subst, sym, ap, ◌∙◌}
-use Rattle.std.proofs.lemmas.Bool.Decides.{nat_tests}
-use Rattle.decode80.specs.declared.register.Register.{Register}
-use Rattle.decode80.specs.declared.register.Register.TheVariants.{A}
-use Rattle.decode80.specs.declared.condition.Condition.{Condition}
-use Rattle.decode80.specs.declared.condition.Condition.TheVariants.{NonZero, Zero, NoCarry, Carry, Plus, Minus}
-use Rattle.image80.specs.Regions.{Areas}
-use Rattle.machine80.specs.declared.registers.Registers.{Registers}
-use Rattle.machine80.specs.Step.{Machine}
-use Rattle.machine80.specs.Flags.{holds as holds_of}
-use Rattle.verify80_spans.specs.declared.byte_span.ByteSpan.{ByteSpan}
-use Rattle.verify80_states.specs.declared.states.words.Words.{Words}
-use Rattle.verify80_states.specs.declared.states.state.State.{State}
-use Rattle.verify80_states.specs.Bytes.{AreBytes}
-use Rattle.verify80_spans.specs.Span.{ByteWithin, IsKnown, byte_alone, only, without, below, from}
-use Rattle.verify80_states.specs.State.{Holds, HoldsRegisters, HoldsWords, HoldsSource, IsQuietSource, IsQuietState, Compares, cut, cut_copy}
-use Rattle.verify80_states.specs.Given.{if_same, zero_bytes, carry_bytes, cut_to, given_zero, given_carry, given_sign, given}
-use Rattle.verify80_states.proofs.StateLemmas.{cut_holds}
-use Rattle.verify80_states.proofs.CellLemmas.{cells_cut, cells_cut_quiet}
+use Rattle.verify80_states.proofs.Names.{◌≡◌, ◌==◌, ◌+◌, ◌-◌, ℕ, Bool, true, false, not, Option, None, Some, nat_lt, nat_le, min, max, refl, arith, subst, sym, ap, ◌∙◌, nat_tests, Register, A, Condition, NonZero, Zero, NoCarry, Carry, Plus, Minus, Areas, Registers, Machine, ByteSpan, Words, State, AreBytes, ByteWithin, byte_alone, only, without, below, from, Holds, HoldsRegisters, HoldsWords, HoldsSource, IsQuietSource, IsQuietState, Compares, cut, cut_copy, if_same, zero_bytes, carry_bytes, cut_to, given_zero, given_carry, given_sign, given}
+use Rattle.verify80_spans.specs.Span.{IsKnown}
+use Rattle.machine80.specs.{Flags.holds as holds_of}
+use Rattle.verify80_states.proofs.{StateLemmas.cut_holds, CellLemmas.cells_cut, CellLemmas.cells_cut_quiet}
 
 -- a state is left, it holds, and says something of quiet addresses alone
 pub record Leaves (quiet : ℕ → Bool) (regions : Areas) (m : Machine) (set : ℕ) (o : Option State) : Type 0 where

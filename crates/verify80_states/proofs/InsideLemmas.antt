@@ -1,27 +1,7 @@
 -- What a state says, one says that is around it.
-use Rattle.std.specs.Prelude.{◌≡◌, ◌⊎◌, ℕ, Bool, true, List, Option, None, Some, refl}
-use Rattle.std.proofs.Common.{subst, inl, inr}
-use Rattle.decode80.specs.declared.register.Register.{Register}
-use Rattle.decode80.specs.declared.register.Register.TheVariants.{A}
-use Rattle.decode80.specs.Fetch.{ahead}
-use Rattle.image80.specs.Regions.{Areas}
-use Rattle.machine80.specs.declared.registers.Registers.{Registers}
-use Rattle.machine80.specs.Cpu.{word, register_of}
-use Rattle.machine80.specs.Effects.{byte_in}
-use Rattle.machine80.specs.Step.{Machine}
-use Rattle.verify80_spans.specs.declared.span.Span.{Span}
-use Rattle.verify80_states.specs.declared.states.pairs.PairSpan.{PairSpan}
-use Rattle.verify80_states.specs.declared.states.words.Words.{Words}
-use Rattle.verify80_states.specs.declared.states.state.State.{State}
-use Rattle.verify80_states.specs.declared.states.variables.Variable.{Variable}
-use Rattle.verify80_states.specs.Variables.{HoldsSet, is_bit}
-use Rattle.verify80_states.specs.Cells.{bytes_at}
-use Rattle.verify80_states.proofs.CellReads.{cells_within}
-use Rattle.verify80_states.specs.Bytes.{HasBytes}
-use Rattle.verify80_spans.specs.Span.{ByteWithin, IsByteInside, IsKnown}
-use Rattle.verify80_states.specs.State.{Holds, HoldsPair, HoldsWord, HoldsWords, HoldsSource, Compares, IsPairInside, IsFlagInside, IsComparisonInside, IsCopyInside, IsWordInside, AreWordsInside, IsStateInside}
-use Rattle.verify80_states.proofs.SpanLemmas.{inside_within, byte_inside_within}
-use Rattle.verify80_states.proofs.CellLemmas.{cells_around}
+use Rattle.verify80_states.proofs.Names.{◌≡◌, ◌⊎◌, ℕ, Bool, true, List, Option, None, Some, refl, subst, inl, inr, Register, A, ahead, Areas, Registers, word, register_of, byte_in, Machine, PairSpan, Words, State, Variable, HoldsSet, is_bit, bytes_at, HasBytes, ByteWithin, IsByteInside, Holds, HoldsPair, HoldsWord, HoldsWords, HoldsSource, Compares, IsPairInside, IsFlagInside, IsComparisonInside, IsCopyInside, IsWordInside, AreWordsInside, IsStateInside}
+use Rattle.verify80_spans.specs.Span.{IsKnown}
+use Rattle.verify80_states.proofs.{CellReads.cells_within, SpanLemmas.inside_within, SpanLemmas.byte_inside_within, CellLemmas.cells_around}
 
 pair_around : (p q : PairSpan) (h l : ℕ) → IsPairInside p q → HoldsPair p h l → HoldsPair q h l
 pair_around p q h l inside holds = record { words = inside_within p.words q.words (word h l) inside.words holds.words; low = byte_inside_within p.low q.low l inside.low holds.low }
@@ -38,11 +18,11 @@ copy_around : (c d : Register) (r : Registers) → IsCopyInside c d → register
 copy_around c A r inside same = refl
 copy_around c d r inside same = subst (λ (x : Register). register_of r x ≡ r.a) inside same
 
-word_around : (regions : Areas) (o u : Option Span) (memory : List ℕ) (sp at : ℕ) → IsWordInside o u → HoldsWord regions o memory sp at → HoldsWord regions u memory sp at
+word_around : (regions : Areas) (o u : Option PairSpan) (memory : List ℕ) (sp at : ℕ) → IsWordInside o u → HoldsWord regions o memory sp at → HoldsWord regions u memory sp at
 word_around regions o None memory sp at inside holds = tt
-word_around regions None (Some t) memory sp at inside holds = absurd inside
-word_around regions (Some s) (Some t) memory sp at inside holds =
-    record { low = holds.low; high = holds.high; above = holds.above; filled = holds.filled; within = inside_within s t _ inside holds.within }
+word_around regions None (Some q) memory sp at inside holds = absurd inside
+word_around regions (Some p) (Some q) memory sp at inside holds =
+    record { low = holds.low; high = holds.high; above = holds.above; filled = holds.filled; within = pair_around p q _ _ inside holds.within }
 
 words_around : (regions : Areas) (w v : Words) (memory : List ℕ) (sp : ℕ) → AreWordsInside w v → HoldsWords regions w memory sp → HoldsWords regions v memory sp
 words_around regions w v memory sp inside holds = record {

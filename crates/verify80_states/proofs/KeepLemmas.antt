@@ -1,53 +1,12 @@
 -- Runs keep to a table that fits.
-use Rattle.std.specs.Prelude.{◌≡◌, ◌⊎◌, ℕ, zero, suc, Bool, true, false, List, [], Option, None, Some, Ok, IsSome, drop, length, slice_get, slice_index, refl, if◌then◌else◌}
-use Rattle.std.proofs.Common.{subst, sym, ap, ◌∙◌, inl, inr, arith, true≢false}
-use Rattle.std.proofs.lemmas.Bool.Decides.{nat_tests}
-use Rattle.std.proofs.lemmas.Option.{get_or_from_slice_get, slice_get_within}
-use Rattle.decode80.specs.declared.condition.Condition.{Condition}
-use Rattle.decode80.specs.declared.instr.Instr.TheVariants.{Pchl}
-use Rattle.decode80.specs.declared.fetching.Fetched.{Fetched}
-use Rattle.decode80.specs.declared.flow.Flow.{Flow}
-use Rattle.decode80.specs.declared.flow.Flow.TheVariants.{Jumps, JumpsIf, JumpsToHl, Calls, CallsIf, Returns, ReturnsIf, Halts}
-use Rattle.decode80.specs.Facts.{flow}
-use Rattle.image80.specs.Regions.{Areas, in_data, targets_at}
-use Rattle.image80.specs.Image.{Located}
-use Rattle.machine80.specs.declared.cpu.Cpu.{Cpu}
-use Rattle.machine80.specs.Flags.{holds as holds_of}
-use Rattle.machine80.specs.Cpu.{hl_of}
-use Rattle.machine80.specs.Effects.{byte_in, goes_to, target, word_in}
-use Rattle.machine80.specs.Step.{Machine, Turn, Next, Stop, fetch, step_of}
-use Rattle.machine80.specs.World.{World, world_at, turn_at, next_world, following, world_after, places_by, places_then, refuses, returns, is_return_taken, fetched_by, FetchesInside, IsNewest}
-use Rattle.machine80.specs.Run.{world_of}
-use Rattle.verify80.specs.Looking.{code_of, declared_targets}
-use Rattle.verify80.specs.Starts.{IsStart, IsWorldFrom, NeverGoesWrongFromPowerOn}
-use Rattle.verify80.specs.Reached.{IsReached, StandsOnWalk, StaysOnWalks}
-use Rattle.verify80.specs.Boards.{LeavesProgram, with_memory}
-use Rattle.verify80_spans.specs.declared.span.Span.{Span}
-use Rattle.verify80_states.specs.declared.states.state.State.{State}
-use Rattle.verify80_states.specs.declared.states.variables.Variable.{Variable}
-use Rattle.verify80_states.specs.Variables.{HoldsSet}
-use Rattle.verify80_states.specs.Cells.{no_cells}
-use Rattle.verify80_states.specs.declared.fitting.fitting.Placed.{Placed}
-use Rattle.verify80_states.specs.Bytes.{AreBytes, HoldsBytes, BytesStayBytes, FetchedOperandsAreBounded, MemoryKeepsItsLength}
-use Rattle.verify80_spans.specs.Span.{Within, ByteWithin, byte_alone}
-use Rattle.verify80_states.specs.State.{Holds, HoldsWord, IsQuietState, anything, unknown_but, no_words, cut}
-use Rattle.verify80_states.specs.Following.{is_steady, state_after}
-use Rattle.verify80_states.specs.Given.{given}
-use Rattle.verify80_states.specs.Steps.{is_taken, ReadsCode, AreCodeBytes, HasCode}
-use Rattle.verify80_states.specs.Fitting.{Has, Covers, CoversAfter, FitsBy, KnowsQuiet}
-use Rattle.verify80_states.specs.Calls.{AccountsFor, ReturnFacts, KeepsCalls, KnowsReturn, KnowsReturnIf, KnowsReturnsOf, Owes, none, IsBehind}
-use Rattle.verify80_states.specs.FittingTable.{Fits}
-use Rattle.verify80_states.specs.Runs.{KeepsTo, KeepsToCalls, IsKnown, IsKept}
-use Rattle.verify80_states.proofs.StateLemmas.{anything_holds}
-use Rattle.verify80_states.proofs.MemoryLemmas.{Ground, none_hold, words_stay}
-use Rattle.verify80_states.proofs.SpanLemmas.{alone_within}
+use Rattle.verify80_states.proofs.Names.{◌≡◌, ◌⊎◌, ℕ, zero, suc, Bool, true, false, List, [], Option, None, Some, Ok, IsSome, drop, length, slice_get, slice_index, refl, if◌then◌else◌, subst, sym, ap, ◌∙◌, inl, inr, arith, true≢false, nat_tests, get_or_from_slice_get, slice_get_within, Condition, Pchl, Fetched, Flow, Jumps, JumpsIf, JumpsToHl, Calls, CallsIf, Returns, ReturnsIf, Halts, flow, Areas, in_data, targets_at, Located, Cpu, holds_of, hl_of, world_of, byte_in, goes_to, target, word_in, Machine, Turn, Next, Stop, fetch, step_of, World, world_at, turn_at, next_world, following, world_after, places_by, places_then, refuses, returns, is_return_taken, fetched_by, FetchesInside, IsNewest, code_of, declared_targets, IsStart, IsWorldFrom, NeverGoesWrongFromPowerOn, IsReached, StandsOnWalk, StaysOnWalks, LeavesProgram, with_memory, PairSpan, State, Variable, Placed, HoldsSet, no_cells, is_steady, state_after, given, Fits, AreBytes, HoldsBytes, BytesStayBytes, FetchedOperandsAreBounded, MemoryKeepsItsLength, Within, ByteWithin, byte_alone, Holds, HoldsWord, IsQuietState, anything, unknown_but, no_words, cut, is_taken, ReadsCode, AreCodeBytes, HasCode, Has, Covers, CoversAfter, FitsBy, KnowsQuiet, AccountsFor, ReturnFacts, KeepsCalls, KnowsReturn, KnowsReturnIf, KnowsReturnsOf, Owes, none, IsBehind, KeepsTo, KeepsToCalls, IsKept}
+use Rattle.verify80_states.specs.Runs.{IsKnown}
+use Rattle.verify80_states.proofs.{StateLemmas.anything_holds, MemoryLemmas.Ground, MemoryLemmas.none_hold, MemoryLemmas.words_stay, SpanLemmas.alone_within}
 use Rattle.verify80_states.proofs.CellLemmas.{cells_beside, source_beside, state_quieter, none_hold as no_cells_hold}
-use Rattle.verify80_states.proofs.VariableLemmas.{none_named, tested_of, variable_stays}
+use Rattle.verify80_states.proofs.{VariableLemmas.none_named, VariableLemmas.tested_of, VariableLemmas.variable_stays, GivenLemmas.given_holds, GivenLemmas.cut_set, GivenLemmas.cut_state}
 use Rattle.verify80_states.proofs.CallLemmas.{owed_on, owed_return, owes_stay, returned_places, returns_here}
-use Rattle.verify80_states.proofs.GivenLemmas.{given_holds, cut_set, cut_state}
-use Rattle.verify80_states.proofs.InsideLemmas.{set_around, state_around}
+use Rattle.verify80_states.proofs.{InsideLemmas.set_around, InsideLemmas.state_around, WayLemmas.GoesOn, WayLemmas.Leads, WayLemmas.executes}
 use Rattle.verify80_states.proofs.StepLemmas.{other_words, passed, step_byte, step_state, step_code}
-use Rattle.verify80_states.proofs.WayLemmas.{GoesOn, Leads, executes}
 
 world_or : World → Option World → World
 world_or otherwise None = otherwise
@@ -129,12 +88,12 @@ module _ (regions : Areas) (targets : List ℕ) (variables : List Variable) (tab
 
   -- a return that is taken goes where the state says, if it knows that
   back_to : (t : State) → KnowsReturn variables table (after true) t → Holds regions t m → Holds regions (after true t) there → Meets regions variables table t.set (word_in m.memory m.cpu.sp) there
-  back_to t knows before holds = at_once knows.span.first (word_in m.memory m.cpu.sp) t.set (after true t) (sets true t) (sym place) knows.covers holds where
-    pushed_there : HoldsWord regions (Some knows.span) m.memory m.cpu.sp m.cpu.sp
-    pushed_there = subst (λ (o : Option Span). HoldsWord regions o m.memory m.cpu.sp m.cpu.sp) knows.first before.words.first
+  back_to t knows before holds = at_once knows.word.words.first (word_in m.memory m.cpu.sp) t.set (after true t) (sets true t) (sym place) knows.covers holds where
+    pushed_there : HoldsWord regions (Some knows.word) m.memory m.cpu.sp m.cpu.sp
+    pushed_there = subst (λ (o : Option PairSpan). HoldsWord regions o m.memory m.cpu.sp m.cpu.sp) knows.first before.words.first
 
-    place : knows.span.first ≡ word_in m.memory m.cpu.sp
-    place = let above = pushed_there.within.above in let below = pushed_there.within.below in let alone = knows.alone in grind (arith, nat_tests)
+    place : knows.word.words.first ≡ word_in m.memory m.cpu.sp
+    place = let above = pushed_there.within.words.above in let below = pushed_there.within.words.below in let alone = knows.alone in grind (arith, nat_tests)
 
   pub arrives_back : (w : Flow) (s : State) → is_return_taken w m.cpu.registers.flags ≡ true → KnowsReturnsOf variables table (after true) s w → Follows w → IsQuietState (in_data regions) s → Holds regions s m →
       Meets regions variables table s.set (word_in m.memory m.cpu.sp) there

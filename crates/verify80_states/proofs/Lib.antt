@@ -20,3 +20,4 @@ mod WayLemmas
 mod CallLemmas
 mod KeepLemmas
 mod TableLemmas
+mod Names

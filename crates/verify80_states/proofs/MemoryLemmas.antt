@@ -1,35 +1,8 @@
 -- The memory after a step: code stays, and the words on the stack are as the state has them.
-use Rattle.std.specs.Prelude.{◌≡◌, ◌≢◌, ◌<◌, ◌≤◌, ℕ, zero, suc, ◌+◌, ◌/◌, ◌%◌, Bool, true, false, not, List, [], ◌∷◌, Option, None, Some, length, slice_index, slice_set, refl, if◌then◌else◌}
-use Rattle.std.proofs.Common.{subst, sym, ap, ◌∙◌, arith, cond, get_or-set_other, true≢false}
-use Rattle.std.proofs.lemmas.List.{get_or-set_same, length-set}
-use Rattle.std.proofs.lemmas.List.Elements.{All-contains, Contains-append_left, Contains-append_right, Contains-push}
-use Rattle.std.proofs.lemmas.Bool.Decides.{nat_tests}
-use Rattle.decode80.specs.declared.instr.Instr.{Instr}
-use Rattle.decode80.specs.declared.instr.Instr.TheVariants.{Store, MviMemory, InrMemory, DcrMemory, Stax, Sta, Shld, Push, Pop, Call, CallIf, Ret, ReturnIf, Rst, Xthl, Lxi, Inx, Dcx, Sphl}
-use Rattle.decode80.specs.declared.pair.Pair.TheVariants.{Sp}
-use Rattle.decode80.specs.declared.pair.StackPair.{StackPair}
-use Rattle.decode80.specs.declared.pair.StackPair.TheVariants.{Bc as StackBc, De as StackDe, Hl as StackHl, Psw}
-use Rattle.decode80.specs.Facts.{flow}
-use Rattle.decode80.specs.Fetch.{ahead, behind}
-use Rattle.image80.specs.declared.range.Range.{Range}
-use Rattle.image80.specs.Range.{in_range, IsInMemory}
-use Rattle.image80.specs.Regions.{Areas, AreRegions, all_ranges, in_code, in_data, top_of}
-use Rattle.machine80.specs.declared.registers.Registers.{Registers}
-use Rattle.machine80.specs.declared.cpu.Cpu.{Cpu}
-use Rattle.machine80.specs.declared.end.End.{End}
-use Rattle.machine80.specs.declared.end.End.TheVariants.{Direct, Stack, StoreOutside}
-use Rattle.machine80.specs.Flags.{holds as holds_of, flags_byte}
-use Rattle.machine80.specs.Cpu.{word, high_of, low_of}
-use Rattle.machine80.specs.Effects.{push_bytes, stores, stored, changed}
-use Rattle.machine80.specs.Step.{guard, first_outside, ends_at}
-use Rattle.verify80_spans.specs.declared.span.Span.{Span}
-use Rattle.verify80_states.specs.declared.states.words.Words.{Words}
-use Rattle.verify80_states.specs.declared.states.state.State.{State}
-use Rattle.verify80_spans.specs.Span.{Within, word_alone}
-use Rattle.verify80_states.specs.State.{HoldsRegisters, HoldsWord, HoldsWords, IsOnStack, no_words, pushed, popped}
-use Rattle.verify80_states.specs.Following.{pushed_words, called, returned, words_after}
-use Rattle.verify80_states.specs.Steps.{is_taken}
-use Rattle.verify80_states.proofs.ArithmeticBounds.{flags_are_byte}
+use Rattle.verify80_states.proofs.Names.{◌≡◌, ◌≢◌, ◌<◌, ◌≤◌, ℕ, zero, suc, ◌+◌, ◌/◌, ◌%◌, Bool, true, false, not, List, [], ◌∷◌, Option, None, Some, length, slice_index, slice_set, refl, if◌then◌else◌, subst, sym, ap, ◌∙◌, arith, cond, get_or-set_other, true≢false, get_or-set_same, length-set, All-contains, Contains-append_left, Contains-append_right, Contains-push, nat_tests, Instr, Sp, StackPair, Store, MviMemory, InrMemory, DcrMemory, Stax, Sta, Shld, Push, Pop, Call, CallIf, Ret, ReturnIf, Rst, Xthl, Lxi, Inx, Dcx, Sphl, StackBc, StackDe, StackHl, Psw, flow, Range, in_range, IsInMemory, Areas, AreRegions, all_ranges, in_code, in_data, top_of, Registers, Cpu, End, Direct, Stack, StoreOutside, holds_of, flags_byte, guard, first_outside, ends_at, push_bytes, stores, stored, changed, PairSpan, Words, State, any_byte, word_alone, HoldsPair, HoldsRegisters, HoldsWord, HoldsWords, IsOnStack, pair_of_words, no_words, pushed, popped, pushed_pair, called, returned, words_after, is_taken}
+use Rattle.machine80.specs.Cpu.{high_of, low_of}
+use Rattle.decode80.specs.{Fetch.ahead, Fetch.behind}
+use Rattle.verify80_states.proofs.{ArithmeticBounds.flags_are_byte, SpanLemmas.any_byte_within, StateLemmas.halves_hold, StateLemmas.split_holds}
 
 -- the rules of regions: code, data and stack share no address, and the stack is in memory
 pub record Ground (regions : Areas) : Type 0 where
@@ -151,20 +124,23 @@ module _ (regions : Areas) (ground : Ground regions) where
     above : sp ≤ at
     filled : sp ≢ top_of regions
 
+  same_pair : (pair : PairSpan) (h l high low : ℕ) → high ≡ h → low ≡ l → HoldsPair pair h l → HoldsPair pair high low
+  same_pair pair h l high low same other holds = subst (λ n. HoldsPair pair n low) (sym same) (subst (λ n. HoldsPair pair h n) (sym other) holds)
+
   -- words stay where the bytes of the stack from the stack pointer up do
   abbrev SameStack : (sp : ℕ) → List ℕ → List ℕ → Type 0
   SameStack sp m m' = (a : ℕ) → in_range regions.stack a ≡ true → sp ≤ a → sp ≢ top_of regions → slice_index m' a ≡ slice_index m a
 
-  word_moved : (o : Option Span) (m m' : List ℕ) (sp sp' at at' : ℕ) → (Lies sp at → (at ≡ at') × ((sp' ≤ at) × (sp' ≢ top_of regions))) →
+  word_moved : (o : Option PairSpan) (m m' : List ℕ) (sp sp' at at' : ℕ) → (Lies sp at → (at ≡ at') × ((sp' ≤ at) × (sp' ≢ top_of regions))) →
       (Lies sp at → (slice_index m' at ≡ slice_index m at) × (slice_index m' (ahead at 1) ≡ slice_index m (ahead at 1))) →
       HoldsWord regions o m sp at → HoldsWord regions o m' sp' at'
   word_moved None m m' sp sp' at at' place same holds = tt
-  word_moved (Some span) m m' sp sp' at at' place same holds =
+  word_moved (Some pair) m m' sp sp' at at' place same holds =
       let lies : Lies sp at = record { low = holds.low; high = holds.high; above = holds.above; filled = holds.filled } in
       let bytes = same lies in
       let there = place lies in
-      subst (λ n. IsOnStack regions span m' sp' n) there.0
-      (record { low = holds.low; high = holds.high; above = there.1.0; filled = there.1.1; within = subst (λ n. Within span n) (let one = bytes.0 in let two = bytes.1 in cc (one, two)) holds.within })
+      subst (λ n. IsOnStack regions pair m' sp' n) there.0
+      (record { low = holds.low; high = holds.high; above = there.1.0; filled = there.1.1; within = same_pair pair _ _ _ _ bytes.1 bytes.0 holds.within })
 
   pub words_stay : (w : Words) (m m' : List ℕ) (sp : ℕ) → SameStack sp m m' → HoldsWords regions w m sp → HoldsWords regions w m' sp
   words_stay w m m' sp same holds = record {
@@ -173,7 +149,7 @@ module _ (regions : Areas) (ground : Ground regions) where
     third = stay w.third (ahead sp 4) holds.third;
     fourth = stay w.fourth (ahead sp 6) holds.fourth;
   } where
-    stay : (o : Option Span) (at : ℕ) → HoldsWord regions o m sp at → HoldsWord regions o m' sp at
+    stay : (o : Option PairSpan) (at : ℕ) → HoldsWord regions o m sp at → HoldsWord regions o m' sp at
     stay o at h =
         word_moved o m m' sp sp at at (λ lies. (refl, (lies.above, lies.filled)))
         (λ lies. (same at lies.low lies.above lies.filled, same (ahead at 1) lies.high (let up = next_up regions at ground lies.low lies.high in let above = lies.above in omega (arith, up, above)) lies.filled)) h
@@ -252,7 +228,7 @@ module _ (regions : Areas) (ground : Ground regions) where
     lies_still : (at : ℕ) → (in_range regions.stack (behind sp 1) ≡ true) × (in_range regions.stack (behind sp 2) ≡ true) → Lies sp at → (behind sp 2 ≤ at) × (behind sp 2 ≢ top_of regions)
     lies_still at there lies = (pushed_below regions sp at ground there.0 there.1 lies.low lies.above lies.filled, not_top regions (behind sp 2) ground there.1)
 
-    deep_word : (o : Option Span) (k : ℕ) (at' : ℕ) → (in_range regions.stack (behind sp 1) ≡ true) × (in_range regions.stack (behind sp 2) ≡ true) → k < 5 → ahead sp k ≡ at' → HoldsWord regions o m sp (ahead sp k) →
+    deep_word : (o : Option PairSpan) (k : ℕ) (at' : ℕ) → (in_range regions.stack (behind sp 1) ≡ true) × (in_range regions.stack (behind sp 2) ≡ true) → k < 5 → ahead sp k ≡ at' → HoldsWord regions o m sp (ahead sp k) →
         HoldsWord regions o after (behind sp 2) at'
     deep_word o k at' there small place holds =
         word_moved o m after sp (behind sp 2) (ahead sp k) at' (λ lies. (place, lies_still (ahead sp k) there lies))
@@ -260,7 +236,7 @@ module _ (regions : Areas) (ground : Ground regions) where
           kept : (j : ℕ) → j < 6 → slice_index after (ahead sp j) ≡ slice_index m (ahead sp j)
           kept j less = let apart = top_apart sp j less in two_stored m (ahead sp j) (behind sp 1) (behind sp 2) high low apart.0 apart.1
 
-    first_word : (o : Option Span) → (in_range regions.stack (behind sp 1) ≡ true) × (in_range regions.stack (behind sp 2) ≡ true) → HoldsWord regions o m sp sp → HoldsWord regions o after (behind sp 2) (ahead (behind sp 2) 2)
+    first_word : (o : Option PairSpan) → (in_range regions.stack (behind sp 1) ≡ true) × (in_range regions.stack (behind sp 2) ≡ true) → HoldsWord regions o m sp sp → HoldsWord regions o after (behind sp 2) (ahead (behind sp 2) 2)
     first_word o there holds =
         word_moved o m after sp (behind sp 2) sp (ahead (behind sp 2) 2) (λ lies. (top_second sp (small_on_stack regions sp ground lies.low), lies_still sp there lies))
         (λ lies.
@@ -268,15 +244,15 @@ module _ (regions : Areas) (ground : Ground regions) where
         let next = top_apart sp 1 (omega arith) in
         (two_stored m sp (behind sp 1) (behind sp 2) high low apart.0 apart.1, two_stored m (ahead sp 1) (behind sp 1) (behind sp 2) high low next.0 next.1)) holds
 
-    pub words_pushed : (w : Words) (span : Span) → (in_range regions.stack (behind sp 1) ≡ true) × (in_range regions.stack (behind sp 2) ≡ true) → Within span (word high low) → HoldsWords regions w m sp →
-        HoldsWords regions (pushed w (Some span)) after (behind sp 2)
-    words_pushed w span there inside holds = record {
+    pub words_pushed : (w : Words) (pair : PairSpan) → (in_range regions.stack (behind sp 1) ≡ true) × (in_range regions.stack (behind sp 2) ≡ true) → HoldsPair pair high low → HoldsWords regions w m sp →
+        HoldsWords regions (pushed w (Some pair)) after (behind sp 2)
+    words_pushed w pair there inside holds = record {
       first = record {
         low = there.1;
         high = subst (λ n. in_range regions.stack n ≡ true) (sym (top_low sp)) there.0;
         above = omega arith;
         filled = not_top regions (behind sp 2) ground there.1;
-        within = subst (λ n. Within span n) (let one = top_low sp in let two = pushed_high in let three = pushed_low in cc (one, two, three)) inside;
+        within = same_pair pair _ _ _ _ (ap (slice_index after) (top_low sp) ∙ pushed_high) pushed_low inside;
       };
       second = first_word w.first there holds.first;
       third = deep_word w.second 2 (ahead (behind sp 2) 4) there (omega arith) (top_third sp) holds.second;
@@ -308,7 +284,7 @@ module _ (regions : Areas) (ground : Ground regions) where
     third = still w.fourth 6 (ahead (ahead sp 2) 4) (omega arith) (omega arith) (pop_fourth sp) holds.fourth;
     fourth = tt;
   } where
-    still : (o : Option Span) (k at' : ℕ) → 2 ≤ k → k < 8 → ahead sp k ≡ at' → HoldsWord regions o m sp (ahead sp k) → HoldsWord regions o m (ahead sp 2) at'
+    still : (o : Option PairSpan) (k at' : ℕ) → 2 ≤ k → k < 8 → ahead sp k ≡ at' → HoldsWord regions o m sp (ahead sp k) → HoldsWord regions o m (ahead sp 2) at'
     still o k at' more less place h = word_moved o m m sp (ahead sp 2) (ahead sp k) at' (λ lies. (place, above_popped sp k more less lies)) (λ lies. (refl, refl)) h
 
   -- a word is exchanged
@@ -339,16 +315,16 @@ module _ (regions : Areas) (ground : Ground regions) where
     exchanged_high : slice_index exchanged (ahead sp 1) ≡ high
     exchanged_high = get_or-set_same (slice_set m sp low) (ahead sp 1) high 0 (let size = length-set m sp low in let small = ahead_small sp 1 in omega (arith, size, small, whole))
 
-    below_word : (o : Option Span) (k : ℕ) → 2 ≤ k → k < 7 → HoldsWord regions o m sp (ahead sp k) → HoldsWord regions o exchanged sp (ahead sp k)
+    below_word : (o : Option PairSpan) (k : ℕ) → 2 ≤ k → k < 7 → HoldsWord regions o m sp (ahead sp k) → HoldsWord regions o exchanged sp (ahead sp k)
     below_word o k more less holds =
         word_moved o m exchanged sp sp (ahead sp k) (ahead sp k) (λ lies. (refl, (lies.above, lies.filled)))
         (λ lies. (kept k more (omega arith), subst (λ n. slice_index exchanged n ≡ slice_index m n) (sym (next_byte sp k)) (kept (k + 1) (omega arith) (omega arith)))) holds where
           kept : (j : ℕ) → 2 ≤ j → j < 8 → slice_index exchanged (ahead sp j) ≡ slice_index m (ahead sp j)
           kept j from small = let apart = sp_first sp j sp_small from small in two_stored m (ahead sp j) sp (ahead sp 1) low high apart.0 apart.1
 
-    words_exchanged : (w : Words) (span : Span) → Within span (word high low) → HoldsWords regions w m sp → HoldsWords regions (record w { first = Some span }) exchanged sp
-    words_exchanged w span inside holds = record {
-      first = record { low = low_in; high = high_in; above = omega arith; filled = not_top regions sp ground low_in; within = subst (λ n. Within span n) (let one = exchanged_high in let two = exchanged_low in cc (one, two)) inside };
+    words_exchanged : (w : Words) (pair : PairSpan) → HoldsPair pair high low → HoldsWords regions w m sp → HoldsWords regions (record w { first = Some pair }) exchanged sp
+    words_exchanged w pair inside holds = record {
+      first = record { low = low_in; high = high_in; above = omega arith; filled = not_top regions sp ground low_in; within = same_pair pair _ _ _ _ exchanged_high exchanged_low inside };
       second = below_word w.second 2 (omega arith) (omega arith) holds.second;
       third = below_word w.third 4 (omega arith) (omega arith) holds.third;
       fourth = below_word w.fourth 6 (omega arith) (omega arith) holds.fourth;
@@ -362,24 +338,21 @@ module _ (regions : Areas) (ground : Ground regions) where
   stack_two m sp b c x y there a stack above filled = two_stored m a b c x y (stack_apart regions a b ground stack there.0) (stack_apart regions a c ground stack there.1)
 
   -- the word that PUSH pushes
-  psw_within : (s : State) (r : Registers) → HoldsRegisters s r → Within (pushed_words s Psw) (word r.a (flags_byte r.flags))
-  psw_within s r holds = let a = holds.a in let f = flags_are_byte r.flags in record { above = omega (arith, a.above, f); below = omega (arith, a.below, f) }
+  pushed_holds : (s : State) (r : Registers) (pair : StackPair) → HoldsRegisters s r → HoldsPair (pushed_pair s pair) (high_of r pair) (low_of r pair)
+  pushed_holds s r StackBc holds = holds.bc
+  pushed_holds s r StackDe holds = holds.de
+  pushed_holds s r StackHl holds = holds.hl
+  pushed_holds s r Psw holds = halves_hold s.a any_byte r.a (flags_byte r.flags) holds.a (any_byte_within (flags_byte r.flags) (flags_are_byte r.flags))
 
-  pushed_within : (s : State) (r : Registers) (pair : StackPair) → HoldsRegisters s r → Within (pushed_words s pair) (word (high_of r pair) (low_of r pair))
-  pushed_within s r StackBc holds = holds.bc.words
-  pushed_within s r StackDe holds = holds.de.words
-  pushed_within s r StackHl holds = holds.hl.words
-  pushed_within s r Psw holds = psw_within s r holds
-
-  next_within : (next : ℕ) → Within (word_alone next) (word (next / 256) (next % 256))
-  next_within next = record { above = omega arith; below = omega arith }
+  next_holds : (next : ℕ) → HoldsPair (pair_of_words (word_alone next)) (next / 256) (next % 256)
+  next_holds next = split_holds (word_alone next) next (record { above = omega arith; below = omega arith })
 
   module _ (m : List ℕ) (whole : length m ≡ 65536) where
     maybe_push : (t taken : Bool) (next sp : ℕ) (w : Words) → t ≡ taken →
         ends_at (first_outside (in_range regions.stack) (if t then behind sp 1 ∷ behind sp 2 ∷ [] else [])) Stack (ends_at None Direct (ends_at None StoreOutside None)) ≡ None → HoldsWords regions w m sp →
         HoldsWords regions (called taken next w) (stored m (if t then push_bytes sp (next / 256) (next % 256) else [])) (if t then behind sp 2 else sp)
     maybe_push true true next sp w same pass holds =
-        words_pushed m sp (next / 256) (next % 256) whole w (word_alone next) (passed_two (in_range regions.stack) (behind sp 1) (behind sp 2) Stack _ pass) (next_within next) holds
+        words_pushed m sp (next / 256) (next % 256) whole w (pair_of_words (word_alone next)) (passed_two (in_range regions.stack) (behind sp 1) (behind sp 2) Stack _ pass) (next_holds next) holds
     maybe_push false false next sp w same pass holds = holds
     maybe_push true false next sp w same pass holds = cc
     maybe_push false true next sp w same pass holds = cc
@@ -399,16 +372,16 @@ module _ (regions : Areas) (ground : Ground regions) where
     words_changed (Shld w) next cpu s pass holds words =
         words_stay s.words m _ cpu.sp (stack_two m cpu.sp w (ahead w 1) cpu.registers.l cpu.registers.h (passed_two (in_data regions) w (ahead w 1) Direct None pass)) words
     words_changed (Push pair) next cpu s pass holds words =
-        words_pushed m cpu.sp (high_of cpu.registers pair) (low_of cpu.registers pair) whole s.words (pushed_words s pair)
-        (passed_two (in_range regions.stack) (behind cpu.sp 1) (behind cpu.sp 2) Stack _ pass) (pushed_within s cpu.registers pair holds) words
+        words_pushed m cpu.sp (high_of cpu.registers pair) (low_of cpu.registers pair) whole s.words (pushed_pair s pair)
+        (passed_two (in_range regions.stack) (behind cpu.sp 1) (behind cpu.sp 2) Stack _ pass) (pushed_holds s cpu.registers pair holds) words
     words_changed (Pop pair) next cpu s pass holds words = words_popped s.words m cpu.sp words
     words_changed Xthl next cpu s pass holds words =
         let both : (in_range regions.stack cpu.sp ≡ true) × (in_range regions.stack (ahead cpu.sp 1) ≡ true) = passed_two (in_range regions.stack) cpu.sp (ahead cpu.sp 1) Stack _ pass in
-        words_exchanged m cpu.sp cpu.registers.h cpu.registers.l whole both.0 both.1 s.words s.hl.words holds.hl.words words
+        words_exchanged m cpu.sp cpu.registers.h cpu.registers.l whole both.0 both.1 s.words s.hl holds.hl words
     words_changed (Call w) next cpu s pass holds words =
-        words_pushed m cpu.sp (next / 256) (next % 256) whole s.words (word_alone next) (passed_two (in_range regions.stack) (behind cpu.sp 1) (behind cpu.sp 2) Stack _ pass) (next_within next) words
+        words_pushed m cpu.sp (next / 256) (next % 256) whole s.words (pair_of_words (word_alone next)) (passed_two (in_range regions.stack) (behind cpu.sp 1) (behind cpu.sp 2) Stack _ pass) (next_holds next) words
     words_changed (Rst n) next cpu s pass holds words =
-        words_pushed m cpu.sp (next / 256) (next % 256) whole s.words (word_alone next) (passed_two (in_range regions.stack) (behind cpu.sp 1) (behind cpu.sp 2) Stack _ pass) (next_within next) words
+        words_pushed m cpu.sp (next / 256) (next % 256) whole s.words (pair_of_words (word_alone next)) (passed_two (in_range regions.stack) (behind cpu.sp 1) (behind cpu.sp 2) Stack _ pass) (next_holds next) words
     words_changed (CallIf c w) next cpu s pass holds words = maybe_push (holds_of c cpu.registers.flags) (holds_of c cpu.registers.flags) next cpu.sp s.words refl pass words
     words_changed Ret next cpu s pass holds words = words_popped s.words m cpu.sp words
     words_changed (ReturnIf c) next cpu s pass holds words = maybe_return (holds_of c cpu.registers.flags) s.words cpu.sp words

@@ -1,19 +1,8 @@
 -- What the accumulator's operations make of spans.
-use Rattle.std.specs.Prelude.{◌≡◌, ◌≤◌, ◌<◌, ◌&&◌, ℕ, ◌+◌, ◌-◌, ◌*◌, ◌%◌, Bool, true, false, Option, None, Some, nat_lt, nat_le, min, max, bit_and, bit_or, bit_xor, refl}
-use Rattle.std.specs.Int.Bits.{or_add_and, xor_add_and}
-use Rattle.std.proofs.Common.{arith, subst, sym}
-use Rattle.std.proofs.lemmas.Nat.{and_le_l, and_le_r, le_or_l, le_or_r}
-use Rattle.std.proofs.lemmas.Bool.Decides.{nat_tests}
-use Rattle.decode80.specs.declared.operation.Operation.{Operation}
-use Rattle.decode80.specs.declared.operation.Operation.TheVariants.{Add, AddCarry, Subtract, SubtractBorrow, And, ExclusiveOr, Or, Compare}
-use Rattle.machine80.specs.declared.flags.Flags.{Flags}
-use Rattle.machine80.specs.Flags.{bit_of}
-use Rattle.machine80.specs.Arithmetic.{byte_answer, operation_answer}
-use Rattle.verify80_spans.specs.declared.byte_span.ByteSpan.{ByteSpan}
-use Rattle.verify80_spans.specs.declared.byte_span.Outcome.{Outcome}
-use Rattle.verify80_spans.specs.Span.{ByteWithin, IsKnown, any_byte, byte_alone, is_byte_alone, are_alone, carry_span, sum_of, difference_of, and_of, or_of, exclusive_or_of, operated}
-use Rattle.verify80_states.proofs.ArithmeticBounds.{operation_is_byte}
-use Rattle.verify80_states.proofs.SpanLemmas.{any_byte_within, alone_within, carry_within}
+use Rattle.verify80_states.proofs.Names.{◌≡◌, ◌≤◌, ◌<◌, ◌&&◌, ℕ, ◌+◌, ◌-◌, ◌*◌, ◌%◌, Bool, true, false, Option, None, Some, nat_lt, nat_le, min, max, bit_and, bit_or, bit_xor, refl, or_add_and, xor_add_and, arith, subst, sym, and_le_l, and_le_r, le_or_l, le_or_r, nat_tests, Operation, Add, AddCarry, Subtract, SubtractBorrow, And, ExclusiveOr, Or, Compare, Flags, ByteSpan, Outcome, ByteWithin, any_byte, byte_alone, is_byte_alone, are_alone, carry_span, sum_of, difference_of, and_of, or_of, exclusive_or_of, operated}
+use Rattle.verify80_spans.specs.Span.{IsKnown}
+use Rattle.machine80.specs.{Flags.bit_of, Arithmetic.byte_answer, Arithmetic.operation_answer}
+use Rattle.verify80_states.proofs.{ArithmeticBounds.operation_is_byte, SpanLemmas.any_byte_within, SpanLemmas.alone_within, SpanLemmas.carry_within}
 
 -- an outcome has a byte and a carry
 pub record Makes (out : Outcome) (byte : ℕ) (full : Bool) : Type 0 where

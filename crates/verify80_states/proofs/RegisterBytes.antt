@@ -1,17 +1,6 @@
 -- Registers and pairs of bytes, read and written.
-use Rattle.std.specs.Prelude.{ℕ, ◌/◌, ◌%◌}
-use Rattle.decode80.specs.declared.register.Register.{Register}
-use Rattle.decode80.specs.declared.register.Register.TheVariants.{A, B, C, D, E, H, L}
-use Rattle.decode80.specs.declared.pair.Pair.{Pair}
-use Rattle.decode80.specs.declared.pair.Pair.TheVariants.{Bc, De, Hl, Sp}
-use Rattle.decode80.specs.declared.pair.StackPair.{StackPair}
-use Rattle.decode80.specs.declared.pair.StackPair.TheVariants.{Bc as StackBc, De as StackDe, Hl as StackHl, Psw}
-use Rattle.decode80.specs.declared.pair.IndexPair.TheVariants.{Bc as IndexBc, De as IndexDe}
-use Rattle.machine80.specs.declared.flags.Flags.{Flags}
-use Rattle.machine80.specs.declared.registers.Registers.{Registers}
-use Rattle.machine80.specs.declared.cpu.Cpu.{Cpu}
-use Rattle.machine80.specs.Cpu.{register_of, with_register, hl_of, pair_of, with_pair, index_pair_of, high_of, low_of, with_stack_pair}
-use Rattle.verify80_states.specs.Bytes.{IsByte, IsWord, AreBytes}
+use Rattle.verify80_states.proofs.Names.{ℕ, ◌/◌, ◌%◌, Register, Pair, StackPair, IndexBc, IndexDe, A, B, C, D, E, H, L, Bc, De, Hl, Sp, StackBc, StackDe, StackHl, Psw, Flags, Registers, Cpu, register_of, with_register, hl_of, with_pair, index_pair_of, with_stack_pair, IsByte, IsWord, AreBytes}
+use Rattle.machine80.specs.Cpu.{high_of, low_of}
 use Rattle.verify80_states.proofs.ArithmeticBounds.{word_of_bytes, high_byte, low_byte, flags_are_byte}
 
 -- read
@@ -32,12 +21,6 @@ de_is_word r bytes = word_of_bytes r.d r.e bytes.d bytes.e
 
 pub hl_is_word : (r : Registers) → AreBytes r → IsWord (hl_of r)
 hl_is_word r bytes = word_of_bytes r.h r.l bytes.h bytes.l
-
-pub pair_is_word : (cpu : Cpu) (pair : Pair) → AreBytes cpu.registers → IsWord cpu.sp → IsWord (pair_of cpu pair)
-pair_is_word cpu Bc bytes sp = bc_is_word cpu.registers bytes
-pair_is_word cpu De bytes sp = de_is_word cpu.registers bytes
-pair_is_word cpu Hl bytes sp = hl_is_word cpu.registers bytes
-pair_is_word cpu Sp bytes sp = sp
 
 pub high_is_byte : (r : Registers) (pair : StackPair) → AreBytes r → IsByte (high_of r pair)
 high_is_byte r StackBc bytes = bytes.b

@@ -1,11 +1,5 @@
 -- Each world of a run from bytes.
-use Rattle.std.specs.Prelude.{◌≡◌, ℕ, ◌+◌, Bool, List, Option, None, Some, All, refl}
-use Rattle.std.proofs.Common.{arith, subst, zero, suc}
-use Rattle.image80.specs.Regions.{Areas}
-use Rattle.image80.specs.Image.{Located, memory_of}
-use Rattle.machine80.specs.Step.{Machine, Turn, Next, Stop, step_of}
-use Rattle.machine80.specs.World.{World, IsWorldOf, refuses, turn_at, world_after, world_at, world_at_start, following}
-use Rattle.verify80_states.specs.Bytes.{HasBytes, HoldsBytes, HasAddresses, BytesStayBytes, AddressesStayAddresses, RunsHoldBytes, RunsHaveAddresses}
+use Rattle.verify80_states.proofs.Names.{◌≡◌, ℕ, ◌+◌, Bool, List, Option, None, Some, All, refl, arith, subst, zero, suc, Areas, Located, memory_of, Machine, Turn, Next, Stop, step_of, World, IsWorldOf, refuses, turn_at, world_after, world_at, world_at_start, following, HasBytes, HoldsBytes, HasAddresses, BytesStayBytes, AddressesStayAddresses, RunsHoldBytes, RunsHaveAddresses}
 use Rattle.verify80_states.proofs.ArithmeticBounds.{word_mod}
 
 -- the machine before the first step

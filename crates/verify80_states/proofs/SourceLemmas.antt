@@ -1,38 +1,8 @@
 -- The byte of memory that A has, along a step.
-use Rattle.std.specs.Prelude.{◌≡◌, ◌&&◌, ℕ, ◌/◌, ◌%◌, Bool, true, false, List, [], ◌∷◌, Option, None, Some, nat_le, length, bit_and, bit_or, refl, if◌then◌else◌}
-use Rattle.std.specs.Int.Bits.{and_self, or_self}
-use Rattle.std.proofs.Common.{subst, sym, ap, ◌∙◌, arith}
-use Rattle.std.proofs.lemmas.List.{get_or-set_same}
-use Rattle.decode80.specs.declared.register.Register.TheVariants.{A}
-use Rattle.decode80.specs.declared.pair.Pair.TheVariants.{Sp}
-use Rattle.decode80.specs.declared.pair.StackPair.TheVariants.{Psw}
-use Rattle.decode80.specs.declared.instr.Instr.{Instr}
-use Rattle.decode80.specs.declared.instr.Instr.TheVariants.{Mov, Load, Store, Mvi, MviMemory, Lxi, Inx, Dcx, Inr, InrMemory, Dcr, DcrMemory, Operate, Call, CallIf, Rst, Push, Pop, Stax, Ldax, Shld, Sta, Lda, Rotate, Daa, Cma, Xthl, In}
-use Rattle.decode80.specs.declared.operation.Operation.{Operation}
-use Rattle.decode80.specs.declared.operation.Operation.TheVariants.{Subtract, And, ExclusiveOr, Or, Compare}
-use Rattle.decode80.specs.Fetch.{ahead, behind}
-use Rattle.decode80.specs.Spelling.{HasOperandInRange}
-use Rattle.image80.specs.Range.{in_range}
-use Rattle.image80.specs.Regions.{Areas, in_data}
-use Rattle.machine80.specs.declared.registers.Registers.{Registers}
-use Rattle.machine80.specs.declared.cpu.Cpu.{Cpu}
-use Rattle.machine80.specs.declared.end.End.TheVariants.{Direct, Stack, StoreOutside}
-use Rattle.machine80.specs.Arithmetic.{byte_answer, operation_answer}
-use Rattle.machine80.specs.Flags.{holds as holds_of}
-use Rattle.machine80.specs.Cpu.{hl_of, index_pair_of}
-use Rattle.machine80.specs.Effects.{operand_of, push_bytes, stores, stored, changed}
-use Rattle.machine80.specs.Step.{guard, first_outside, ends_at}
-use Rattle.verify80_spans.specs.declared.span.Span.{Span}
-use Rattle.verify80_spans.specs.declared.byte_span.ByteSpan.{ByteSpan}
-use Rattle.verify80_states.specs.declared.states.state.State.{State}
-use Rattle.verify80_states.specs.Bytes.{AreBytes}
-use Rattle.verify80_spans.specs.Span.{Within, word_alone, is_alone}
-use Rattle.verify80_states.specs.State.{HoldsRegisters, HoldsSource, IsQuietSource}
-use Rattle.verify80_states.specs.Following.{is_accumulator, operand_bytes, after_operation, index_words, only_address, address_outside, registers_after, source_after}
-use Rattle.verify80_states.proofs.RegisterBytes.{hl_is_word}
-use Rattle.verify80_states.proofs.FollowLemmas.{word_first, index_within, is_itself}
+use Rattle.verify80_states.proofs.Names.{◌≡◌, ◌&&◌, ℕ, ◌/◌, ◌%◌, Bool, true, false, List, [], ◌∷◌, Option, None, Some, nat_le, length, bit_and, bit_or, refl, if◌then◌else◌, and_self, or_self, subst, sym, ap, ◌∙◌, arith, get_or-set_same, A, Sp, Psw, Instr, Operation, Mov, Load, Store, Mvi, MviMemory, Lxi, Inx, Dcx, Inr, InrMemory, Dcr, DcrMemory, Operate, Call, CallIf, Rst, Push, Pop, Stax, Ldax, Shld, Sta, Lda, Rotate, Daa, Cma, Xthl, In, Subtract, And, ExclusiveOr, Or, Compare, ahead, behind, HasOperandInRange, in_range, Areas, in_data, Registers, Cpu, Direct, Stack, StoreOutside, holds_of, hl_of, index_pair_of, guard, first_outside, ends_at, operand_of, push_bytes, stores, stored, changed, Span, ByteSpan, State, AreBytes, HoldsRegisters, HoldsSource, IsQuietSource, Within, word_alone, is_alone, is_accumulator, operand_bytes, after_operation, index_words, only_address, address_outside, registers_after, source_after}
+use Rattle.machine80.specs.{Arithmetic.byte_answer, Arithmetic.operation_answer}
+use Rattle.verify80_states.proofs.{RegisterBytes.hl_is_word, FollowLemmas.word_first, FollowLemmas.index_within, FollowLemmas.is_itself, CellLemmas.apart_from, CellLemmas.word_within}
 use Rattle.verify80_states.proofs.MemoryLemmas.{Ground, stack_apart, passed_two, one_stored, two_stored}
-use Rattle.verify80_states.proofs.CellLemmas.{apart_from, word_within}
 
 by_source : (o u : Option ℕ) (m : List ℕ) (a : ℕ) → o ≡ u → HoldsSource u m a → HoldsSource o m a
 by_source o u m a same is = subst (λ (x : Option ℕ). HoldsSource x m a) (sym same) is

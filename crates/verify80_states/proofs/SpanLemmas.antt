@@ -1,12 +1,7 @@
 -- What spans say of numbers.
-use Rattle.std.specs.Prelude.{◌≡◌, ◌<◌, ℕ, ◌+◌, ◌%◌, Bool, true, false, Option, None, Some, nat_lt, nat_le, refl}
-use Rattle.std.proofs.Common.{arith, subst, sym}
-use Rattle.std.proofs.lemmas.Bool.Decides.{nat_tests}
-use Rattle.machine80.specs.Cpu.{word}
-use Rattle.machine80.specs.Flags.{bit_of}
-use Rattle.verify80_spans.specs.declared.span.Span.{Span}
-use Rattle.verify80_spans.specs.declared.byte_span.ByteSpan.{ByteSpan}
-use Rattle.verify80_spans.specs.Span.{Within, ByteWithin, IsInside, IsByteInside, IsKnown, any_word, any_byte, byte_alone, next_span, previous_span, next_byte, previous_byte, sum_span, sum_carries, high_of, low_of, joined, meet, meet_bytes, carry_span}
+use Rattle.verify80_states.proofs.Names.{◌≡◌, ◌<◌, ℕ, ◌+◌, ◌%◌, Bool, true, false, Option, None, Some, nat_lt, nat_le, refl, arith, subst, sym, nat_tests, word, Span, ByteSpan, Within, ByteWithin, IsInside, IsByteInside, any_word, any_byte, byte_alone, next_span, previous_span, next_byte, previous_byte, sum_span, sum_carries, joined, meet, meet_bytes, carry_span}
+use Rattle.verify80_spans.specs.Span.{IsKnown, high_of, low_of}
+use Rattle.machine80.specs.{Flags.bit_of}
 
 pub high_within : (s : Span) (h l : ℕ) → l < 256 → Within s (word h l) → ByteWithin (high_of s) h
 high_within s h l small inside = record { above = omega arith; below = omega arith }
@@ -40,9 +35,6 @@ previous_byte_within s n small inside = record { above = grind (arith, nat_tests
 
 pub sum_within : (s t : Span) (m n : ℕ) → m < 65536 → n < 65536 → Within s m → Within t n → Within (sum_span s t) ((m + n) % 65536)
 sum_within s t m n small other_small first second = record { above = grind (arith, nat_tests); below = grind (arith, nat_tests) }
-
-pub sum_any : (s : Span) (m n : ℕ) → m < 65536 → n < 65536 → Within s m → Within (sum_span s any_word) n
-sum_any s m n small other_small inside = record { above = grind (arith, nat_tests); below = grind (arith, nat_tests) }
 
 pub inside_within : (s t : Span) (n : ℕ) → IsInside s t → Within s n → Within t n
 inside_within s t n inside within = record { above = omega arith; below = omega arith }

@@ -1,28 +1,9 @@
 -- What a state says when registers and flags are written.
-use Rattle.std.specs.Prelude.{◌≡◌, ◌<◌, ◌==◌, ℕ, ◌/◌, ◌%◌, Bool, true, false, Option, Some, nat_lt, nat_le, refl}
-use Rattle.std.proofs.Common.{arith, subst, sym}
-use Rattle.std.proofs.lemmas.Bool.Decides.{nat_tests}
-use Rattle.decode80.specs.declared.register.Register.{Register}
-use Rattle.decode80.specs.declared.register.Register.TheVariants.{A, B, C, D, E, H, L}
-use Rattle.decode80.specs.declared.pair.Pair.{Pair}
-use Rattle.decode80.specs.declared.pair.Pair.TheVariants.{Bc, De, Hl, Sp}
-use Rattle.machine80.specs.declared.flags.Flags.{Flags}
-use Rattle.machine80.specs.declared.registers.Registers.{Registers}
-use Rattle.machine80.specs.declared.cpu.Cpu.{Cpu}
+use Rattle.verify80_states.proofs.Names.{◌≡◌, ◌<◌, ◌==◌, ℕ, ◌+◌, ◌/◌, ◌%◌, Bool, true, false, Option, Some, nat_lt, nat_le, refl, arith, subst, sym, nat_tests, Register, Pair, A, B, C, D, E, H, L, Bc, De, Hl, Sp, Flags, Registers, Cpu, word, register_of, with_register, with_pair, Span, ByteSpan, Outcome, Cells, PairSpan, State, AreBytes, Within, ByteWithin, any_byte, byte_alone, next_span, previous_span, next_byte, previous_byte, sum_span, sum_of, joined, zero_of, sign_of, HoldsPair, HoldsRegisters, Compares, any_pair, anything, pair_of_words, pair_of_halves, byte_of, copy_without, copy_outside, with_byte, with_span, with_outcome, with_carry, with_any_flags, cut_high, cut_low, cut_copy, cut, next_pair, previous_pair, sum_pair}
+use Rattle.verify80_spans.specs.Span.{IsKnown, high_of}
 use Rattle.machine80.specs.Flags.{flags_of_result}
-use Rattle.machine80.specs.Cpu.{word, register_of, with_register, with_pair}
-use Rattle.verify80_spans.specs.declared.span.Span.{Span}
-use Rattle.verify80_spans.specs.declared.byte_span.ByteSpan.{ByteSpan}
-use Rattle.verify80_spans.specs.declared.byte_span.Outcome.{Outcome}
-use Rattle.verify80_states.specs.declared.states.cells.Cells.{Cells}
-use Rattle.verify80_states.specs.declared.states.pairs.PairSpan.{PairSpan}
-use Rattle.verify80_states.specs.declared.states.state.State.{State}
-use Rattle.verify80_states.specs.Bytes.{AreBytes}
-use Rattle.verify80_spans.specs.Span.{Within, ByteWithin, IsKnown, any_byte, high_of, joined, zero_of, sign_of}
-use Rattle.verify80_states.specs.State.{HoldsPair, HoldsRegisters, Compares, any_pair, anything, pair_of_words, pair_of_halves, byte_of, copy_without, copy_outside, with_byte, with_words, with_outcome, with_carry, with_any_flags, cut_high, cut_low, cut_copy, cut}
-use Rattle.verify80_states.proofs.SpanLemmas.{high_within, low_within, joined_within, any_word_within, any_byte_within, meet_within, meet_bytes_within, known_if}
-use Rattle.verify80_states.proofs.ArithmeticBounds.{word_of_bytes}
-use Rattle.verify80_states.proofs.OutcomeLemmas.{Makes}
+use Rattle.verify80_states.proofs.SpanLemmas.{high_within, low_within, joined_within, any_word_within, any_byte_within, alone_within, next_within, previous_within, next_byte_within, previous_byte_within, sum_within, meet_within, meet_bytes_within, known_if}
+use Rattle.verify80_states.proofs.{ArithmeticBounds.word_of_bytes, OutcomeLemmas.Makes, OutcomeLemmas.sum_makes}
 
 -- pairs
 pub words_hold : (span : Span) (h l : ℕ) → l < 256 → Within span (word h l) → HoldsPair (pair_of_words span) h l
@@ -101,20 +82,20 @@ hl_copy L r high low same = refl
 hl_copy copy r high low same = same
 
 -- a pair is written
-pub bc_written_holds : (s : State) (r : Registers) (span : Span) (high low : ℕ) → HoldsRegisters s r → HoldsPair (pair_of_words span) high low → HoldsRegisters (with_words s Bc span) (record r { b = high; c = low })
+pub bc_written_holds : (s : State) (r : Registers) (span : PairSpan) (high low : ℕ) → HoldsRegisters s r → HoldsPair span high low → HoldsRegisters (with_span s Bc span) (record r { b = high; c = low })
 bc_written_holds s r span high low holds pair = record { a = holds.a; bc = pair; de = holds.de; hl = holds.hl; copy = bc_copy s.copy r high low holds.copy; flags = holds.flags }
 
-pub de_written_holds : (s : State) (r : Registers) (span : Span) (high low : ℕ) → HoldsRegisters s r → HoldsPair (pair_of_words span) high low → HoldsRegisters (with_words s De span) (record r { d = high; e = low })
+pub de_written_holds : (s : State) (r : Registers) (span : PairSpan) (high low : ℕ) → HoldsRegisters s r → HoldsPair span high low → HoldsRegisters (with_span s De span) (record r { d = high; e = low })
 de_written_holds s r span high low holds pair = record { a = holds.a; bc = holds.bc; de = pair; hl = holds.hl; copy = de_copy s.copy r high low holds.copy; flags = holds.flags }
 
-pub hl_written_holds : (s : State) (r : Registers) (span : Span) (high low : ℕ) → HoldsRegisters s r → HoldsPair (pair_of_words span) high low → HoldsRegisters (with_words s Hl span) (record r { h = high; l = low })
+pub hl_written_holds : (s : State) (r : Registers) (span : PairSpan) (high low : ℕ) → HoldsRegisters s r → HoldsPair span high low → HoldsRegisters (with_span s Hl span) (record r { h = high; l = low })
 hl_written_holds s r span high low holds pair = record { a = holds.a; bc = holds.bc; de = holds.de; hl = pair; copy = hl_copy s.copy r high low holds.copy; flags = holds.flags }
 
-pub with_words_holds : (s : State) (cpu : Cpu) (pair : Pair) (span : Span) (n : ℕ) → HoldsRegisters s cpu.registers → Within span n → HoldsRegisters (with_words s pair span) (with_pair cpu pair n).registers
-with_words_holds s cpu Bc span n holds inside = bc_written_holds s cpu.registers span (n / 256) (n % 256) holds (split_holds span n inside)
-with_words_holds s cpu De span n holds inside = de_written_holds s cpu.registers span (n / 256) (n % 256) holds (split_holds span n inside)
-with_words_holds s cpu Hl span n holds inside = hl_written_holds s cpu.registers span (n / 256) (n % 256) holds (split_holds span n inside)
-with_words_holds s cpu Sp span n holds inside = holds
+pub with_span_holds : (s : State) (cpu : Cpu) (pair : Pair) (span : PairSpan) (n : ℕ) → HoldsRegisters s cpu.registers → HoldsPair span (n / 256) (n % 256) → HoldsRegisters (with_span s pair span) (with_pair cpu pair n).registers
+with_span_holds s cpu Bc span n holds inside = bc_written_holds s cpu.registers span (n / 256) (n % 256) holds inside
+with_span_holds s cpu De span n holds inside = de_written_holds s cpu.registers span (n / 256) (n % 256) holds inside
+with_span_holds s cpu Hl span n holds inside = hl_written_holds s cpu.registers span (n / 256) (n % 256) holds inside
+with_span_holds s cpu Sp span n holds inside = holds
 
 -- flags of a result
 known_by : (o : Option Bool) (b : Bool) (truth : Bool) → o ≡ Some b → truth ≡ b → IsKnown o truth
@@ -206,10 +187,39 @@ cut_holds s r span bytes holds inside =
     a_is (cut_copy s s.copy span) r _ _ (cut_copy_holds s r s.copy span bytes holds (subst (λ n. ByteWithin span n) (sym holds.copy) inside))
     (meet_bytes_within s.a span r.a holds.a inside)
 
--- bytes make registers of which anything holds
-any_pair_holds : (h l : ℕ) → h < 256 → l < 256 → HoldsPair any_pair h l
+-- a pair is counted and added to: its low byte is counted by itself too
+cut_pair_holds : (words : Span) (low : ByteSpan) (n m : ℕ) → Within words n → ByteWithin low m → m ≡ n % 256 → HoldsPair (cut_low (pair_of_words words) low) (n / 256) (n % 256)
+cut_pair_holds words low n m inside other same = cut_low_holds (pair_of_words words) low (n / 256) (n % 256) (omega arith) (split_holds words n inside) (subst (λ k. ByteWithin low k) same other)
+
+pub next_holds : (p : PairSpan) (h l : ℕ) → h < 256 → l < 256 → HoldsPair p h l → (let n = (word h l + 1) % 65536 in HoldsPair (next_pair p) (n / 256) (n % 256))
+next_holds p h l high low holds =
+    cut_pair_holds (next_span p.words) (next_byte p.low) ((word h l + 1) % 65536) ((l + 1) % 256)
+    (next_within p.words (word h l) (word_of_bytes h l high low) holds.words) (next_byte_within p.low l low holds.low) (omega arith)
+
+pub previous_holds : (p : PairSpan) (h l : ℕ) → h < 256 → l < 256 → HoldsPair p h l → (let n = (word h l + 65535) % 65536 in HoldsPair (previous_pair p) (n / 256) (n % 256))
+previous_holds p h l high low holds =
+    cut_pair_holds (previous_span p.words) (previous_byte p.low) ((word h l + 65535) % 65536) ((l + 255) % 256)
+    (previous_within p.words (word h l) (word_of_bytes h l high low) holds.words) (previous_byte_within p.low l low holds.low) (omega arith)
+
+pub sum_holds : (p q : PairSpan) (h l i k : ℕ) → h < 256 → l < 256 → i < 256 → k < 256 → HoldsPair p h l → HoldsPair q i k →
+    (let n = (word h l + word i k) % 65536 in HoldsPair (sum_pair p q) (n / 256) (n % 256))
+sum_holds p q h l i k high low other_high other_low holds other =
+    cut_pair_holds (sum_span p.words q.words) (sum_of p.low q.low (byte_alone 0)).value ((word h l + word i k) % 65536) ((l + k + 0) % 256)
+    (sum_within p.words q.words (word h l) (word i k) (word_of_bytes h l high low) (word_of_bytes i k other_high other_low) holds.words other.words)
+    (sum_makes p.low q.low (byte_alone 0) l k 0 low other_low (omega arith) holds.low other.low (alone_within 0)).value (omega arith)
+
+pub any_pair_holds : (h l : ℕ) → h < 256 → l < 256 → HoldsPair any_pair h l
 any_pair_holds h l high low = record { words = any_word_within (word h l) (word_of_bytes h l high low); low = any_byte_within l low }
 
+pub any_sum_holds : (p : PairSpan) (h l n : ℕ) → h < 256 → l < 256 → HoldsPair p h l → (let m = (word h l + n) % 65536 in HoldsPair (sum_pair p any_pair) (m / 256) (m % 256))
+any_sum_holds p h l n high low holds =
+    let i = n % 65536 / 256 in
+    let k = n % 256 in
+    let same : (word h l + word i k) % 65536 ≡ (word h l + n) % 65536 = omega arith in
+    subst (λ m. HoldsPair (sum_pair p any_pair) (m / 256) (m % 256)) same
+    (sum_holds p any_pair h l i k high low (omega arith) (omega arith) holds (any_pair_holds i k (omega arith) (omega arith)))
+
+-- bytes make registers of which anything holds
 pub anything_holds : (r : Registers) → AreBytes r → HoldsRegisters anything r
 anything_holds r bytes = record {
   a = any_byte_within r.a bytes.a;

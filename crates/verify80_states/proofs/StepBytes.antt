@@ -1,23 +1,5 @@
 -- One step of a machine that holds bytes.
-use Rattle.std.specs.Prelude.{◌≡◌, ℕ, ◌/◌, ◌%◌, Bool, true, false, List, [], ◌∷◌, ◌++◌, Option, None, Some, length, refl, if◌then◌else◌}
-use Rattle.std.proofs.Common.{subst}
-use Rattle.std.proofs.lemmas.List.Elements.{All-nil, All-cons}
-use Rattle.decode80.specs.declared.instr.Instr.{Instr}
-use Rattle.decode80.specs.declared.instr.Instr.TheVariants.{Mov, Load, Store, Mvi, MviMemory, Lxi, Dad, Inx, Dcx, Inr, InrMemory, Dcr, DcrMemory, Operate, Jmp, JumpIf, Call, CallIf, Ret, ReturnIf, Rst, Push, Pop, Stax, Ldax, Shld, Lhld, Sta, Lda, Rotate, Daa, Cma, Stc, Cmc, Xthl, Pchl, Xchg, Sphl, In, Out, Hlt}
-use Rattle.decode80.specs.declared.operation.Operand.TheVariants.{Register as InRegister, Memory, Immediate}
-use Rattle.decode80.specs.declared.fetching.Fetched.{Fetched}
-use Rattle.decode80.specs.Fetch.{ahead, behind}
-use Rattle.decode80.specs.Spelling.{HasOperandInRange}
-use Rattle.image80.specs.Regions.{Areas, targets_at}
-use Rattle.machine80.specs.declared.cpu.Cpu.{Cpu}
-use Rattle.machine80.specs.declared.end.End.{End}
-use Rattle.machine80.specs.Flags.{holds}
-use Rattle.machine80.specs.Arithmetic.{increment_answer, decrement_answer, pair_sum}
-use Rattle.machine80.specs.Cpu.{register_of, with_register, hl_of, pair_of, index_pair_of}
-use Rattle.machine80.specs.Ports.{next_input, without_next}
-use Rattle.machine80.specs.Effects.{byte_in, word_in, push_bytes, stores, changed, target}
-use Rattle.machine80.specs.Step.{Machine, Turn, Next, Stop, fetch, guard, guarded, execute, with_input, proceeded, turn_of, jump_end, step_on, step_of}
-use Rattle.verify80_states.specs.Bytes.{IsByte, IsWord, HasBytes, AreBytes, HoldsBytes, HasAddresses, BytesStayBytes, AddressesStayAddresses, MemoryKeepsItsLength, FetchedOperandsAreBounded}
+use Rattle.verify80_states.proofs.Names.{◌≡◌, ℕ, ◌/◌, ◌%◌, Bool, true, false, List, [], ◌∷◌, ◌++◌, Option, None, Some, length, refl, if◌then◌else◌, subst, All-nil, All-cons, Instr, Fetched, Mov, Load, Store, Mvi, MviMemory, Lxi, Dad, Inx, Dcx, Inr, InrMemory, Dcr, DcrMemory, Operate, Jmp, JumpIf, Call, CallIf, Ret, ReturnIf, Rst, Push, Pop, Stax, Ldax, Shld, Lhld, Sta, Lda, Rotate, Daa, Cma, Stc, Cmc, Xthl, Pchl, Xchg, Sphl, In, Out, Hlt, InRegister, Memory, Immediate, ahead, behind, HasOperandInRange, Areas, targets_at, Cpu, End, holds, increment_answer, decrement_answer, pair_sum, next_input, without_next, register_of, with_register, hl_of, pair_of, index_pair_of, byte_in, word_in, push_bytes, stores, changed, target, Machine, Turn, Next, Stop, fetch, guard, guarded, execute, with_input, proceeded, turn_of, jump_end, step_on, step_of, IsByte, IsWord, HasBytes, AreBytes, HoldsBytes, HasAddresses, BytesStayBytes, AddressesStayAddresses, MemoryKeepsItsLength, FetchedOperandsAreBounded}
 use Rattle.verify80_states.proofs.ArithmeticBounds.{high_byte, low_byte, ahead_is_word, behind_is_word, pair_sum_is_word, either_is_word, operation_is_byte, increment_is_byte, decrement_is_byte, decimal_is_byte, rotation_is_byte, complement_is_byte, vector_is_word}
 use Rattle.verify80_states.proofs.RegisterBytes.{register_is_byte, hl_is_word, high_is_byte, low_is_byte, flags_written, accumulator_written, hl_written, register_written, pair_written, sp_written, stack_pair_written}
 use Rattle.verify80_states.proofs.ByteLemmas.{byte_at, word_at, StoresBytes, stored_bytes, stored_length, input_is_byte, inputs_left}

@@ -1,33 +1,7 @@
 -- A state along a step.
-use Rattle.std.specs.Prelude.{◌≡◌, ◌<◌, ℕ, Bool, true, false, List, Option, None, Some, length, slice_index, refl}
-use Rattle.std.proofs.Common.{subst, sym, ap, ◌∙◌}
-use Rattle.decode80.specs.declared.register.Register.TheVariants.{A}
-use Rattle.decode80.specs.declared.instr.Instr.{Instr}
-use Rattle.decode80.specs.declared.instr.Instr.TheVariants.{In, Out, Pchl, Hlt}
-use Rattle.decode80.specs.declared.fetching.Fetched.{Fetched}
-use Rattle.decode80.specs.Facts.{flow}
-use Rattle.decode80.specs.Spelling.{HasOperandInRange}
-use Rattle.image80.specs.Regions.{Areas, in_code, in_data, targets_at}
-use Rattle.machine80.specs.declared.end.End.{End}
-use Rattle.machine80.specs.declared.registers.Registers.{Registers}
-use Rattle.machine80.specs.Cpu.{hl_of}
-use Rattle.machine80.specs.Effects.{stored, stores}
-use Rattle.machine80.specs.Ports.{next_input}
-use Rattle.machine80.specs.Step.{Machine, Turn, Next, Stop, fetch, guard, guarded, execute, turn_of, jump_end, proceeded, with_input, step_on, step_of}
-use Rattle.verify80_states.specs.declared.states.cells.Cells.{Cells}
-use Rattle.verify80_states.specs.declared.states.words.Words.{Words}
-use Rattle.verify80_states.specs.declared.states.state.State.{State}
-use Rattle.verify80_states.specs.Bytes.{AreBytes, HasBytes, HoldsBytes}
-use Rattle.verify80_spans.specs.Span.{any_byte}
-use Rattle.verify80_states.specs.State.{Holds, HoldsRegisters, IsQuietState, with_byte}
-use Rattle.verify80_states.specs.Following.{registers_after, state_after}
-use Rattle.verify80_states.specs.Steps.{ReadsCode, is_taken}
-use Rattle.verify80_states.proofs.SpanLemmas.{any_byte_within}
-use Rattle.verify80_states.proofs.StateLemmas.{with_byte_holds}
-use Rattle.verify80_states.proofs.FollowLemmas.{changed_registers}
-use Rattle.verify80_states.proofs.MemoryLemmas.{Ground, code_kept, words_changed}
-use Rattle.verify80_states.proofs.CellLemmas.{cells_changed}
-use Rattle.verify80_states.proofs.SourceLemmas.{source_changed}
+use Rattle.verify80_states.proofs.Names.{◌≡◌, ◌<◌, ℕ, Bool, true, false, List, Option, None, Some, length, slice_index, refl, subst, sym, ap, ◌∙◌, A, Instr, Fetched, In, Out, Pchl, Hlt, flow, HasOperandInRange, Areas, in_code, in_data, targets_at, End, Registers, hl_of, stored, stores, next_input, Machine, Turn, Next, Stop, fetch, guard, guarded, execute, turn_of, jump_end, proceeded, with_input, step_on, step_of, Cells, Words, State, AreBytes, HasBytes, HoldsBytes, registers_after, state_after, ReadsCode, is_taken, any_byte, Holds, HoldsRegisters, IsQuietState, with_byte}
+use Rattle.verify80_states.proofs.{SpanLemmas.any_byte_within, StateLemmas.with_byte_holds, FollowLemmas.changed_registers, MemoryLemmas.Ground, MemoryLemmas.code_kept, MemoryLemmas.words_changed}
+use Rattle.verify80_states.proofs.{CellLemmas.cells_changed, SourceLemmas.source_changed}
 
 machine_of : Machine → Turn → Machine
 machine_of otherwise (Next m) = m

@@ -1,29 +1,6 @@
 -- A table that fits what is reached fits the program.
-use Rattle.std.specs.Prelude.{◌≡◌, ◌⊎◌, ◌+◌, ◌++◌, ℕ, zero, suc, ◌<◌, Bool, false, List, [], ◌∷◌, All, Option, None, Some, Ok, length, slice_get, slice_index_or, refl}
-use Rattle.std.proofs.Common.{subst, sym, ap, ◌∙◌, arith, inl, inr, true}
-use Rattle.decode80.specs.declared.fetching.Fetched.{Fetched}
-use Rattle.decode80.specs.declared.flow.Flow.{Flow}
-use Rattle.decode80.specs.declared.flow.Flow.TheVariants.{Continues, Pushes, Pops, Exchanges}
-use Rattle.image80.specs.Image.{Located}
-use Rattle.machine80.specs.World.{World}
-use Rattle.machine80.specs.Run.{world_of}
-use Rattle.frames80.specs.Code.{Code}
-use Rattle.frames80.specs.Lists.{slice_get-last}
-use Rattle.verify80.specs.Looking.{code_of}
-use Rattle.verify80.specs.Reached.{AreReached, IsReached, StandsOnWalk, found_at}
-use Rattle.verify80_states.specs.declared.fitting.fitting.Placed.{Placed}
-use Rattle.verify80_states.specs.Bytes.{HoldsBytes, MemoryKeepsItsLength}
-use Rattle.verify80_states.specs.declared.states.state.State.{State}
-use Rattle.verify80_states.specs.declared.states.variables.Variable.{Variable}
-use Rattle.verify80_states.specs.State.{IsQuietState, anything}
-use Rattle.verify80_states.specs.Steps.{HasCode}
-use Rattle.verify80_states.specs.Fitting.{Has, Covers, FitsBy, KnowsQuiet}
-use Rattle.verify80_states.specs.Calls.{ReturnFacts, never, no_returns}
-use Rattle.verify80_states.specs.FittingTable.{AllFit, Fits, SaysNothingAt}
-use Rattle.verify80_states.specs.Runs.{KeepsToCalls, IsKept}
-use Rattle.verify80_states.proofs.MemoryLemmas.{Ground}
-use Rattle.verify80_states.proofs.CellLemmas.{none_quiet}
-use Rattle.verify80_states.proofs.KeepLemmas.{nothing_holds, code_stays, still_keeps}
+use Rattle.verify80_states.proofs.Names.{◌≡◌, ◌⊎◌, ◌+◌, ◌++◌, ℕ, zero, suc, ◌<◌, Bool, false, List, [], ◌∷◌, All, Option, None, Some, Ok, length, slice_get, slice_index_or, refl, subst, sym, ap, ◌∙◌, arith, inl, inr, true, Fetched, Flow, Continues, Pushes, Pops, Exchanges, Located, World, world_of, Code, slice_get-last, code_of, AreReached, IsReached, StandsOnWalk, found_at, Placed, State, Variable, HoldsBytes, MemoryKeepsItsLength, IsQuietState, anything, HasCode, ReturnFacts, never, no_returns, Has, Covers, FitsBy, KnowsQuiet, AllFit, Fits, SaysNothingAt, KeepsToCalls, IsKept}
+use Rattle.verify80_states.proofs.{MemoryLemmas.Ground, CellLemmas.none_quiet, KeepLemmas.nothing_holds, KeepLemmas.code_stays, KeepLemmas.still_keeps}
 
 -- an entry that is there is within the table
 entry_within : {A : Type 0} (table : List (Option A)) (at : ℕ) (x : A) → slice_index_or table at None ≡ Some x → at < length table

@@ -1,39 +1,6 @@
 -- Variables stay inside their spans.
-use Rattle.std.specs.Prelude.{◌≡◌, ◌⊎◌, ◌≢◌, ◌<◌, ◌&&◌, ℕ, zero, suc, ◌/◌, ◌%◌, Bool, true, false, List, [], ◌∷◌, Option, None, Some, length, slice_get, slice_index, slice_set, refl, if◌then◌else◌}
-use Rattle.std.specs.List.{list_all}
-use Rattle.std.proofs.Common.{subst, sym, ap, ◌∙◌, arith, inl, inr}
-use Rattle.std.proofs.lemmas.Bool.Decides.{nat_tests}
-use Rattle.std.proofs.lemmas.Nat.{shr_le}
-use Rattle.std.proofs.lemmas.List.{get_or-set_same, length-set}
-use Rattle.decode80.specs.declared.instr.Instr.{Instr}
-use Rattle.decode80.specs.declared.instr.Instr.TheVariants.{Store, MviMemory, InrMemory, DcrMemory, Stax, Sta, Shld, Push, Call, CallIf, Rst, Xthl}
-use Rattle.decode80.specs.Fetch.{ahead, behind}
-use Rattle.decode80.specs.Spelling.{HasOperandInRange}
-use Rattle.image80.specs.Range.{in_range}
-use Rattle.image80.specs.Regions.{Areas, in_data}
-use Rattle.machine80.specs.declared.cpu.Cpu.{Cpu}
-use Rattle.machine80.specs.declared.end.End.TheVariants.{Direct, Stack, StoreOutside}
-use Rattle.machine80.specs.Flags.{holds as holds_of}
-use Rattle.machine80.specs.Cpu.{hl_of, index_pair_of}
-use Rattle.machine80.specs.Effects.{byte_in, push_bytes, stores, stored}
-use Rattle.machine80.specs.Step.{guard, first_outside, ends_at}
-use Rattle.verify80_spans.specs.declared.span.Span.{Span}
-use Rattle.verify80_spans.specs.declared.byte_span.ByteSpan.{ByteSpan}
-use Rattle.verify80_spans.specs.Span.{Within, ByteWithin, byte_alone, word_alone, next_byte, previous_byte}
-use Rattle.verify80_spans.specs.Span.{high_of as high_bytes}
-use Rattle.verify80_states.specs.declared.states.variables.Variable.{Variable}
-use Rattle.verify80_states.specs.declared.states.state.State.{State}
-use Rattle.verify80_states.specs.Bytes.{HasBytes, AreBytes}
-use Rattle.verify80_states.specs.Variables.{HoldsSet, is_bit, takes}
-use Rattle.verify80_states.specs.Cells.{HoldsCells}
-use Rattle.verify80_states.specs.State.{HoldsRegisters, byte_of}
-use Rattle.verify80_states.specs.Steps.{ReadsCode}
-use Rattle.verify80_states.specs.Following.{loaded, index_words, is_steady}
-use Rattle.verify80_states.proofs.ArithmeticBounds.{ahead_is_word}
-use Rattle.verify80_states.proofs.RegisterBytes.{hl_is_word}
-use Rattle.verify80_states.proofs.ByteLemmas.{byte_at as memory_byte}
-use Rattle.verify80_states.proofs.SpanLemmas.{alone_within, high_within}
-use Rattle.verify80_states.proofs.StateLemmas.{byte_holds}
+use Rattle.verify80_states.proofs.Names.{◌≡◌, ◌⊎◌, ◌≢◌, ◌<◌, ◌&&◌, ℕ, zero, suc, ◌/◌, ◌%◌, Bool, true, false, List, [], ◌∷◌, Option, None, Some, length, slice_get, slice_index, slice_set, refl, if◌then◌else◌, list_all, subst, sym, ap, ◌∙◌, arith, inl, inr, nat_tests, shr_le, get_or-set_same, length-set, Instr, Store, MviMemory, InrMemory, DcrMemory, Stax, Sta, Shld, Push, Call, CallIf, Rst, Xthl, ahead, behind, HasOperandInRange, in_range, Areas, in_data, Cpu, Direct, Stack, StoreOutside, holds_of, hl_of, index_pair_of, guard, first_outside, ends_at, byte_in, push_bytes, stores, stored, Span, ByteSpan, Within, ByteWithin, byte_alone, word_alone, next_byte, previous_byte, high_bytes, Variable, State, HasBytes, AreBytes, HoldsSet, is_bit, takes, HoldsCells, HoldsRegisters, byte_of, ReadsCode, loaded, index_words, is_steady}
+use Rattle.verify80_states.proofs.{ArithmeticBounds.ahead_is_word, RegisterBytes.hl_is_word, ByteLemmas.byte_at as memory_byte, SpanLemmas.alone_within, SpanLemmas.high_within, StateLemmas.byte_holds}
 use Rattle.verify80_states.proofs.FollowLemmas.{loaded_within, index_within}
 use Rattle.verify80_states.proofs.MemoryLemmas.{Ground, stack_apart, passed_two, one_stored, two_stored}
 use Rattle.verify80_states.proofs.CellLemmas.{word_within, pointed_is_word, counted_up, counted_down}

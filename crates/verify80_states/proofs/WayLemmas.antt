@@ -1,25 +1,5 @@
 -- Where the machine goes at each instruction.
-use Rattle.std.specs.Prelude.{◌≡◌, ◌⊎◌, ℕ, suc, ◌==◌, Bool, true, false, not, List, [], ◌∷◌, Contains, Option, None, Some, IsSome, refl, if◌then◌else◌}
-use Rattle.std.specs.List.{list_any}
-use Rattle.std.specs.Option.{option_map_or}
-use Rattle.std.proofs.Common.{subst, sym, ap, ◌∙◌, inl, inr, arith}
-use Rattle.std.proofs.lemmas.Bool.Decides.{nat_tests}
-use Rattle.decode80.specs.declared.instr.Instr.{Instr}
-use Rattle.decode80.specs.declared.instr.Instr.TheVariants.{In, Out, Pchl, Hlt, Pop}
-use Rattle.decode80.specs.declared.flow.Flow.{Flow}
-use Rattle.decode80.specs.declared.flow.Flow.TheVariants.{Jumps, JumpsIf, JumpsToHl, Calls, CallsIf, Returns, ReturnsIf, Halts}
-use Rattle.decode80.specs.Facts.{flow}
-use Rattle.image80.specs.Regions.{Areas, targets_at}
-use Rattle.machine80.specs.declared.end.End.TheVariants.{JumpOutside}
-use Rattle.machine80.specs.declared.cpu.Cpu.{Cpu}
-use Rattle.machine80.specs.declared.flags.Flags.{Flags}
-use Rattle.machine80.specs.Flags.{holds}
-use Rattle.machine80.specs.Cpu.{hl_of}
-use Rattle.machine80.specs.Ports.{next_input}
-use Rattle.machine80.specs.Effects.{goes_to, target}
-use Rattle.machine80.specs.Step.{Machine, Next, execute, turn_of, jump_end, proceeded, with_input}
-use Rattle.machine80.specs.World.{is_return_taken, returns}
-use Rattle.verify80.specs.Looking.{declared_targets}
+use Rattle.verify80_states.proofs.Names.{◌≡◌, ◌⊎◌, ℕ, suc, ◌==◌, Bool, true, false, not, List, [], ◌∷◌, Contains, Option, None, Some, IsSome, refl, if◌then◌else◌, list_any, option_map_or, subst, sym, ap, ◌∙◌, inl, inr, arith, nat_tests, Instr, Flow, In, Out, Pchl, Hlt, Pop, Jumps, JumpsIf, JumpsToHl, Calls, CallsIf, Returns, ReturnsIf, Halts, flow, Areas, targets_at, JumpOutside, Cpu, Flags, holds, hl_of, next_input, goes_to, target, is_return_taken, returns, Machine, Next, execute, turn_of, jump_end, proceeded, with_input, declared_targets}
 use Rattle.verify80_states.proofs.StepLemmas.{next_in}
 
 -- where a flow leads, returns that are taken aside, by the flags and HL

@@ -4,10 +4,8 @@
 use Rattle.std.specs.Prelude.{◌≡◌, ◌<◌, ℕ, Bool, List, Option, Some, All, length}
 use Rattle.decode80.specs.declared.fetching.Fetched.{Fetched}
 use Rattle.decode80.specs.Spelling.{HasOperandInRange}
-use Rattle.image80.specs.Regions.{Areas}
-use Rattle.image80.specs.Image.{Located, memory_of}
-use Rattle.machine80.specs.declared.registers.Registers.{Registers}
-use Rattle.machine80.specs.declared.cpu.Cpu.{Cpu}
+use Rattle.image80.specs.{Regions.Areas, Image.Located, Image.memory_of}
+use Rattle.machine80.specs.declared.{registers.Registers.Registers, cpu.Cpu.Cpu}
 use Rattle.machine80.specs.Step.{Machine, Next, fetch, step_of}
 use Rattle.machine80.specs.World.{World, IsWorldOf}
 

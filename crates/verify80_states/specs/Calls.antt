@@ -1,22 +1,13 @@
 -- Whether the procedure that runs at an address may still return, and where to; and what is owed to open calls: behind one whose callee may
 -- return the table has a state that says nothing, unless the callee's states know where they return to. (This project's own.)
 use Rattle.std.specs.Prelude.{◌≡◌, ◌⊎◌, ℕ, Bool, true, false, List, ◌∷◌, [], Contains, Option, None, Some}
-use Rattle.decode80.specs.declared.flow.Flow.{Flow}
+use Rattle.decode80.specs.declared.{flow.Flow.Flow, fetching.Fetched.Fetched}
 use Rattle.decode80.specs.declared.flow.Flow.TheVariants.{Jumps, JumpsIf, JumpsToHl, Calls, CallsIf, Returns, ReturnsIf, Halts}
-use Rattle.decode80.specs.declared.fetching.Fetched.{Fetched}
 use Rattle.decode80.specs.Facts.{flow}
-use Rattle.verify80_spans.specs.declared.span.Span.{Span}
-use Rattle.verify80_states.specs.declared.fitting.calls.CallReturns.{CallReturns}
-use Rattle.verify80_states.specs.declared.fitting.fitting.Placed.{Placed}
-use Rattle.verify80_states.specs.declared.states.state.State.{State}
+use Rattle.verify80_states.specs.declared.{fitting.calls.CallReturns.CallReturns, fitting.fitting.Placed.Placed, states.pairs.PairSpan.PairSpan, states.state.State.State}
 use Rattle.verify80_spans.specs.Span.{is_alone}
 use Rattle.verify80_states.specs.declared.states.variables.Variable.{Variable}
-use Rattle.verify80_states.specs.Variables.{HoldsSet}
-use Rattle.verify80_states.specs.State.{unknown_but}
-use Rattle.verify80_states.specs.Following.{state_after}
-use Rattle.verify80_states.specs.Given.{given}
-use Rattle.verify80_states.specs.Marks.{is_marked}
-use Rattle.verify80_states.specs.Fitting.{Has, Covers, CallsEntry}
+use Rattle.verify80_states.specs.{Variables.HoldsSet, State.unknown_but, Following.state_after, Given.given, Marks.is_marked, Fitting.Has, Fitting.Covers, Fitting.CallsEntry}
 
 -- from each address on, until the procedure returns: whether it may return, and whether each of its returns goes to an address that the
 -- state there knows
@@ -55,10 +46,10 @@ AccountsFor returns targets at next w = IsWithin returns at next
 
 -- a state knows where a return goes, and the table covers there what the return makes of it: `after` is that
 pub record KnowsReturn (variables : List Variable) (table : List Placed) (after : State → State) (s : State) : Type 0 where
-  pub span : Span
-  pub first : s.words.first ≡ Some span
-  pub alone : is_alone span ≡ true
-  pub covers : Covers variables table span.first (after s)
+  pub word : PairSpan
+  pub first : s.words.first ≡ Some word
+  pub alone : is_alone word.words ≡ true
+  pub covers : Covers variables table word.words.first (after s)
 
 abbrev pub KnowsReturnIf : List Variable → List Placed → (after : State → State) → Option State → Type 0
 KnowsReturnIf variables table after None = Unit {0}

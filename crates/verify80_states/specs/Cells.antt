@@ -1,11 +1,8 @@
 -- What is known of bytes of memory, each at an address of its own, and what becomes of that when a byte is stored. (This project's own.)
 use Rattle.std.specs.Prelude.{◌≡◌, ◌⊎◌, ◌==◌, ◌&&◌, ℕ, Bool, true, List, Option, None, Some, nat_le, if◌then◌else◌}
 use Rattle.machine80.specs.Effects.{byte_in}
-use Rattle.verify80_spans.specs.declared.span.Span.{Span}
-use Rattle.verify80_spans.specs.declared.byte_span.ByteSpan.{ByteSpan}
-use Rattle.verify80_states.specs.declared.states.cells.Cell.{Cell}
-use Rattle.verify80_states.specs.declared.states.cells.Cells.{Cells}
-use Rattle.verify80_states.specs.declared.states.variables.Variable.{Variable}
+use Rattle.verify80_spans.specs.declared.{span.Span.Span, byte_span.ByteSpan.ByteSpan}
+use Rattle.verify80_states.specs.declared.{states.cells.Cell.Cell, states.cells.Cells.Cells, states.variables.Variable.Variable}
 use Rattle.verify80_states.specs.Variables.{IsSaid}
 use Rattle.verify80_spans.specs.Span.{ByteWithin, IsByteInside, any_byte, is_alone, meet_bytes}
 

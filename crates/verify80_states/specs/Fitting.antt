@@ -1,17 +1,12 @@
 -- What a state in a table owes: states, each at an address, such that what the instruction there makes of one is inside one wherever it
 -- leads. (This project's own.)
 use Rattle.std.specs.Prelude.{◌≡◌, ◌⊎◌, ℕ, Bool, true, false, List, All, Contains, Option, None, Some, slice_get}
-use Rattle.decode80.specs.declared.fetching.Fetched.{Fetched}
-use Rattle.decode80.specs.declared.flow.Flow.{Flow}
+use Rattle.decode80.specs.declared.{fetching.Fetched.Fetched, flow.Flow.Flow}
 use Rattle.decode80.specs.declared.flow.Flow.TheVariants.{Jumps, JumpsIf, JumpsToHl, Calls, CallsIf, Returns, ReturnsIf, Halts}
 use Rattle.decode80.specs.Facts.{flow}
-use Rattle.verify80_states.specs.declared.states.state.State.{State}
-use Rattle.verify80_states.specs.declared.states.variables.Variable.{Variable}
-use Rattle.verify80_states.specs.declared.fitting.fitting.Placed.{Placed}
+use Rattle.verify80_states.specs.declared.{states.state.State.State, states.variables.Variable.Variable, fitting.fitting.Placed.Placed}
 use Rattle.verify80_spans.specs.Span.{Within, ByteWithin, byte_alone}
-use Rattle.verify80_states.specs.State.{IsStateInside, IsQuietState, cut}
-use Rattle.verify80_states.specs.Following.{state_after}
-use Rattle.verify80_states.specs.Given.{given}
+use Rattle.verify80_states.specs.{State.IsStateInside, State.IsQuietState, State.cut, Following.state_after, Given.given}
 
 -- the table has a state at an address that says no more than this one
 pub record Has (variables : List Variable) (table : List Placed) (to : ℕ) (s : State) : Type 0 where

@@ -7,14 +7,9 @@ use Rattle.decode80.specs.declared.fetching.Fetched.{Fetched}
 use Rattle.decode80.specs.Facts.{flow}
 use Rattle.frames80.specs.Code.{Code}
 use Rattle.image80.specs.Regions.{Areas}
-use Rattle.verify80.specs.Looking.{declared_targets}
-use Rattle.verify80.specs.Reached.{IsReached, found_at}
-use Rattle.verify80_states.specs.declared.fitting.fitting.Placed.{Placed}
-use Rattle.verify80_states.specs.declared.states.variables.Variable.{Variable}
-use Rattle.verify80_states.specs.State.{anything}
-use Rattle.verify80_states.specs.Following.{is_steady}
-use Rattle.verify80_states.specs.Fitting.{Has, FitsAt, KnowsQuiet}
-use Rattle.verify80_states.specs.Calls.{ReturnFacts, AccountsFor, KeepsCalls}
+use Rattle.verify80.specs.{Looking.declared_targets, Reached.IsReached, Reached.found_at}
+use Rattle.verify80_states.specs.declared.{fitting.fitting.Placed.Placed, states.variables.Variable.Variable}
+use Rattle.verify80_states.specs.{State.anything, Following.is_steady, Fitting.Has, Fitting.FitsAt, Fitting.KnowsQuiet, Calls.ReturnFacts, Calls.AccountsFor, Calls.KeepsCalls}
 
 pub record Fits (quiet : ℕ → Bool) (code : Code) (bytes : List (Option ℕ)) (returns : ReturnFacts) (variables : List Variable) (table : List Placed) : Type 0 where
   pub start : Has variables table code.start anything

@@ -1,32 +1,20 @@
 -- What becomes of a state at each instruction. (The registers and flags that each instruction writes are those of the Intel 8080
 -- Microcomputer Systems User's Manual, chapter 4; that spans are followed is this project's own.)
-use Rattle.std.specs.Prelude.{◌+◌, ◌*◌, ◌&&◌, ℕ, Bool, true, false, not, List, Option, None, Some, nat_le, slice_get, if◌then◌else◌}
-use Rattle.decode80.specs.declared.register.Register.{Register}
+use Rattle.std.specs.Prelude.{◌&&◌, ℕ, Bool, true, false, not, List, Option, None, Some, nat_le, slice_get, if◌then◌else◌}
+use Rattle.decode80.specs.declared.{register.Register.Register, pair.Pair.Pair, pair.StackPair.StackPair, pair.IndexPair.IndexPair}
 use Rattle.decode80.specs.declared.register.Register.TheVariants.{A, D, E, H, L}
-use Rattle.decode80.specs.declared.pair.Pair.{Pair}
 use Rattle.decode80.specs.declared.pair.Pair.TheVariants.{Bc, De, Hl, Sp}
-use Rattle.decode80.specs.declared.pair.StackPair.{StackPair}
 use Rattle.decode80.specs.declared.pair.StackPair.TheVariants.{Bc as StackBc, De as StackDe, Hl as StackHl, Psw}
-use Rattle.decode80.specs.declared.pair.IndexPair.{IndexPair}
-use Rattle.decode80.specs.declared.pair.IndexPair.TheVariants.{Bc as IndexBc, De as IndexDe}
-use Rattle.decode80.specs.declared.instr.Instr.{Instr}
+use Rattle.decode80.specs.declared.{pair.IndexPair.TheVariants.Bc as IndexBc, pair.IndexPair.TheVariants.De as IndexDe, instr.Instr.Instr, operation.Operation.Operation, operation.Operand.Operand}
 use Rattle.decode80.specs.declared.instr.Instr.TheVariants.{Mov, Load, Mvi, Lxi, Dad, Inx, Dcx, Inr, InrMemory, Dcr, DcrMemory, Operate, Store, MviMemory, Call, CallIf, Ret, ReturnIf, Rst, Push, Pop, Stax, Ldax, Shld, Lhld, Sta, Lda, Rotate, Daa, Cma, Stc, Cmc, Xthl, Xchg, Sphl, In}
-use Rattle.decode80.specs.declared.operation.Operation.{Operation}
 use Rattle.decode80.specs.declared.operation.Operation.TheVariants.{Subtract, And, ExclusiveOr, Or, Compare}
-use Rattle.decode80.specs.declared.operation.Operand.{Operand}
 use Rattle.decode80.specs.declared.operation.Operand.TheVariants.{Register as InRegister, Memory, Immediate}
 use Rattle.decode80.specs.Fetch.{ahead}
-use Rattle.verify80_spans.specs.declared.span.Span.{Span}
-use Rattle.verify80_spans.specs.declared.byte_span.ByteSpan.{ByteSpan}
-use Rattle.verify80_spans.specs.declared.byte_span.Outcome.{Outcome}
-use Rattle.verify80_states.specs.declared.states.cells.Cells.{Cells}
-use Rattle.verify80_states.specs.declared.states.words.Words.{Words}
-use Rattle.verify80_states.specs.declared.states.state.State.{State}
-use Rattle.verify80_spans.specs.Span.{any_word, any_byte, word_alone, byte_alone, is_alone, next_span, previous_span, next_byte, previous_byte, sum_span, sum_carries, high_of, operated, rotated, complemented, uncarried}
-use Rattle.verify80_states.specs.declared.states.variables.Variable.{Variable}
-use Rattle.verify80_states.specs.Variables.{takes}
-use Rattle.verify80_states.specs.Cells.{bytes_at, stored_cells}
-use Rattle.verify80_states.specs.State.{byte_of, words_of, with_byte, with_words, with_outcome, with_carry, with_any_flags, compared_with, no_words, pushed, popped}
+use Rattle.verify80_spans.specs.declared.{span.Span.Span, byte_span.ByteSpan.ByteSpan, byte_span.Outcome.Outcome}
+use Rattle.verify80_states.specs.declared.{states.cells.Cells.Cells, states.pairs.PairSpan.PairSpan, states.words.Words.Words, states.state.State.State, states.variables.Variable.Variable}
+use Rattle.verify80_spans.specs.Span.{any_byte, word_alone, byte_alone, is_alone, next_byte, previous_byte, sum_carries, high_of, operated, rotated, complemented, uncarried}
+use Rattle.verify80_states.specs.{Variables.takes, Cells.bytes_at, Cells.stored_cells}
+use Rattle.verify80_states.specs.State.{any_pair, pair_of_words, pair_of_halves, next_pair, previous_pair, sum_pair, byte_of, span_of, with_byte, with_span, with_outcome, with_carry, with_any_flags, compared_with, no_words, pushed, popped}
 
 -- what stands in a table at an address, if anything does
 abbrev pub entry_in : {A : Type 0} → Option (Option A) → Option A
@@ -42,9 +30,9 @@ abbrev pub code_or : Option ℕ → (otherwise : ByteSpan) → ByteSpan
 code_or None otherwise = otherwise
 code_or (Some byte) otherwise = byte_alone byte
 
-abbrev pub known_word : Option Span → Span
-known_word None = any_word
-known_word (Some span) = span
+abbrev pub known_pair : Option PairSpan → PairSpan
+known_pair None = any_pair
+known_pair (Some word) = word
 
 -- a byte that is read at an address: only code and cells are known; and one where a pair points to
 abbrev pub loaded_at : List (Option ℕ) → Cells → ℕ → ByteSpan
@@ -116,11 +104,11 @@ abbrev pub index_words : State → IndexPair → Span
 index_words s IndexBc = s.bc.words
 index_words s IndexDe = s.de.words
 
-abbrev pub popped_to : StackPair → Span → State → State
-popped_to StackBc span s = with_words s Bc span
-popped_to StackDe span s = with_words s De span
-popped_to StackHl span s = with_words s Hl span
-popped_to Psw span s = with_any_flags (with_byte s A (high_of span))
+abbrev pub popped_to : StackPair → PairSpan → State → State
+popped_to StackBc word s = with_span s Bc word
+popped_to StackDe word s = with_span s De word
+popped_to StackHl word s = with_span s Hl word
+popped_to Psw word s = with_any_flags (with_byte s A (high_of word.words))
 
 -- registers and flags after an instruction
 abbrev pub registers_after : (code : List (Option ℕ)) → Instr → State → State
@@ -131,10 +119,10 @@ registers_after code (Inr register) s = counted register (next_byte (byte_of s r
 registers_after code (Dcr register) s = counted register (previous_byte (byte_of s register)) s
 registers_after code InrMemory s = with_outcome s (record { value = next_byte (loaded code s.cells s.hl.words); carry = s.carry })
 registers_after code DcrMemory s = with_outcome s (record { value = previous_byte (loaded code s.cells s.hl.words); carry = s.carry })
-registers_after code (Lxi pair n) s = with_words s pair (word_alone n)
-registers_after code (Inx pair) s = with_words s pair (next_span (words_of s pair))
-registers_after code (Dcx pair) s = with_words s pair (previous_span (words_of s pair))
-registers_after code (Dad pair) s = with_carry (with_words s Hl (sum_span s.hl.words (words_of s pair))) (added_carry s pair)
+registers_after code (Lxi pair n) s = with_span s pair (pair_of_words (word_alone n))
+registers_after code (Inx pair) s = with_span s pair (next_pair (span_of s pair))
+registers_after code (Dcx pair) s = with_span s pair (previous_pair (span_of s pair))
+registers_after code (Dad pair) s = with_carry (with_span s Hl (sum_pair s.hl (span_of s pair))) (added_carry s pair)
 registers_after code (Operate operation operand) s = after_operation operation (is_accumulator operand) (operand_bytes code operand s) s
 registers_after code (Rotate rotation) s = with_carry (with_byte s A (rotated rotation s.a s.carry)) None
 registers_after code Daa s = with_any_flags (with_byte s A any_byte)
@@ -146,20 +134,20 @@ registers_after code (Lda address) s = with_byte s A (loaded_at code s.cells add
 registers_after code (In port) s = with_byte s A any_byte
 registers_after code (Lhld address) s = with_byte (with_byte s H (loaded_at code s.cells (ahead address 1))) L (loaded_at code s.cells address)
 registers_after code Xchg s = exchanged_pairs s
-registers_after code (Pop pair) s = popped_to pair (known_word s.words.first) s
-registers_after code Xthl s = with_words s Hl (known_word s.words.first)
+registers_after code (Pop pair) s = popped_to pair (known_pair s.words.first) s
+registers_after code Xthl s = with_span s Hl (known_pair s.words.first)
 registers_after code instr s = s
 
 -- the word that is pushed: PSW is A and the flags
-abbrev pub pushed_words : State → StackPair → Span
-pushed_words s StackBc = s.bc.words
-pushed_words s StackDe = s.de.words
-pushed_words s StackHl = s.hl.words
-pushed_words s Psw = record { first = 256 * s.a.first; last = 256 * s.a.last + 255 }
+abbrev pub pushed_pair : State → StackPair → PairSpan
+pushed_pair s StackBc = s.bc
+pushed_pair s StackDe = s.de
+pushed_pair s StackHl = s.hl
+pushed_pair s Psw = pair_of_halves s.a any_byte
 
 -- a call that is taken pushes the address after it
 abbrev pub called : (taken : Bool) → (next : ℕ) → Words → Words
-called true next w = pushed w (Some (word_alone next))
+called true next w = pushed w (Some (pair_of_words (word_alone next)))
 called false next w = w
 
 -- a return that is taken pops it
@@ -169,9 +157,9 @@ returned false w = w
 
 -- the words on the stack after an instruction at which the processor goes the other way or not
 abbrev pub words_after : Instr → (taken : Bool) → (next : ℕ) → State → Words
-words_after (Push pair) taken next s = pushed s.words (Some (pushed_words s pair))
+words_after (Push pair) taken next s = pushed s.words (Some (pushed_pair s pair))
 words_after (Pop pair) taken next s = popped s.words
-words_after Xthl taken next s = record s.words { first = Some s.hl.words }
+words_after Xthl taken next s = record s.words { first = Some s.hl }
 words_after (Call to) taken next s = called taken next s.words
 words_after (CallIf condition to) taken next s = called taken next s.words
 words_after (Rst number) taken next s = called taken next s.words

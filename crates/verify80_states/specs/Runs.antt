@@ -1,24 +1,12 @@
 -- What a table of states says of runs. (This project's own.)
 use Rattle.std.specs.Prelude.{◌≡◌, ℕ, Bool, true, List, Option, Some, length, slice_get, slice_index}
 use Rattle.decode80.specs.declared.fetching.Fetched.{Fetched}
-use Rattle.image80.specs.Image.{Located}
-use Rattle.image80.specs.Regions.{AreRegions, in_data}
-use Rattle.machine80.specs.Effects.{target}
-use Rattle.machine80.specs.Step.{Machine, Next, step_of}
+use Rattle.image80.specs.{Image.Located, Regions.AreRegions, Regions.in_data}
+use Rattle.machine80.specs.{Effects.target, Step.Machine, Step.Next, Step.step_of, Run.world_of}
 use Rattle.machine80.specs.World.{World, FetchesInside, IsNewest, fetched_by, places_then, returns}
-use Rattle.machine80.specs.Run.{world_of}
-use Rattle.verify80.specs.Looking.{code_of}
-use Rattle.verify80.specs.Starts.{IsStart, IsWorldFrom, NeverGoesWrongFromPowerOn}
-use Rattle.verify80.specs.Reached.{StandsOnWalk, StaysOnWalks}
-use Rattle.verify80.specs.Boards.{LeavesProgram, with_memory}
-use Rattle.verify80_states.specs.declared.fitting.fitting.Placed.{Placed}
-use Rattle.verify80_states.specs.Bytes.{HoldsBytes}
-use Rattle.verify80_states.specs.State.{Holds}
-use Rattle.verify80_states.specs.Steps.{AreCodeBytes, HasCode}
-use Rattle.verify80_states.specs.declared.states.variables.Variable.{Variable}
-use Rattle.verify80_states.specs.Variables.{HoldsSet}
-use Rattle.verify80_states.specs.Calls.{ReturnFacts, Owes, IsBehind}
-use Rattle.verify80_states.specs.FittingTable.{Fits}
+use Rattle.verify80.specs.{Looking.code_of, Starts.IsStart, Starts.IsWorldFrom, Starts.NeverGoesWrongFromPowerOn, Reached.StandsOnWalk, Reached.StaysOnWalks, Boards.LeavesProgram, Boards.with_memory}
+use Rattle.verify80_states.specs.declared.{fitting.fitting.Placed.Placed, states.variables.Variable.Variable}
+use Rattle.verify80_states.specs.{Bytes.HoldsBytes, State.Holds, Steps.AreCodeBytes, Steps.HasCode, Variables.HoldsSet, Calls.ReturnFacts, Calls.Owes, Calls.IsBehind, FittingTable.Fits}
 
 -- one of the states that the table has at a world's address holds, and the world's memory has the image's code
 pub record KeepsTo (image : Located) (table : List Placed) (w : World) : Type 0 where

@@ -2,26 +2,16 @@
 -- of its stack, and bytes of memory; and what becomes of that when registers, flags and words are written. (The registers and flags are those of the
 -- Intel 8080 Microcomputer Systems User's Manual, chapter 4; that they are followed by spans is this project's own.)
 use Rattle.std.specs.Prelude.{◌≡◌, ◌≢◌, ◌≤◌, ◌==◌, ◌⊎◌, ℕ, Bool, true, List, Option, None, Some, nat_lt, slice_get, if◌then◌else◌}
-use Rattle.decode80.specs.declared.register.Register.{Register}
+use Rattle.decode80.specs.declared.{register.Register.Register, pair.Pair.Pair}
 use Rattle.decode80.specs.declared.register.Register.TheVariants.{A, B, C, D, E, H, L}
-use Rattle.decode80.specs.declared.pair.Pair.{Pair}
 use Rattle.decode80.specs.declared.pair.Pair.TheVariants.{Bc, De, Hl, Sp}
 use Rattle.decode80.specs.Fetch.{ahead}
-use Rattle.image80.specs.Range.{in_range}
-use Rattle.image80.specs.Regions.{Areas, top_of}
-use Rattle.machine80.specs.declared.flags.Flags.{Flags}
-use Rattle.machine80.specs.declared.registers.Registers.{Registers}
-use Rattle.machine80.specs.Cpu.{word, register_of}
-use Rattle.machine80.specs.Effects.{byte_in, word_in}
-use Rattle.machine80.specs.Step.{Machine}
-use Rattle.verify80_spans.specs.declared.span.Span.{Span}
-use Rattle.verify80_spans.specs.declared.byte_span.ByteSpan.{ByteSpan}
-use Rattle.verify80_spans.specs.declared.byte_span.Outcome.{Outcome}
-use Rattle.verify80_states.specs.declared.states.pairs.PairSpan.{PairSpan}
-use Rattle.verify80_states.specs.declared.states.words.Words.{Words}
-use Rattle.verify80_states.specs.declared.states.state.State.{State}
-use Rattle.verify80_spans.specs.Span.{Within, ByteWithin, IsInside, IsByteInside, IsKnown, any_word, any_byte, is_byte_alone, meet, meet_bytes, high_of, low_of, joined, zero_of, sign_of}
-use Rattle.verify80_states.specs.declared.states.variables.Variable.{Variable}
+use Rattle.image80.specs.{Range.in_range, Regions.Areas, Regions.top_of}
+use Rattle.machine80.specs.declared.{flags.Flags.Flags, registers.Registers.Registers}
+use Rattle.machine80.specs.{Cpu.word, Cpu.register_of, Effects.byte_in, Step.Machine}
+use Rattle.verify80_spans.specs.declared.{span.Span.Span, byte_span.ByteSpan.ByteSpan, byte_span.Outcome.Outcome}
+use Rattle.verify80_states.specs.declared.{states.pairs.PairSpan.PairSpan, states.words.Words.Words, states.state.State.State, states.variables.Variable.Variable}
+use Rattle.verify80_spans.specs.Span.{Within, ByteWithin, IsInside, IsByteInside, IsKnown, any_word, any_byte, byte_alone, is_byte_alone, next_span, previous_span, next_byte, previous_byte, sum_span, sum_of, meet, meet_bytes, high_of, low_of, joined, zero_of, sign_of}
 use Rattle.verify80_states.specs.Variables.{is_bit}
 use Rattle.verify80_states.specs.Cells.{HoldsCells, AreCellsInside, AreQuietCells, bytes_at, no_cells, cut_cells}
 
@@ -52,16 +42,16 @@ pub record HoldsRegisters (s : State) (r : Registers) : Type 0 where
   pub flags : HoldsFlags s.zero s.carry s.sign s.compared r.a r.flags
 
 -- a word of a span lies at an address from the stack pointer up, both of its bytes on the stack
-pub record IsOnStack (regions : Areas) (span : Span) (memory : List ℕ) (sp at : ℕ) : Type 0 where
+pub record IsOnStack (regions : Areas) (pair : PairSpan) (memory : List ℕ) (sp at : ℕ) : Type 0 where
   pub low : in_range regions.stack at ≡ true
   pub high : in_range regions.stack (ahead at 1) ≡ true
   pub above : sp ≤ at
   pub filled : sp ≢ top_of regions
-  pub within : Within span (word_in memory at)
+  pub within : HoldsPair pair (byte_in memory (ahead at 1)) (byte_in memory at)
 
-abbrev pub HoldsWord : Areas → Option Span → List ℕ → (sp at : ℕ) → Type 0
+abbrev pub HoldsWord : Areas → Option PairSpan → List ℕ → (sp at : ℕ) → Type 0
 HoldsWord regions None memory sp at = Unit {0}
-HoldsWord regions (Some span) memory sp at = IsOnStack regions span memory sp at
+HoldsWord regions (Some pair) memory sp at = IsOnStack regions pair memory sp at
 
 -- what a state says of the words from the stack pointer on
 pub record HoldsWords (regions : Areas) (w : Words) (memory : List ℕ) (sp : ℕ) : Type 0 where
@@ -99,10 +89,10 @@ abbrev pub IsCopyInside : (inner outer : Register) → Type 0
 IsCopyInside inner A = Unit {0}
 IsCopyInside inner outer = inner ≡ outer
 
-abbrev pub IsWordInside : (inner outer : Option Span) → Type 0
+abbrev pub IsWordInside : (inner outer : Option PairSpan) → Type 0
 IsWordInside inner None = Unit {0}
-IsWordInside None (Some t) = ⊥
-IsWordInside (Some s) (Some t) = IsInside s t
+IsWordInside None (Some q) = ⊥
+IsWordInside (Some p) (Some q) = IsPairInside p q
 
 pub record AreWordsInside (inner outer : Words) : Type 0 where
   pub first : IsWordInside inner.first outer.first
@@ -188,11 +178,11 @@ byte_of s H = high_of s.hl.words
 byte_of s L = s.hl.low
 
 -- what a pair may be: nothing is known of SP
-abbrev pub words_of : State → Pair → Span
-words_of s Bc = s.bc.words
-words_of s De = s.de.words
-words_of s Hl = s.hl.words
-words_of s Sp = any_word
+abbrev pub span_of : State → Pair → PairSpan
+span_of s Bc = s.bc
+span_of s De = s.de
+span_of s Hl = s.hl
+span_of s Sp = any_pair
 
 -- the copy of A when a register is written, and when a pair is
 abbrev pub copy_without : Register → (copy : Register) → Register
@@ -225,11 +215,11 @@ with_byte s H byte = record s { hl = pair_of_halves byte s.hl.low; copy = copy_w
 with_byte s L byte = record s { hl = pair_of_halves (high_of s.hl.words) byte; copy = copy_without L s.copy }
 
 -- a pair is written
-abbrev pub with_words : State → Pair → Span → State
-with_words s Bc span = record s { bc = pair_of_words span; copy = copy_outside Bc s.copy }
-with_words s De span = record s { de = pair_of_words span; copy = copy_outside De s.copy }
-with_words s Hl span = record s { hl = pair_of_words span; copy = copy_outside Hl s.copy }
-with_words s Sp span = s
+abbrev pub with_span : State → Pair → PairSpan → State
+with_span s Bc span = record s { bc = span; copy = copy_outside Bc s.copy }
+with_span s De span = record s { de = span; copy = copy_outside De s.copy }
+with_span s Hl span = record s { hl = span; copy = copy_outside Hl s.copy }
+with_span s Sp span = s
 
 -- the flags are those of a result
 abbrev pub with_outcome : State → Outcome → State
@@ -254,6 +244,16 @@ cut_high p byte = record p { words = meet p.words (joined byte any_byte) }
 abbrev pub cut_low : PairSpan → ByteSpan → PairSpan
 cut_low p byte = record { words = meet p.words (joined (high_of p.words) (meet_bytes p.low byte)); low = meet_bytes p.low byte }
 
+-- one more, one less, and the sums with another: the low byte is followed by itself too
+abbrev pub next_pair : PairSpan → PairSpan
+next_pair p = cut_low (pair_of_words (next_span p.words)) (next_byte p.low)
+
+abbrev pub previous_pair : PairSpan → PairSpan
+previous_pair p = cut_low (pair_of_words (previous_span p.words)) (previous_byte p.low)
+
+abbrev pub sum_pair : PairSpan → PairSpan → PairSpan
+sum_pair p q = cut_low (pair_of_words (sum_span p.words q.words)) (sum_of p.low q.low (byte_alone 0)).value
+
 abbrev pub cut_copy : State → Register → ByteSpan → State
 cut_copy s A byte = s
 cut_copy s B byte = record s { bc = cut_high s.bc byte }
@@ -268,8 +268,8 @@ abbrev pub cut : State → ByteSpan → State
 cut s byte = record (cut_copy s s.copy byte) { a = meet_bytes s.a byte; cells = cut_cells s.source byte s.cells }
 
 -- a word is pushed, and one is popped
-abbrev pub pushed : Words → Option Span → Words
-pushed w span = record { first = span; second = w.first; third = w.second; fourth = w.third }
+abbrev pub pushed : Words → Option PairSpan → Words
+pushed w pair = record { first = pair; second = w.first; third = w.second; fourth = w.third }
 
 abbrev pub popped : Words → Words
 popped w = record { first = w.second; second = w.third; third = w.fourth; fourth = None }

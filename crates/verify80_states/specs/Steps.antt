@@ -2,8 +2,7 @@
 use Rattle.std.specs.Prelude.{◌≡◌, ℕ, Bool, true, false, List, Option, None, Some, slice_index, if◌then◌else◌}
 use Rattle.decode80.specs.declared.flow.Flow.{Flow}
 use Rattle.decode80.specs.declared.flow.Flow.TheVariants.{JumpsIf, Calls, CallsIf, Returns, ReturnsIf}
-use Rattle.image80.specs.Regions.{Areas, in_code}
-use Rattle.image80.specs.Image.{Located, memory_of}
+use Rattle.image80.specs.{Regions.Areas, Regions.in_code, Image.Located, Image.memory_of}
 use Rattle.machine80.specs.declared.flags.Flags.{Flags}
 use Rattle.machine80.specs.Flags.{holds}
 use Rattle.verify80_states.specs.Following.{byte_at}

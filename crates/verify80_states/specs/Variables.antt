@@ -2,11 +2,9 @@
 -- are. (This project's own.)
 use Rattle.std.specs.Prelude.{◌≡◌, ◌==◌, ◌&&◌, ◌||◌, ◌/◌, ◌%◌, ◌^◌, ℕ, Bool, true, not, List, Some, nat_le, nat_lt, slice_get}
 use Rattle.machine80.specs.Effects.{byte_in}
-use Rattle.verify80_spans.specs.declared.span.Span.{Span}
-use Rattle.verify80_spans.specs.declared.byte_span.ByteSpan.{ByteSpan}
+use Rattle.verify80_spans.specs.declared.{span.Span.Span, byte_span.ByteSpan.ByteSpan}
 use Rattle.verify80_spans.specs.Span.{ByteWithin, IsByteInside}
-use Rattle.verify80_states.specs.declared.states.cells.Cell.{Cell}
-use Rattle.verify80_states.specs.declared.states.variables.Variable.{Variable}
+use Rattle.verify80_states.specs.declared.{states.cells.Cell.Cell, states.variables.Variable.Variable}
 
 -- whether one of the 64 bits of a set is set
 abbrev pub is_bit : (set number : ℕ) → Bool

@@ -1,35 +1,5 @@
 -- On a board each world keeps to the table of states, so its stores go as they are listed.
-use Rattle.std.specs.Prelude.{◌≡◌, ◌≢◌, ◌⊎◌, ◌&&◌, ℕ, Bool, true, false, not, List, [], All, Any, Contains, Option, None, Some, length, refl}
-use Rattle.std.specs.Option.{option_map_or}
-use Rattle.std.proofs.Common.{◌∙◌, subst, sym, ap, inl, inr, get_or, true≢false}
-use Rattle.std.proofs.lemmas.List.Elements.{Contains-get_or}
-use Rattle.decode80.specs.declared.instr.Instr.{Instr}
-use Rattle.decode80.specs.declared.instr.Instr.TheVariants.{Pchl}
-use Rattle.decode80.specs.declared.fetching.Fetched.{Fetched}
-use Rattle.image80.specs.declared.range.Range.{Range}
-use Rattle.image80.specs.Regions.{Areas, in_data, targets_at}
-use Rattle.image80.specs.Image.{Located}
-use Rattle.machine80.specs.Effects.{pointed_bytes, target}
-use Rattle.machine80.specs.Cpu.{hl_of}
-use Rattle.machine80.specs.Step.{Machine, leads_outside}
-use Rattle.machine80.specs.World.{World, IsNewest, fetched_by, places_after, places_then, returns}
-use Rattle.machine80.specs.Run.{world_of}
-use Rattle.verify80.specs.Looking.{code_of, declared_targets, is_pchl}
-use Rattle.verify80.specs.Starts.{IsStart, NeverGoesWrongFromPowerOn}
-use Rattle.verify80.specs.Reached.{StandsOnWalk, StaysOnWalks}
-use Rattle.verify80.specs.Boards.{Disturbs, fetched_anywhere, StaysInside, Executes, OnBoard, with_respected_pointer, respected_pointer, begins, disturbed, executed, Anywhere, KeepsPromise, MayStart}
-use Rattle.verify80.specs.Reached.{AreReached}
-use Rattle.verify80_spans.specs.declared.span.Span.{Span}
-use Rattle.verify80_states.specs.declared.fitting.fitting.Placed.{Placed}
-use Rattle.verify80_states.specs.Bytes.{HoldsBytes, BytesStayBytes}
-use Rattle.verify80_states.specs.Runs.{KeepsTo, KeepsToCalls, RunsKeepTo, IsKnown}
-use Rattle.verify80_stores.specs.declared.stores.OpenStore.{OpenStore}
-use Rattle.verify80_stores.specs.Pointers.{stores_by_pair}
-use Rattle.verify80_stores.specs.Stores.{GoesAsListed}
-use Rattle.verify80_stores.specs.Listing.{AreKnown, AreAllBelow, AreOpenBelow, is_at, is_marked_at}
-use Rattle.verify80_stores.specs.Shown.{AreShown, KeptTable}
-use Rattle.verify80_stores.specs.Boards.{IsListedAt, KeepsWholePromise, PromiseHoldsOnBoards, PromiseHoldsOnQuietBoards, StaysQuiet, OnQuietBoard, is_quiet}
-use Rattle.verify80_stores.specs.Boards.{begins as begins_quiet, disturbed as disturbed_quiet, executed as executed_quiet}
+use Rattle.verify80_stores.proofs.Names.{◌≡◌, ◌≢◌, ◌⊎◌, ◌&&◌, ℕ, Bool, true, false, not, List, [], All, Any, Contains, Option, None, Some, length, refl, option_map_or, ◌∙◌, subst, sym, ap, inl, inr, get_or, true≢false, Contains-get_or, Instr, Pchl, Fetched, Range, Areas, in_data, targets_at, Located, pointed_bytes, target, hl_of, Machine, leads_outside, world_of, World, IsNewest, fetched_by, places_after, places_then, returns, code_of, declared_targets, is_pchl, IsStart, NeverGoesWrongFromPowerOn, StandsOnWalk, StaysOnWalks, AreReached, Disturbs, fetched_anywhere, StaysInside, Executes, OnBoard, with_respected_pointer, respected_pointer, begins, disturbed, executed, Anywhere, KeepsPromise, MayStart, Span, Placed, HoldsBytes, BytesStayBytes, KeepsTo, KeepsToCalls, RunsKeepTo, IsKnown, OpenStore, stores_by_pair, GoesAsListed, AreShown, KeptTable, AreKnown, AreAllBelow, AreOpenBelow, is_at, is_marked_at, IsListedAt, KeepsWholePromise, PromiseHoldsOnBoards, PromiseHoldsOnQuietBoards, StaysQuiet, OnQuietBoard, is_quiet, begins_quiet, disturbed_quiet, executed_quiet}
 use Rattle.verify80_stores.proofs.StoreLemmas.{KeepsToEach, any_by, goes_if, jump_there, listed_or_not}
 
 -- what the ports hold counts for nothing

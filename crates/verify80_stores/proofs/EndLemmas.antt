@@ -1,8 +1,5 @@
 -- How far data goes on.
-use Rattle.std.specs.Prelude.{◌≡◌, ◌⊎◌, ℕ, ◌+◌, ◌<◌, ◌≤◌, true, false}
-use Rattle.std.proofs.Common.{subst, inl, inr, arith}
-use Rattle.image80.specs.Regions.{Areas, in_data}
-use Rattle.verify80_stores.specs.DataReach.{ReachesTo}
+use Rattle.verify80_stores.proofs.Names.{◌≡◌, ◌⊎◌, ℕ, ◌+◌, ◌<◌, ◌≤◌, true, false, subst, inl, inr, arith, Areas, in_data, ReachesTo}
 
 first_or_later : (a n : ℕ) → n ≤ a → (a ≡ n) ⊎ (n + 1 ≤ a)
 first_or_later a n h = grind arith

@@ -1,9 +1,5 @@
 -- Spans inside others.
-use Rattle.std.specs.Prelude.{ℕ}
-use Rattle.std.proofs.Common.{arith}
-use Rattle.std.proofs.lemmas.Bool.Decides.{nat_tests}
-use Rattle.verify80_spans.specs.declared.span.Span.{Span}
-use Rattle.verify80_spans.specs.Span.{Within, IsInside, hull}
+use Rattle.verify80_stores.proofs.Names.{ℕ, arith, nat_tests, Span, Within, IsInside, hull}
 
 pub inside_within : (s t : Span) (n : ℕ) → IsInside s t → Within s n → Within t n
 inside_within s t n inside within = record { above = omega arith; below = omega arith }

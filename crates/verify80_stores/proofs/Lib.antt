@@ -9,3 +9,4 @@ mod StoreLemmas
 mod BoardLemmas
 mod WatchedLemmas
 mod StackLemmas
+mod Names

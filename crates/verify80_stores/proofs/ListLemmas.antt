@@ -1,18 +1,6 @@
 -- Lists that grow by address.
-use Rattle.std.specs.Prelude.{◌≡◌, ◌⊎◌, ℕ, ◌+◌, ◌<◌, Bool, true, false, List, [], ◌∷◌, ◌++◌, Any, Contains, Option, Some, slice_get}
-use Rattle.std.proofs.Common.{subst, sym, ap, ◌∙◌, inl, inr, arith, get_or}
-use Rattle.std.proofs.lemmas.List.Elements.{Contains-get_or, Contains-append_left, Contains-push, Contains-push_cases, All-contains, All-nil, All-push, All-weaker}
-use Rattle.std.proofs.lemmas.List.Quantifiers.{all_pairs_push}
-use Rattle.decode80.specs.declared.fetching.Fetched.{Fetched}
-use Rattle.verify80_spans.specs.declared.span.Span.{Span}
-use Rattle.verify80_stores.specs.declared.stores.OpenStore.{OpenStore}
-use Rattle.verify80_states.specs.Following.{entry_in}
-use Rattle.verify80_stores.specs.Pointers.{stores_by_pair}
-use Rattle.verify80_stores.specs.Listing.{AreAllBelow, AreOpenBelow, IsListed, is_marked_at}
-
--- below a bound, or at it
-split : (a n : ℕ) → a < n + 1 → (a < n) ⊎ (a ≡ n)
-split a n h = grind arith
+use Rattle.verify80_stores.proofs.Names.{◌≡◌, ◌⊎◌, ℕ, ◌+◌, ◌<◌, Bool, true, false, List, [], ◌∷◌, ◌++◌, Any, Contains, Option, Some, slice_get, subst, sym, ap, ◌∙◌, inl, inr, arith, get_or, Contains-get_or, Contains-append_left, Contains-push, Contains-push_cases, All-contains, All-nil, All-push, All-weaker, all_pairs_push, Fetched, Span, OpenStore, entry_in, stores_by_pair, AreAllBelow, AreOpenBelow, IsListed, is_marked_at}
+use Rattle.verify80_stores.proofs.VecLemmas.{split}
 
 pub all_none : (is : ℕ → Bool) → AreAllBelow is 0 []
 all_none is = record {

@@ -1,9 +1,5 @@
 -- What is reached at an address.
-use Rattle.std.specs.Prelude.{◌≡◌, ◌<◌, ℕ, zero, suc, List, [], ◌∷◌, Option, None, Some, Ok, length, slice_index_or, refl}
-use Rattle.std.proofs.Common.{arith}
-use Rattle.decode80.specs.declared.fetching.Fetched.{Fetched}
-use Rattle.frames80.specs.Code.{Code}
-use Rattle.verify80.specs.Reached.{AreReached, IsReached, found_at}
+use Rattle.verify80_stores.proofs.Names.{◌≡◌, ◌<◌, ℕ, zero, suc, List, [], ◌∷◌, Option, None, Some, Ok, length, slice_index_or, refl, arith, Fetched, Code, AreReached, IsReached, found_at}
 
 -- an entry that is there is within the table
 pub entry_within : {A : Type 0} (table : List (Option A)) (at : ℕ) (x : A) → slice_index_or table at None ≡ Some x → at < length table

@@ -1,25 +1,6 @@
 -- What is shown by one table, and by another one too.
-use Rattle.std.specs.Prelude.{◌≡◌, ◌≢◌, ◌⊎◌, ◌<◌, ◌+◌, ◌&&◌, ℕ, suc, Bool, true, false, List, [], ◌∷◌, Any, Option, Some, length, slice_set, refl}
-use Rattle.std.proofs.Common.{subst, sym, ◌∙◌, inl, inr, arith, get_or-set_other, true≢false}
-use Rattle.std.proofs.lemmas.List.{get_or-set_same, length-set}
-use Rattle.decode80.specs.declared.fetching.Fetched.{Fetched}
-use Rattle.image80.specs.declared.range.Range.{Range}
-use Rattle.image80.specs.Range.{in_ranges}
-use Rattle.image80.specs.Regions.{Areas, in_data}
-use Rattle.image80.specs.Image.{Located}
-use Rattle.verify80.specs.Looking.{declared_targets}
-use Rattle.verify80_spans.specs.declared.span.Span.{Span}
-use Rattle.verify80_states.specs.declared.fitting.fitting.Placed.{Placed}
-use Rattle.verify80_states.specs.Marks.{is_marked}
-use Rattle.verify80_stores.specs.Boards.{is_quiet}
-use Rattle.verify80_stores.specs.Opening.{StaysIn}
-use Rattle.verify80_states.specs.Runs.{IsKept}
-use Rattle.verify80.specs.Reached.{found_at}
-use Rattle.verify80_stores.specs.Listing.{AreOpenMarks, AreSpans}
-use Rattle.verify80_stores.specs.Shown.{AreShown, BothBelow, IsShutAt, KeptTable}
-use Rattle.verify80_stores.proofs.ReachedLemmas.{entry_within}
-use Rattle.verify80_stores.proofs.TallyLemmas.{marks_set}
-use Rattle.verify80_stores.proofs.VecLemmas.{nat_same}
+use Rattle.verify80_stores.proofs.Names.{◌≡◌, ◌≢◌, ◌⊎◌, ◌<◌, ◌+◌, ◌&&◌, ℕ, suc, Bool, true, false, List, [], ◌∷◌, Any, Option, Some, length, slice_set, refl, subst, sym, ◌∙◌, inl, inr, arith, get_or-set_other, true≢false, get_or-set_same, length-set, Fetched, Range, in_ranges, Areas, in_data, Located, declared_targets, found_at, Span, Placed, is_marked, IsKept, is_quiet, StaysIn, AreOpenMarks, AreSpans, AreShown, BothBelow, IsShutAt, KeptTable}
+use Rattle.verify80_stores.proofs.{ReachedLemmas.entry_within, TallyLemmas.marks_set, VecLemmas.nat_same}
 
 first_of : (a b : Bool) → (a && b) ≡ true → a ≡ true
 first_of true b h = refl

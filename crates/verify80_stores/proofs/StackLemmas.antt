@@ -1,20 +1,7 @@
 -- Marked addresses that are closed are all that the main program may reach with SP not set.
-use Rattle.std.specs.Prelude.{◌≡◌, ◌<◌, ◌+◌, ◌==◌, ◌&&◌, ◌||◌, ℕ, Bool, true, false, not, List, [], ◌∷◌, Some, None, Result, Ok, Err, length, slice_index, refl}
-use Rattle.std.specs.List.{list_all, list_any}
-use Rattle.std.specs.Result.{result_ok}
-use Rattle.std.proofs.Common.{◌∙◌, ap, sym, subst, arith, inl, inr, true≢false}
-use Rattle.std.proofs.lemmas.Bool.{cases_lt, eqb-true}
-use Rattle.std.proofs.lemmas.List.{get_or_past}
-use Rattle.decode80.specs.declared.fetching.Fetched.{Fetched}
-use Rattle.decode80.specs.declared.fetching.FetchFault.{FetchFault}
-use Rattle.decode80.specs.Facts.{flow}
-use Rattle.decode80.specs.Fetch.{fetch as fetch_in}
-use Rattle.image80.specs.Image.{Located, memory_of}
-use Rattle.image80.specs.Regions.{in_code}
+use Rattle.verify80_stores.proofs.Names.{◌≡◌, ◌<◌, ◌+◌, ◌==◌, ◌&&◌, ◌||◌, ℕ, Bool, true, false, not, List, [], ◌∷◌, Some, None, Result, Ok, Err, length, slice_index, refl, list_all, list_any, result_ok, ◌∙◌, ap, sym, subst, arith, inl, inr, true≢false, cases_lt, eqb-true, get_or_past, Fetched, FetchFault, flow, Located, memory_of, in_code, HasAt, IsUnset, starts, goes_on, SetsStack, sets_sp, uses_sp, is_marked, AreClosed, IsClosedAt, LeadsToMarked}
+use Rattle.decode80.specs.{Fetch.fetch as fetch_in}
 use Rattle.machine80.specs.Step.{fetch}
-use Rattle.verify80.specs.Boards.{HasAt, IsUnset, starts, goes_on, SetsStack, sets_sp, uses_sp}
-use Rattle.verify80_states.specs.Marks.{is_marked}
-use Rattle.verify80_stores.specs.StackPointer.{AreClosed, IsClosedAt, LeadsToMarked}
 
 -- what is fetched of an image's memory is what the image has there
 abbrev Finds : Located → (at : ℕ) → Result Fetched FetchFault → Type 0

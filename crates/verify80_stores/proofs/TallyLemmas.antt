@@ -1,23 +1,7 @@
 -- What is noted by address of the states of a table, place by place.
-use Rattle.std.specs.Prelude.{◌≡◌, ◌≢◌, ◌⊎◌, ℕ, ◌<◌, ◌+◌, Bool, true, false, List, Option, None, Some, ◌≤◌, length, slice_get, slice_index, slice_set, refl, if◌then◌else◌}
-use Rattle.std.proofs.Common.{subst, sym, ap, ◌∙◌, inl, inr, arith, get_or-set_other}
-use Rattle.std.proofs.lemmas.List.{get_or-set_same, length-set}
-use Rattle.std.proofs.lemmas.Option.{slice_get_within}
-use Rattle.decode80.specs.declared.fetching.Fetched.{Fetched}
-use Rattle.image80.specs.Regions.{Areas, in_code}
-use Rattle.image80.specs.Image.{Located, memory_of}
-use Rattle.verify80.specs.Looking.{declared_targets}
-use Rattle.verify80_spans.specs.declared.span.Span.{Span}
-use Rattle.verify80_states.specs.declared.fitting.fitting.Placed.{Placed}
-use Rattle.verify80_spans.specs.Span.{IsInside}
-use Rattle.verify80_states.specs.Following.{entry_in}
-use Rattle.verify80_states.specs.Steps.{AreCodeBytes, code_in}
-use Rattle.verify80_states.specs.Marks.{is_marked}
-use Rattle.verify80_stores.specs.Opening.{pointer_span, span_in, joined_span, StaysIn, IsLeftOpen}
-use Rattle.verify80.specs.Reached.{found_at}
-use Rattle.verify80_stores.specs.Listing.{AreOpenMarks, AreSpans, IsLeftAt, IsSpanned}
+use Rattle.verify80_stores.proofs.Names.{◌≡◌, ◌≢◌, ◌⊎◌, ℕ, ◌<◌, ◌+◌, Bool, true, false, List, Option, None, Some, ◌≤◌, length, slice_get, slice_index, slice_set, refl, if◌then◌else◌, subst, sym, ap, ◌∙◌, inl, inr, arith, get_or-set_other, get_or-set_same, length-set, slice_get_within, Fetched, Areas, in_code, Located, memory_of, declared_targets, found_at, Span, Placed, IsInside, entry_in, AreCodeBytes, code_in, is_marked, pointer_span, span_in, joined_span, StaysIn, IsLeftOpen, AreOpenMarks, AreSpans, IsLeftAt, IsSpanned}
 use Rattle.verify80_stores.proofs.HullLemmas.{hull_left, hull_right, inside_again, inside_itself}
-use Rattle.verify80_stores.proofs.VecLemmas.{nat_same, marked_here, marked_elsewhere, entry_here, entry_elsewhere}
+use Rattle.verify80_stores.proofs.VecLemmas.{nat_same, split, marked_here, marked_elsewhere, entry_here, entry_elsewhere}
 
 -- the bytes of code, one of which is set
 pub code_set : (image : Located) (code : List (Option ℕ)) (at : ℕ) (o : Option ℕ) → length code ≡ 65536 → at < 65536 → AreCodeBytes image code →
@@ -39,9 +23,6 @@ pub code_there : (image : Located) (regions : Areas) (memory : List ℕ) (at byt
 code_there image regions memory at byte o is same bytes some =
     subst (λ (r : Areas). (in_code r at ≡ true) × (slice_index (memory_of image.chunks) at ≡ byte)) same
     (subst (λ (m : List ℕ). (in_code regions at ≡ true) × (slice_index m at ≡ byte)) bytes (code_go (in_code regions at) regions memory at byte refl (sym is ∙ some)))
-
-split : (a n : ℕ) → a < n + 1 → (a < n) ⊎ (a ≡ n)
-split a n h = grind arith
 
 pub record Marks (regions : Areas) (reached : List (Option Fetched)) (table : List Placed) (n : ℕ) (marks : List Bool) : Type 0 where
   pub whole : length marks ≡ 65536

@@ -1,9 +1,5 @@
 -- Vectors by address, read and written.
-use Rattle.std.specs.Prelude.{◌≡◌, ◌≢◌, ◌⊎◌, ℕ, zero, suc, ◌<◌, Bool, true, false, List, [], ◌∷◌, Option, None, Some, length, replicate, slice_get, slice_index_or, slice_set, refl}
-use Rattle.std.proofs.Common.{sym, ◌∙◌, arith, get_or, get_or-set_other}
-use Rattle.std.proofs.lemmas.List.{get_or-set_same}
-use Rattle.verify80_states.specs.Following.{entry_in}
-use Rattle.verify80_states.specs.Marks.{is_marked}
+use Rattle.verify80_stores.proofs.Names.{◌≡◌, ◌≢◌, ◌⊎◌, ℕ, zero, suc, ◌+◌, ◌<◌, Bool, true, false, List, [], ◌∷◌, Option, None, Some, length, replicate, slice_get, slice_index_or, slice_set, refl, sym, ◌∙◌, arith, get_or, get_or-set_other, get_or-set_same, entry_in, is_marked}
 
 -- two ways to read a table of entries
 same_entry : {A : Type 0} (table : List (Option A)) (at : ℕ) → entry_in (slice_get table at) ≡ slice_index_or table at None
@@ -25,6 +21,9 @@ none_marked (suc n) (suc at) = none_marked n at
 
 pub nat_same : (a b : ℕ) → (a ≡ b) ⊎ (a ≢ b)
 nat_same a b = grind arith
+
+pub split : (a n : ℕ) → a < n + 1 → (a < n) ⊎ (a ≡ n)
+split a n h = grind arith
 
 pub marked_here : (marks : List Bool) (at : ℕ) → at < length marks → is_marked (slice_set marks at true) at ≡ true
 marked_here marks at inside = get_or-set_same marks at true false inside

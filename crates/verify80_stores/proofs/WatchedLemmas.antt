@@ -1,12 +1,5 @@
 -- The runs of the watched machine are runs from power-on.
-use Rattle.std.specs.Prelude.{ℕ, List, All}
-use Rattle.std.proofs.Common.{arith}
-use Rattle.image80.specs.Image.{Located, memory_of}
-use Rattle.machine80.specs.World.{world_at_start}
-use Rattle.verify80.specs.Soundness.{RunsBeginFromPowerOn}
-use Rattle.verify80_states.specs.Bytes.{HasBytes, HoldsBytes}
-use Rattle.verify80_stores.specs.declared.stores.OpenStore.{OpenStore}
-use Rattle.verify80_stores.specs.Stores.{AreStoresOf, WatchedRunsGoAsListed}
+use Rattle.verify80_stores.proofs.Names.{ℕ, List, All, arith, Located, memory_of, world_at_start, RunsBeginFromPowerOn, HasBytes, HoldsBytes, OpenStore, AreStoresOf, WatchedRunsGoAsListed}
 
 holds_bytes : (image : Located) (inputs : List (List ℕ)) (outputs : List (ℕ × ℕ)) → HasBytes (memory_of image.chunks) → All HasBytes inputs → HoldsBytes (world_at_start image inputs outputs).machine
 holds_bytes image inputs outputs memory waiting = record {

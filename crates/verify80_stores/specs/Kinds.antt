@@ -2,8 +2,7 @@
 use Rattle.std.specs.Prelude.{Bool}
 use Rattle.decode80.specs.declared.instr.Instr.{Instr}
 use Rattle.verify80.specs.Looking.{is_pchl}
-use Rattle.verify80_stores.specs.declared.listing.Kind.{Kind}
-use Rattle.verify80_stores.specs.declared.listing.Kind.TheVariants.{Store, Jump}
+use Rattle.verify80_stores.specs.declared.{listing.Kind.Kind, listing.Kind.TheVariants.Store, listing.Kind.TheVariants.Jump}
 use Rattle.verify80_stores.specs.Pointers.{stores_by_pair}
 
 abbrev pub is_of : Kind → Instr → Bool

@@ -1,23 +1,16 @@
 -- What is listed of the instructions that are reached, by the states that a table has for them. (This project's own.)
 use Rattle.std.specs.Prelude.{◌≡◌, ◌<◌, ◌&&◌, ◌||◌, ℕ, Bool, true, false, List, All, AllPairs, Any, Contains, Option, None, Some, slice_get}
-use Rattle.decode80.specs.declared.instr.Instr.{Instr}
-use Rattle.decode80.specs.declared.fetching.Fetched.{Fetched}
-use Rattle.image80.specs.Regions.{Areas, AreRegions}
-use Rattle.image80.specs.Image.{Located}
-use Rattle.machine80.specs.Step.{Machine}
-use Rattle.machine80.specs.World.{World}
-use Rattle.verify80.specs.Starts.{NeverGoesWrongFromPowerOn}
+use Rattle.decode80.specs.declared.{instr.Instr.Instr, fetching.Fetched.Fetched}
+use Rattle.image80.specs.{Regions.Areas, Regions.AreRegions, Image.Located}
+use Rattle.machine80.specs.{Step.Machine, World.World}
+use Rattle.verify80.specs.{Starts.NeverGoesWrongFromPowerOn, Reached.StaysOnWalks, Reached.found_at, Looking.declared_targets}
 use Rattle.verify80.specs.Boards.{Anywhere, Executes, IsGuarded, KeepsPromise, KeepsToWalks, MayStart, OnBoard, with_respected_pointer, sets_sp}
-use Rattle.verify80.specs.Reached.{StaysOnWalks, found_at}
-use Rattle.verify80.specs.Looking.{declared_targets}
 use Rattle.verify80_spans.specs.declared.span.Span.{Span}
 use Rattle.verify80_states.specs.declared.fitting.fitting.Placed.{Placed}
 use Rattle.verify80_stores.specs.declared.stores.OpenStore.{OpenStore}
 use Rattle.verify80_spans.specs.Span.{IsInside}
-use Rattle.verify80_states.specs.Following.{entry_in}
-use Rattle.verify80_states.specs.Marks.{is_marked}
-use Rattle.verify80_stores.specs.Pointers.{stores_by_pair}
-use Rattle.verify80_stores.specs.Opening.{pointer_span, StaysIn, IsLeftOpen}
+use Rattle.verify80_states.specs.{Following.entry_in, Marks.is_marked}
+use Rattle.verify80_stores.specs.{Pointers.stores_by_pair, Opening.pointer_span, Opening.StaysIn, Opening.IsLeftOpen}
 
 -- no run of the image goes wrong, and each stays on walks; and so it is on boards
 pub record AreKnown (image : Located) (bytes : ℕ) : Type 0 where

@@ -1,8 +1,6 @@
 -- What a state leaves open of an instruction that stores or jumps by a register pair. (This project's own.)
 use Rattle.std.specs.Prelude.{◌≡◌, ◌⊎◌, ℕ, true, false, Contains, List, Option, None, Some}
-use Rattle.decode80.specs.declared.instr.Instr.{Instr}
-use Rattle.decode80.specs.declared.fetching.Fetched.{Fetched}
-use Rattle.decode80.specs.declared.storing.Storing.{Storing}
+use Rattle.decode80.specs.declared.{instr.Instr.Instr, fetching.Fetched.Fetched, storing.Storing.Storing}
 use Rattle.decode80.specs.declared.storing.Storing.TheVariants.{Nowhere, Byte, Word, ThroughHl, Through}
 use Rattle.decode80.specs.Facts.{storing}
 use Rattle.image80.specs.Regions.{Areas, in_data}

@@ -1,8 +1,7 @@
 -- The instructions that store where a register pair points to (Intel 8080 Microcomputer Systems User's Manual, chapter 4: MOV M,r,
 -- MVI M, INR M and DCR M by HL, STAX by BC or DE).
 use Rattle.std.specs.Prelude.{Bool, true, false}
-use Rattle.decode80.specs.declared.instr.Instr.{Instr}
-use Rattle.decode80.specs.declared.storing.Storing.{Storing}
+use Rattle.decode80.specs.declared.{instr.Instr.Instr, storing.Storing.Storing}
 use Rattle.decode80.specs.declared.storing.Storing.TheVariants.{Nowhere, Byte, Word, ThroughHl, Through}
 use Rattle.decode80.specs.Facts.{storing}
 

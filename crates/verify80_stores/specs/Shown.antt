@@ -1,16 +1,12 @@
 -- What tables of states that fit leave open of a program. (This project's own.)
 use Rattle.std.specs.Prelude.{◌≡◌, ◌⊎◌, ◌<◌, ℕ, Bool, true, false, List, Any, Option, Some, length, slice_get}
 use Rattle.decode80.specs.declared.fetching.Fetched.{Fetched}
-use Rattle.image80.specs.Image.{Located}
-use Rattle.image80.specs.Regions.{Areas}
-use Rattle.verify80.specs.Looking.{declared_targets}
-use Rattle.verify80.specs.Reached.{found_at}
+use Rattle.image80.specs.{Image.Located, Regions.Areas}
+use Rattle.verify80.specs.{Looking.declared_targets, Reached.found_at}
 use Rattle.verify80_spans.specs.declared.span.Span.{Span}
 use Rattle.verify80_states.specs.declared.fitting.fitting.Placed.{Placed}
-use Rattle.verify80_states.specs.Marks.{is_marked}
-use Rattle.verify80_stores.specs.Opening.{StaysIn}
-use Rattle.verify80_states.specs.Runs.{IsKept}
-use Rattle.verify80_stores.specs.Listing.{AreSpans, IsLeftAt}
+use Rattle.verify80_states.specs.{Marks.is_marked, Runs.IsKept}
+use Rattle.verify80_stores.specs.{Opening.StaysIn, Listing.AreSpans, Listing.IsLeftAt}
 
 -- marks that others have too, below an address
 pub record BothBelow (one other : List Bool) (n : ℕ) (marks : List Bool) : Type 0 where

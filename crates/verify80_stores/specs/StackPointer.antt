@@ -1,10 +1,8 @@
 -- When marked addresses are all that the main program may reach with SP not set. (This project's own.)
 use Rattle.std.specs.Prelude.{◌≡◌, ◌<◌, ℕ, Bool, true, false, List}
-use Rattle.decode80.specs.declared.fetching.Fetched.{Fetched}
-use Rattle.decode80.specs.declared.flow.Flow.{Flow}
+use Rattle.decode80.specs.declared.{fetching.Fetched.Fetched, flow.Flow.Flow}
 use Rattle.decode80.specs.Facts.{flow}
-use Rattle.image80.specs.Image.{Located}
-use Rattle.image80.specs.Regions.{Areas}
+use Rattle.image80.specs.{Image.Located, Regions.Areas}
 use Rattle.verify80.specs.Boards.{GoesBy, HasAt, sets_sp, uses_sp}
 use Rattle.verify80_states.specs.Marks.{is_marked}
 

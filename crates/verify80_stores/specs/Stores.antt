@@ -1,19 +1,14 @@
 -- What is known of the register-indirect stores of a program, and of its jumps by PCHL, in all of its runs. (This project's own;
 -- runs are those of the machine, from power-on.)
 use Rattle.std.specs.Prelude.{◌≡◌, ◌≢◌, ◌↔◌, ◌<◌, ℕ, Bool, true, false, List, All, Any, AllPairs, Contains, Option, Some, Ok}
-use Rattle.decode80.specs.declared.instr.Instr.{Instr}
-use Rattle.decode80.specs.declared.fetching.Fetched.{Fetched}
-use Rattle.image80.specs.Regions.{Areas, in_data}
-use Rattle.image80.specs.Image.{Located, memory_of}
+use Rattle.decode80.specs.declared.{instr.Instr.Instr, fetching.Fetched.Fetched}
+use Rattle.image80.specs.{Regions.Areas, Regions.in_data, Image.Located, Image.memory_of}
 use Rattle.machine80.specs.declared.end.End.{End}
 use Rattle.machine80.specs.declared.end.End.TheVariants.{Halt, InputEnd, OutputRefused, StoreOutside, JumpOutside, Fetch, Stack, Direct}
-use Rattle.machine80.specs.Effects.{pointed_bytes}
-use Rattle.machine80.specs.Step.{Machine, Stop}
+use Rattle.machine80.specs.{Effects.pointed_bytes, Step.Machine, Step.Stop}
 use Rattle.machine80.specs.World.{World, IsWorldOf, turn_at, fetched_by}
 use Rattle.frames80.specs.Code.{Code}
-use Rattle.verify80.specs.Looking.{code_of, is_pchl}
-use Rattle.verify80.specs.Starts.{IsStart, IsWorldFrom}
-use Rattle.verify80.specs.Reached.{IsReached}
+use Rattle.verify80.specs.{Looking.code_of, Looking.is_pchl, Starts.IsStart, Starts.IsWorldFrom, Reached.IsReached}
 use Rattle.verify80_states.specs.Bytes.{HasBytes, HoldsBytes}
 use Rattle.verify80_spans.specs.Span.{Within}
 use Rattle.verify80_stores.specs.declared.stores.OpenStore.{OpenStore}

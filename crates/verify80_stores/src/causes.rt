@@ -1,5 +1,8 @@
 //! What sets the pair of a store or a jump that isn't shown to stay inside, and why nothing is known of it. This is advice: nothing is
-//! promised of it.
+//! promised of it but that what it says of memory is so.
+
+ghost use Rattle.std.specs.Prelude.{All, IfOk, IfSome};
+ghost use Rattle.verify80_stores.specs.Reasons.{IsSo};
 
 use crate::code_bytes::code_bytes;
 use crate::quiet::mark_quiet;
@@ -63,7 +66,9 @@ pub fn find_causes(
     vouched: &Vouched,
     quiet: &[Range],
     stores: &Stores,
-) -> Result<Vec<Cause>, AllocError> {
+) -> Result<Vec<Cause>, AllocError>
+    ensures { IfOk result (λ causes. All (λ cause. IfSome cause.reason (IsSo vouched.now.image.regions quiet.now)) causes.items) }
+{
     let image = vouched.image();
     let found = find_reached(alloc, vouched)?;
     let code = code_bytes(alloc, image)?;
@@ -83,7 +88,7 @@ pub fn find_causes(
     };
     let groups = Groups::new(alloc, program, vouched.rows())?;
     let setters = Setters::new(alloc, program, &groups)?;
-    let reasons = Reasons::new(alloc, image, program, &groups)?;
+    let reasons = Reasons::new(alloc, image, quiet, program, &groups)?;
     let mut causes = Vec::new(alloc);
     for open in &stores.open {
         let pair = match open.instr.storing() {
@@ -100,7 +105,9 @@ pub fn find_causes(
 }
 
 /// What sets a pair before an address, and why it isn't known.
-fn cause_of(setters: &Setters, reasons: &Reasons<'_>, at: u16, pair: Pair) -> Cause {
+fn cause_of(setters: &Setters, reasons: &Reasons<'_>, at: u16, pair: Pair) -> Cause
+    ensures { IfSome result.reason (IsSo reasons.now.image.now.regions reasons.now.quiet.now) }
+{
     let setter = setters.setter(at, pair);
     Cause {
         at,

@@ -1,7 +1,6 @@
 //! What is listed of the instructions that are reached.
 
-ghost use Rattle.std.specs.Prelude.{◌≡◌, ◌⊎◌, ◌+◌, ◌<◌, ℕ, true, false, Some, Contains, IfOk, IfSome, IfNone, length, slice_get};
-ghost use Rattle.image80.specs.Regions.{in_data};
+ghost use Rattle.std.specs.Prelude.{◌≡◌, ◌+◌, ◌<◌, ℕ, true, false, Some, Contains, IfOk, IfSome, IfNone, length, slice_get};
 ghost use Rattle.verify80.specs.Looking.{declared_targets, is_pchl};
 ghost use Rattle.verify80.specs.Reached.{found_at};
 ghost use Rattle.verify80_spans.specs.declared.span.Span.{Span};

@@ -28,7 +28,7 @@ pub(crate) fn mark_quiet(
 }
 
 /// Whether an address is one of data and of one of the ranges.
-fn is_quiet(regions: &Regions, ranges: &[Range], at: u16) -> bool
+pub(crate) fn is_quiet(regions: &Regions, ranges: &[Range], at: u16) -> bool
     ensures { result ≡ is_quiet regions.now ranges.now at }
 {
     regions.in_data(at) && are_around(ranges, at)

@@ -1,11 +1,14 @@
 //! Why nothing is known of the pair of a store or a jump.
 
+ghost use Rattle.std.specs.Prelude.{◌≡◌, IfOk, IfSome};
+ghost use Rattle.verify80_stores.specs.Reasons.{IsSo};
+
+use crate::quiet::is_quiet;
 use crate::setters::{Kind, Setters, found_at, spread};
 use decode80::{IndexPair, Instr, Operand, Pair, Register};
-use image80::Image;
+use image80::{Image, Range};
 use std::alloc::{AllocError, Global};
 use verify80_proposals::{Groups, ReachedProgram, crowded_states};
-use verify80_states::is_marked;
 
 /// Why nothing is known of a pair.
 #[derive(Clone, Copy, Debug, PartialEq, Eq)]
@@ -57,6 +60,8 @@ enum Origin {
 #[derive(Drop)]
 pub(crate) struct Reasons<'a> {
     image: &'a Image,
+    /// The ranges of data that are quiet.
+    quiet: &'a [Range],
     program: ReachedProgram<'a>,
     /// By address the nearest one before it at which states were joined; `None` if too many ways would have to be followed.
     joined: Option<Vec<Option<u16>>>,
@@ -70,22 +75,28 @@ impl<'a> Reasons<'a> {
     pub fn new(
         alloc: Global,
         image: &'a Image,
+        quiet: &'a [Range],
         program: ReachedProgram<'a>,
         groups: &Groups,
-    ) -> Result<Reasons<'a>, AllocError> {
+    ) -> Result<Reasons<'a>, AllocError>
+        ensures { IfOk result (λ reasons. (reasons.image.now ≡ image.now) × (reasons.quiet.now ≡ quiet.now)) }
+    {
         let joined = match crowded_states(alloc, program, groups)? {
             Some(marks) => Some(spread(alloc, program, groups, Kind::Marked(&marks))?),
             None => None,
         };
         Ok(Reasons {
             image,
+            quiet,
             program,
             joined,
         })
     }
 
     /// Why nothing is known of a pair before an address, if that is seen.
-    pub fn reason(&self, setters: &Setters, at: u16, pair: Pair) -> Option<Reason> {
+    pub fn reason(&self, setters: &Setters, at: u16, pair: Pair) -> Option<Reason>
+        ensures { IfSome result (IsSo self.now.image.now.regions self.now.quiet.now) }
+    {
         match self.origin(setters, at, pair) {
             Origin::Memory(reason) => Some(reason),
             Origin::Elsewhere => None,
@@ -94,7 +105,9 @@ impl<'a> Reasons<'a> {
     }
 
     /// What the search for states gave up before an address.
-    fn search_reason(&self, at: u16) -> Option<Reason> {
+    fn search_reason(&self, at: u16) -> Option<Reason>
+        ensures { IfSome result (IsSo self.now.image.now.regions self.now.quiet.now) }
+    {
         match &self.joined {
             Some(joined) => Some(Reason::TooManyStates(found_at(joined, at)?)),
             None => Some(Reason::TooManyWays),
@@ -102,7 +115,9 @@ impl<'a> Reasons<'a> {
     }
 
     /// Where a pair comes from before an address.
-    fn origin(&self, setters: &Setters, at: u16, pair: Pair) -> Origin {
+    fn origin(&self, setters: &Setters, at: u16, pair: Pair) -> Origin
+        ensures { (reason : Reason) → result ≡ Origin.Memory reason → IsSo self.now.image.now.regions self.now.quiet.now reason }
+    {
         let mut here = Some((at, Place::Pair(pair)));
         let mut added = None;
         for _ in 0..MOST {
@@ -139,7 +154,9 @@ impl<'a> Reasons<'a> {
     }
 
     /// The memory that an instruction reads, if nothing is known of it.
-    fn read_by(&self, setters: &Setters, at: u16, instr: Instr) -> Option<Reason> {
+    fn read_by(&self, setters: &Setters, at: u16, instr: Instr) -> Option<Reason>
+        ensures { IfSome result (IsSo self.now.image.now.regions self.now.quiet.now) }
+    {
         match instr {
             Instr::Lda(address) => self.unknown(address),
             Instr::Lhld(address) => match self.unknown(address) {
@@ -156,7 +173,9 @@ impl<'a> Reasons<'a> {
     }
 
     /// The memory at the word from which a pair counts before an address, if nothing is known of it.
-    fn pointed(&self, setters: &Setters, at: u16, pair: Pair) -> Option<Reason> {
+    fn pointed(&self, setters: &Setters, at: u16, pair: Pair) -> Option<Reason>
+        ensures { IfSome result (IsSo self.now.image.now.regions self.now.quiet.now) }
+    {
         let mut here = at;
         for _ in 0..MOST {
             if let Some(reason) = self.at_loaded(setters, here, pair) {
@@ -176,7 +195,9 @@ impl<'a> Reasons<'a> {
     }
 
     /// The memory at the word with which an LXI loads a pair before an address, if nothing is known of it.
-    fn at_loaded(&self, setters: &Setters, at: u16, pair: Pair) -> Option<Reason> {
+    fn at_loaded(&self, setters: &Setters, at: u16, pair: Pair) -> Option<Reason>
+        ensures { IfSome result (IsSo self.now.image.now.regions self.now.quiet.now) }
+    {
         match self.program.at(setters.loaded(at, pair)?)?.instr {
             Instr::Lxi(_, word) => self.unknown(word),
             _ => None,
@@ -184,10 +205,12 @@ impl<'a> Reasons<'a> {
     }
 
     /// Why nothing is known of the byte at an address.
-    fn unknown(&self, at: u16) -> Option<Reason> {
+    fn unknown(&self, at: u16) -> Option<Reason>
+        ensures { IfSome result (IsSo self.now.image.now.regions self.now.quiet.now) }
+    {
         let image = self.image;
         let regions = &image.regions;
-        if regions.in_code(at) || is_marked(self.program.quiet, at) {
+        if regions.in_code(at) || is_quiet(regions, self.quiet, at) {
             None
         } else if regions.in_data(at) {
             Some(Reason::NotQuiet(at))

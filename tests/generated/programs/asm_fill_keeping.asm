@@ -3,7 +3,6 @@
 ; stack 23C0 0040
 ; data 2000 03C0
 ; stores 7
-; listed PUT1 a callee that keeps the pairs
 ; listed PUT2 line pointer in memory
 BUF:    EQU 2000H
 PTR:    EQU 2080H

@@ -1,7 +1,7 @@
 //! Whether a table of states fits a program.
 
 ghost use Rattle.std.specs.List.{list_all};
-ghost use Rattle.std.specs.Prelude.{◌≡◌, ◌<◌, ℕ, Bool, true, false, Contains, IfOk, Some, length, slice_get};
+ghost use Rattle.std.specs.Prelude.{◌≡◌, ◌<◌, ℕ, Bool, true, false, Contains, Some, length, slice_get};
 ghost use Rattle.decode80.specs.declared.fetching.Fetched.{Fetched};
 ghost use Rattle.decode80.specs.Facts.{flow};
 ghost use Rattle.image80.specs.Regions.{AreRegions, in_data};
@@ -9,13 +9,12 @@ ghost use Rattle.verify80.specs.Looking.{code_of, declared_targets};
 ghost use Rattle.verify80.specs.Reached.{AreReached, found_at};
 ghost use Rattle.verify80_states.specs.declared.fitting.fitting.Placed.{Placed};
 ghost use Rattle.verify80_spans.specs.Span.{Within, ByteWithin, byte_alone};
-ghost use Rattle.verify80_states.specs.State.{anything, cut, unknown_but};
+ghost use Rattle.verify80_states.specs.State.{cut, unknown_but};
 ghost use Rattle.verify80_states.specs.Following.{is_steady, state_after};
 ghost use Rattle.verify80_states.specs.Marks.{is_marked};
 ghost use Rattle.verify80_states.specs.Steps.{AreCodeBytes};
 ghost use Rattle.verify80_states.specs.Fitting.{CallsEntry, Has, Covers, CoversAfter, FitsAt, KnowsQuiet};
 ghost use Rattle.verify80_states.specs.Calls.{AccountsFor, KeepsCalls, KnowsReturn, KnowsReturnsOf, returns_of};
-ghost use Rattle.verify80_states.specs.FittingTable.{AllFit};
 ghost use Rattle.verify80_states.specs.Runs.{IsKept};
 
 use crate::fitting::calls::CallReturns;
@@ -261,8 +260,9 @@ impl Fit<'_> {
         ensures { result ≡ true → KnowsReturn self.now.variables.now self.now.table.now (λ t. state_after self.now.code.now found.instr true found.next t) state }
     {
         match state.words.first {
-            Some(span) => {
-                span.is_alone() && self.covers(hint, span.first, self.after(found, true, state))
+            Some(word) => {
+                word.words.is_alone()
+                    && self.covers(hint, word.words.first, self.after(found, true, state))
             }
             None => false,
         }

@@ -1,12 +1,13 @@
 //! What becomes of a state at an instruction.
 
 ghost use Rattle.std.specs.Prelude.{◌≡◌};
-ghost use Rattle.verify80_states.specs.Following.{byte_at, known_word, loaded_at, loaded, moved, counted, resulted, tested, operand_bytes, after_operation, added_carry, turned, exchanged_pairs, index_words, popped_to, registers_after, pushed_words, called, returned, words_after, state_after};
+ghost use Rattle.verify80_states.specs.Following.{byte_at, known_pair, loaded_at, loaded, moved, counted, resulted, tested, operand_bytes, after_operation, added_carry, turned, exchanged_pairs, index_words, popped_to, registers_after, pushed_pair, called, returned, words_after, state_after};
 ghost use Rattle.verify80_spans.specs.Span.{uncarried};
 ghost use Rattle.verify80_states.specs.State.{compared_with, with_outcome};
 
 use crate::states::cells::Cells;
 use crate::states::memory_after::{cells_after, source_after};
+use crate::states::pairs::PairSpan;
 use crate::states::state::State;
 use crate::states::words::Words;
 use decode80::{IndexPair, Instr, Operand, Operation, Pair, Register, StackPair, ahead};
@@ -23,12 +24,12 @@ fn byte_at(code: &[Option<u8>], at: u16) -> Option<u8>
 }
 
 /// What is known of a word.
-fn known_word(word: Option<Span>) -> Span
-    ensures { result ≡ known_word word }
+fn known_pair(word: Option<PairSpan>) -> PairSpan
+    ensures { result ≡ known_pair word }
 {
     match word {
         Some(span) => span,
-        None => Span::ANY,
+        None => PairSpan::ANY,
     }
 }
 
@@ -203,29 +204,26 @@ pub fn index_words(state: State, pair: IndexPair) -> Span
 }
 
 /// A word comes into the pair that POP names.
-fn popped_to(pair: StackPair, words: Span, state: State) -> State
-    ensures { result ≡ popped_to pair words state }
+fn popped_to(pair: StackPair, word: PairSpan, state: State) -> State
+    ensures { result ≡ popped_to pair word state }
 {
     match pair {
-        StackPair::Bc => state.with_words(Pair::Bc, words),
-        StackPair::De => state.with_words(Pair::De, words),
-        StackPair::Hl => state.with_words(Pair::Hl, words),
-        StackPair::Psw => state.with_byte(Register::A, words.high()).with_any_flags(),
+        StackPair::Bc => state.with_span(Pair::Bc, word),
+        StackPair::De => state.with_span(Pair::De, word),
+        StackPair::Hl => state.with_span(Pair::Hl, word),
+        StackPair::Psw => state.with_byte(Register::A, word.high()).with_any_flags(),
     }
 }
 
 /// The word that PUSH pushes: PSW is A and the flags.
-fn pushed_words(state: State, pair: StackPair) -> Span
-    ensures { result ≡ pushed_words state pair }
+fn pushed_pair(state: State, pair: StackPair) -> PairSpan
+    ensures { result ≡ pushed_pair state pair }
 {
     match pair {
-        StackPair::Bc => state.bc.words,
-        StackPair::De => state.de.words,
-        StackPair::Hl => state.hl.words,
-        StackPair::Psw => Span {
-            first: 256 * u16::from(state.a.first),
-            last: 256 * u16::from(state.a.last) + 255,
-        },
+        StackPair::Bc => state.bc,
+        StackPair::De => state.de,
+        StackPair::Hl => state.hl,
+        StackPair::Psw => PairSpan::of_halves(state.a, ByteSpan::ANY),
     }
 }
 
@@ -247,11 +245,11 @@ fn registers_after(code: &[Option<u8>], instr: Instr, state: State) -> State
             value: loaded(code, state.cells, state.hl.words).previous(),
             carry: state.carry,
         }),
-        Instr::Lxi(pair, word) => state.with_words(pair, Span::alone(word)),
-        Instr::Inx(pair) => state.with_words(pair, state.pair(pair).next()),
-        Instr::Dcx(pair) => state.with_words(pair, state.pair(pair).previous()),
+        Instr::Lxi(pair, word) => state.with_span(pair, PairSpan::of_words(Span::alone(word))),
+        Instr::Inx(pair) => state.with_span(pair, state.pair(pair).next()),
+        Instr::Dcx(pair) => state.with_span(pair, state.pair(pair).previous()),
         Instr::Dad(pair) => state
-            .with_words(Pair::Hl, state.hl.words.plus(state.pair(pair)))
+            .with_span(Pair::Hl, state.hl.plus(state.pair(pair)))
             .with_carry(added_carry(state, pair)),
         Instr::Operate(operation, operand) => after_operation(
             operation,
@@ -280,8 +278,8 @@ fn registers_after(code: &[Option<u8>], instr: Instr, state: State) -> State
             .with_byte(Register::H, loaded_at(code, state.cells, ahead(address, 1)))
             .with_byte(Register::L, loaded_at(code, state.cells, address)),
         Instr::Xchg => exchanged_pairs(state),
-        Instr::Pop(pair) => popped_to(pair, known_word(state.words.first), state),
-        Instr::Xthl => state.with_words(Pair::Hl, known_word(state.words.first)),
+        Instr::Pop(pair) => popped_to(pair, known_pair(state.words.first), state),
+        Instr::Xthl => state.with_span(Pair::Hl, known_pair(state.words.first)),
         Instr::Store(_)
         | Instr::MviMemory(_)
         | Instr::Jmp(_)
@@ -310,7 +308,7 @@ fn called(taken: bool, next: u16, words: Words) -> Words
     ensures { result ≡ called taken next words }
 {
     if taken {
-        words.pushed(Some(Span::alone(next)))
+        words.pushed(Some(PairSpan::of_words(Span::alone(next))))
     } else {
         words
     }
@@ -328,11 +326,11 @@ fn words_after(instr: Instr, taken: bool, next: u16, state: State) -> Words
     ensures { result ≡ words_after instr taken next state }
 {
     match instr {
-        Instr::Push(pair) => state.words.pushed(Some(pushed_words(state, pair))),
+        Instr::Push(pair) => state.words.pushed(Some(pushed_pair(state, pair))),
         Instr::Pop(_) | Instr::Ret => state.words.popped(),
         Instr::ReturnIf(_) => returned(taken, state.words),
         Instr::Xthl => Words {
-            first: Some(state.hl.words),
+            first: Some(state.hl),
             ..state.words
         },
         Instr::Call(_) | Instr::CallIf(_, _) | Instr::Rst(_) => called(taken, next, state.words),

@@ -12,7 +12,7 @@ pub struct PairSpan {
 impl PairSpan {
     ghost use Rattle.std.specs.Prelude.{◌≡◌, ◌↔◌, true};
     ghost use Rattle.verify80_spans.specs.Span.{high_of};
-    ghost use Rattle.verify80_states.specs.State.{pair_of_words, pair_of_halves, cut_high, cut_low, IsPairInside};
+    ghost use Rattle.verify80_states.specs.State.{pair_of_words, pair_of_halves, cut_high, cut_low, next_pair, previous_pair, sum_pair, IsPairInside};
 
     /// Any word.
     pub const ANY: PairSpan = PairSpan {
@@ -66,6 +66,28 @@ impl PairSpan {
             words: self.words.meet(Span::of_halves(self.high(), low)),
             low,
         }
+    }
+
+    /// What becomes of it by adding 1, as INX does.
+    pub(crate) fn next(self) -> PairSpan
+        ensures { result ≡ next_pair self }
+    {
+        PairSpan::of_words(self.words.next()).cut_low(self.low.next())
+    }
+
+    /// What becomes of it by subtracting 1, as DCX does.
+    pub(crate) fn previous(self) -> PairSpan
+        ensures { result ≡ previous_pair self }
+    {
+        PairSpan::of_words(self.words.previous()).cut_low(self.low.previous())
+    }
+
+    /// What becomes of it by adding another, as DAD does.
+    pub(crate) fn plus(self, other: PairSpan) -> PairSpan
+        ensures { result ≡ sum_pair self other }
+    {
+        let low = self.low.plus(other.low, ByteSpan::alone(0));
+        PairSpan::of_words(self.words.plus(other.words)).cut_low(low.value)
     }
 
     /// Whether all that this pair may be the other may be.

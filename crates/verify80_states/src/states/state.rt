@@ -6,7 +6,7 @@ use crate::states::pairs::PairSpan;
 use crate::states::variables::{Variable, is_bit};
 use crate::states::words::Words;
 use decode80::{Pair, Register};
-use verify80_spans::{ByteSpan, Outcome, Span};
+use verify80_spans::{ByteSpan, Outcome};
 
 /// What registers, flags, the words on top of the stack and some bytes of memory may be, before an instruction.
 #[derive(Clone, Copy, Debug, PartialEq, Eq)]
@@ -118,7 +118,7 @@ impl State {
     ghost use Rattle.verify80_states.specs.declared.states.variables.Variable.{Variable};
     ghost use Rattle.verify80_states.specs.Variables.{is_bit};
     ghost use Rattle.verify80_states.specs.Cells.{bytes_at};
-    ghost use Rattle.verify80_states.specs.State.{byte_of, words_of, with_byte, with_words, with_outcome, with_carry, with_any_flags, cut, cut_copy, AreRegistersInside, IsSetInside, IsStateInside, IsQuietState};
+    ghost use Rattle.verify80_states.specs.State.{byte_of, span_of, with_byte, with_span, with_outcome, with_carry, with_any_flags, cut, cut_copy, AreRegistersInside, IsSetInside, IsStateInside, IsQuietState};
     ghost use Rattle.verify80_states.specs.Marks.{is_marked};
 
     /// Nothing is known.
@@ -209,14 +209,14 @@ impl State {
     }
 
     /// What a pair may be; SP may be any word.
-    pub fn pair(self, pair: Pair) -> Span
-        ensures { result ≡ words_of self pair }
+    pub fn pair(self, pair: Pair) -> PairSpan
+        ensures { result ≡ span_of self pair }
     {
         match pair {
-            Pair::Bc => self.bc.words,
-            Pair::De => self.de.words,
-            Pair::Hl => self.hl.words,
-            Pair::Sp => Span::ANY,
+            Pair::Bc => self.bc,
+            Pair::De => self.de,
+            Pair::Hl => self.hl,
+            Pair::Sp => PairSpan::ANY,
         }
     }
 
@@ -267,11 +267,10 @@ impl State {
     }
 
     /// The state when a pair is written.
-    pub fn with_words(self, pair: Pair, words: Span) -> State
-        ensures { result ≡ with_words self pair words }
+    pub fn with_span(self, pair: Pair, span: PairSpan) -> State
+        ensures { result ≡ with_span self pair span }
     {
         let copy = copy_outside(pair, self.copy);
-        let span = PairSpan::of_words(words);
         match pair {
             Pair::Bc => State {
                 bc: span,

@@ -3,15 +3,15 @@
 ghost use Rattle.std.specs.Prelude.{◌≡◌, true};
 ghost use Rattle.verify80_states.specs.State.{IsWordInside};
 
-use verify80_spans::Span;
+use crate::states::pairs::PairSpan;
 
 /// What the words from the stack pointer on may be, as far as the program has written them.
 #[derive(Clone, Copy, Debug, PartialEq, Eq)]
 pub struct Words {
-    pub first: Option<Span>,
-    pub second: Option<Span>,
-    pub third: Option<Span>,
-    pub fourth: Option<Span>,
+    pub first: Option<PairSpan>,
+    pub second: Option<PairSpan>,
+    pub third: Option<PairSpan>,
+    pub fourth: Option<PairSpan>,
 }
 
 impl Words {
@@ -27,7 +27,7 @@ impl Words {
     };
 
     /// The words when one is pushed.
-    pub fn pushed(self, word: Option<Span>) -> Words
+    pub fn pushed(self, word: Option<PairSpan>) -> Words
         ensures { result ≡ pushed self word }
     {
         Words {
@@ -62,7 +62,7 @@ impl Words {
 }
 
 /// Whether what is known of a word says all that another knowledge does.
-fn is_word_inside(inner: Option<Span>, outer: Option<Span>) -> bool
+fn is_word_inside(inner: Option<PairSpan>, outer: Option<PairSpan>) -> bool
     ensures { result ≡ true → IsWordInside inner outer }
 {
     match (inner, outer) {

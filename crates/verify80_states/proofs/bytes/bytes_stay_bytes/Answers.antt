@@ -1,6 +1,4 @@
-use Rattle.verify80_states.proofs.FetchBounds.{operands_bounded}
-use Rattle.verify80_states.proofs.StepBytes.{bytes_stay, addresses_stay, length_stays}
-use Rattle.verify80_states.proofs.RunBytes.{runs_hold_bytes, runs_have_addresses}
+use Rattle.verify80_states.proofs.{FetchBounds.operands_bounded, StepBytes.bytes_stay, StepBytes.addresses_stay, StepBytes.length_stays, RunBytes.runs_hold_bytes, RunBytes.runs_have_addresses}
 use Rattle.verify80_states.proofs.bytes.bytes_stay_bytes.Goals as goal
 
 pub returns-clause-bytes : goal.returns-clause-bytes

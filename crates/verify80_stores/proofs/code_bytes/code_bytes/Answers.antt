@@ -1,6 +1,4 @@
-use Rattle.std.proofs.Common.{◌∙◌, ap}
-use Rattle.image80.specs.Image.{Located}
-use Rattle.std.proofs.lemmas.List.{length-set}
+use Rattle.verify80_stores.proofs.Names.{◌∙◌, ap, Located, length-set}
 use Rattle.verify80_stores.proofs.TallyLemmas.{code_set, code_there}
 use Rattle.verify80_stores.proofs.code_bytes.code_bytes.Goals as goal
 

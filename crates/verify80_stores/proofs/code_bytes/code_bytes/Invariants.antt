@@ -1,5 +1,4 @@
-use Rattle.std.proofs.Common.{◌≡◌, length}
-use Rattle.verify80_states.specs.Steps.{AreCodeBytes}
+use Rattle.verify80_stores.proofs.Names.{◌≡◌, length, AreCodeBytes}
 use Rattle.verify80_stores.proofs.code_bytes.code_bytes.Given as goal
 
 abbrev pub invariant-loop-address : goal.invariant-loop-address

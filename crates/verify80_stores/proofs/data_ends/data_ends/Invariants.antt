@@ -1,5 +1,4 @@
-use Rattle.std.proofs.Common.{◌≡◌, ℕ, ◌-◌, ◌<◌, ◌≤◌, length, get_or}
-use Rattle.verify80_stores.specs.DataReach.{ReachesTo}
+use Rattle.verify80_stores.proofs.Names.{◌≡◌, ℕ, ◌-◌, ◌<◌, ◌≤◌, length, get_or, ReachesTo}
 use Rattle.verify80_stores.proofs.data_ends.data_ends.Given as goal
 
 abbrev pub invariant-loop-above : goal.invariant-loop-above

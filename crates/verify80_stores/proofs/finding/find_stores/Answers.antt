@@ -1,11 +1,5 @@
-use Rattle.std.proofs.Common.{rules, subst}
-use Rattle.image80.specs.Image.{Located, memory_of}
-use Rattle.verify80_states.specs.Bytes.{HasBytes}
-use Rattle.verify80_states.specs.Runs.{RunsKeepTo}
-use Rattle.verify80_stores.specs.Shown.{AreShown, KeptTable}
-use Rattle.verify80_stores.proofs.StoreLemmas.{are_stores}
-use Rattle.verify80_stores.specs.Boards.{is_quiet}
-use Rattle.verify80_stores.proofs.BoardLemmas.{holds_on_boards, holds_on_quiet_boards}
+use Rattle.verify80_stores.proofs.Names.{rules, subst, Located, memory_of, HasBytes, RunsKeepTo, AreShown, KeptTable, is_quiet}
+use Rattle.verify80_stores.proofs.{StoreLemmas.are_stores, BoardLemmas.holds_on_boards, BoardLemmas.holds_on_quiet_boards}
 use Rattle.verify80_stores.proofs.finding.find_stores.Goals as goal
 
 pub returns-clause-listed : goal.returns-clause-listed

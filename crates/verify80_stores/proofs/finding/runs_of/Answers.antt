@@ -1,7 +1,4 @@
-use Rattle.std.proofs.Common.{◌∙◌, subst}
-use Rattle.image80.specs.Image.{Located}
-use Rattle.image80.specs.Regions.{AreRegions}
-use Rattle.verify80.specs.Vouched.{IsVouched}
+use Rattle.verify80_stores.proofs.Names.{◌∙◌, subst, Located, AreRegions, IsVouched}
 use Rattle.verify80_stores.proofs.finding.runs_of.Goals as goal
 
 pub returns : goal.returns

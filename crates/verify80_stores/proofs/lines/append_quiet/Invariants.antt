@@ -1,6 +1,4 @@
-use Rattle.std.proofs.Common.{◌≡◌, ◌++◌, take}
-use Rattle.std.specs.List.{flat_map}
-use Rattle.verify80_stores.specs.StoresText.{quiet_line}
+use Rattle.verify80_stores.proofs.Names.{◌≡◌, ◌++◌, take, flat_map, quiet_line}
 use Rattle.verify80_stores.proofs.lines.append_quiet.Given as goal
 
 abbrev pub invariant-loop-range : goal.invariant-loop-range

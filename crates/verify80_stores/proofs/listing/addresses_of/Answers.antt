@@ -1,9 +1,7 @@
-use Rattle.std.proofs.Common.{sym, ◌∙◌}
-use Rattle.verify80_stores.specs.Kinds.{is_of}
-use Rattle.verify80_stores.specs.Listing.{is_at}
+use Rattle.verify80_stores.proofs.Names.{sym, ◌∙◌, is_of, is_at}
 use Rattle.verify80_stores.proofs.ListLemmas.{all_pushed, all_kept}
-use Rattle.verify80_stores.proofs.listing.addresses_of.Goals as goal
 use Rattle.verify80_stores.proofs.listing.addresses_of.Goals.{then-is_at+in_ok-push, else-is_at}
+use Rattle.verify80_stores.proofs.listing.addresses_of.Goals as goal
 
 pub loop-at-preserved : goal.loop-at-preserved
 loop-at-preserved c =

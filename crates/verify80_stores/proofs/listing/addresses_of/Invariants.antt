@@ -1,5 +1,4 @@
-use Rattle.verify80_stores.specs.Kinds.{is_of}
-use Rattle.verify80_stores.specs.Listing.{AreAllBelow, is_at}
+use Rattle.verify80_stores.proofs.Names.{is_of, AreAllBelow, is_at}
 use Rattle.verify80_stores.proofs.listing.addresses_of.Given as goal
 
 abbrev pub invariant-loop-at : goal.invariant-loop-at

@@ -1,9 +1,7 @@
-use Rattle.std.proofs.Common.{sym, ◌∙◌}
-use Rattle.verify80.specs.Looking.{is_pchl}
-use Rattle.verify80_stores.specs.Listing.{is_marked_at}
+use Rattle.verify80_stores.proofs.Names.{sym, ◌∙◌, is_pchl, is_marked_at}
 use Rattle.verify80_stores.proofs.ListLemmas.{all_pushed, all_kept}
-use Rattle.verify80_stores.proofs.listing.open_jumps.Goals as goal
 use Rattle.verify80_stores.proofs.listing.open_jumps.Goals.{then-is_open_jump+in_ok-push, else-is_open_jump}
+use Rattle.verify80_stores.proofs.listing.open_jumps.Goals as goal
 
 pub loop-at-preserved : goal.loop-at-preserved
 loop-at-preserved c =

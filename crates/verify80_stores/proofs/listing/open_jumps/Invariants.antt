@@ -1,5 +1,4 @@
-use Rattle.verify80.specs.Looking.{is_pchl}
-use Rattle.verify80_stores.specs.Listing.{AreAllBelow, is_marked_at}
+use Rattle.verify80_stores.proofs.Names.{is_pchl, AreAllBelow, is_marked_at}
 use Rattle.verify80_stores.proofs.listing.open_jumps.Given as goal
 
 abbrev pub invariant-loop-at : goal.invariant-loop-at

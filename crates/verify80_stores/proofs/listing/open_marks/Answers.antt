@@ -1,7 +1,7 @@
 use Rattle.verify80_stores.proofs.VecLemmas.{got_some}
+use Rattle.verify80_stores.proofs.listing.open_marks.Goals.{then-is_left_open, else-is_left_open}
 use Rattle.verify80_stores.proofs.TallyLemmas.{marks_none, marks_open, marks_shut, marks_all}
 use Rattle.verify80_stores.proofs.listing.open_marks.Goals as goal
-use Rattle.verify80_stores.proofs.listing.open_marks.Goals.{then-is_left_open, else-is_left_open}
 
 pub loop-placed-init : goal.loop-placed-init
 loop-placed-init c = marks_none c.args.regions.now c.args.reached.now c.args.table.now c.in_ok-marks.marks.items c.in_ok-marks.ensures.count c.in_ok-marks.ensures.none

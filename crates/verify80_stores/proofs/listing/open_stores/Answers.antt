@@ -1,6 +1,6 @@
 use Rattle.verify80_stores.proofs.ListLemmas.{open_pushed, open_kept}
-use Rattle.verify80_stores.proofs.listing.open_stores.Goals as goal
 use Rattle.verify80_stores.proofs.listing.open_stores.Goals.{in-Some+in_ok-push, in_default}
+use Rattle.verify80_stores.proofs.listing.open_stores.Goals as goal
 
 pub loop-at-preserved : goal.loop-at-preserved
 loop-at-preserved c =

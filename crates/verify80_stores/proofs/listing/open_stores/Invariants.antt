@@ -1,4 +1,4 @@
-use Rattle.verify80_stores.specs.Listing.{AreOpenBelow}
+use Rattle.verify80_stores.proofs.Names.{AreOpenBelow}
 use Rattle.verify80_stores.proofs.listing.open_stores.Given as goal
 
 abbrev pub invariant-loop-at : goal.invariant-loop-at

@@ -1,8 +1,8 @@
-use Rattle.std.proofs.Common.{sym}
+use Rattle.verify80_stores.proofs.Names.{sym}
 use Rattle.verify80_stores.proofs.VecLemmas.{got_some}
+use Rattle.verify80_stores.proofs.listing.spans_of.Goals.{in-Some, in_default}
 use Rattle.verify80_stores.proofs.TallyLemmas.{spans_none, spans_more, spans_kept, spans_all}
 use Rattle.verify80_stores.proofs.listing.spans_of.Goals as goal
-use Rattle.verify80_stores.proofs.listing.spans_of.Goals.{in-Some, in_default}
 
 pub loop-placed-init : goal.loop-placed-init
 loop-placed-init c = spans_none c.args.reached.now c.args.table.now c.in_ok-spans.spans.items c.in_ok-spans.ensures

@@ -1,6 +1,4 @@
-use Rattle.std.proofs.Common.{◌≡◌, ◌∙◌, sym, true}
-use Rattle.std.proofs.lemmas.List.{length-set}
-use Rattle.verify80_stores.specs.Boards.{is_quiet}
+use Rattle.verify80_stores.proofs.Names.{◌≡◌, ◌∙◌, sym, true, length-set, is_quiet}
 use Rattle.verify80_stores.proofs.TallyLemmas.{marks_set}
 use Rattle.verify80_stores.proofs.quiet.mark_quiet.Goals as goal
 

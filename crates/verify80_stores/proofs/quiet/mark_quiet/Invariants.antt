@@ -1,6 +1,4 @@
-use Rattle.std.proofs.Common.{◌≡◌, ℕ, true, length}
-use Rattle.verify80_stores.specs.Boards.{is_quiet}
-use Rattle.verify80_states.specs.Marks.{is_marked}
+use Rattle.verify80_stores.proofs.Names.{◌≡◌, ℕ, true, length, is_quiet, is_marked}
 use Rattle.verify80_stores.proofs.quiet.mark_quiet.Given as goal
 
 abbrev pub invariant-loop-at : goal.invariant-loop-at

@@ -1,6 +1,4 @@
-use Rattle.std.proofs.Common.{◌≡◌, ◌<◌, ℕ, true}
-use Rattle.image80.specs.Range.{in_range}
-use Rattle.image80.specs.Regions.{in_data}
+use Rattle.verify80_stores.proofs.Names.{◌≡◌, ◌<◌, ℕ, true, in_range, in_data}
 use Rattle.verify80_stores.proofs.quiet_ranges.first_outside_data.Given as goal
 
 abbrev pub invariant-loop-place : goal.invariant-loop-place

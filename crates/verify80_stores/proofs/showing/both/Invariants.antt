@@ -1,4 +1,4 @@
-use Rattle.verify80_stores.specs.Shown.{BothBelow}
+use Rattle.verify80_stores.proofs.Names.{BothBelow}
 use Rattle.verify80_stores.proofs.showing.both.Given as goal
 
 abbrev pub invariant-loop-at : goal.invariant-loop-at

@@ -1,8 +1,4 @@
-use Rattle.std.specs.Prelude.{List}
-use Rattle.std.proofs.Common.{refl, subst}
-use Rattle.verify80_states.specs.declared.fitting.fitting.Placed.{Placed}
-use Rattle.verify80_states.specs.Runs.{IsKept}
-use Rattle.verify80_stores.specs.Boards.{is_quiet}
+use Rattle.verify80_stores.proofs.Names.{List, refl, subst, Placed, IsKept, is_quiet}
 use Rattle.verify80_stores.proofs.ShownLemmas.{quiet_is_data}
 use Rattle.verify80_stores.proofs.showing.fitting_table.Goals as goal
 

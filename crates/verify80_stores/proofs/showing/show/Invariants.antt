@@ -1,6 +1,4 @@
-use Rattle.std.specs.Prelude.{IfSome}
-use Rattle.verify80_stores.specs.Boards.{is_quiet}
-use Rattle.verify80_stores.specs.Shown.{AreShown}
+use Rattle.verify80_stores.proofs.Names.{IfSome, is_quiet, AreShown}
 use Rattle.verify80_stores.proofs.showing.show.Given as goal
 
 abbrev pub invariant-loop-number : goal.invariant-loop-number

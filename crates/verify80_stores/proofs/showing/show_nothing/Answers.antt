@@ -1,8 +1,4 @@
-use Rattle.std.specs.Prelude.{List}
-use Rattle.std.proofs.Common.{subst, sym}
-use Rattle.verify80_states.specs.declared.fitting.fitting.Placed.{Placed}
-use Rattle.verify80_states.specs.Runs.{IsKept}
-use Rattle.verify80_stores.specs.Boards.{is_quiet}
+use Rattle.verify80_stores.proofs.Names.{List, subst, sym, Placed, IsKept, is_quiet}
 use Rattle.verify80_stores.proofs.showing.show_nothing.Goals as goal
 
 pub show_with-requires-clause-kept : goal.show_with-requires-clause-kept

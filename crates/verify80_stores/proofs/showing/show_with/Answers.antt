@@ -1,11 +1,4 @@
-use Rattle.std.specs.Prelude.{Bool, List, Option, IfSome}
-use Rattle.std.proofs.Common.{subst, ap}
-use Rattle.image80.specs.Image.{Located}
-use Rattle.image80.specs.Regions.{Areas}
-use Rattle.verify80_stores.specs.declared.showing.Shown.{Shown}
-use Rattle.verify80_stores.specs.Boards.{is_quiet}
-use Rattle.verify80_stores.specs.Listing.{AreOpenMarks}
-use Rattle.verify80_stores.specs.Shown.{AreShown, BothBelow}
+use Rattle.verify80_stores.proofs.Names.{Bool, List, Option, IfSome, subst, ap, Located, Areas, Shown, is_quiet, AreOpenMarks, AreShown, BothBelow}
 use Rattle.verify80_stores.proofs.ShownLemmas.{shown_first, shown_more}
 use Rattle.verify80_stores.proofs.showing.show_with.Goals as goal
 

@@ -1,4 +1,4 @@
-use Rattle.verify80_stores.specs.StackPointer.{AreClosed}
+use Rattle.verify80_stores.proofs.Names.{AreClosed}
 use Rattle.verify80_stores.proofs.stack_pointer.are_closed.Given as goal
 
 abbrev pub invariant-loop-address : goal.invariant-loop-address

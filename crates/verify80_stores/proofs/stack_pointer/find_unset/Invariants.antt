@@ -1,4 +1,4 @@
-use Rattle.std.proofs.Common.{◌≡◌, length}
+use Rattle.verify80_stores.proofs.Names.{◌≡◌, length}
 use Rattle.verify80_stores.proofs.stack_pointer.find_unset.Given as goal
 
 abbrev pub invariant-loop : goal.invariant-loop

@@ -1,7 +1,4 @@
-use Rattle.std.proofs.Common.{◌∙◌, sym, subst}
-use Rattle.decode80.specs.Facts.{flow}
-use Rattle.image80.specs.Regions.{Areas}
-use Rattle.verify80_stores.specs.StackPointer.{LeadsToMarked}
+use Rattle.verify80_stores.proofs.Names.{◌∙◌, sym, subst, flow, Areas, LeadsToMarked}
 use Rattle.verify80_stores.proofs.StackLemmas.{closed_leading, closed_setting, closed_without}
 use Rattle.verify80_stores.proofs.stack_pointer.is_closed.Goals as goal
 

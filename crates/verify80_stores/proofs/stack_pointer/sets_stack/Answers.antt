@@ -1,7 +1,4 @@
-use Rattle.std.proofs.Common.{◌≡◌, ◌∙◌, Bool, List, true, ap, sym, subst}
-use Rattle.image80.specs.Image.{Located}
-use Rattle.verify80_states.specs.Marks.{is_marked}
-use Rattle.verify80_stores.specs.StackPointer.{AreClosed}
+use Rattle.verify80_stores.proofs.Names.{◌≡◌, ◌∙◌, Bool, List, true, ap, sym, subst, Located, is_marked, AreClosed}
 use Rattle.verify80_stores.proofs.StackLemmas.{sets_stack}
 use Rattle.verify80_stores.proofs.stack_pointer.sets_stack.Goals as goal
 

@@ -1,5 +1,4 @@
-use Rattle.std.proofs.Common.{◌∙◌, ap, sym}
-use Rattle.machine80.specs.Step.{leads_outside}
+use Rattle.verify80_stores.proofs.Names.{◌∙◌, ap, sym, leads_outside}
 use Rattle.verify80_stores.proofs.StackLemmas.{target_marked}
 use Rattle.verify80_stores.proofs.stack_pointer.targets_are_marked.Goals as goal
 

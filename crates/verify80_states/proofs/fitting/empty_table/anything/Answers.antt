@@ -1,9 +1,5 @@
-use Rattle.std.proofs.Common.{◌≡◌, refl, arith}
-use Rattle.std.proofs.lemmas.List.Elements.{All-push}
-use Rattle.verify80_states.specs.declared.fitting.fitting.Placed.{Placed}
-use Rattle.verify80_states.specs.State.{anything}
-use Rattle.verify80_states.proofs.MemoryLemmas.{ground_of}
-use Rattle.verify80_states.proofs.TableLemmas.{nothing_is_kept, nothing_more}
+use Rattle.verify80_states.proofs.Names.{◌≡◌, refl, arith, All-push, Placed, anything}
+use Rattle.verify80_states.proofs.{MemoryLemmas.ground_of, TableLemmas.nothing_is_kept, TableLemmas.nothing_more}
 use Rattle.verify80_states.proofs.fitting.empty_table.anything.Goals as goal
 
 pub loop-at-preserved : goal.loop-at-preserved

@@ -1,7 +1,4 @@
-use Rattle.std.proofs.Common.{◌≡◌, ℕ, ◌<◌}
-use Rattle.std.specs.Prelude.{All}
-use Rattle.verify80_states.specs.State.{anything}
-use Rattle.verify80_states.specs.FittingTable.{SaysNothingAt}
+use Rattle.verify80_states.proofs.Names.{◌≡◌, ℕ, ◌<◌, All, anything, SaysNothingAt}
 use Rattle.verify80_states.proofs.fitting.empty_table.anything.Given as goal
 
 abbrev pub invariant-loop-at : goal.invariant-loop-at

@@ -1,9 +1,4 @@
-use Rattle.std.proofs.Common.{◌≡◌, Some, refl, arith, below_more, get_or, subst}
-use Rattle.std.specs.Prelude.{slice_get}
-use Rattle.verify80_states.specs.declared.fitting.fitting.Placed.{Placed}
-use Rattle.verify80_states.specs.Marks.{is_marked}
-use Rattle.verify80_states.specs.State.{IsQuietState}
-use Rattle.std.proofs.lemmas.Option.{get_or_from_slice_get, slice_get-get_or}
+use Rattle.verify80_states.proofs.Names.{◌≡◌, Some, refl, arith, below_more, get_or, subst, slice_get, Placed, is_marked, IsQuietState, get_or_from_slice_get, slice_get-get_or}
 use Rattle.verify80_states.proofs.fitting.fitting.all_know_quiet.Goals as goal
 
 pub loop-placed-preserved : goal.loop-placed-preserved

@@ -1,8 +1,4 @@
-use Rattle.std.proofs.Common.{◌≡◌, ℕ, ◌<◌, Some}
-use Rattle.std.specs.Prelude.{slice_get}
-use Rattle.verify80_states.specs.declared.fitting.fitting.Placed.{Placed}
-use Rattle.verify80_states.specs.Marks.{is_marked}
-use Rattle.verify80_states.specs.State.{IsQuietState}
+use Rattle.verify80_states.proofs.Names.{◌≡◌, ℕ, ◌<◌, Some, slice_get, Placed, is_marked, IsQuietState}
 use Rattle.verify80_states.proofs.fitting.fitting.all_know_quiet.Given as goal
 
 abbrev pub invariant-loop-placed : goal.invariant-loop-placed

@@ -1,15 +1,5 @@
-use Rattle.std.proofs.Common.{◌∙◌, refl, ap, sym, subst}
-use Rattle.image80.specs.Image.{Located}
-use Rattle.image80.specs.Regions.{Areas}
-use Rattle.verify80_states.specs.declared.states.variables.Variable.{Variable}
-use Rattle.verify80_states.specs.State.{anything}
-use Rattle.verify80_states.specs.Marks.{is_marked}
-use Rattle.verify80_states.specs.Fitting.{Has}
-use Rattle.verify80_states.specs.Calls.{returns_of}
-use Rattle.verify80_states.specs.FittingTable.{AllFit}
-use Rattle.verify80_states.proofs.CellLemmas.{knows_quieter}
-use Rattle.verify80_states.proofs.VariableLemmas.{tested_of}
-use Rattle.verify80_states.proofs.TableLemmas.{fits_program}
+use Rattle.verify80_states.proofs.Names.{◌∙◌, refl, ap, sym, subst, Located, Areas, Variable, anything, is_marked, Has, returns_of, AllFit}
+use Rattle.verify80_states.proofs.{CellLemmas.knows_quieter, VariableLemmas.tested_of, TableLemmas.fits_program}
 use Rattle.verify80_states.proofs.fitting.fitting.fits.Goals as goal
 
 pub returns : goal.returns

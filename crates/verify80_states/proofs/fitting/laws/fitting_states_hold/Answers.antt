@@ -1,5 +1,4 @@
-use Rattle.verify80_states.proofs.MemoryLemmas.{ground_of}
-use Rattle.verify80_states.proofs.KeepLemmas.{run_bytes, run_keeps, is_kept}
+use Rattle.verify80_states.proofs.{MemoryLemmas.ground_of, KeepLemmas.run_bytes, KeepLemmas.run_keeps, KeepLemmas.is_kept}
 use Rattle.verify80_states.proofs.fitting.laws.fitting_states_hold.Goals as goal
 
 pub returns-clause-kept : goal.returns-clause-kept

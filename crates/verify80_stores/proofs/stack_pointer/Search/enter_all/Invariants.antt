@@ -1,4 +1,4 @@
-use Rattle.std.proofs.Common.{◌≡◌, length}
+use Rattle.verify80_stores.proofs.Names.{◌≡◌, length}
 use Rattle.verify80_stores.proofs.stack_pointer.Search.enter_all.Given as goal
 
 abbrev pub invariant-loop-target : goal.invariant-loop-target

@@ -1,5 +1,4 @@
-use Rattle.std.proofs.Common.{ℕ, ◌<◌, get_or}
-use Rattle.verify80_states.specs.Calls.{IsWithin, returns_of}
+use Rattle.verify80_states.proofs.Names.{ℕ, ◌<◌, get_or, IsWithin, returns_of}
 use Rattle.verify80_states.proofs.fitting.calls.CallReturns.has_each_within.Given as goal
 
 abbrev pub invariant-loop-to : goal.invariant-loop-to

@@ -1,9 +1,4 @@
-use Rattle.std.proofs.Common.{◌≡◌, Some, refl, arith, below_more}
-use Rattle.decode80.specs.declared.fetching.Fetched.{Fetched}
-use Rattle.decode80.specs.Facts.{flow}
-use Rattle.verify80.specs.Looking.{declared_targets}
-use Rattle.verify80.specs.Reached.{found_at}
-use Rattle.verify80_states.specs.Calls.{AccountsFor, returns_of}
+use Rattle.verify80_states.proofs.Names.{◌≡◌, Some, refl, arith, below_more, Fetched, flow, declared_targets, found_at, AccountsFor, returns_of}
 use Rattle.verify80_states.proofs.fitting.fitting.Fit.all_account.Goals as goal
 
 pub loop-at-preserved : goal.loop-at-preserved

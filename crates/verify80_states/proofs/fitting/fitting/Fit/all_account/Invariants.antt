@@ -1,9 +1,4 @@
-use Rattle.std.proofs.Common.{◌≡◌, ℕ, ◌<◌, Some}
-use Rattle.decode80.specs.declared.fetching.Fetched.{Fetched}
-use Rattle.decode80.specs.Facts.{flow}
-use Rattle.verify80.specs.Looking.{declared_targets}
-use Rattle.verify80.specs.Reached.{found_at}
-use Rattle.verify80_states.specs.Calls.{AccountsFor, returns_of}
+use Rattle.verify80_states.proofs.Names.{◌≡◌, ℕ, ◌<◌, Some, Fetched, flow, declared_targets, found_at, AccountsFor, returns_of}
 use Rattle.verify80_states.proofs.fitting.fitting.Fit.all_account.Given as goal
 
 abbrev pub invariant-loop-at : goal.invariant-loop-at

@@ -1,14 +1,4 @@
-use Rattle.std.proofs.Common.{◌≡◌, Some, true, refl, arith, below_more, subst}
-use Rattle.std.specs.List.{list_all}
-use Rattle.std.specs.Prelude.{slice_get}
-use Rattle.std.proofs.lemmas.Option.{get_or_from_slice_get, slice_get_within}
-use Rattle.decode80.specs.declared.fetching.Fetched.{Fetched}
-use Rattle.verify80.specs.Looking.{declared_targets}
-use Rattle.verify80_states.specs.declared.fitting.fitting.Placed.{Placed}
-use Rattle.verify80_states.specs.Fitting.{FitsAt}
-use Rattle.verify80_states.specs.Following.{is_steady}
-use Rattle.verify80_states.specs.Calls.{KeepsCalls, returns_of}
-use Rattle.verify80.specs.Reached.{found_at}
+use Rattle.verify80_states.proofs.Names.{◌≡◌, Some, true, refl, arith, below_more, subst, list_all, slice_get, get_or_from_slice_get, slice_get_within, Fetched, declared_targets, found_at, Placed, FitsAt, is_steady, KeepsCalls, returns_of}
 use Rattle.verify80_states.proofs.fitting.fitting.Fit.all_fit.Goals as goal
 
 pub loop-placed-preserved : goal.loop-placed-preserved

@@ -1,13 +1,4 @@
-use Rattle.std.proofs.Common.{◌≡◌, ℕ, ◌<◌, Some, true}
-use Rattle.std.specs.List.{list_all}
-use Rattle.std.specs.Prelude.{slice_get}
-use Rattle.decode80.specs.declared.fetching.Fetched.{Fetched}
-use Rattle.verify80.specs.Looking.{declared_targets}
-use Rattle.verify80_states.specs.declared.fitting.fitting.Placed.{Placed}
-use Rattle.verify80_states.specs.Fitting.{FitsAt}
-use Rattle.verify80_states.specs.Following.{is_steady}
-use Rattle.verify80_states.specs.Calls.{KeepsCalls, returns_of}
-use Rattle.verify80.specs.Reached.{found_at}
+use Rattle.verify80_states.proofs.Names.{◌≡◌, ℕ, ◌<◌, Some, true, list_all, slice_get, Fetched, declared_targets, found_at, Placed, FitsAt, is_steady, KeepsCalls, returns_of}
 use Rattle.verify80_states.proofs.fitting.fitting.Fit.all_fit.Given as goal
 
 abbrev pub invariant-loop-placed : goal.invariant-loop-placed

@@ -1,7 +1,4 @@
-use Rattle.std.proofs.Common.{◌≡◌, ◌∙◌, refl, sym, arith, subst, below_more, get_or}
-use Rattle.std.proofs.lemmas.Grind.{get_or_default_zero}
-use Rattle.verify80_spans.specs.Span.{Within}
-use Rattle.verify80_states.specs.Fitting.{Covers}
+use Rattle.verify80_states.proofs.Names.{◌≡◌, ◌∙◌, refl, sym, arith, subst, below_more, get_or, get_or_default_zero, Within, Covers}
 use Rattle.verify80_states.proofs.fitting.fitting.Fit.has_at_each.Goals as goal
 use Rattle.verify80_states.proofs.fitting.fitting.Fit.has_at_each.Goals.{else-hl-to-via-then-hl-to+then-to-hl+else-not-covers, else-hl-to-via-then-hl-to+else-to-hl, else-hl-to-via-else-hl-to}
 

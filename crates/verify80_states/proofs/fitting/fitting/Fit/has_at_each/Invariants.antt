@@ -1,6 +1,4 @@
-use Rattle.std.proofs.Common.{ℕ, ◌<◌, get_or}
-use Rattle.verify80_spans.specs.Span.{Within}
-use Rattle.verify80_states.specs.Fitting.{Covers}
+use Rattle.verify80_states.proofs.Names.{ℕ, ◌<◌, get_or, Within, Covers}
 use Rattle.verify80_states.proofs.fitting.fitting.Fit.has_at_each.Given as goal
 
 abbrev pub invariant-loop-to : goal.invariant-loop-to

@@ -1,8 +1,4 @@
-use Rattle.std.proofs.Common.{refl, arith, below_more, subst}
-use Rattle.std.specs.Prelude.{◌≤◌}
-use Rattle.verify80_spans.specs.Span.{byte_alone}
-use Rattle.verify80_states.specs.State.{cut}
-use Rattle.verify80_states.specs.Fitting.{Has}
+use Rattle.verify80_states.proofs.Names.{refl, arith, below_more, subst, ◌≤◌, byte_alone, cut, Has}
 use Rattle.verify80_states.proofs.fitting.fitting.Fit.has_each.Goals as goal
 
 pub loop-number-preserved : goal.loop-number-preserved

@@ -1,8 +1,4 @@
-use Rattle.std.proofs.Common.{ℕ, ◌<◌}
-use Rattle.std.specs.Prelude.{◌≤◌}
-use Rattle.verify80_spans.specs.Span.{byte_alone}
-use Rattle.verify80_states.specs.State.{cut}
-use Rattle.verify80_states.specs.Fitting.{Has}
+use Rattle.verify80_states.proofs.Names.{ℕ, ◌<◌, ◌≤◌, byte_alone, cut, Has}
 use Rattle.verify80_states.proofs.fitting.fitting.Fit.has_each.Given as goal
 
 abbrev pub invariant-loop-number : goal.invariant-loop-number

@@ -1,7 +1,4 @@
-use Rattle.std.proofs.Common.{◌≡◌, ◌∙◌, Some, true, sym, subst}
-use Rattle.std.specs.List.{list_all}
-use Rattle.decode80.specs.declared.fetching.Fetched.{Fetched}
-use Rattle.verify80_states.specs.Following.{is_steady}
+use Rattle.verify80_states.proofs.Names.{◌≡◌, ◌∙◌, Some, true, sym, subst, list_all, Fetched, is_steady}
 use Rattle.verify80_states.proofs.fitting.fitting.Fit.placed_fits.Goals as goal
 
 pub returns-else-not-are_steady-clause-steady : goal.returns-else-not-are_steady-clause-steady

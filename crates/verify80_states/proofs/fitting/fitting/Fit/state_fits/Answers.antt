@@ -1,8 +1,4 @@
-use Rattle.std.proofs.Common.{subst}
-use Rattle.decode80.specs.declared.flow.Flow.{Flow}
-use Rattle.verify80_states.specs.declared.states.state.State.{State}
-use Rattle.verify80_states.specs.Following.{state_after}
-use Rattle.verify80_states.specs.Fitting.{Covers, FitsBy}
+use Rattle.verify80_states.proofs.Names.{subst, Flow, State, state_after, Covers, FitsBy}
 use Rattle.verify80_states.proofs.TableLemmas.{goes_next}
 use Rattle.verify80_states.proofs.fitting.fitting.Fit.state_fits.Goals as goal
 

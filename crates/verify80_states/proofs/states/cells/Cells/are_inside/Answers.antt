@@ -1,4 +1,4 @@
-use Rattle.std.proofs.Common.{refl}
+use Rattle.verify80_states.proofs.Names.{refl}
 use Rattle.verify80_states.proofs.states.cells.Cells.are_inside.Goals as goal
 
 pub returns : goal.returns

@@ -1,4 +1,4 @@
-use Rattle.std.proofs.Common.{rules, refl}
+use Rattle.verify80_states.proofs.Names.{rules, refl}
 use Rattle.verify80_states.proofs.states.state.State.is_inside.Goals as goal
 
 pub returns-then-are_inside : goal.returns-then-are_inside

@@ -1,10 +1,4 @@
-use Rattle.std.proofs.Common.{◌≡◌, Some, true, refl, arith, below_more}
-use Rattle.std.specs.Prelude.{◌⊎◌, slice_get}
-use Rattle.std.proofs.lemmas.Option.{slice_get_within}
-use Rattle.verify80_spans.specs.Span.{IsByteInside}
-use Rattle.verify80_states.specs.declared.states.variables.Variable.{Variable}
-use Rattle.verify80_states.specs.Variables.{is_bit}
-use Rattle.verify80_states.specs.Cells.{bytes_at}
+use Rattle.verify80_states.proofs.Names.{◌≡◌, Some, true, refl, arith, below_more, ◌⊎◌, slice_get, slice_get_within, IsByteInside, Variable, is_bit, bytes_at}
 use Rattle.verify80_states.proofs.states.state.State.is_set_inside.Goals as goal
 
 pub loop-number-preserved : goal.loop-number-preserved

@@ -1,9 +1,4 @@
-use Rattle.std.proofs.Common.{◌≡◌, ℕ, ◌<◌, Some, true}
-use Rattle.std.specs.Prelude.{◌⊎◌, slice_get}
-use Rattle.verify80_spans.specs.Span.{IsByteInside}
-use Rattle.verify80_states.specs.declared.states.variables.Variable.{Variable}
-use Rattle.verify80_states.specs.Variables.{is_bit}
-use Rattle.verify80_states.specs.Cells.{bytes_at}
+use Rattle.verify80_states.proofs.Names.{◌≡◌, ℕ, ◌<◌, Some, true, ◌⊎◌, slice_get, IsByteInside, Variable, is_bit, bytes_at}
 use Rattle.verify80_states.proofs.states.state.State.is_set_inside.Given as goal
 
 abbrev pub invariant-loop-number : goal.invariant-loop-number
