@@ -19,6 +19,9 @@
 #![tactic(auto)]
 
 mod candidates;
+mod difference;
+mod difference_row;
+mod differences;
 mod dump;
 mod fixup_bytes;
 mod found;
@@ -27,9 +30,8 @@ mod lines;
 mod listing;
 mod lone;
 mod marks;
-mod offsets;
 mod pattern;
-mod runs;
+mod reduced_code;
 mod search;
 mod sieve;
 mod solving;
