@@ -70,6 +70,9 @@ impl<'a> Search<'a> {
         ensures same { self.new ≡ self.old }
         ensures lies { IsAnswer self.old.dump self.old.known address result }
     {
+        if self.bytes.known.is_empty() {
+            return true;
+        }
         lies_at(
             self.dump.dump(),
             address,
@@ -83,6 +86,9 @@ impl<'a> Search<'a> {
         ensures same { self.new ≡ self.old }
         ensures lies { IsAnswer self.old.dump self.old.free address result }
     {
+        if self.bytes.free.is_empty() {
+            return true;
+        }
         lies_at(self.dump.dump(), address, &self.bytes.free, &mut self.table)
     }
 }
