@@ -1,11 +1,13 @@
 -- Bytes that others give by differences.
-use Rattle.std.specs.Prelude.{◌≡◌, ◌≢◌, ℕ, ◌+◌, ◌%◌, ◌<◌, ◌==◌, ◌&&◌, ◌||◌, nat_lt, Bool, true, false, Option, Some, None, List, [], ◌∷◌, ◌++◌, length, filter, IfSome, slice_index_or}
-use Rattle.std.specs.List.{AllByRecursion, Contains, list_all}
+use Rattle.std.specs.Prelude.{◌≡◌, ◌≢◌, ℕ, ◌+◌, ◌%◌, ◌<◌, ◌==◌, ◌&&◌, ◌||◌, not, nat_lt, Bool, true, false, Option, Some, None, List, [], ◌∷◌, ◌++◌, length, filter, IfSome, slice_index_or}
+use Rattle.std.specs.List.{AllByRecursion, Contains, list_all, list_any}
+use Rattle.std.specs.List.Sorted.{IsPermutation}
 use Rattle.std.proofs.Common.{refl, sym, ◌∙◌, ap, subst, arith, set, get_or-set_other, get_or-set_same, inl, inr}
 use Rattle.std.proofs.lemmas.Bool.{and_parts, and_from, eqb-true, eq-eqb, ne_eqb, true≢false, cases_lt, lt-ltb, le-ltb}
 use Rattle.std.proofs.lemmas.List.Elements.{Contains-append_left}
 use Rattle.std.proofs.lemmas.List.Folds.{list_all-append}
 use Rattle.std.proofs.lemmas.List.Kept.{AllPairs-filter}
+use Rattle.std.proofs.lemmas.List.Sorted.{list_any-IsPermutation}
 use Rattle.std.proofs.lemmas.Map.Views.{any-filter_same}
 use Rattle.omf_model.specs.declared.fixup.Target.{Target}
 use Rattle.rom80_find.specs.declared.pattern.code_byte.Half.{Half}
@@ -118,6 +120,32 @@ given_byte code bytes differences first b d h in_code is = record {
       let before = h.whole dump address value l parts.0 in
       lies_and dump code b address value before
       (from_more dump address value first b d is (contained (Lies dump address value) code first before.bytes in_code) parts.1);
+}
+
+-- in another order
+all_or_none : {A : Type 0} (p : A → Bool) (xs : List A) → list_all p xs ≡ not (list_any (λ x. not (p x)) xs)
+all_or_none p [] = refl
+all_or_none p (x ∷ xs) = one (p x) (all_or_none p xs)
+  where
+    one : (t : Bool) → list_all p xs ≡ not (list_any (λ x. not (p x)) xs) → (t && list_all p xs) ≡ not (not t || list_any (λ x. not (p x)) xs)
+    one true h = h
+    one false h = refl
+
+all_alike : {A : Type 0} (p : A → Bool) (xs ys : List A) → IsPermutation xs ys → list_all p xs ≡ list_all p ys
+all_alike p xs ys same =
+    all_or_none p xs ∙ (ap (λ (t : Bool). not t) (list_any-IsPermutation (λ x. not (p x)) xs ys same) ∙ sym (all_or_none p ys))
+
+pub no_test : {A : Type 0} (p : A → Bool) (xs : List A) (known : Bool) → length xs ≡ 0 → known ≡ (known && list_all p xs)
+no_test p [] true e = refl
+no_test p [] false e = refl
+no_test p (x ∷ xs) known e = absurd (omega (arith, e))
+
+pub reordered : (code bytes : List CodeByte) (differences others : List Difference) → IsReduced code bytes differences → IsPermutation differences others
+    → IsReduced code bytes others
+reordered code bytes differences others h same = record {
+  fewer = h.fewer;
+  have = λ dump address value l. sym (all_alike (has_difference dump address) differences others same) ∙ h.have dump address value l;
+  whole = λ dump address value l all. h.whole dump address value l (all_alike (has_difference dump address) differences others same ∙ all);
 }
 
 -- ---- the last byte of each half of each value

@@ -75,7 +75,11 @@ fn sieve_by_differences(
     ensures whole { length alive.new ≡ 1024 }
     ensures each { OnOk result ((a : ℕ) → a < 65536 → bit_in alive.new a ≡ (bit_in alive.old a && list_all (has_difference (dump_of dump.entry) a) differences.now)) }
 {
-    let mut row = DifferenceRow::of(alloc, dump, 1, 0)?;
+    if differences.is_empty() {
+        return Ok(());
+    }
+    let first = differences[0];
+    let mut row = DifferenceRow::of(alloc, dump, first.distance, first.more)?;
     for difference in differences {
         row.turn_to(alloc, dump, *difference)?;
         if !keep_marked(alive, &row.bits, usize::from(difference.offset)) {

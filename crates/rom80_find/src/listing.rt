@@ -8,7 +8,6 @@ ghost use Rattle.rom80_find.specs.Marks.{IsSievedWord};
 ghost use Rattle.rom80_find.specs.Places.{AreBelow, ArePlaces, place_if};
 ghost use Rattle.rom80_find.specs.Search.{search_of};
 
-use crate::difference::Difference;
 use crate::differences::{keep_each, keep_sieved};
 use crate::indexed_dump::IndexedDump;
 use crate::lone::lone_values;
@@ -24,8 +23,8 @@ const MANY: usize = 64;
 /// The addresses at which the code lies in a dump, in ascending order: those for which there are values of its targets with which
 /// the dump has all its bytes. The targets have numbers below `count`.
 ///
-/// The time grows with the number of bytes of the code times 1,024, in steps of 64 addresses at once, and with 131,072 for each byte
-/// that another one gives by a difference unlike the one before. Where the bytes outside fixups fit, it grows with the number of the
+/// The time grows with the number of bytes of the code times 1,024, in steps of 64 addresses at once, and with the number of
+/// different distances and numbers by which bytes give others, times 131,072. Where the bytes outside fixups fit, it grows with the number of the
 /// others in fixups whose value is of CODE, or has more than a low and a high byte of them.
 ///
 /// # Errors
@@ -40,17 +39,19 @@ pub(crate) fn places(
     requires below { AreBelow count code.now }
     ensures { IfOk result (λ places. ArePlaces dump.now code.now 65536 places.items) }
 {
-    let reduced = ReducedCode::of(alloc, code, count)?;
+    let mut reduced = ReducedCode::of(alloc, code, count)?;
     let places = places_of_bytes(alloc, dump, &reduced.bytes, count)?;
-    let differences: &[Difference] = &reduced.differences;
-    if differences.is_empty() {
+    if reduced.differences.is_empty() {
         return Ok(places);
     }
     if places.len() < MANY {
-        let kept = keep_each(alloc, dump.dump(), differences, &places)?;
+        let kept = keep_each(alloc, dump.dump(), &reduced.differences, &places)?;
         return Ok(kept);
     }
-    let kept = keep_sieved(alloc, dump.dump(), differences, &places)?;
+    reduced
+        .differences
+        .sort_by_key(|difference| (difference.distance, difference.more))?;
+    let kept = keep_sieved(alloc, dump.dump(), &reduced.differences, &places)?;
     Ok(kept)
 }
 

@@ -1,12 +1,17 @@
-use Rattle.std.proofs.Common.{◌≡◌, ◌+◌, ◌∙◌, ap, sym, subst, arith, ℕ, List, ◌&&◌, take, take_all, get_or}
+use Rattle.std.proofs.Common.{◌≡◌, ◌+◌, ◌∙◌, ap, sym, subst, arith, ℕ, List, ◌&&◌, take, take_all, get_or, length, eqb-true}
 use Rattle.std.specs.List.{list_all}
 use Rattle.rom80_find.specs.declared.difference.Difference.{Difference}
 use Rattle.rom80_find.specs.Dump.{dump_of}
 use Rattle.rom80_find.specs.Marks.{bit_in}
 use Rattle.rom80_find.specs.Differences.{has_difference, IsDifferenceRow}
-use Rattle.rom80_find.proofs.DifferenceLemmas.{row_has, some_difference}
+use Rattle.rom80_find.proofs.DifferenceLemmas.{no_test, row_has, some_difference}
 use Rattle.rom80_find.proofs.SieveLemmas.{sieved_more, sieved_out}
 use Rattle.rom80_find.proofs.differences.sieve_by_differences.Goals as goal
+
+pub returns-then-is_empty-clause-each : goal.returns-then-is_empty-clause-each
+returns-then-is_empty-clause-each c = λ a lt.
+    no_test (has_difference (dump_of c.args.dump) a) c.args.differences.now (bit_in c.args.alive.now a)
+    (eqb-true (length c.args.differences.now) 0 (sym c.is_empty.ensures ∙ c.if-is_empty.true))
 
 pub returns-then-not-keep_marked-clause-each : goal.returns-then-not-keep_marked-clause-each
 returns-then-not-keep_marked-clause-each c = λ a lt.
