@@ -9,7 +9,7 @@ ghost use Rattle.rom80_find.specs.Places.{AreBelow, ArePlaces, place_if};
 ghost use Rattle.rom80_find.specs.Search.{search_of};
 
 use crate::differences::{keep_each, keep_sieved};
-use crate::indexed_dump::IndexedDump;
+use crate::indexed_dump::{ADDRESSES, IndexedDump};
 use crate::lone::lone_values;
 use crate::pattern::{CodeByte, number_of};
 use crate::reduced_code::ReducedCode;
@@ -17,15 +17,16 @@ use crate::search::Search;
 use crate::sieve::{WORDS, sieve};
 use std::alloc::{AllocError, Global};
 
-/// From how many places on differences are looked for at all addresses, 64 at once; at fewer they are at each place by itself.
-const MANY: usize = 64;
+/// How many steps a row of the addresses with a difference takes. If all differences at all places are fewer steps, they are looked for
+/// at each place by itself.
+const ROW_STEPS: usize = 2 * ADDRESSES;
 
 /// The addresses at which the code lies in a dump, in ascending order: those for which there are values of its targets with which
 /// the dump has all its bytes. The targets have numbers below `count`.
 ///
 /// The time grows with the number of bytes of the code times 1,024, in steps of 64 addresses at once, and with the number of
-/// different distances and numbers by which bytes give others, times 131,072. Where the bytes outside fixups fit, it grows with the number of the
-/// others in fixups whose value is of CODE, or has more than a low and a high byte of them.
+/// different distances and numbers by which bytes give others, times 131,072. Where the bytes outside fixups fit, it grows with the
+/// number of the others in fixups whose value is of CODE, or has more than a low and a high byte of them.
 ///
 /// # Errors
 /// `AllocError` only if memory ran out.
@@ -44,7 +45,7 @@ pub(crate) fn places(
     if reduced.differences.is_empty() {
         return Ok(places);
     }
-    if places.len() < MANY {
+    if places.len() < ROW_STEPS / reduced.differences.len().max(1) {
         let kept = keep_each(alloc, dump.dump(), &reduced.differences, &places)?;
         return Ok(kept);
     }

@@ -13,13 +13,13 @@ returns-then-is_empty c =
     c.in_ok-reduced.ensures.reduced
     (subst (λ (l : List CodeByte). ArePlaces c.args.dump.now l 65536 c.in_ok-places.places.items) c.deref.ensures.value c.in_ok-places.ensures)
 
-pub returns-then-len-lt-MANY : goal.returns-then-len-lt-MANY
-returns-then-len-lt-MANY c =
-    kept_as c.args.code.now c.in_ok-reduced.reduced.bytes.items c.in_ok-reduced.reduced.differences.items c.deref-then-len-lt-MANY.result.now
-    c.args.dump.now (dump_of c.dump.result) c.in_ok-places.places.items c.deref-then-len-lt-MANY-2.result.now c.in_ok-kept.kept.items
+pub returns-then-len-max : goal.returns-then-len-max
+returns-then-len-max c =
+    kept_as c.args.code.now c.in_ok-reduced.reduced.bytes.items c.in_ok-reduced.reduced.differences.items c.deref-then-len-max.result.now
+    c.args.dump.now (dump_of c.dump.result) c.in_ok-places.places.items c.deref-then-len-max-2.result.now c.in_ok-kept.kept.items
     c.in_ok-reduced.ensures.reduced
     (subst (λ (l : List CodeByte). ArePlaces c.args.dump.now l 65536 c.in_ok-places.places.items) c.deref.ensures.value c.in_ok-places.ensures)
-    c.deref-then-len-lt-MANY.ensures.value c.dump.ensures c.deref-then-len-lt-MANY-2.ensures.value c.in_ok-kept.ensures
+    c.deref-then-len-max.ensures.value c.dump.ensures c.deref-then-len-max-2.ensures.value c.in_ok-kept.ensures
 
 pub returns : goal.returns
 returns c =
