@@ -34,9 +34,11 @@ impl DifferenceRow {
         ensures more { IfOk result (λ row. row.more ≡ more) }
     {
         let mut bits = table(alloc, 0, WORDS)?;
-        for at in 0..2 * ADDRESSES {
-            if has_more(dump, (at % ADDRESSES) as u16, distance, more) {
-                bits[at / 64] = bits[at / 64] | (1 << (at % 64) as u32);
+        for at in 0..ADDRESSES {
+            if has_more(dump, at as u16, distance, more) {
+                let bit = 1 << (at % 64) as u32;
+                bits[at / 64] = bits[at / 64] | bit;
+                bits[(at + ADDRESSES) / 64] = bits[(at + ADDRESSES) / 64] | bit;
             }
         }
         Ok(DifferenceRow {

@@ -17,15 +17,15 @@ use crate::search::Search;
 use crate::sieve::{WORDS, sieve};
 use std::alloc::{AllocError, Global};
 
-/// How many steps a row of the addresses with a difference takes. If all differences at all places are fewer steps, they are looked for
-/// at each place by itself.
+/// About how many steps it takes to make a row of the addresses with a difference, and to keep places by it. If all differences at all
+/// places are fewer steps, they are looked for at each place by itself.
 const ROW_STEPS: usize = 2 * ADDRESSES;
 
 /// The addresses at which the code lies in a dump, in ascending order: those for which there are values of its targets with which
 /// the dump has all its bytes. The targets have numbers below `count`.
 ///
 /// The time grows with the number of bytes of the code times 1,024, in steps of 64 addresses at once, and with the number of
-/// different distances and numbers by which bytes give others, times 131,072. Where the bytes outside fixups fit, it grows with the
+/// different distances and numbers by which bytes give others, times 65,536. Where the bytes outside fixups fit, it grows with the
 /// number of the others in fixups whose value is of CODE, or has more than a low and a high byte of them.
 ///
 /// # Errors

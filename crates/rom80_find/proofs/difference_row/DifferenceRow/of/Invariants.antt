@@ -8,5 +8,5 @@ use Rattle.rom80_find.proofs.difference_row.DifferenceRow.of.Given as goal
 abbrev pub invariant-loop-at : goal.invariant-loop-at
 invariant-loop-at l = record {
   whole : length l.bits.items ≡ 2048;
-  each : (k : ℕ) → k < 131072 → bit_in l.bits.items k ≡ (nat_lt k l.at && has_more (dump_of l.dump) (k % 65536) l.distance l.more);
+  each : (k : ℕ) → k < 131072 → bit_in l.bits.items k ≡ (nat_lt (k % 65536) l.at && has_more (dump_of l.dump) (k % 65536) l.distance l.more);
 }
