@@ -1,13 +1,13 @@
 -- Bytes that others give by differences.
-use Rattle.std.specs.Prelude.{◌≡◌, ◌≢◌, ℕ, ◌+◌, ◌%◌, ◌<◌, ◌==◌, ◌&&◌, ◌||◌, not, nat_lt, Bool, true, false, Option, Some, None, List, [], ◌∷◌, ◌++◌, length, filter, IfSome, slice_index_or}
+use Rattle.std.specs.Prelude.{◌≡◌, ◌≢◌, ℕ, ◌+◌, ◌%◌, ◌<◌, ◌==◌, ◌&&◌, ◌||◌, not, nat_lt, Bool, true, false, Option, Some, None, List, [], ◌∷◌, ◌++◌, length, filter}
 use Rattle.std.specs.List.{AllByRecursion, Contains, list_all, list_any}
 use Rattle.std.specs.List.Sorted.{IsPermutation}
-use Rattle.std.proofs.Common.{refl, sym, ◌∙◌, ap, subst, arith, set, get_or-set_other, get_or-set_same, inl, inr}
+use Rattle.std.proofs.Common.{refl, sym, ◌∙◌, ap, subst, arith, inl, inr}
 use Rattle.std.proofs.lemmas.Bool.{and_parts, and_from, eqb-true, eq-eqb, ne_eqb, true≢false, cases_lt, lt-ltb, le-ltb}
-use Rattle.std.proofs.lemmas.List.Elements.{Contains-append_left}
+use Rattle.std.proofs.lemmas.List.Elements.{All-from_recursion, recursion_from_All}
 use Rattle.std.proofs.lemmas.List.Folds.{list_all-append}
 use Rattle.std.proofs.lemmas.List.Kept.{AllPairs-filter}
-use Rattle.std.proofs.lemmas.List.Sorted.{list_any-IsPermutation}
+use Rattle.std.proofs.lemmas.List.Sorted.{All-permutation, IsPermutation-sym, list_any-IsPermutation}
 use Rattle.std.proofs.lemmas.Map.Views.{any-filter_same}
 use Rattle.omf_model.specs.declared.fixup.Target.{Target}
 use Rattle.rom80_find.specs.declared.pattern.code_byte.Half.{Half}
@@ -148,34 +148,28 @@ reordered code bytes differences others h same = record {
   whole = λ dump address value l all. h.whole dump address value l (all_alike (has_difference dump address) differences others same ∙ all);
 }
 
--- ---- the last byte of each half of each value
+all_permuted : {A : Type 0} (P : A → Type 0) (xs ys : List A) → IsPermutation xs ys → AllByRecursion P xs → AllByRecursion P ys
+all_permuted P xs ys same h = recursion_from_All P ys (All-permutation P xs ys same (All-from_recursion P xs h))
 
-abbrev AreOf : (code : List CodeByte) (latest : List (Option CodeByte)) → Type 0
-AreOf code latest = (k : ℕ) → IfSome (slice_index_or latest k None) (Contains code)
+lies_permuted : (dump : DumpValue) (code sorted : List CodeByte) (address : ℕ) (value : ℕ → ℕ) → IsPermutation code sorted
+    → LiesWith dump code address value → LiesWith dump sorted address value
+lies_permuted dump code sorted address value same h = record {
+  absolute = h.absolute;
+  here = h.here;
+  bytes = all_permuted (Lies dump address value) code sorted same h.bytes;
+}
 
-pub none_of : (latest : List (Option CodeByte)) → ((k : ℕ) → slice_index_or latest k None ≡ None) → AreOf [] latest
-none_of latest h = λ k. subst (λ (o : Option CodeByte). IfSome o (Contains [])) (sym (h k)) tt
+pub sorted_reduced : (code sorted bytes : List CodeByte) (differences : List Difference) → IsPermutation code sorted → IsReduced sorted bytes differences
+    → IsReduced code bytes differences
+sorted_reduced code sorted bytes differences same h = record {
+  fewer = λ dump address value l. h.fewer dump address value (lies_permuted dump code sorted address value same l);
+  have = λ dump address value l. h.have dump address value (lies_permuted dump code sorted address value same l);
+  whole = λ dump address value l all.
+      lies_permuted dump sorted code address value (IsPermutation-sym code sorted same) (h.whole dump address value l all);
+}
 
-pub still_of : (code : List CodeByte) (b : CodeByte) (o : Option CodeByte) → IfSome o (Contains code) → IfSome o (Contains (code ++ b ∷ []))
-still_of code b None h = tt
-still_of code b (Some first) h = Contains-append_left code (b ∷ []) first h
-
-pub latest_more : (code : List CodeByte) (b : CodeByte) (latest : List (Option CodeByte)) (slot : ℕ) (new : Option CodeByte) → slot < length latest
-    → AreOf code latest → IfSome new (Contains (code ++ b ∷ [])) → AreOf (code ++ b ∷ []) (set latest slot new)
-latest_more code b latest slot new lt h is = λ k. elim (cases_lt k slot) [
-  | inl less ↦ other k (omega arith)
-  | inr more ↦ elim (cases_lt slot k) [
-    | inl above ↦ other k (omega arith)
-    | inr same ↦
-        let here : k ≡ slot = omega arith in
-        subst (λ (o : Option CodeByte). IfSome o (Contains (code ++ b ∷ [])))
-        (sym (ap (λ (n : ℕ). slice_index_or (set latest slot new) n None) here ∙ get_or-set_same latest slot new None lt)) is
-  ]
-]
-  where
-    other : (k : ℕ) → k ≢ slot → IfSome (slice_index_or (set latest slot new) k None) (Contains (code ++ b ∷ []))
-    other k ne = subst (λ (o : Option CodeByte). IfSome o (Contains (code ++ b ∷ []))) (sym (get_or-set_other latest slot k new None ne))
-        (still_of code b (slice_index_or latest k None) (h k))
+pub sorted_below : (count : ℕ) (code sorted : List CodeByte) → IsPermutation code sorted → AreBelow count code → AreBelow count sorted
+sorted_below count code sorted same h = all_permuted (λ (b : CodeByte). number_of b.target < count) code sorted same h
 
 -- ---- the places
 

@@ -9,7 +9,6 @@ ghost use Rattle.rom80_find.specs.declared.pattern.code_byte.CodeByte.{CodeByte}
 
 use crate::difference::Difference;
 use crate::pattern::{CodeByte, Half, number_of};
-use crate::table::table;
 use std::alloc::{AllocError, Global};
 
 /// Bytes of code, and the differences that give its other bytes from them: it lies where these bytes do, if the dump has the
@@ -21,9 +20,9 @@ pub(crate) struct ReducedCode {
 }
 
 impl ReducedCode {
-    /// The code with a difference in place of most bytes in fixups that have one from an earlier byte. A byte is compared with the last
-    /// one of those that are hashed as it is: low halves of a value by its target, high halves by the low byte of the addend too. The
-    /// targets have numbers below `count`.
+    /// The code with a difference in place of each byte in a fixup that has one from an earlier byte. Bytes with differences from one
+    /// another are low halves of one value, or high halves whose addends have the same low byte; they are sorted by that. The targets
+    /// have numbers below `count`.
     pub(crate) fn of(
         alloc: Global,
         code: &[CodeByte],
@@ -33,19 +32,21 @@ impl ReducedCode {
         ensures reduced { IfOk result (λ reduced. IsReduced code.now reduced.bytes.items reduced.differences.items) }
         ensures below { IfOk result (λ reduced. AreBelow count reduced.bytes.items) }
     {
-        let slots = code.len().max(1);
-        let mut reduced = ReducedCode {
-            bytes: Vec::new(alloc),
-            differences: Vec::new(alloc),
-        };
-        let mut latest = table(alloc, None, slots)?;
-        for byte in code {
+        let mut sorted = Vec::from_slice(alloc, code)?;
+        sorted.sort_by_key(|byte| {
             let class = match byte.half {
                 Half::Low => 0,
                 Half::High => 1 + byte.addend % 256,
             };
-            let slot = (257 * number_of(byte.target) + usize::from(class)) % slots;
-            latest[slot] = reduced.push(latest[slot], *byte)?;
+            (number_of(byte.target), class)
+        })?;
+        let mut reduced = ReducedCode {
+            bytes: Vec::new(alloc),
+            differences: Vec::new(alloc),
+        };
+        let mut latest = None;
+        for byte in &sorted {
+            latest = reduced.push(latest, *byte)?;
         }
         Ok(reduced)
     }
