@@ -6,8 +6,8 @@ pub mod MarkLemmas
 pub mod LoneLemmas
 pub mod PlaceLemmas
 pub mod WordLemmas
-pub mod RepeatLemmas
-pub mod RunLemmas
+pub mod PartLemmas
+pub mod DifferenceLemmas
 pub mod ReadingLemmas
 pub mod NameLemmas
 pub mod ExternalLemmas

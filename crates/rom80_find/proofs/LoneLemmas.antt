@@ -1,5 +1,5 @@
--- Values that code has in one fixup only: they never decide where it lies, but for whether there are bytes.
-use Rattle.std.specs.Prelude.{◌≡◌, ℕ, zero, suc, ◌+◌, ◌-◌, ◌*◌, ◌/◌, ◌%◌, ◌<◌, ◌==◌, ◌&&◌, ◌||◌, not, if◌then◌else◌, nat_le, nat_lt, Bool, true, false, Option, Some, None, List, [], ◌∷◌, length, filter, slice_index_or}
+-- Values of which code has no more than a low and a high byte: they never decide where it lies, but for whether there are bytes.
+use Rattle.std.specs.Prelude.{◌≡◌, ◌≢◌, ℕ, zero, suc, ◌+◌, ◌-◌, ◌*◌, ◌/◌, ◌%◌, ◌<◌, ◌==◌, ◌&&◌, ◌||◌, not, if◌then◌else◌, nat_le, nat_lt, Bool, true, false, Option, Some, None, List, [], ◌∷◌, length, filter, slice_index_or}
 use Rattle.std.specs.List.{AllByRecursion, list_all}
 use Rattle.std.specs.Option.{option_map_or}
 use Rattle.std.proofs.Common.{refl, sym, ◌∙◌, ap, subst, arith}
@@ -14,7 +14,6 @@ use Rattle.rom80_find.specs.declared.lone.Uses.TheVariants as kept
 use Rattle.rom80_find.specs.Lone.{bytes_with, AreOfOneWord, AreLone, IsUses, is_lone, is_crowded}
 use Rattle.rom80_find.specs.Marks.{has_row, is_in_row, passes}
 use Rattle.rom80_find.specs.Places.{LiesAt, fits, fits_if_plain, is_free, is_plain}
-use Rattle.rom80_find.specs.Runs.{AreFree}
 use Rattle.rom80_find.proofs.CodeLieLemmas.{lies_plain}
 use Rattle.rom80_find.proofs.SolveLemmas.{iff_bool}
 
@@ -45,11 +44,11 @@ to_row o d row e lt r = ap (λ (o : Option ℕ). option_map_or (is_in_row row) o
 abbrev less : (word addend : ℕ) → ℕ
 less word addend = (word + (65536 - addend % 65536)) % 65536
 
-low_half : (d e addend : ℕ) → d < 256 → e < 256 → (less (d + e * 256) addend + addend) % 65536 % 256 ≡ d
-low_half d e addend ld le = omega arith
+low_half : (d addend : ℕ) → d < 256 → (less (d + 0 * 256) addend + addend) % 65536 % 256 ≡ d
+low_half d addend ld = omega arith
 
-high_half : (d e addend : ℕ) → d < 256 → e < 256 → (less (d + e * 256) addend + addend) % 65536 / 256 % 256 ≡ e
-high_half d e addend ld le = omega arith
+high_half : (d addend : ℕ) → d < 256 → (less (0 + d * 256) addend + addend) % 65536 / 256 % 256 ≡ d
+high_half d addend ld = omega arith
 
 abbrev low_of : Half → ℕ → ℕ
 low_of Low d = d
@@ -60,14 +59,41 @@ high_of Low d = 0
 high_of High d = d
 
 one_half : (h : Half) (d addend : ℕ) → d < 256 → half_of h ((less (low_of h d + high_of h d * 256) addend + addend) % 65536) ≡ d
-one_half Low d addend lt = low_half d 0 addend lt (omega arith)
-one_half High d addend lt = high_half 0 d addend (omega arith) lt
+one_half Low d addend lt = low_half d addend lt
+one_half High d addend lt = high_half d addend lt
+
+-- the word of a low byte and a high one
+abbrev low_word : (d addend : ℕ) → ℕ
+low_word d addend = (d + (256 - addend % 256)) % 256
+
+abbrev both : (d a e f : ℕ) → ℕ
+both d a e f = low_word d a + 256 * ((e + (256 - (low_word d a + f) / 256 % 256)) % 256)
+
+low_both : (d a h : ℕ) → d < 256 → (low_word d a + 256 * h + a) % 65536 % 256 ≡ d
+low_both d a h ld = omega arith
+
+high_both : (l e f : ℕ) → l < 256 → e < 256 → (l + 256 * ((e + (256 - (l + f) / 256 % 256)) % 256) + f) % 65536 / 256 % 256 ≡ e
+high_both l e f ll le = omega arith
+
+low_small : (d a : ℕ) → low_word d a < 256
+low_small d a = omega arith
+
+abbrev word_of_two : Half → (d a e f : ℕ) → ℕ
+word_of_two Low d a e f = both d a e f
+word_of_two High d a e f = both e f d a
+
+two_fit : (h k : Half) (d a e f : ℕ) → h ≢ k → d < 256 → e < 256
+    → (half_of h ((word_of_two h d a e f + a) % 65536) ≡ d) × (half_of k ((word_of_two h d a e f + f) % 65536) ≡ e)
+two_fit Low Low d a e f ne ld le = elim (ne refl) [ ]
+two_fit Low High d a e f ne ld le = (low_both d a ((e + (256 - (low_word d a + f) / 256 % 256)) % 256) ld, high_both (low_word d a) e f (low_small d a) le)
+two_fit High Low d a e f ne ld le = (high_both (low_word e f) d a (low_small e f) ld, low_both e f ((d + (256 - (low_word e f + a) / 256 % 256)) % 256) le)
+two_fit High High d a e f ne ld le = elim (ne refl) [ ]
 
 -- the value of the bytes
 abbrev word_of : (dump : DumpValue) (address : ℕ) → List CodeByte → ℕ
 word_of dump address [] = 0
 word_of dump address (b ∷ []) = less (low_of b.half (entry dump address b) + high_of b.half (entry dump address b) * 256) b.addend
-word_of dump address (b ∷ (c ∷ more)) = less (entry dump address b + entry dump address c * 256) b.addend
+word_of dump address (b ∷ (c ∷ more)) = word_of_two b.half (entry dump address b) b.addend (entry dump address c) c.addend
 
 abbrev Fits : (dump : DumpValue) (address value : ℕ) → CodeByte → Type 0
 Fits dump address value b = dump_byte dump ((address + b.offset) % 65536) ≡ Some (half_of b.half ((value + b.addend) % 65536))
@@ -81,16 +107,8 @@ fit_word dump address (b ∷ []) one has =
 fit_word dump address (b ∷ (c ∷ [])) one has =
     let f = from_row (dump_byte dump ((address + b.offset) % 65536)) has.0 in
     let g = from_row (dump_byte dump ((address + c.offset) % 65536)) has.1.0 in
-    let word = less (entry dump address b + entry dump address c * 256) b.addend in (
-      f.0 ∙ ap (λ (x : ℕ). Some x) (sym (ap (λ (h : Half). half_of h ((word + b.addend) % 65536)) one.0
-          ∙ low_half (entry dump address b) (entry dump address c) b.addend f.1 g.1)),
-      (
-        g.0 ∙ ap (λ (x : ℕ). Some x) (sym (ap (λ (h : Half). half_of h ((word + c.addend) % 65536)) one.1.0
-            ∙ (ap (λ (n : ℕ). (word + n) % 65536 / 256 % 256) one.1.1
-            ∙ high_half (entry dump address b) (entry dump address c) b.addend f.1 g.1))),
-        tt,
-      ),
-    )
+    let fit = two_fit b.half c.half (entry dump address b) b.addend (entry dump address c) c.addend one f.1 g.1 in
+    (f.0 ∙ ap (λ (x : ℕ). Some x) (sym fit.0), (g.0 ∙ ap (λ (x : ℕ). Some x) (sym fit.1), tt))
 fit_word dump address (b ∷ (c ∷ (d ∷ more))) one has = elim one [ ]
 
 -- ---- what passes the sieve
@@ -181,14 +199,6 @@ free_lies dump lone code address are pass h = record {
         h.lies.bytes;
   };
 }
-
-pub crowded_filter : (lone : List Bool) (code : List CodeByte) → AreFree (filter (is_crowded lone) code)
-crowded_filter lone [] = tt
-crowded_filter lone (b ∷ bs) = one (is_crowded lone b) refl (crowded_filter lone bs)
-  where
-    one : (t : Bool) → is_crowded lone b ≡ t → AreFree (filter (is_crowded lone) bs) → AreFree (filter (is_crowded lone) (b ∷ bs))
-    one true e rest = rw e ((and_parts (is_free b) (not (slice_index_or lone (number_of b.target) false)) e).0, rest)
-    one false e rest = rw e rest
 
 -- a byte outside fixups passes exactly if it fits
 small : (a : ℕ) → a % 256 < 256

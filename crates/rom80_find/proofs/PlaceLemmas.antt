@@ -1,5 +1,5 @@
 -- The places before an address, and before the next one.
-use Rattle.std.specs.Prelude.{◌≡◌, ℕ, zero, suc, ◌+◌, ◌-◌, ◌*◌, ◌/◌, ◌%◌, ◌<◌, ◌≤◌, ◌==◌, ◌||◌, Bool, true, false, Option, Some, None, IfSome, List, [], ◌∷◌, ◌++◌, length, filter, slice_index_or}
+use Rattle.std.specs.Prelude.{◌≡◌, ℕ, zero, suc, ◌+◌, ◌*◌, ◌/◌, ◌%◌, ◌<◌, ◌≤◌, ◌==◌, ◌||◌, Bool, true, false, List, [], ◌∷◌, ◌++◌, length, filter, slice_index_or}
 use Rattle.std.specs.Int.{bit_at}
 use Rattle.std.specs.List.{list_all, list_any}
 use Rattle.std.proofs.Common.{append-nil, refl, sym, ◌∙◌, ap, subst, arith, get_or, ◌⊎◌, inl, inr}
@@ -10,14 +10,13 @@ use Rattle.std.proofs.lemmas.List.Folds.{list_any-append}
 use Rattle.std.proofs.lemmas.List.Quantifiers.{all_pairs_push}
 use Rattle.rom80_find.specs.Dump.{DumpValue}
 use Rattle.rom80_find.specs.declared.pattern.code_byte.CodeByte.{CodeByte}
-use Rattle.rom80_find.specs.Runs.{IsAnswer, IsAnswerBefore}
-use Rattle.rom80_find.specs.Places.{LiesAt, place_of, is_known_fixup, ArePlaces, is_listed}
+use Rattle.rom80_find.specs.Places.{LiesAt, place_if, is_known_fixup, ArePlaces, is_listed}
 use Rattle.rom80_find.specs.Lone.{AreLone, is_crowded}
 use Rattle.rom80_find.specs.Marks.{AreSieved, IsSievedWord, has_bit, passes}
 use Rattle.rom80_find.specs.Search.{SearchValue, search_of}
 use Rattle.rom80_find.proofs.CodeLieLemmas.{parts_lie}
 use Rattle.rom80_find.proofs.LoneLemmas.{all_plain, free_lies, lies_passes}
-use Rattle.rom80_find.proofs.RepeatLemmas.{lies_some, rest_lies}
+use Rattle.rom80_find.proofs.PartLemmas.{lies_some, rest_lies}
 
 before_or_here : (at a : ℕ) → a < at + 1 → (a < at) ⊎ (at ≡ a)
 before_or_here at a lt = elim (cases_lt a at) [ inl k ↦ inl k | inr k ↦ inr (omega arith) ]
@@ -89,33 +88,33 @@ module _ (dump : DumpValue) (lone : List Bool) (code : List CodeByte) (at : ℕ)
 
   -- so the answer at it says whether it is the next place
   module _ (places : List ℕ) (h : ArePlaces dump code at places) where
-    next : (answer : Option Bool) (new : List ℕ)
-        → IfSome answer (λ _. (here ≡ true) × LiesAt dump (filter is_known_fixup code) at)
-        → IfSome answer (λ lies. IsAnswer dump (filter (is_crowded lone) code) at lies)
-        → (answer ≡ None → here ≡ true → LiesAt dump (filter is_known_fixup code) at → ⊥)
-        → new ≡ places ++ place_of answer at
+    next : (lies : Bool) (new : List ℕ)
+        → (lies ≡ true → here ≡ true)
+        → (lies ≡ true → LiesAt dump (filter is_known_fixup code) at)
+        → (lies ≡ true → LiesAt dump (filter (is_crowded lone) code) at)
+        → (lies ≡ false → here ≡ true → LiesAt dump (filter is_known_fixup code) at → LiesAt dump (filter (is_crowded lone) code) at → ⊥)
+        → new ≡ places ++ place_if lies at
         → ArePlaces dump code (at + 1) new
-    next None new k f none is = subst (λ (l : List ℕ). ArePlaces dump code (at + 1) l) (sym (is ∙ append-nil places))
+    next true new alive known crowded none is = subst (λ (l : List ℕ). ArePlaces dump code (at + 1) l) (sym is)
+        (there dump code at places h (lies_here (alive refl) (known refl) (crowded refl)))
+    next false new alive known crowded none is = subst (λ (l : List ℕ). ArePlaces dump code (at + 1) l) (sym (is ∙ append-nil places))
         (not_there dump code at places h (away here refl))
       where
         away : (t : Bool) → here ≡ t → LiesAt dump code at → ⊥
-        away true e l = none refl e (lies_some dump code at is_known_fixup l)
+        away true e l = none refl e (lies_some dump code at is_known_fixup l) (lies_some dump code at (is_crowded lone) l)
         away false e l = sieved_away e l
-    next (Some true) new k f none is = subst (λ (l : List ℕ). ArePlaces dump code (at + 1) l) (sym is)
-        (there dump code at places h (lies_here k.0 k.1 (f.yes refl)))
-    next (Some false) new k f none is = subst (λ (l : List ℕ). ArePlaces dump code (at + 1) l) (sym (is ∙ append-nil places))
-        (not_there dump code at places h (λ l. f.no refl (lies_some dump code at (is_crowded lone) l)))
 
-    pub next_places : (s : SearchValue) → s ≡ search_of dump lone code → (answer : Option Bool) (new : List ℕ)
-        → IfSome answer (λ _. (here ≡ true) × LiesAt s.dump s.known at)
-        → IfSome answer (λ lies. IsAnswer s.dump s.free at lies)
-        → (answer ≡ None → here ≡ true → LiesAt s.dump s.known at → ⊥)
-        → new ≡ places ++ place_of answer at
+    pub next_places : (s : SearchValue) → s ≡ search_of dump lone code → (lies : Bool) (new : List ℕ)
+        → (lies ≡ true → here ≡ true)
+        → (lies ≡ true → LiesAt s.dump s.known at)
+        → (lies ≡ true → LiesAt s.dump s.free at)
+        → (lies ≡ false → here ≡ true → LiesAt s.dump s.known at → LiesAt s.dump s.free at → ⊥)
+        → new ≡ places ++ place_if lies at
         → ArePlaces dump code (at + 1) new
-    next_places s same answer new k f none is = next answer new
-        (subst (λ (s : SearchValue). IfSome answer (λ _. (here ≡ true) × LiesAt s.dump s.known at)) same k)
-        (subst (λ (s : SearchValue). IfSome answer (λ lies. IsAnswer s.dump s.free at lies)) same f)
-        (subst (λ (s : SearchValue). answer ≡ None → here ≡ true → LiesAt s.dump s.known at → ⊥) same none) is
+    next_places s same lies new alive known free none is = next lies new alive
+        (subst (λ (s : SearchValue). lies ≡ true → LiesAt s.dump s.known at) same known)
+        (subst (λ (s : SearchValue). lies ≡ true → LiesAt s.dump s.free at) same free)
+        (subst (λ (s : SearchValue). lies ≡ false → here ≡ true → LiesAt s.dump s.known at → LiesAt s.dump s.free at → ⊥) same none) is
 
 plus_zero : (n : ℕ) → n ≡ n + 0
 plus_zero n = omega arith
@@ -137,13 +136,6 @@ module _ (dump : DumpValue) (lone : List Bool) (code : List CodeByte) (first : �
 
   pub none_in_word : ArePlaces dump code first places → ArePlaces dump code (first + 64) places
   none_in_word h = none_before 64 (omega arith) h
-
-pub before_next : (s new : SearchValue) (at : ℕ) → new ≡ s → (answer : Option Bool)
-    → IfSome answer (λ lies. IsAnswer s.dump s.free at lies) → IsAnswerBefore new.dump new.free (at + 1) answer
-before_next s new at is None h = tt
-before_next s new at is (Some lies) h = λ one.
-    let same : at ≡ at + 1 - 1 = omega arith in
-    subst (λ (n : ℕ). IsAnswer new.dump new.free n lies) same (subst (λ (v : SearchValue). IsAnswer v.dump v.free at lies) (sym is) h)
 
 -- a word of the addresses that are left
 pub sieved_word : (dump : DumpValue) (lone : List Bool) (code : List CodeByte) (alive : List ℕ) (w word : ℕ) → w < 1024

@@ -6,13 +6,12 @@ use Rattle.std.proofs.lemmas.Bool.{true≢false, cases_lt, eqb-true, eq-eqb, ne_
 use Rattle.std.proofs.lemmas.Nat.Bits.{bit_at-zero, bit_at_ones}
 use Rattle.std.specs.Int.{bit_at}
 use Rattle.std.proofs.lemmas.List.Folds.{list_all_more}
-use Rattle.rom80_find.specs.declared.pattern.code_byte.CodeByte.{CodeByte}
 use Rattle.rom80_find.specs.Marks.{bit_in, has_bit}
 use Rattle.rom80_find.proofs.BitLemmas.{both_have, same_default}
 use Rattle.rom80_find.proofs.SolveLemmas.{iff_bool, all_first}
 
 -- one more byte
-pub sieved_more : (p : CodeByte → Bool) (code : List CodeByte) (i : ℕ) (d : CodeByte) (first old new : Bool) → i < length code
+pub sieved_more : {A : Type 0} (p : A → Bool) (code : List A) (i : ℕ) (d : A) (first old new : Bool) → i < length code
     → old ≡ (first && list_all p (take i code)) → new ≡ (old && p (get_or code i d)) → new ≡ (first && list_all p (take (i + 1) code))
 sieved_more p code i d first old new lt before step =
     step ∙ (ap (λ (t : Bool). t && p (get_or code i d)) before ∙ (and_again first (list_all p (take i code)) (p (get_or code i d)) ∙ ap (λ (t : Bool). first && t) (sym (list_all_more p code i d lt))))
@@ -22,7 +21,7 @@ sieved_more p code i d first old new lt before step =
     and_again false y z = refl
 
 -- none left
-pub sieved_out : (p : CodeByte → Bool) (code : List CodeByte) (k : ℕ) (first new : Bool)
+pub sieved_out : {A : Type 0} (p : A → Bool) (code : List A) (k : ℕ) (first new : Bool)
     → new ≡ (first && list_all p (take k code)) → new ≡ false → new ≡ (first && list_all p code)
 sieved_out p code k true new h none = none ∙ iff_bool false (list_all p code) (λ e. elim (true≢false (sym e)) [ ])
     (λ e. elim (true≢false (sym (all_first p code k e) ∙ (sym h ∙ none))) [ ])

@@ -12,7 +12,7 @@ pub mod Found
 pub mod Candidates
 pub mod Lone
 pub mod Marks
-pub mod Runs
+pub mod Differences
 pub mod Search
 pub mod Laws
 pub mod Names

@@ -1,7 +1,6 @@
--- Values that code has in one fixup only: whatever the dump has there, one word goes with it.
-use Rattle.std.specs.Prelude.{◌≡◌, ℕ, ◌==◌, ◌&&◌, not, Bool, true, false, List, [], ◌∷◌, filter, slice_index_or, ⊤}
+-- Values of which code has no more than a low and a high byte: whatever bytes the dump has there, one word goes with them.
+use Rattle.std.specs.Prelude.{◌≡◌, ◌≢◌, ℕ, ◌==◌, ◌&&◌, not, Bool, true, false, List, [], ◌∷◌, filter, slice_index_or, ⊤}
 use Rattle.rom80_find.specs.declared.pattern.code_byte.CodeByte.{CodeByte}
-use Rattle.rom80_find.specs.declared.pattern.code_byte.Half.TheVariants.{Low, High}
 use Rattle.rom80_find.specs.declared.lone.Uses.{Uses}
 use Rattle.rom80_find.specs.declared.lone.Uses.TheVariants as uses
 use Rattle.rom80_find.specs.CodeBytes.{number_of}
@@ -11,11 +10,11 @@ use Rattle.rom80_find.specs.Places.{is_free}
 abbrev pub bytes_with : (number : ℕ) → List CodeByte → List CodeByte
 bytes_with number code = filter (λ b. number_of b.target == number) code
 
--- no two of them, or the two halves of one word
+-- no two of them, or a low and a high byte
 abbrev pub AreOfOneWord : List CodeByte → Type 0
 AreOfOneWord [] = ⊤
 AreOfOneWord (b ∷ []) = ⊤
-AreOfOneWord (b ∷ (c ∷ [])) = (b.half ≡ Low) × ((c.half ≡ High) × (c.addend ≡ b.addend))
+AreOfOneWord (b ∷ (c ∷ [])) = b.half ≢ c.half
 AreOfOneWord (b ∷ (c ∷ (d ∷ more))) = ⊥
 
 -- what is kept of the bytes of a value

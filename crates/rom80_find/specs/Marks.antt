@@ -7,7 +7,6 @@ use Rattle.rom80_find.specs.Dump.{DumpValue, dump_byte}
 use Rattle.rom80_find.specs.declared.pattern.code_byte.CodeByte.{CodeByte}
 use Rattle.rom80_find.specs.Places.{is_plain}
 use Rattle.rom80_find.specs.Lone.{is_lone}
-use Rattle.rom80_find.specs.Runs.{AreRunStarts}
 
 -- a bit of a word, and a bit of words that have 64 each
 abbrev pub has_bit : (word index : ℕ) → Bool
@@ -38,11 +37,6 @@ pub record AreMarks (dump : DumpValue) (stop : ℕ) (words : List ℕ) : Type 0 
 abbrev pub is_mark : (found : Option ℕ) (at index : ℕ) → Bool
 is_mark None at index = false
 is_mark (Some byte) at index = (index == byte * 131072 + at || index == 33554432 + at) && nat_lt byte 256
-
--- the tables of a dump
-pub record AreTables (dump : DumpValue) (starts marks : List ℕ) : Type 0 where
-  pub runs : AreRunStarts dump 131072 starts
-  pub rows : AreMarks dump 131072 marks
 
 -- the row that has a byte of code, if one decides: that of a byte outside fixups, or the last one if its value is met nowhere else
 abbrev pub row_of : (lone : List Bool) → CodeByte → Option ℕ

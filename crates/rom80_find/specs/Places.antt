@@ -1,5 +1,5 @@
 -- Where the bytes of a module's code lie in a dump.
-use Rattle.std.specs.Prelude.{◌≡◌, ℕ, ◌+◌, ◌%◌, ◌<◌, ◌≤◌, ◌==◌, Bool, true, false, not, ◌&&◌, ◌||◌, nat_le, if◌then◌else◌, Option, Some, None, List, [], ◌∷◌, length, slice_index_or}
+use Rattle.std.specs.Prelude.{◌≡◌, ℕ, ◌+◌, ◌%◌, ◌<◌, ◌≤◌, ◌==◌, Bool, true, false, not, ◌&&◌, ◌||◌, nat_le, if◌then◌else◌, Some, List, [], ◌∷◌, length, slice_index_or}
 use Rattle.std.specs.List.{AllByRecursion, AllPairs, list_all, list_any}
 use Rattle.std.specs.Option.{option_map_or}
 use Rattle.rom80_find.specs.Dump.{DumpValue, dump_byte}
@@ -92,7 +92,6 @@ pub record ArePlaces (dump : DumpValue) (code : List CodeByte) (stop : ℕ) (pla
   pub ascending : AllPairs (λ (p q : ℕ). p < q) places
 
 -- the address, if the answer is that the code lies there
-abbrev pub place_of : (answer : Option Bool) → (address : ℕ) → List ℕ
-place_of (Some true) address = address ∷ []
-place_of (Some false) address = []
-place_of None address = []
+abbrev pub place_if : (answer : Bool) → (address : ℕ) → List ℕ
+place_if true address = address ∷ []
+place_if false address = []

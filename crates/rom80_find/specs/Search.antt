@@ -1,12 +1,11 @@
 -- A search for code in a dump, as a contract sees it.
-use Rattle.std.specs.Prelude.{◌≤◌, [], Bool, List, length, filter}
+use Rattle.std.specs.Prelude.{◌≡◌, ℕ, ◌≤◌, [], Bool, true, false, List, length, filter}
 use Rattle.rom80_find.specs.declared.pattern.code_byte.CodeByte.{CodeByte}
 use Rattle.rom80_find.specs.declared.candidates.Candidates.{Candidates}
 use Rattle.rom80_find.specs.declared.fixup_bytes.FixupBytes.{FixupBytes}
 use Rattle.rom80_find.specs.Dump.{DumpValue}
-use Rattle.rom80_find.specs.Places.{AreBelow, IsClearBut, is_known_fixup}
+use Rattle.rom80_find.specs.Places.{AreBelow, IsClearBut, LiesAt, is_known_fixup}
 use Rattle.rom80_find.specs.Lone.{is_crowded}
-use Rattle.rom80_find.specs.Runs.{AreFree, AreFrom, AreUpTo}
 
 -- the dump, and the bytes in fixups of values that are known, and of others that aren't of one word
 pub record SearchValue : Type 0 where
@@ -23,7 +22,9 @@ pub record IsSearch (bytes : FixupBytes) (table : List Candidates) : Type 0 wher
   pub two : 2 ≤ length table
   pub known : AreBelow (length table) bytes.known.items
   pub below : AreBelow (length table) bytes.free.items
-  pub free : AreFree bytes.free.items
-  pub low : AreFrom bytes.offsets.low bytes.free.items
-  pub high : AreUpTo bytes.offsets.high bytes.free.items
   pub clear : IsClearBut [] table
+
+-- the answer says whether the code lies at the address
+pub record IsAnswer (dump : DumpValue) (code : List CodeByte) (address : ℕ) (answer : Bool) : Type 0 where
+  pub yes : answer ≡ true → LiesAt dump code address
+  pub no : answer ≡ false → LiesAt dump code address → ⊥

@@ -4,20 +4,17 @@ ghost use Rattle.std.specs.Prelude.{◌≡◌, filter, IfOk};
 ghost use Rattle.rom80_find.specs.CodeBytes.{number_of};
 ghost use Rattle.rom80_find.specs.Lone.{is_crowded};
 ghost use Rattle.rom80_find.specs.Places.{is_known_fixup};
-ghost use Rattle.rom80_find.specs.Runs.{AreFrom, AreUpTo};
 
 use crate::lone::is_crowded;
-use crate::offsets::Offsets;
 use crate::pattern::{CodeByte, number_of};
 use std::alloc::{AllocError, Global};
 
-/// The bytes of code in fixups: those of absolute values and of CODE, which are known, and those of other values that aren't of one
-/// word, with bounds of the latter's offsets.
+/// The bytes of code in fixups: those of absolute values and of CODE, which are known, and those of other values, but
+/// for lone ones.
 #[derive(Drop)]
 pub(crate) struct FixupBytes {
     pub known: Vec<CodeByte>,
     pub free: Vec<CodeByte>,
-    pub offsets: Offsets,
 }
 
 impl FixupBytes {
@@ -29,17 +26,10 @@ impl FixupBytes {
     ) -> Result<FixupBytes, AllocError>
         ensures known { IfOk result (λ bytes. bytes.known.items ≡ filter is_known_fixup code.now) }
         ensures free { IfOk result (λ bytes. bytes.free.items ≡ filter (is_crowded lone.now) code.now) }
-        ensures low { IfOk result (λ bytes. AreFrom bytes.offsets.low bytes.free.items) }
-        ensures high { IfOk result (λ bytes. AreUpTo bytes.offsets.high bytes.free.items) }
     {
         let known = known_bytes(alloc, code)?;
         let free = crowded_bytes(alloc, code, lone)?;
-        let offsets = Offsets::of(&free);
-        Ok(FixupBytes {
-            known,
-            free,
-            offsets,
-        })
+        Ok(FixupBytes { known, free })
     }
 }
 

@@ -13,12 +13,16 @@
 //! |---|---|
 //! | `pattern` | reads the code of a module as a pattern: bytes that are halves of values of targets, plus addends |
 //! | `indexed_dump` | a dump with what is looked up in it for each module |
+//! | `reduced_code`, `differences` | leave out bytes that others give, whatever the values; look for their differences |
 //! | `listing`, `words` | find the addresses at which a pattern lies in a dump, and the words of its targets there |
 //! | `found` | says the same of modules, by LOCATE's own definition of their bytes |
 //! | `lines` | prints it |
 #![tactic(auto)]
 
 mod candidates;
+mod difference;
+mod difference_row;
+mod differences;
 mod dump;
 mod fixup_bytes;
 mod found;
@@ -27,9 +31,8 @@ mod lines;
 mod listing;
 mod lone;
 mod marks;
-mod offsets;
 mod pattern;
-mod runs;
+mod reduced_code;
 mod search;
 mod sieve;
 mod solving;

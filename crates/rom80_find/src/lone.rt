@@ -1,4 +1,4 @@
-//! Values that code has in one fixup only: whatever the dump has there, one word goes with it.
+//! Values of which code has no more than a low and a high byte: whatever bytes the dump has there, one word goes with them.
 
 ghost use Rattle.std.specs.Prelude.{◌≡◌, ℕ, ◌++◌, List, [], ◌∷◌, length, slice_index_or, IfOk, true, false};
 ghost use Rattle.rom80_find.specs.CodeBytes.{number_of};
@@ -7,7 +7,7 @@ ghost use Rattle.rom80_find.specs.Places.{AreBelow};
 ghost use Rattle.rom80_find.specs.declared.lone.Uses.TheVariants as kept;
 ghost use Rattle.rom80_find.specs.declared.pattern.code_byte.CodeByte.{CodeByte};
 
-use crate::pattern::{CodeByte, Half, number_of};
+use crate::pattern::{CodeByte, number_of};
 use crate::table::table;
 use std::alloc::{AllocError, Global};
 
@@ -16,7 +16,7 @@ use std::alloc::{AllocError, Global};
 pub(crate) enum Uses {
     Unused,
     Once(CodeByte),
-    /// The two halves of a word.
+    /// A low and a high byte, in either order.
     Word,
     Many,
 }
@@ -33,7 +33,7 @@ impl Uses {
         }
     }
 
-    /// Whether the two bytes are of one word.
+    /// Whether the bytes are no more than a low and a high one.
     fn is_lone(self) -> bool
         ensures { result ≡ true → (bytes : List CodeByte) → IsUses self bytes → AreOfOneWord bytes }
     {
@@ -44,14 +44,14 @@ impl Uses {
     }
 }
 
-/// Whether the bytes are the low and the high half of one sum.
-fn is_word(low: CodeByte, high: CodeByte) -> bool
-    ensures { result ≡ true → AreOfOneWord (low ∷ high ∷ []) }
+/// Whether the bytes are a low and a high one.
+fn is_word(first: CodeByte, second: CodeByte) -> bool
+    ensures { result ≡ true → AreOfOneWord (first ∷ second ∷ []) }
 {
-    low.half == Half::Low && high.half == Half::High && high.addend == low.addend
+    first.half != second.half
 }
 
-/// For each number below `count` whether the value with it has at most one fixup in the code.
+/// For each number below `count` whether the code has no more than a low and a high byte of the value with it.
 pub(crate) fn lone_values(
     alloc: Global,
     code: &[CodeByte],
@@ -70,7 +70,7 @@ pub(crate) fn lone_values(
     Ok(lone)
 }
 
-/// Which of them are of one word.
+/// Which of them are of no more than a low and a high byte.
 fn lone_ones(alloc: Global, uses: &[Uses]) -> Result<Vec<bool>, AllocError>
     ensures whole { IfOk result (λ lone. length lone.items ≡ length uses.now) }
     ensures each { IfOk result (λ lone. (n : ℕ) → slice_index_or lone.items n false ≡ true → (bytes : List CodeByte) →

@@ -1,9 +1,8 @@
 //! A search for code in a dump, from one address to the next.
 
-ghost use Rattle.std.specs.Prelude.{◌≡◌, ◌≤◌, Bool, true, Some, None, length, IfOk, IfSome};
+ghost use Rattle.std.specs.Prelude.{◌≡◌, ◌≤◌, true, false, length, IfOk};
 ghost use Rattle.rom80_find.specs.Places.{AreBelow, LiesAt};
-ghost use Rattle.rom80_find.specs.Runs.{IsAnswer, IsAnswerBefore};
-ghost use Rattle.rom80_find.specs.Search.{search_of};
+ghost use Rattle.rom80_find.specs.Search.{IsAnswer, search_of};
 
 use crate::candidates::Candidates;
 use crate::fixup_bytes::FixupBytes;
@@ -34,8 +33,8 @@ impl<'a> Model for Search<'a> {
 }
 
 impl<'a> Search<'a> {
-    /// The search for code whose targets have numbers below the length of `lone`, which says of each whether it has no more than
-    /// one fixup.
+    /// The search for code whose targets have numbers below the length of `lone`, which says of each whether the code has no more than
+    /// a low and a high byte of its value.
     pub(crate) fn of(
         alloc: Global,
         dump: &'a IndexedDump<'a>,
@@ -51,24 +50,19 @@ impl<'a> Search<'a> {
         Ok(Search { dump, bytes, table })
     }
 
-    /// Whether there are values with which the dump has these bytes with CODE at the address. `alive` says whether it has
-    /// the others, and `before` is the answer at the address before. `None` if it lacks one of the others or of known values.
-    pub(crate) fn lies_next(
-        &mut self,
-        address: u16,
-        alive: bool,
-        before: Option<bool>,
-    ) -> Option<bool>
-        requires { IsAnswerBefore self.old.dump self.old.free address before }
+    /// Whether there are values with which the dump has these bytes with CODE at the address, and the others, of which `alive` says
+    /// whether it has them.
+    pub(crate) fn lies(&mut self, address: u16, alive: bool) -> bool
         ensures same { self.new ≡ self.old }
-        ensures known { IfSome result (λ _. (alive ≡ true) × LiesAt self.old.dump self.old.known address) }
-        ensures free { IfSome result (λ lies. IsAnswer self.old.dump self.old.free address lies) }
-        ensures none { result ≡ None → alive ≡ true → LiesAt self.old.dump self.old.known address → ⊥ }
+        ensures alive { result ≡ true → alive ≡ true }
+        ensures known { result ≡ true → LiesAt self.old.dump self.old.known address }
+        ensures free { result ≡ true → LiesAt self.old.dump self.old.free address }
+        ensures no { result ≡ false → alive ≡ true → LiesAt self.old.dump self.old.known address → LiesAt self.old.dump self.old.free address → ⊥ }
     {
         if !alive || !self.has_known(address) {
-            return None;
+            return false;
         }
-        Some(self.lies_again(address, before))
+        self.has_free(address)
     }
 
     /// Whether the dump has the bytes of known values with CODE at the address.
@@ -76,6 +70,9 @@ impl<'a> Search<'a> {
         ensures same { self.new ≡ self.old }
         ensures lies { IsAnswer self.old.dump self.old.known address result }
     {
+        if self.bytes.known.is_empty() {
+            return true;
+        }
         lies_at(
             self.dump.dump(),
             address,
@@ -89,28 +86,9 @@ impl<'a> Search<'a> {
         ensures same { self.new ≡ self.old }
         ensures lies { IsAnswer self.old.dump self.old.free address result }
     {
-        lies_at(self.dump.dump(), address, &self.bytes.free, &mut self.table)
-    }
-
-    /// Whether the module lies at an address, by the answer at the address before if the dump has the same bytes there.
-    fn lies_again(&mut self, address: u16, before: Option<bool>) -> bool
-        requires { IsAnswerBefore self.old.dump self.old.free address before }
-        ensures same { self.new ≡ self.old }
-        ensures lies { IsAnswer self.old.dump self.old.free address result }
-    {
-        if let Some(lies) = before {
-            if self.is_repeated(address) {
-                return lies;
-            }
+        if self.bytes.free.is_empty() {
+            return true;
         }
-        self.has_free(address)
-    }
-
-    /// Whether the dump has, at the offset of each byte of an unknown value after the address, the byte that it has there after the
-    /// address before it; then code lies at both or at neither.
-    fn is_repeated(&self, address: u16) -> bool
-        ensures { result ≡ true → (lies : Bool) → IsAnswerBefore self.now.dump self.now.free address (Some lies) → IsAnswer self.now.dump self.now.free address lies }
-    {
-        self.dump.is_repeated(self.bytes.offsets, address)
+        lies_at(self.dump.dump(), address, &self.bytes.free, &mut self.table)
     }
 }

@@ -29,7 +29,7 @@ pub(crate) fn sieve(
 }
 
 /// The bits of `count` words, all set.
-fn all_addresses(alloc: Global, count: usize) -> Result<Vec<u64>, AllocError>
+pub(crate) fn all_addresses(alloc: Global, count: usize) -> Result<Vec<u64>, AllocError>
     ensures whole { IfOk result (λ alive. length alive.items ≡ count) }
     ensures each { IfOk result (λ alive. (a : ℕ) → a < 64 * count → bit_in alive.items a ≡ true) }
 {
@@ -78,7 +78,7 @@ fn row_of(byte: &CodeByte, lone: &[bool]) -> Option<usize>
 }
 
 /// Drops the addresses `offset` after which the row has no bit, and answers whether any is left.
-fn keep_marked(alive: &mut [u64], row: &[u64], offset: usize) -> bool
+pub(crate) fn keep_marked(alive: &mut [u64], row: &[u64], offset: usize) -> bool
     requires all { length alive.old ≡ 1024 }
     requires row { length row.now ≡ 2048 }
     requires near { offset < 65536 }

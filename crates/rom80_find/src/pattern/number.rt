@@ -7,7 +7,8 @@ use omf_model::Target;
 
 /// The number by which a target's value goes: the id of a segment, and 256 plus the index of an external.
 pub(crate) fn number_of(target: Target) -> usize
-    ensures { result ≡ number_of target }
+    ensures number { result ≡ number_of target }
+    ensures few { result < 65792 }
 {
     match target {
         Target::Segment(id) => usize::from(id),

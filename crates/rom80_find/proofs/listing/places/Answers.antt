@@ -1,30 +1,32 @@
-use Rattle.std.proofs.Common.{◌≡◌, ◌+◌, ◌*◌, ◌∙◌, sym, subst, arith, ℕ, Bool, List}
-use Rattle.std.specs.Prelude.{slice_index_or}
-use Rattle.rom80_find.specs.Marks.{AreSieved}
+use Rattle.std.proofs.Common.{◌∙◌, sym, subst, List, eqb-true}
+use Rattle.rom80_find.specs.declared.pattern.code_byte.CodeByte.{CodeByte}
+use Rattle.rom80_find.specs.Dump.{dump_of}
 use Rattle.rom80_find.specs.Places.{ArePlaces}
-use Rattle.rom80_find.specs.Runs.{IsAnswerBefore}
-use Rattle.rom80_find.specs.Search.{SearchValue}
-use Rattle.rom80_find.proofs.PlaceLemmas.{sieved_word}
-use Rattle.rom80_find.proofs.BitLemmas.{same_default}
+use Rattle.rom80_find.proofs.DifferenceLemmas.{all_places, kept_as, reordered}
 use Rattle.rom80_find.proofs.listing.places.Goals as goal
 
-pub loop-word-preserved : goal.loop-word-preserved
-loop-word-preserved c =
-    let now = c.loop-word.invariant in
-    let w = c.loop-word.word in
-    let dump = c.args.dump.now in
-    let lone = c.in_ok-lone.lone.items in
-    let code = c.args.code.now in
-    let alive = c.in_ok-alive.alive.items in
-    let more : 64 * w + 64 ≡ 64 * (w + 1) = omega arith in
-    let sieved : AreSieved dump lone code alive = subst (λ (l : List Bool). AreSieved dump l code alive) c.deref.ensures.value c.in_ok-alive.ensures in
-    let word : c.index.result.now ≡ slice_index_or alive w 0 =
-    c.index.ensures ∙ same_default alive w c.index.result.now 0 (omega (arith, sieved.whole, c.loop-word-test.true)) in
-    record {
-      search = c.push_places.ensures.same ∙ now.search;
-      before = subst (λ (n : ℕ). IsAnswerBefore c.push_places.new.search.dump c.push_places.new.search.free n c.in_ok-before.before) more
-          (subst (λ (s : SearchValue). IsAnswerBefore s.dump s.free (64 * w + 64) c.in_ok-before.before) (sym c.push_places.ensures.same) c.in_ok-before.ensures.before);
-      places = subst (λ (n : ℕ). ArePlaces dump code n c.push_places.new.places.items) more
-          (c.in_ok-before.ensures.places dump lone code now.search
-          (sieved_word dump lone code alive w c.index.result.now c.loop-word-test.true sieved word) c.in_ok-lone.ensures.lone now.places);
-    }
+pub returns-then-is_empty : goal.returns-then-is_empty
+returns-then-is_empty c =
+    let differences = c.in_ok-reduced.reduced.differences in
+    all_places c.args.code.now c.in_ok-reduced.reduced.bytes.items differences.items c.args.dump.now c.in_ok-places.places.items
+    (sym differences.ok.0 ∙ eqb-true differences.len 0 (sym c.is_empty.ensures ∙ c.if-is_empty.true))
+    c.in_ok-reduced.ensures.reduced
+    (subst (λ (l : List CodeByte). ArePlaces c.args.dump.now l 65536 c.in_ok-places.places.items) c.deref.ensures.value c.in_ok-places.ensures)
+
+pub returns-then-len-max : goal.returns-then-len-max
+returns-then-len-max c =
+    kept_as c.args.code.now c.in_ok-reduced.reduced.bytes.items c.in_ok-reduced.reduced.differences.items c.deref-then-len-max.result.now
+    c.args.dump.now (dump_of c.dump.result) c.in_ok-places.places.items c.deref-then-len-max-2.result.now c.in_ok-kept.kept.items
+    c.in_ok-reduced.ensures.reduced
+    (subst (λ (l : List CodeByte). ArePlaces c.args.dump.now l 65536 c.in_ok-places.places.items) c.deref.ensures.value c.in_ok-places.ensures)
+    c.deref-then-len-max.ensures.value c.dump.ensures c.deref-then-len-max-2.ensures.value c.in_ok-kept.ensures
+
+pub returns : goal.returns
+returns c =
+    let sorted = c.sort_by_key.new.self.items in
+    kept_as c.args.code.now c.in_ok-reduced.reduced.bytes.items sorted c.deref-2.result.now
+    c.args.dump.now (dump_of c.dump-2.result) c.in_ok-places.places.items c.deref-3.result.now c.in_ok-kept-2.kept.items
+    (reordered c.args.code.now c.in_ok-reduced.reduced.bytes.items c.in_ok-reduced.reduced.differences.items sorted
+    c.in_ok-reduced.ensures.reduced c.in_ok-sort_by_key.ensures.permutation)
+    (subst (λ (l : List CodeByte). ArePlaces c.args.dump.now l 65536 c.in_ok-places.places.items) c.deref.ensures.value c.in_ok-places.ensures)
+    c.deref-2.ensures.value c.dump-2.ensures c.deref-3.ensures.value c.in_ok-kept-2.ensures

@@ -1,10 +1,9 @@
-use Rattle.std.proofs.Common.{◌≡◌, ◌+◌, ◌∙◌, ap, sym, subst, arith, ℕ}
+use Rattle.std.proofs.Common.{◌≡◌, ◌+◌, ◌∙◌, ap, subst, arith, ℕ}
 use Rattle.std.specs.Prelude.{◌==◌, ◌/◌, ◌^◌, bit_and}
 use Rattle.std.proofs.lemmas.Nat.Bits.{shr_and_one}
 use Rattle.rom80_find.specs.Marks.{IsSievedWord}
 use Rattle.rom80_find.specs.Places.{ArePlaces}
-use Rattle.rom80_find.specs.Runs.{IsAnswerBefore}
-use Rattle.rom80_find.proofs.PlaceLemmas.{before_next, next_places, none_in_word}
+use Rattle.rom80_find.proofs.PlaceLemmas.{next_places, none_in_word}
 use Rattle.rom80_find.proofs.listing.push_places.Goals as goal
 
 pub returns-then-alive-eq0-clause-places : goal.returns-then-alive-eq0-clause-places
@@ -14,13 +13,11 @@ returns-then-alive-eq0-clause-places c = λ dump lone code same sieved are h.
 pub loop-index-preserved : goal.loop-index-preserved
 loop-index-preserved c =
     let now = c.loop-index.invariant in
-    let found = c.lies_next-answer in
+    let found = c.lies-lies in
     let index = c.loop-index.index in
     let more : c.args.first + index + 1 ≡ c.args.first + (index + 1) = omega arith in
     record {
       same = found.ensures.same ∙ now.same;
-      before = subst (λ (n : ℕ). IsAnswerBefore c.args.search.now.dump c.args.search.now.free n found.result) more
-          (before_next c.loop-index.search c.args.search.now (c.args.first + index) (sym now.same) found.result found.ensures.free);
       places = λ dump lone code same sieved are h.
           let here : (bit_and (c.args.alive / 2 ^ c.from.result) 1 == 1) ≡ (bit_and (c.args.alive / 2 ^ index) 1 == 1) =
           ap (λ (k : ℕ). bit_and (c.args.alive / 2 ^ k) 1 == 1) c.from.ensures in
@@ -28,10 +25,5 @@ loop-index-preserved c =
           (next_places dump lone code (c.args.first + index) are (bit_and (c.args.alive / 2 ^ c.from.result) 1 == 1)
           (here ∙ (ap (λ (n : ℕ). n == 1) (shr_and_one c.args.alive index) ∙ sieved.each index c.loop-index-test.true))
           c.loop-index.places.items (now.places dump lone code same sieved are h) c.loop-index.search (now.same ∙ same)
-          found.result c.push_place.new.places.items found.ensures.known found.ensures.free found.ensures.none c.in_ok-push_place.ensures);
+          found.result c.push_place.new.places.items found.ensures.alive found.ensures.known found.ensures.free found.ensures.no c.in_ok-push_place.ensures);
     }
-
-pub returns-clause-before : goal.returns-clause-before
-returns-clause-before c =
-    let all : c.args.first + c.loop-index.index ≡ c.args.first + 64 = omega (arith, c.loop-index-test.false, c.loop-index.auto.index-end) in
-    subst (λ (n : ℕ). IsAnswerBefore c.args.search.now.dump c.args.search.now.free n c.loop-index.answer) all c.loop-index.invariant.before

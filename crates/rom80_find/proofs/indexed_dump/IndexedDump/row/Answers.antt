@@ -7,4 +7,4 @@ pub returns : goal.returns
 returns c =
     let dump = dump_of c.self.inside.dump in
     subst (λ (d : DumpValue). IsRow d c.args.row c.row_in.result.now) c.self.view_is
-    (c.row_in.ensures dump (subst (λ (l : List ℕ). AreMarks dump 131072 l) (sym c.deref.ensures.value) c.self.invariant.rows))
+    (c.row_in.ensures dump (subst (λ (l : List ℕ). AreMarks dump 131072 l) (sym c.deref.ensures.value) c.self.invariant))

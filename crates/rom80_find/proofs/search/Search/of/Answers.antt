@@ -2,9 +2,7 @@ use Rattle.std.proofs.Common.{◌≡◌, ℕ, List, arith, length, sym, subst}
 use Rattle.rom80_find.specs.declared.pattern.code_byte.CodeByte.{CodeByte}
 use Rattle.rom80_find.specs.Lone.{is_crowded}
 use Rattle.rom80_find.specs.Places.{AreBelow, is_known_fixup}
-use Rattle.rom80_find.specs.Runs.{AreFree}
 use Rattle.rom80_find.proofs.CodeLieLemmas.{below_filter}
-use Rattle.rom80_find.proofs.LoneLemmas.{crowded_filter}
 use Rattle.rom80_find.proofs.search.Search.of.Goals as goal
 
 pub invariant_of-result : goal.invariant_of-result
@@ -19,8 +17,5 @@ invariant_of-result c =
           (subst (λ (l : List CodeByte). AreBelow (length lone) l) (sym c.in_ok-bytes.ensures.known) (below_filter (length lone) is_known_fixup code c.requires.below));
       below = subst (λ (n : ℕ). AreBelow n bytes.free.items) (sym whole)
           (subst (λ (l : List CodeByte). AreBelow (length lone) l) (sym c.in_ok-bytes.ensures.free) (below_filter (length lone) (is_crowded lone) code c.requires.below));
-      free = subst (λ (l : List CodeByte). AreFree l) (sym c.in_ok-bytes.ensures.free) (crowded_filter lone code);
-      low = c.in_ok-bytes.ensures.low;
-      high = c.in_ok-bytes.ensures.high;
       clear = λ number two all. c.in_ok-table.ensures.each number;
     }

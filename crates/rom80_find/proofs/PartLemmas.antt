@@ -1,59 +1,15 @@
--- Code that lies at an address lies at the next one, if the dump repeats its bytes there.
-use Rattle.std.specs.Prelude.{◌≡◌, ℕ, zero, suc, ◌+◌, ◌-◌, ◌%◌, ◌≤◌, ◌==◌, not, if◌then◌else◌, nat_le, Bool, true, false, Some, List, [], ◌∷◌, filter}
+-- The bytes of known values and the others.
+use Rattle.std.specs.Prelude.{◌≡◌, ℕ, zero, suc, ◌+◌, ◌%◌, not, nat_le, Bool, true, false, Some, List, [], ◌∷◌, filter}
 use Rattle.std.specs.List.{AllByRecursion}
 use Rattle.std.proofs.Common.{refl, sym, ◌∙◌, ap, arith}
-use Rattle.std.proofs.lemmas.Bool.{ne_eqb, leb-true, le-leb, true≢false}
+use Rattle.std.proofs.lemmas.Bool.{le-leb, true≢false}
 use Rattle.rom80_find.specs.Dump.{DumpValue, dump_byte}
 use Rattle.rom80_find.specs.declared.pattern.code_byte.CodeByte.{CodeByte}
 use Rattle.rom80_find.specs.CodeBytes.{number_of, byte_by, half_of}
 use Rattle.rom80_find.specs.Places.{LiesAt, is_free, is_plain, is_known_fixup}
-use Rattle.rom80_find.specs.Runs.{AreFree, AreFrom, AreUpTo, IsRepeated, IsAnswer, IsAnswerBefore}
 
 abbrev HasAll : (dump : DumpValue) (address : ℕ) (value : ℕ → ℕ) → List CodeByte → Type 0
 HasAll dump address value bs = AllByRecursion (λ (b : CodeByte). dump_byte dump ((address + b.offset) % 65536) ≡ Some (byte_by value b)) bs
-
--- the values, but CODE at another address
-abbrev moved : (value : ℕ → ℕ) (address n : ℕ) → ℕ
-moved value address n = if n == 1 then address else value n
-
-moved-free : (value : ℕ → ℕ) (address n : ℕ) → 2 ≤ n → moved value address n ≡ value n
-moved-free value address n two = ap (λ (t : Bool). if t then address else value n) (ne_eqb n 1 (λ e. omega arith))
-
--- the bytes of other values are at one address what they are at another, if the dump has the same bytes there
-move_all : (dump : DumpValue) (low high from to : ℕ) (value : ℕ → ℕ) (code : List CodeByte)
-    → AreFree code → AreFrom low code → AreUpTo high code
-    → ((offset : ℕ) → low ≤ offset → offset ≤ high → dump_byte dump ((to + offset) % 65536) ≡ dump_byte dump ((from + offset) % 65536))
-    → HasAll dump from value code → HasAll dump to (moved value to) code
-move_all dump low high from to value [] free above below same has = tt
-move_all dump low high from to value (b ∷ bs) free above below same has = (
-  same b.offset above.0 below.0 ∙ (has.0 ∙ ap (λ (w : ℕ). Some (half_of b.half ((w + b.addend) % 65536))) (sym (moved-free value to (number_of b.target) (leb-true 2 (number_of b.target) free.0)))),
-  move_all dump low high from to value bs free.1 above.1 below.1 same has.1,
-)
-
-move_lies : (dump : DumpValue) (low high from to : ℕ) (code : List CodeByte)
-    → AreFree code → AreFrom low code → AreUpTo high code
-    → ((offset : ℕ) → low ≤ offset → offset ≤ high → dump_byte dump ((to + offset) % 65536) ≡ dump_byte dump ((from + offset) % 65536))
-    → LiesAt dump code from → LiesAt dump code to
-move_lies dump low high from to code free above below same h = record {
-  value = moved h.value to;
-  lies = record { absolute = h.lies.absolute; here = refl; bytes = move_all dump low high from to h.value code free above below same h.lies.bytes };
-}
-
-module _ (dump : DumpValue) (low high address : ℕ) (code : List CodeByte) (free : AreFree code) (above : AreFrom low code) (below : AreUpTo high code)
-    (repeated : IsRepeated dump low high address) where
-  repeated_lies : LiesAt dump code (address - 1) → LiesAt dump code address
-  repeated_lies h = move_lies dump low high (address - 1) address code free above below repeated.same h
-
-  repeated_lay : LiesAt dump code address → LiesAt dump code (address - 1)
-  repeated_lay h = move_lies dump low high address (address - 1) code free above below (λ o from to. sym (repeated.same o from to)) h
-
-  -- so the answer at the one address is that at the other
-  pub repeated_answer : (lies : Bool) → IsAnswerBefore dump code address (Some lies) → IsAnswer dump code address lies
-  repeated_answer lies before =
-      let was = before repeated.later in
-      record { yes = λ e. repeated_lies (was.yes e); no = λ e l. was.no e (repeated_lay l) }
-
--- ---- the bytes of known values and the others
 
 keep-some : (dump : DumpValue) (address : ℕ) (value : ℕ → ℕ) (p : CodeByte → Bool) (bs : List CodeByte)
     → HasAll dump address value bs → HasAll dump address value (filter p bs)

@@ -1,0 +1,79 @@
+//! Code without the bytes that others of it give.
+
+ghost use Rattle.std.specs.Prelude.{◌≡◌, ◌<◌, ◌++◌, ◌∷◌, [], ℕ, List, IfOk, OnOk, IfSome};
+ghost use Rattle.std.specs.List.{Contains};
+ghost use Rattle.rom80_find.specs.CodeBytes.{number_of};
+ghost use Rattle.rom80_find.specs.Differences.{IsReduced};
+ghost use Rattle.rom80_find.specs.Places.{AreBelow};
+ghost use Rattle.rom80_find.specs.declared.pattern.code_byte.CodeByte.{CodeByte};
+
+use crate::difference::Difference;
+use crate::pattern::{CodeByte, Half, number_of};
+use std::alloc::{AllocError, Global};
+
+/// Bytes of code, and the differences that give its other bytes from them: it lies where these bytes do, if the dump has the
+/// differences there.
+#[derive(Drop)]
+pub(crate) struct ReducedCode {
+    pub bytes: Vec<CodeByte>,
+    pub differences: Vec<Difference>,
+}
+
+impl ReducedCode {
+    /// The code with a difference in place of each byte in a fixup that has one from an earlier byte. Bytes with differences from one
+    /// another are low halves of one value, or high halves whose addends have the same low byte; they are sorted by that. The targets
+    /// have numbers below `count`.
+    pub(crate) fn of(
+        alloc: Global,
+        code: &[CodeByte],
+        count: usize,
+    ) -> Result<ReducedCode, AllocError>
+        requires below { AreBelow count code.now }
+        ensures reduced { IfOk result (λ reduced. IsReduced code.now reduced.bytes.items reduced.differences.items) }
+        ensures below { IfOk result (λ reduced. AreBelow count reduced.bytes.items) }
+    {
+        let mut sorted = Vec::from_slice(alloc, code)?;
+        sorted.sort_by_key(|byte| {
+            let class = match byte.half {
+                Half::Low => 0,
+                Half::High => 1 + byte.addend % 256,
+            };
+            (number_of(byte.target), class)
+        })?;
+        let mut reduced = ReducedCode {
+            bytes: Vec::new(alloc),
+            differences: Vec::new(alloc),
+        };
+        let mut latest = None;
+        for byte in &sorted {
+            latest = reduced.push(latest, *byte)?;
+        }
+        Ok(reduced)
+    }
+
+    /// Appends a byte, or its difference from a byte before it, if the byte is in a fixup and there is one. The result is the byte to
+    /// compare a later one with.
+    fn push(
+        &mut self,
+        before: Option<CodeByte>,
+        byte: CodeByte,
+    ) -> Result<Option<CodeByte>, AllocError>
+        ensures latest { IfOk result (λ latest. (code : List CodeByte) → IfSome before (Contains code) → IfSome latest (Contains (code ++ byte ∷ []))) }
+        ensures reduced { OnOk result ((code : List CodeByte) → IsReduced code self.old.bytes.items self.old.differences.items → IfSome before (Contains code)
+            → IsReduced (code ++ byte ∷ []) self.new.bytes.items self.new.differences.items) }
+        ensures below { OnOk result ((count : ℕ) → AreBelow count self.old.bytes.items → number_of byte.target < count → AreBelow count self.new.bytes.items) }
+    {
+        if byte.is_plain() {
+            self.bytes.push(byte)?;
+            return Ok(before);
+        }
+        if let Some(first) = before {
+            if let Some(difference) = Difference::of(first, byte) {
+                self.differences.push(difference)?;
+                return Ok(Some(byte));
+            }
+        }
+        self.bytes.push(byte)?;
+        Ok(Some(byte))
+    }
+}
