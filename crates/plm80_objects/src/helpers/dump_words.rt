@@ -28,7 +28,7 @@ impl<'a> DumpWords<'a> {
 
     /// Whether the dump seems to be an object file.
     pub(crate) fn is_of_object_file(self) -> bool
-        ensures { result ≡ true → self.kind ≡ DumpKind.ObjectFile }
+        ensures { result ≡ true → self.entry.kind ≡ DumpKind.ObjectFile }
     {
         matches!(self.kind, DumpKind::ObjectFile)
     }
