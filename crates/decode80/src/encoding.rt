@@ -48,14 +48,14 @@ fn spell(instr: Instr) -> ([u8; 3], usize)
     }
 }
 
-// An opcode and a byte.
+/// The encoding of an opcode and a byte.
 fn with_byte(opcode: u8, byte: u8) -> ([u8; 3], usize)
     ensures { result ≡ (opcode ∷ byte ∷ 0 ∷ [], 2) }
 {
     ([opcode, byte, 0], 2)
 }
 
-// An opcode and a word, low byte first.
+/// The encoding of an opcode and a word, low byte first.
 fn with_word(opcode: u8, word: u16) -> ([u8; 3], usize)
     ensures { result ≡ (opcode ∷ word % 256 ∷ word / 256 ∷ [], 3) }
 {

@@ -23,7 +23,7 @@ impl Range {
     }
 }
 
-/// Whether one of some ranges contains an address. Most programs have one range of a kind.
+/// Whether a range of a short list contains an address. Most programs have one range of a kind.
 #[inline]
 pub(crate) fn in_ranges(ranges: &[Range], address: u16) -> bool
     requires { AreApart ranges.now }
@@ -35,7 +35,7 @@ pub(crate) fn in_ranges(ranges: &[Range], address: u16) -> bool
     }
 }
 
-/// Whether one of any number of ranges contains an address. The time grows with the logarithm of their number.
+/// Whether a range of a long list contains an address. The time grows with the logarithm of the list's length.
 #[inline(never)]
 fn in_many_ranges(ranges: &[Range], address: u16) -> bool
     requires { AreApart ranges.now }

@@ -59,7 +59,7 @@ first_module needs at number m ms h =
 none_first : (needs : List Need) (at : Option ℕ) (number : ℕ) → at ≡ None → is_of needs at number ≡ false
 none_first needs at number e = ap (λ (o : Option ℕ). is_of needs o number) e
 
--- so it tells whether the module was put before the others
+-- so it says whether the module was put before the others
 is_put : (needs : List Need) (at : Option ℕ) (number : ℕ) (rest : List ℕ) (t : Bool) → AllByRecursion (λ k. number < k) rest
     → IsChain needs at (cond t (number ∷ rest) rest) → is_of needs at number ≡ t
 is_put needs at number rest true above h = first_module needs at number number rest h ∙ eq-eqb number number refl

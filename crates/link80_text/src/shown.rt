@@ -19,15 +19,15 @@ pub(crate) fn append_path(text: &mut Vec<u8>, path: &[u8]) -> Result<(), AllocEr
     let mut before = 0;
     let mut rest = path;
     while let [byte, behind @ ..] = rest {
-        append_byte(text, before, *byte, behind)?;
+        append_shown_byte(text, before, *byte, behind)?;
         before = *byte;
         rest = behind;
     }
     Ok(())
 }
 
-/// Appends a byte of a path, between the one before it and those behind it.
-fn append_byte(text: &mut Vec<u8>, before: u8, byte: u8, behind: &[u8]) -> Result<(), AllocError>
+/// Appends a byte of a path as it is shown: its neighbours decide whether it is part of a control character.
+fn append_shown_byte(text: &mut Vec<u8>, before: u8, byte: u8, behind: &[u8]) -> Result<(), AllocError>
     ensures { OnOk result (text.new.items ≡ text.old.items ++ shown_byte before byte (slice_index_or behind.now 0 160)) }
 {
     let after = match behind.first() {

@@ -27,7 +27,7 @@ pub trait ReadEntry<'a>: Entry {
     /// Reads the entry that the bytes begin with, its fields in order.
     ///
     /// # Errors
-    /// That of the first field that can't be read, or `BadBody` if a field has no listed value.
+    /// The fault of the first field that can't be read, or `BadBody` if a field has no listed value.
     fn read(cursor: &mut Cursor<'a>) -> Result<Self, FieldFault>
         ensures read { IfOk result (λ e. Self.layout.read cursor.old ≡ Ok (e, cursor.new)) }
         ensures spelled { IfOk result (λ e. cursor.old ≡ Self.layout.bytes e ++ cursor.new) }

@@ -126,7 +126,7 @@ struct Sizes {
     index: usize,
 }
 
-/// Whether one of the sizes is too great for a library.
+/// Whether a size of a list is too great for a library.
 fn exceeds(sizes: Sizes) -> bool
     ensures { result ≡ (nat_lt 65535 sizes.modules || nat_lt 65534 sizes.names || nat_lt 16383 sizes.places
         || nat_lt 65534 sizes.dictionary || nat_lt 65535 (sizes.index / 128)) }

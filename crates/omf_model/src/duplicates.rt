@@ -16,7 +16,7 @@ fn lists_id(entries: &[(u8, Segment)], id: u8) -> bool
     entries.iter().any(|d| d.0 == id)
 }
 
-/// Whether one of the commons has this name. It takes no memory.
+/// Whether a common segment of a list has this name. It takes no memory.
 pub fn has_common_name(commons: &[Common], name: &[u8]) -> bool
     ensures { result ≡ has_common_name commons.now name.now }
 {

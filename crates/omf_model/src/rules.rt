@@ -18,7 +18,7 @@ use std::alloc::{AllocError, Global};
 /// How many bytes one content record carries.
 const LONGEST_CONTENT: usize = 65531;
 
-/// Whether one of the commons has this id. It takes no memory.
+/// Whether a common segment of a list has this id. It takes no memory.
 pub fn has_common_id(commons: &[Common], id: u8) -> bool
     ensures { result ≡ has_common_id commons.now id }
 {

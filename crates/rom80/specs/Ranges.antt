@@ -4,7 +4,7 @@ use Rattle.std.specs.Prelude.{◌+◌, ◌==◌, ◌&&◌, nat_lt, if◌then◌e
 use Rattle.image80.specs.declared.range.Range.{Range}
 use Rattle.image80.specs.Image.{PlacedBytes}
 
--- the range of a chunk, from the beginning of the one before it on if that ends where the chunk begins, and a range has so many addresses
+-- the range of a chunk, from the beginning of the one before it on if that ends where the chunk begins and the two together have at most a range's addresses
 abbrev pub joined : (before : Range) → PlacedBytes → Range
 joined before chunk =
     if before.first + before.length == chunk.address && nat_lt (before.length + length chunk.bytes) 65536

@@ -89,7 +89,7 @@ fn are_found(alloc: Global, library: &Library) -> Result<bool, NameFault> {
     Ok(all)
 }
 
-/// Whether they are so in a table of them.
+/// Whether a table of providers has each name at its first place.
 fn are_first(providers: &Providers<'_>) -> bool {
     let mut all = true;
     for (name, place) in &PROVIDED {
@@ -98,7 +98,7 @@ fn are_first(providers: &Providers<'_>) -> bool {
     all
 }
 
-/// Whether they are so in the table of a library's modules.
+/// Whether the table of a library's modules has each name at its first place.
 fn are_listed(alloc: Global, library: &Library) -> Result<bool, AllocError> {
     let mut list = Vec::new(alloc);
     for module in &library.modules {

@@ -18,7 +18,7 @@ const REGIONS: &[u8] =
 static IN_ORDER: &[u8] =
     b"REGIONS 1\nCODE 3000 0002\nSTACK FF00 0100\nDATA 0000 0001\nDATA 3002 0001\n";
 
-/// Whether they have the parts of that text.
+/// Whether regions have the parts that the texts above declare.
 fn has_its_parts(regions: &Regions) -> bool {
     regions.code().len() == 1
         && regions.data_ranges().len() == 2
@@ -78,7 +78,7 @@ static CASES_IN_ORDER: &[u8] =
 static MIGRATED: &[u8] =
     b"REGIONS 2\nCODE 3000 0002\nSTACK FF00 0100\nDATA 0000 0001\nDATA 3002 0001\n";
 
-/// Whether they have the cases of that text.
+/// Whether regions have the cases that the text of version 2 declares.
 fn has_its_cases(regions: &Regions) -> bool {
     let declared = matches!(regions.targets(0x3001), Some([0x3000, 0x3001]));
     declared && regions.cases().len() == 2 && regions.targets(0x3002).is_none()

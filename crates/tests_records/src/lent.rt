@@ -49,7 +49,7 @@ const REGIONS: &[u8] = b"REGIONS 1\nCODE 3000 0001\nSTACK 3001 0000\n";
 
 const REGIONS2: &[u8] = b"REGIONS 2\nCODE 3000 0001\nSTACK 3001 0000\n";
 
-/// Whether these bytes stand after those that stood there before, if the call was done, and else nothing does.
+/// Whether a stream has the bytes behind those from before if the call was done, and otherwise those from before alone.
 fn is_right(done: bool, out: &[u8], bytes: &[u8]) -> bool {
     match out.strip_prefix(BEFORE) {
         Some(rest) if done => rest == bytes,
@@ -169,7 +169,7 @@ fn parts(alloc: Global) -> Result<Parts, Fail> {
     })
 }
 
-/// Whether these are the parts of the program.
+/// Whether parts are those of the program.
 fn are_the_parts(parts: &Parts) -> bool {
     let [content] = parts.contents.as_slice() else {
         return false;

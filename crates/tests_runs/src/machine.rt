@@ -53,7 +53,7 @@ fn goes_as_said<B: Bus>(alloc: Global, program: &Program, bus: &mut B) -> Result
     Ok((end, steps, cpu.pc(), cpu.sp()) == program.ends)
 }
 
-/// Whether it does so in either memory.
+/// Whether a program does in either memory what is said of it.
 fn goes_in_either(alloc: Global, program: &Program) -> Result<bool, Fail> {
     let mut memory = empty_memory(alloc)?;
     let mut pages = empty_pages(alloc)?;

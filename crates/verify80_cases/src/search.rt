@@ -24,7 +24,7 @@ pub struct SuggestedCase {
     pub table: u16,
     /// The address behind its last entry, up to 65536.
     pub end: u32,
-    /// Whether it may be longer: no code that is reached stands behind it, CODE goes on there, and no comparison bounds the index.
+    /// Whether the table may be longer: no code that is reached stands behind it, CODE goes on there, and no comparison bounds the index.
     pub may_go_on: bool,
 }
 

@@ -116,7 +116,7 @@ fn do_returns_differ<C: Code>(
     Ok(taken != other_taken)
 }
 
-/// Whether one point calls, and the other, of its callee, has taken more words than the caller has.
+/// Whether a point calls the procedure of another, which has taken more words than the caller has.
 fn is_shortage<C: Code>(
     alloc: Global,
     program: &C,

@@ -44,7 +44,7 @@ pub fn explain(
     }
 }
 
-/// The ways that show what is sought.
+/// Finds the ways of a program's code that show what is sought, with at most `limit` of what is kept while it looks.
 fn explain_sought<C: Code>(
     alloc: Global,
     program: &C,

@@ -65,7 +65,7 @@ pub(crate) fn is_within(frame: &Frame) -> bool
 }
 
 /// The caller's frame when a callee has returned that took a given number of words; `None` if the caller has fewer.
-pub(crate) fn back(
+pub(crate) fn frame_after_return(
     alloc: Global,
     frame: &Frame,
     role: Role,

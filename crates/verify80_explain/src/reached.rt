@@ -6,7 +6,7 @@ ghost use Rattle.verify80_explain.specs.Reached.{AreReached, AreWalked, BackFrom
 ghost use Rattle.verify80_explain.specs.Ways.{LeadsOn};
 
 use crate::fault::Unexplained;
-use crate::looked::{Looked, back, call_at, look_at, words_taken};
+use crate::looked::{Looked, call_at, frame_after_return, look_at, words_taken};
 use crate::point::Point;
 use crate::search::Origin;
 use frames80::{Code, Frame, Moves, role_of};
@@ -165,7 +165,7 @@ fn comes_back<C: Code>(
         return Ok(false);
     };
     let role = role_of(program, one.procedure);
-    let Some(frame) = back(alloc, &one.frame, role, taken)? else {
+    let Some(frame) = frame_after_return(alloc, &one.frame, role, taken)? else {
         return Ok(false);
     };
     Ok(

@@ -3,7 +3,7 @@
 
 use crate::fault::Unexplained;
 use crate::groups::Groups;
-use crate::looked::{Looked, back, look_at};
+use crate::looked::{Looked, frame_after_return, look_at};
 use crate::point::Point;
 use frames80::{Code, Frame, Moves, role_of, slot};
 use indexmap::IndexSet;
@@ -288,7 +288,7 @@ impl Search {
         };
         let procedure = caller.procedure;
         let role = role_of(program, procedure);
-        let Some(frame) = back(alloc, &caller.frame, role, exit.taken)? else {
+        let Some(frame) = frame_after_return(alloc, &caller.frame, role, exit.taken)? else {
             return Ok(());
         };
         let origin = Origin::ComesBack {

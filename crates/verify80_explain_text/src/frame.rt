@@ -50,7 +50,7 @@ fn append_pairs(text: &mut Vec<u8>, frame: &Frame) -> Result<(), AllocError>
     append_pair(text, b" HL=RET".as_slice(), frame.hl)
 }
 
-/// Appends the name of a pair that holds the procedure's return address.
+/// Appends the name of a pair if it holds the procedure's return address, and otherwise nothing.
 fn append_pair(text: &mut Vec<u8>, name: &[u8], word: Word) -> Result<(), AllocError>
     ensures { OnOk result (text.new.items ≡ text.old.items ++ pair_shown name.now word) }
 {

@@ -127,7 +127,7 @@ impl Refusal {
         }
     }
 
-    /// Whether the refusal is for a word of a frame; any other holds by the counts alone.
+    /// Whether the refusal depends on which words of the frame are the procedure's own return address.
     pub(crate) fn rests_on_a_word(&self) -> bool
         ensures { result ≡ rests_on_a_word self.now }
     {

@@ -13,7 +13,7 @@ pub struct ProcRow {
     pub wants: u32,
     /// The most bytes of stack that it needs below its return address, its callees' included.
     pub bound: u64,
-    /// Whether one of its walks returns.
+    /// Whether a walk of the procedure returns.
     pub returns: bool,
 }
 

@@ -17,7 +17,7 @@ struct Ask {
 /// before, so that many of its places are taken at once.
 #[derive(Drop)]
 pub(crate) struct Asks {
-    /// One of them, kept apart: mostly it is the next one.
+    /// The newest places that are asked for, kept apart: mostly they are the next ones.
     apart: Option<Ask>,
     others: BinaryHeap<Ask>,
 }

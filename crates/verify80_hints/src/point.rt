@@ -34,7 +34,7 @@ pub(crate) fn effect_at<C: Code>(program: &C, at: u16) -> (Effect, u16) {
 }
 
 impl Point {
-    /// Whether its procedure starts there.
+    /// Whether the point is the start of its procedure.
     pub(crate) fn starts(self) -> bool {
         match self.procedure {
             Procedure::Main => false,

@@ -61,7 +61,7 @@ pub(crate) fn find_room(
     Ok(marks)
 }
 
-/// Whether one of the ranges has an address.
+/// Whether an address is in a range of a list.
 pub(crate) fn is_in(ranges: &[Range], address: u16) -> bool
     ensures { result ≡ in_ranges ranges.now address }
 {

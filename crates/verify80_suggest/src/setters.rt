@@ -33,7 +33,7 @@ pub(crate) fn find_setters(code: &ImageCode<'_>, reached: &[bool]) -> Setters
     Setters { first, second }
 }
 
-/// The first LXI SP at a marked address from one on.
+/// The first LXI SP at a marked address that is at or above `from`.
 fn find_setter(code: &ImageCode<'_>, reached: &[bool], from: u32) -> Option<Setter>
     requires { length reached.now ≡ 65536 }
     ensures { FirstSetter code.now reached.now from result }
