@@ -6,10 +6,10 @@ ghost use Rattle.text80.specs.Digits.{byte_text, digit_text, word_text};
 
 use std::alloc::AllocError;
 
-/// The digits of 0 to 15.
+/// The upper case hexadecimal digits, by their values 0 to 15.
 static DIGITS: [u8; 16] = *b"0123456789ABCDEF";
 
-/// One digit.
+/// The upper case hexadecimal digit of `n`, which must be below 16, as text of one byte.
 pub fn digit(n: u8) -> [u8; 1]
     requires { n < 16 }
     ensures { result ≡ digit_text n }
@@ -17,7 +17,7 @@ pub fn digit(n: u8) -> [u8; 1]
     [DIGITS[n as usize]]
 }
 
-/// A byte in two digits.
+/// `byte` as two upper case hexadecimal digits.
 pub fn byte_digits(byte: u8) -> [u8; 2]
     ensures { result ≡ byte_text byte }
 {
@@ -26,7 +26,7 @@ pub fn byte_digits(byte: u8) -> [u8; 2]
     [high, low]
 }
 
-/// Appends two digits for each byte.
+/// Appends each byte to `out` as two upper case hexadecimal digits.
 ///
 /// # Errors
 /// `AllocError` only if memory runs out; the digits of the first bytes may then have been appended.
@@ -39,7 +39,7 @@ pub fn append_digits(bytes: &[u8], out: &mut Vec<u8>) -> Result<(), AllocError>
     Ok(())
 }
 
-/// A word in four digits.
+/// `word` as four upper case hexadecimal digits, the high byte first.
 pub fn word_digits(word: u16) -> [u8; 4]
     ensures { result ≡ word_text word }
 {
@@ -49,7 +49,8 @@ pub fn word_digits(word: u16) -> [u8; 4]
     [first, second, third, fourth]
 }
 
-/// The word of four digits, `None` if one of the bytes is no upper case digit.
+/// The word that four upper case hexadecimal digits stand for, the high byte first; `None` if one
+/// of the four bytes isn't such a digit.
 pub fn word_of_digits(digits: [u8; 4]) -> Option<u16>
     ensures value { IfSome result (λ word. digits ≡ word_text word) }
     ensures none { IfNone result ((word : ℕ) → word < 65536 → digits ≢ word_text word) }
@@ -60,7 +61,8 @@ pub fn word_of_digits(digits: [u8; 4]) -> Option<u16>
     Some(u16::from(high) * 256 + u16::from(low))
 }
 
-/// The byte of two digits, `None` if one of them is no upper case digit.
+/// The byte that two upper case hexadecimal digits stand for; `None` if one of the two bytes isn't
+/// such a digit.
 fn byte_of_digits(digits: [u8; 2]) -> Option<u8>
     ensures value { IfSome result (λ byte. digits ≡ byte_text byte) }
     ensures none { IfNone result ((byte : ℕ) → byte < 256 → digits ≢ byte_text byte) }
@@ -69,7 +71,7 @@ fn byte_of_digits(digits: [u8; 2]) -> Option<u8>
     Some(value_of(first)? * 16 + value_of(second)?)
 }
 
-/// The value of a digit, `None` for every other byte.
+/// The value, 0 to 15, of an upper case hexadecimal digit; `None` for every other byte.
 fn value_of(byte: u8) -> Option<u8>
     ensures value { IfSome result (λ value. (value < 16) × (byte ∷ [] ≡ digit_text value)) }
     ensures none { IfNone result ((value : ℕ) → value < 16 → byte ∷ [] ≢ digit_text value) }
