@@ -8,12 +8,14 @@ use std::io::Read;
 /// A [`Source`] made of one of std's readers.
 #[derive(Drop)]
 pub struct Reading<R> {
+    /// The reader that gives the bytes.
     inner: R,
+    /// The number of reads that failed so far.
     failures: u64,
 }
 
 impl<R: Read> Reading<R> {
-    /// A source that gives what `inner` has left, with no failure so far.
+    /// A source of the bytes that `inner` hasn't given yet, with no failed read counted.
     pub fn new(inner: R) -> Reading<R>
         ensures left { ⟦<Reading<R> as Source>⟧.left result ≡ R.remaining inner }
         ensures unfailed { ⟦<Reading<R> as Source>⟧.failed result ≡ 0 }

@@ -11,7 +11,7 @@ ghost use Rattle.stream80.specs.Failures.{read_failures, write_failures};
 #[derive(Clone, Copy, Debug, PartialEq, Eq)]
 pub struct Failed;
 
-/// What gives bytes, and counts the reads that failed.
+/// A reader of bytes that counts the reads that failed.
 pub trait Source {
     // The bytes that are left, if they are known.
     ghost left: { Self → Option (List ℕ) };
@@ -19,13 +19,13 @@ pub trait Source {
     // How many reads failed so far.
     ghost failed: { Self → ℕ };
 
-    /// How many reads failed so far.
+    /// The number of reads that failed so far.
     fn failures(&self) -> u64
         ensures { result ≡ failed self.now };
 
-    /// Reads some of the bytes that are left into the front of `buffer`, at most its length, and
-    /// answers how many. 0 is the end. After a failure the bytes left are as they were; an
-    /// interrupted read is a failure.
+    /// Reads at most `buffer.len()` of the bytes that are left into the front of `buffer`, which
+    /// must not be empty, and returns their number; 0 means the end. A failed read takes no bytes
+    /// from the source; an interrupted read is a failure.
     fn read(&mut self, buffer: &mut [u8]) -> Result<usize, Failed>
         requires room { 0 < length buffer.old }
         requires countable { failed self.old < u64.MAX }
@@ -34,7 +34,7 @@ pub trait Source {
         ensures count { failed self.new ≡ failed self.old + read_failures result };
 }
 
-/// What takes bytes, and counts the writes that failed.
+/// A writer of bytes that counts the writes that failed.
 pub trait Sink {
     // The bytes that were written, if they are known.
     ghost written: { Self → Option (List ℕ) };
@@ -42,12 +42,13 @@ pub trait Sink {
     // How many writes failed so far.
     ghost failed: { Self → ℕ };
 
-    /// How many writes failed so far.
+    /// The number of writes that failed so far.
     fn failures(&self) -> u64
         ensures { result ≡ failed self.now };
 
-    /// Takes some bytes from the front of `bytes`, and answers how many. 0 counts as a failure. At
-    /// a failure the bytes written are as they were; an interrupted write is a failure.
+    /// Writes some bytes from the front of `bytes`, which must not be empty, and returns their
+    /// number; `Ok(0)` counts as a failed write too. A failed write writes nothing; an interrupted
+    /// write is a failure.
     fn write(&mut self, bytes: &[u8]) -> Result<usize, Failed>
         requires some { 0 < length bytes.now }
         requires countable { failed self.old < u64.MAX }

@@ -7,7 +7,7 @@ ghost use Rattle.stream80.specs.WholeText.{TakesAtMost, read_all_failures};
 use crate::stream::{Failed, Sink, Source};
 use std::alloc::{AllocError, Global};
 
-/// The greatest number of bytes of a text.
+/// The most bytes that a text may have: 1 MiB.
 pub const TEXT_LIMIT: usize = 1_048_576;
 
 /// Why a source wasn't read whole.
@@ -15,7 +15,7 @@ pub const TEXT_LIMIT: usize = 1_048_576;
 pub enum ReadAllFault {
     /// A read failed.
     Read,
-    /// More bytes than the limit came.
+    /// The source has more bytes than the limit.
     TooLong,
     /// Out of memory for the bytes.
     Memory,
@@ -41,11 +41,12 @@ impl From<Failed> for ReadAllFault {
     }
 }
 
-// How many bytes are read at a time.
+/// The most bytes that [`read_all`] asks for in one read.
 const PIECE: usize = 4096;
 
-/// All bytes of `source`, which are at most `limit`. It takes no more than `limit` + 1 of them, the last of which shows that they
-/// are too many. The limit must be below the greatest `usize`, and the source's count of failures below the greatest `u64`.
+/// Reads `source` to its end and returns its bytes, at most `limit`. At most `limit` + 1 bytes are
+/// taken from the source, the last of which shows that there are too many. `limit` must be below
+/// the greatest `usize`, and the source's count of failures below the greatest `u64`.
 ///
 /// # Errors
 /// `Read` if a read fails; `TooLong` if there are more than `limit` bytes; `Memory` if memory runs out.
@@ -76,7 +77,7 @@ pub fn read_all<S: Source>(
     Err(ReadAllFault::TooLong)
 }
 
-/// Writes all of `bytes`. The sink's count of failures must be below the greatest `u64`.
+/// Writes all of `bytes` to `sink`, whose count of failures must be below the greatest `u64`.
 ///
 /// # Errors
 /// `Failed` if a write fails or takes no byte; a proper prefix of the bytes has then been written.

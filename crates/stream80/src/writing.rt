@@ -8,12 +8,14 @@ use std::io::Write;
 /// A [`Sink`] made of one of std's writers.
 #[derive(Drop)]
 pub struct Writing<W> {
+    /// The writer that takes the bytes.
     inner: W,
+    /// The number of writes that failed so far, those that took no byte included.
     failures: u64,
 }
 
 impl<W: Write> Writing<W> {
-    /// A sink that writes to `inner`, with no failure so far.
+    /// A sink that writes to `inner`, with no failed write counted.
     pub fn new(inner: W) -> Writing<W>
         ensures written { ⟦<Writing<W> as Sink>⟧.written result ≡ W.contents inner }
         ensures unfailed { ⟦<Writing<W> as Sink>⟧.failed result ≡ 0 }
