@@ -7,7 +7,8 @@ ghost use Rattle.omf_core.specs.declared.fault.PutFault.TheVariants.{Memory as O
 use std::alloc::AllocError;
 use thiserror::Error;
 
-/// Why no record is read at a place, which is the place asked for, in bytes from the start of the file.
+/// Why no record can be read at a place. The value is that place, in bytes from the start of the
+/// file.
 #[derive(Clone, Copy, PartialEq, Eq, Debug, Error)]
 pub enum RecordFault {
     /// The bytes end before the record does.
@@ -33,7 +34,8 @@ impl RecordFault {
         }
     }
 
-    /// Whether the bytes end before the record does, so that more bytes may complete it.
+    /// Whether the fault is `Truncated`: the bytes end before the record does, and more may
+    /// complete it.
     pub fn is_truncated(&self) -> bool
         ensures { result ≡ is_truncation self.now }
     {
@@ -47,10 +49,10 @@ impl RecordFault {
 /// Why a record isn't written.
 #[derive(Clone, Copy, PartialEq, Eq, Debug, Error)]
 pub enum PutFault {
-    /// The body has more bytes than one record carries, which is 65534.
+    /// The body has more than 65534 bytes, the most that one record carries.
     #[error("TooLong")]
     TooLong,
-    /// There is no memory for the record.
+    /// Out of memory for the record.
     #[error("Memory")]
     Memory,
 }
@@ -78,10 +80,10 @@ impl From<AllocError> for PutFault {
 /// Why bytes aren't taken as a name.
 #[derive(Clone, Copy, PartialEq, Eq, Debug, Error)]
 pub enum NameFault {
-    /// A name has no character or more than 255, or one that is outside 21h to 7Eh.
+    /// The bytes are none or more than 255, or one of them is outside 21h to 7Eh.
     #[error("BadName")]
     BadName,
-    /// There is no memory for the name.
+    /// Out of memory for the name.
     #[error("Memory")]
     Memory,
 }
@@ -98,13 +100,13 @@ impl NameFault {
     }
 }
 
-/// Why a piece of a file isn't taken.
+/// Why a [`Feed`](crate::Feed) refuses a piece of a file.
 #[derive(Clone, Copy, PartialEq, Eq, Debug, Error)]
 pub enum FeedFault {
-    /// The records of the file have this fault, whatever bytes follow.
+    /// A record of the file has this fault, whatever bytes follow.
     #[error("{0}")]
     Record(RecordFault),
-    /// There is no memory for the piece.
+    /// Out of memory for the piece.
     #[error("Memory")]
     Memory,
 }

@@ -8,20 +8,27 @@ use crate::{FeedFault, RecordFault, RecordKind, next_record};
 use std::alloc::Global;
 use std::marker::Model;
 
-/// The records of a file that comes in pieces, counted as they are whole. A contract sees the bytes that were taken and the
-/// fault that is kept. (8080 Object Module Formats: a file is a sequence of records, and an end-of-file record is its last.)
+/// Takes a file in pieces and counts its whole records. A contract sees the bytes of the pieces
+/// that were taken and the fault that was found. (8080 Object Module Formats: a file is a sequence
+/// of records, and an end-of-file record is its last.)
 #[derive(Debug, Drop)]
 pub struct Feed {
+    /// The bytes of the pieces that were taken.
     bytes: Vec<u8>,
+    /// How far `bytes` are read.
     read: Progress,
+    /// The fault that was found; every later piece is answered with it.
     kept: Option<RecordFault>,
 }
 
 /// How far bytes are read: `count` records up to place `at`, the last of which ends the file if `ended`.
 #[derive(Clone, Copy, Debug)]
 pub(crate) struct Progress {
+    /// The place after the last whole record.
     at: usize,
+    /// The number of whole records before `at`.
     count: usize,
+    /// Whether the last whole record is an end-of-file record, after which nothing is read.
     ended: bool,
 }
 
@@ -36,7 +43,8 @@ impl Model for Feed {
 }
 
 impl Feed {
-    /// A feed that has taken no bytes. It takes no memory; the feed grows by `alloc`.
+    /// A feed that has taken no bytes. It takes no memory yet; its bytes will be allocated from
+    /// `alloc`.
     pub fn new(alloc: Global) -> Feed
         ensures { result ≡ record { bytes = []; kept = None } }
     {
@@ -51,13 +59,15 @@ impl Feed {
         }
     }
 
-    /// Takes a piece of the file, and gives the number of whole records so far; an end-of-file record is the last one counted.
-    /// A record that the piece cuts off is completed by later pieces.
+    /// Takes a piece of the file, and returns the number of whole records in all bytes so far; an
+    /// end-of-file record is the last one counted. Later pieces complete a record that is cut off
+    /// by the end of this one.
     ///
     /// # Errors
-    /// `Record` exactly where the records of all bytes so far, this piece's too, have that fault whatever bytes follow. It is
-    /// kept, and answered to every later piece; the bytes are those before the piece.
-    /// `Memory` only if there is none for the piece; the feed is unchanged.
+    /// `Record` exactly if an earlier piece was answered so, or the records of all bytes so far,
+    /// with this piece, have a fault whatever bytes follow. The fault is kept for all later pieces,
+    /// and the bytes of this one aren't taken. `Memory` only if memory runs out; the feed is
+    /// unchanged.
     pub fn piece(&mut self, piece: &[u8]) -> Result<usize, FeedFault>
         ensures kept { (fault : RecordFaultValue) → self.old.kept ≡ Some fault
             → (result ≡ Err (FeedFault.Record fault)) × (self.new ≡ self.old) }
@@ -102,7 +112,8 @@ impl Feed {
     }
 }
 
-/// Reads the records that follow those read before, up to the end of the file or as far as the bytes go.
+/// Reads on from `before`: counts whole records up to the end-of-file record or as far as the bytes
+/// go, and returns the new progress. `Err` is the fault of a record that isn't just cut off.
 fn read_on(bytes: &[u8], before: Progress) -> Result<Progress, RecordFault>
     requires { ReadsUpTo bytes.now before.at before.count before.ended }
     ensures read { IfOk result (λ read. ReadsUpTo bytes.now read.at read.count read.ended) }

@@ -7,22 +7,39 @@ ghost use Rattle.omf_core.specs.Kind.{kind_byte};
 /// The kinds of record that the standard has, by its words (8080 Object Module Formats, record types).
 #[derive(Clone, Copy, PartialEq, Eq, Debug)]
 pub enum RecordKind {
+    /// The module's name and segments; the first record of a module.
     ModuleHeader = 0x02,
+    /// The start of a main program; the last record of a module.
     ModuleEnd = 0x04,
+    /// Bytes of a segment.
     Content = 0x06,
+    /// Line numbers of the source, for debuggers.
     LineNumbers = 0x08,
+    /// The last record of a file.
     EndOfFile = 0x0E,
+    /// The name of the module whose symbols and line numbers follow, for debuggers.
     Ancestor = 0x10,
+    /// Names that only debuggers need.
     LocalSymbols = 0x12,
+    /// Names that the module declares for others, with their places.
     PublicDeclarations = 0x16,
+    /// Names that the module needs from others.
     ExternalNames = 0x18,
+    /// References to externals in the content before.
     ExternalReferences = 0x20,
+    /// References in the content before to its own segment.
     Relocation = 0x22,
+    /// References in the content before to another segment.
     IntersegmentReferences = 0x24,
+    /// The places of a library's modules in its file.
     LibraryModuleLocations = 0x26,
+    /// The names of a library's modules.
     LibraryModuleNames = 0x28,
+    /// The publics of each module of a library.
     LibraryDictionary = 0x2A,
+    /// The number of a library's modules and the place of its index.
     LibraryHeader = 0x2C,
+    /// The ids and names of the module's named commons.
     NamedCommons = 0x2E,
 }
 
@@ -34,7 +51,7 @@ impl RecordKind {
         self as u8
     }
 
-    /// The kind whose type byte this is, or `None` if the standard has none.
+    /// The kind whose records have this type byte; `None` if the standard has no such kind.
     pub fn from_byte(byte: u8) -> Option<RecordKind>
         ensures kind { IfSome result (λ kind. kind_byte kind ≡ byte) }
         ensures unknown { IfNone result ((kind : RecordKind) → kind_byte kind ≢ byte) }

@@ -4,25 +4,25 @@
 ghost use Rattle.omf_core.specs.Laws.{OneRecordAtEachPlace, NoSpellingBeginsAnother, NoFaultExactlyAtRecords, RecordsStay, FaultsStay, TruncatedCanBeCompleted, OtherFaultsStay, TruncatedCanBeSpoilt, WrittenIsSpelled, SpelledIsWritten, OneListBeginsTheOther, OneListAtEachStretch, ListsJoin, ListGrows, ListsStay, WrittenListIsSpelled, OneNameAtEachPlace, NamesExactlyWhereHeld, WrittenNameIsSpelled};
 ghost use Rattle.omf_core.specs.FeedLaws.{OneRecordFault, OneCount, LastingFaultsLast, CountedHaveNone};
 
-/// At a place no two records are spelled.
+/// Bytes spell at most one record at a place.
 #[tactic(auto, using(crate::proofs::Spelled::one_record))]
 pub fn one_record_at_each_place()
     ensures { OneRecordAtEachPlace }
 {}
 
-/// No spelling of a record begins another one.
+/// The bytes of one record are never a proper prefix of those of another.
 #[tactic(auto, using(crate::proofs::Spelled::no_spelling_begins_another))]
 pub fn no_spelling_begins_another()
     ensures { NoSpellingBeginsAnother }
 {}
 
-/// A place has no fault exactly where a record is spelled there.
+/// A place in a file has no record fault exactly if a record is spelled there.
 #[tactic(auto, using(crate::proofs::Spelled::no_fault_exactly_at_records))]
 pub fn no_fault_exactly_at_records()
     ensures { NoFaultExactlyAtRecords }
 {}
 
-/// What is spelled is spelled whatever bytes follow.
+/// A record that bytes spell at a place is spelled there whatever bytes follow.
 #[tactic(auto, using(crate::proofs::Spelled::records_stay))]
 pub fn records_stay()
     ensures { RecordsStay }
@@ -34,13 +34,14 @@ pub fn faults_stay()
     ensures { FaultsStay }
 {}
 
-/// `Truncated` doesn't stay whatever bytes follow: some bytes complete the record.
+/// A record whose fault is `Truncated` can be completed: some bytes that follow make it whole.
 #[tactic(auto, using(crate::proofs::Completed::truncated_can_be_completed))]
 pub fn truncated_can_be_completed()
     ensures { TruncatedCanBeCompleted }
 {}
 
-/// A fault of a record that isn't cut off is reported whatever bytes follow, and one that is cut off names its place.
+/// A record fault is `Truncated` with the place that was read, or is reported whatever bytes
+/// follow.
 pub fn other_faults_stay()
     ensures { OtherFaultsStay }
 {}
@@ -50,88 +51,89 @@ pub fn truncated_can_be_spoilt()
     ensures { TruncatedCanBeSpoilt }
 {}
 
-/// What is written for a record spells it, wherever it stands.
+/// The bytes that are written for a record spell it, at any place in a file.
 pub fn written_is_spelled()
     ensures { WrittenIsSpelled }
 {}
 
-/// Of bytes, only what is written for a record spells it.
+/// Only the bytes that are written for a record spell it.
 #[tactic(auto, using(crate::proofs::SpelledWritten::spelled_is_written))]
 pub fn spelled_is_written()
     ensures { SpelledIsWritten }
 {}
 
-/// Of two lists of records that are spelled from one place on, one begins the other.
+/// Of two lists of records that bytes spell from one place on, one is a prefix of the other.
 #[tactic(auto, using(crate::proofs::SpelledRecords::one_list_begins_the_other))]
 pub fn one_list_begins_the_other()
     ensures { OneListBeginsTheOther }
 {}
 
-/// A stretch of bytes spells one list of records at most.
+/// The bytes between two places spell at most one list of records.
 #[tactic(auto, using(crate::proofs::SpelledRecords::one_list_at_each_stretch))]
 pub fn one_list_at_each_stretch()
     ensures { OneListAtEachStretch }
 {}
 
-/// Two stretches that meet spell their records together.
+/// If bytes spell one list of records up to a place and another from there on, they spell both
+/// joined.
 #[tactic(auto, using(crate::proofs::SpelledRecords::lists_join))]
 pub fn lists_join()
     ensures { ListsJoin }
 {}
 
-/// A record that follows a list makes it longer by one.
+/// If bytes spell a list of records up to a place and a record there, they spell the list with it.
 #[tactic(auto, using(crate::proofs::SpelledRecords::list_grows))]
 pub fn list_grows()
     ensures { ListGrows }
 {}
 
-/// A list that is spelled is spelled whatever bytes follow.
+/// A list of records that bytes spell is spelled whatever bytes follow.
 #[tactic(auto, using(crate::proofs::SpelledRecords::lists_stay))]
 pub fn lists_stay()
     ensures { ListsStay }
 {}
 
-/// What is written for records, one after another, spells them, wherever it stands.
+/// The bytes that are written for records, one after another, spell them, at any place in a file.
 #[tactic(auto, using(crate::proofs::SpelledRecords::written_list_is_spelled))]
 pub fn written_list_is_spelled()
     ensures { WrittenListIsSpelled }
 {}
 
-/// At a place no two names are spelled.
+/// Bytes spell at most one name at a place.
 #[tactic(auto, using(crate::proofs::SpelledNames::one_name))]
 pub fn one_name_at_each_place()
     ensures { OneNameAtEachPlace }
 {}
 
-/// A name is spelled at a place exactly where the bytes from there on begin with one.
+/// A name is spelled at a place exactly if the test for one holds of the bytes from there on.
 #[tactic(auto, using(crate::proofs::SpelledNames::names_exactly_where_held))]
 pub fn names_exactly_where_held()
     ensures { NamesExactlyWhereHeld }
 {}
 
-/// A length byte and the bytes that it counts spell the name, wherever they stand.
+/// A name's length byte and its bytes spell the name, at any place in a file.
 #[tactic(auto, using(crate::proofs::SpelledNames::written_name_is_spelled))]
 pub fn written_name_is_spelled()
     ensures { WrittenNameIsSpelled }
 {}
 
-/// Bytes have one first fault at most.
+/// The records of a file have at most one first fault.
 pub fn one_record_fault()
     ensures { OneRecordFault }
 {}
 
-/// Bytes have one count of whole records.
+/// The bytes of a file have one number of whole records.
 pub fn one_count()
     ensures { OneCount }
 {}
 
-/// A fault that lasts of some bytes lasts of those and any others.
+/// A record fault that bytes have whatever follows is one that they have with any bytes after them.
 #[tactic(auto, using(crate::proofs::FeedLemmas::lasting_faults_last))]
 pub fn lasting_faults_last()
     ensures { LastingFaultsLast }
 {}
 
-/// If whole records are counted, no fault lasts.
+/// Bytes whose whole records are counted have no fault that lasts whatever bytes follow.
 pub fn counted_have_none()
     ensures { CountedHaveNone }
 {}

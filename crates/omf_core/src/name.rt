@@ -33,11 +33,11 @@ impl Model for Name {
 }
 
 impl Name {
-    /// The name of these bytes.
+    /// The name of these bytes, which are copied.
     ///
     /// # Errors
-    /// `BadName` exactly where they are none or more than 255, or one of them is outside 21h to 7Eh;
-    /// `Memory` only if there is none for a copy of them.
+    /// `BadName` exactly if there are none or more than 255 of them, or one is outside 21h to 7Eh;
+    /// `Memory` only if memory for the copy runs out.
     pub fn new(alloc: Global, bytes: &[u8]) -> Result<Name, NameFault>
         ensures ok { IfOk result (λ name. name ≡ bytes.now) }
         ensures taken { OnOk result (IsTrue (is_name bytes.now)) }
@@ -106,13 +106,14 @@ impl fmt::Display for Name {
     }
 }
 
-/// Whether the bytes are those of a name.
+/// Whether `bytes` are a name: 1 to 255 bytes, each 21h to 7Eh.
 pub(crate) fn is_name(bytes: &[u8]) -> bool
     ensures { result ≡ is_name bytes.now }
 {
     1 <= bytes.len() && bytes.len() <= LONGEST_NAME && are_name_bytes(bytes)
 }
 
+/// Whether each byte is 21h to 7Eh.
 fn are_name_bytes(bytes: &[u8]) -> bool
     ensures { result ≡ list_all is_name_byte bytes.now }
 {

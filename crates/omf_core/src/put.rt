@@ -11,13 +11,13 @@ use std::alloc::{AllocError, Global};
 /// The most bytes that a record's body has: its length word counts them and the checksum.
 const LONGEST_BODY: usize = 65534;
 
-/// Appends the record of this kind and body to `out`: the kind, the length word, the body and the checksum.
-/// `out` grows by its own allocator.
+/// Appends the record of this kind and body to `out`: the type byte, the length word, the body and
+/// the checksum. `out` grows by its own allocator; `_alloc` isn't used.
 ///
 /// # Errors
-/// `TooLong` exactly where the body has more than 65534 bytes, which is tested first;
-/// `Memory` only if `out` can't grow, which it needn't if it has room for the record.
-/// After either, `out` holds the bytes that it held.
+/// `TooLong` exactly if the body has more than 65534 bytes, which is tested first; `Memory` only if
+/// `out` has no room for the record and can't grow. After either, `out` holds the bytes that it
+/// held.
 pub fn put_record(_alloc: Global, kind: u8, body: &[u8], out: &mut Vec<u8>) -> Result<(), PutFault>
     ensures appended { OnOk result (out.new.items ≡ out.old.items ++ spelling kind body.now) }
     ensures spells { OnOk result (SpellsRecord out.new.items (vec_len out.old) (vec_len out.new) kind body.now) }
@@ -36,7 +36,8 @@ pub fn put_record(_alloc: Global, kind: u8, body: &[u8], out: &mut Vec<u8>) -> R
     Ok(())
 }
 
-/// Appends the parts of a record to `out`, which has room for them.
+/// Appends a record to `out`, which must have room for it: `head` is the type byte and the length
+/// word, `last` the checksum.
 fn append_parts(head: &[u8], body: &[u8], last: u8, out: &mut Vec<u8>)
     requires room { vec_len out.old + (length head.now + (length body.now + 1)) ≤ vec_capacity out.old }
     ensures appended { out.new.items ≡ out.old.items ++ (head.now ++ (body.now ++ last ∷ [])) }
@@ -46,17 +47,18 @@ fn append_parts(head: &[u8], body: &[u8], last: u8, out: &mut Vec<u8>)
     out.push(last).unwrap();
 }
 
-/// The byte that brings the sum of both parts to 0 modulo 256.
+/// The checksum of a record: the byte that brings the sum of `head` (type byte and length word) and
+/// `body` to 0 modulo 256.
 fn checksum_of(head: &[u8], body: &[u8]) -> u8
     ensures { result ≡ checksum (head.now ++ body.now) }
 {
     sum_of(head).wrapping_add(sum_of(body)).wrapping_neg()
 }
 
-/// The result of appending a record whose body fits it: if the record wasn't appended, memory ran out.
+/// Converts the result of appending a record whose body fits one: `appended` must not be `TooLong`.
 ///
 /// # Errors
-/// `AllocError` exactly where `appended` is `Memory`.
+/// `AllocError` exactly if `appended` is `Memory`.
 pub fn never_too_long(appended: Result<(), PutFault>) -> Result<(), AllocError>
     requires { appended ≢ Err TooLong }
     ensures { is_ok result ≡ is_ok appended }
@@ -68,7 +70,7 @@ pub fn never_too_long(appended: Result<(), PutFault>) -> Result<(), AllocError>
     }
 }
 
-/// Appends the two bytes of a word, the low one first.
+/// Appends the two bytes of a word to `out`, low byte first.
 ///
 /// # Errors
 /// `AllocError` only if `out` can't grow.
@@ -78,10 +80,10 @@ pub fn push_word(word: u16, out: &mut Vec<u8>) -> Result<(), AllocError>
     out.extend_from_slice(&[(word % 256) as u8, (word / 256) as u8])
 }
 
-/// Appends the length byte and the bytes of a name: 1 to 255 bytes, each 21h to 7Eh.
+/// Appends a name to `out`: its length byte and its bytes, 1 to 255 of them, each 21h to 7Eh.
 ///
 /// # Errors
-/// `AllocError` only if `out` can't grow; the length byte may then stand there.
+/// `AllocError` only if `out` can't grow; the length byte may then have been appended.
 pub fn push_name(name: &[u8], out: &mut Vec<u8>) -> Result<(), AllocError>
     requires { IsTrue (is_name name.now) }
     ensures { OnOk result (out.new.items ≡ out.old.items ++ name_spelling name.now) }

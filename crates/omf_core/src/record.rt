@@ -52,7 +52,8 @@ pub fn next_record<'a>(bytes: &'a [u8], at: usize) -> Result<(Record<'a>, usize)
     Ok((record, at + 3 + counted))
 }
 
-/// How many bytes the length word of the record that begins `rest` counts, or the record's fault; `at` is its place.
+/// Checks the record that begins `rest`, and returns the number in its length word: the bytes of
+/// its body and its checksum. `Err` is the record's first fault, with its place `at`.
 fn counted_by(rest: &[u8], at: usize) -> Result<usize, RecordFault>
     ensures word { IfOk result (λ counted. counted ≡ word_at rest.now 1) }
     ensures some { IfOk result (λ counted. 0 < counted) }
@@ -76,8 +77,8 @@ fn counted_by(rest: &[u8], at: usize) -> Result<usize, RecordFault>
     Ok(counted)
 }
 
-/// Whether the bytes end before the record that begins at place `at` does: if [`next_record`] answers `Truncated`. No sum is
-/// made, and it takes no memory.
+/// Whether [`next_record`] answers `Truncated` for place `at`: the bytes end before the record
+/// does. No sum is computed, and it takes no memory.
 pub fn is_cut_off(bytes: &[u8], at: usize) -> bool
     ensures { IsTrue result ↔ (fault_at (drop at bytes.now) at ≡ Some (RecordFault.Truncated at)) }
 {
@@ -87,7 +88,8 @@ pub fn is_cut_off(bytes: &[u8], at: usize) -> bool
     }
 }
 
-/// Whether the bytes end before the record does that begins them.
+/// Whether `rest` ends before its first record does: it has fewer than 3 bytes, or fewer bytes
+/// follow than the length word counts.
 fn holds_no_record(rest: &[u8]) -> bool
     ensures { result ≡ is_truncated rest.now }
 {

@@ -3,19 +3,19 @@
 ghost use Rattle.std.specs.Prelude.{◌≡◌};
 ghost use Rattle.omf_core.specs.SegmentId.{segment_word};
 
-/// Bytes whose offsets are addresses.
+/// The id of absolute bytes, whose offsets are addresses.
 pub const ABSOLUTE: u8 = 0;
 
-/// Instructions.
+/// The id of the segment of instructions.
 pub const CODE: u8 = 1;
 
-/// Variables.
+/// The id of the segment of variables.
 pub const DATA: u8 = 2;
 
-/// The stack; it has a length and no bytes.
+/// The id of the stack segment, which has a length and no bytes.
 pub const STACK: u8 = 3;
 
-/// The memory that is left.
+/// The id of the segment of the memory that is left over.
 pub const MEMORY: u8 = 4;
 
 /// The least id of a named common.
@@ -24,10 +24,10 @@ pub const FIRST_COMMON: u8 = 6;
 /// The greatest id of a named common.
 pub const LAST_COMMON: u8 = 254;
 
-/// The common without a name.
+/// The id of the common without a name.
 pub const UNNAMED_COMMON: u8 = 255;
 
-/// The word of a segment in printed lines.
+/// The name of the segment with this id in printed lines, as `CODE`; `COMMON` for each id above 4.
 pub fn word_of(id: u8) -> &'static [u8]
     ensures { result.now ≡ segment_word id }
 {

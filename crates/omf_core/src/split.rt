@@ -5,9 +5,9 @@ ghost use Rattle.omf_core.specs.Name.{SpellsName, counted_bytes, holds_name};
 
 use crate::name::is_name;
 
-/// Splits off the name that stands in a record's body at place `at`: the name's bytes, and the place after them.
-/// `None` if no name stands there: `at` is past the end, the body ends before the name does,
-/// the length byte is 0, or one of the bytes is outside 21h to 7Eh.
+/// Splits off the name that stands in a record's body at place `at`: the name's bytes, and the
+/// place after them. `None` if no name stands there: `at` is past the end, the body ends before the
+/// name does, the length byte is 0, or a byte of the name is outside 21h to 7Eh.
 ///
 /// Takes no memory: the name borrows from `body`.
 pub fn split_name(body: &[u8], at: usize) -> Option<(&[u8], usize)>
