@@ -5,6 +5,7 @@ use std::marker::Model;
 /// Bytes where they lie in a file. A contract sees the list of them.
 #[derive(Debug, Drop)]
 pub struct Bytes<'a> {
+    /// The bytes, which borrow from the file.
     pub bytes: &'a [u8],
 }
 

@@ -6,10 +6,11 @@ use crate::name::NameBytes;
 use omf_core::split_name;
 use std::marker::Model;
 
-/// What is left of a body: fields are read from its front. A contract sees the list of the bytes that are left.
-/// After a fault the cursor stands where it stood.
+/// Reads a body field by field, from its front. A contract sees the list of the bytes that are
+/// left. After a fault the cursor is unchanged.
 #[derive(Debug, Drop)]
 pub struct Cursor<'a> {
+    /// The bytes that are left.
     rest: &'a [u8],
 }
 
@@ -40,7 +41,7 @@ impl<'a> Cursor<'a> {
         self.rest.is_empty()
     }
 
-    /// All that is left.
+    /// The bytes that are left, all of them; they borrow from the body.
     pub fn rest(self) -> Bytes<'a>
         ensures { result ≡ self.entry }
     {
@@ -50,7 +51,7 @@ impl<'a> Cursor<'a> {
     /// Reads a byte.
     ///
     /// # Errors
-    /// `BadBody` if none is left.
+    /// `BadBody` if no byte is left.
     pub fn byte(&mut self) -> Result<u8, FieldFault>
         ensures read { IfOk result (λ byte. read_byte self.old ≡ Ok (byte, self.new)) }
         ensures spelled { IfOk result (λ byte. self.old ≡ byte ∷ self.new) }
@@ -85,10 +86,11 @@ impl<'a> Cursor<'a> {
         }
     }
 
-    /// Reads a name.
+    /// Reads a name: a length byte, and as many bytes.
     ///
     /// # Errors
-    /// `BadBody` if the name isn't all there; `BadName` if it is, and has no bytes or one outside 21h to 7Eh.
+    /// `BadBody` if the body ends before the name does; `BadName` if the name has no bytes, or one
+    /// outside 21h to 7Eh. The cursor is then unchanged.
     pub fn name(&mut self) -> Result<NameBytes<'a>, FieldFault>
         ensures read { IfOk result (λ name. read_name self.old ≡ Ok (name, self.new)) }
         ensures spelled { IfOk result (λ name. self.old ≡ name_spelling name ++ self.new) }

@@ -7,6 +7,7 @@ ghost use Rattle.omf_body.specs.Bodies.{are_distinct};
 use crate::entries::SegmentEntry;
 use crate::row::Row;
 
+/// Whether a segment that is left in `segments` has this id.
 fn lists_id(segments: Row<SegmentEntry>, id: u8) -> bool
     ensures { result ≡ list_any (λ d. d.id == id) segments.entry }
 {
@@ -19,7 +20,8 @@ fn lists_id(segments: Row<SegmentEntry>, id: u8) -> bool
     false
 }
 
-/// Whether no id is listed twice. At most 256 entries are compared with those after them, since there are 256 ids.
+/// Whether no two segments have the same id. At most 256 segments are compared with those after
+/// them, since there are 256 ids.
 pub(crate) fn are_distinct(segments: Row<SegmentEntry>) -> bool
     ensures { result ≡ are_distinct segments.entry }
 {

@@ -13,54 +13,68 @@ use omf_core::segment_id::{FIRST_COMMON, LAST_COMMON};
 use omf_core::{push_name, push_word};
 use std::alloc::AllocError;
 
-/// The alignment byte of a part that may start at any byte.
+/// The alignment byte of a segment that may start at any byte.
 pub const ANY_BYTE: u8 = 3;
 
-/// A segment in a module header: its id, the length of the module's part, and its alignment byte.
+/// A segment in a module header.
 #[derive(Clone, Copy, PartialEq, Eq, Debug)]
 pub struct SegmentEntry {
+    /// The segment's id.
     pub id: u8,
+    /// The number of the module's bytes in the segment.
     pub length: u16,
+    /// The alignment byte: 3 if the segment may start at any byte, else it starts at a multiple of
+    /// 256.
     pub alignment: u8,
 }
 
-/// A named common: its segment id, from 6 to 254, and its name.
+/// A named common of a module.
 #[derive(Debug, Drop)]
 pub struct CommonEntry<'a> {
+    /// The segment id, from 6 to 254.
     pub id: u8,
+    /// The common's name.
     pub name: NameBytes<'a>,
 }
 
-/// A public: its offset in the record's segment, and its name.
+/// A public in a public declarations record.
 #[derive(Debug, Drop)]
 pub struct PublicEntry<'a> {
+    /// The offset in the record's segment.
     pub offset: u16,
+    /// The public's name.
     pub name: NameBytes<'a>,
+    /// A byte that has no effect.
     pub unread: u8,
 }
 
-/// A name that is declared elsewhere.
+/// A name that is declared by another module.
 #[derive(Debug, Drop)]
 pub struct ExternalEntry<'a> {
+    /// The external's name.
     pub name: NameBytes<'a>,
+    /// A byte that has no effect.
     pub unread: u8,
 }
 
-/// A reference to the target that its record names: its offset.
+/// A reference to the segment that its record is about.
 #[derive(Clone, Copy, PartialEq, Eq, Debug)]
 pub struct OffsetEntry {
+    /// The reference's offset in the segment of the content.
     pub offset: u16,
 }
 
-/// A reference to an external: the external's index in the module, and the reference's offset.
+/// A reference to an external.
 #[derive(Clone, Copy, PartialEq, Eq, Debug)]
 pub struct IndexEntry {
+    /// The index of the external among the module's externals, from 0.
     pub index: u16,
+    /// The reference's offset in the segment of the content.
     pub offset: u16,
 }
 
 impl SegmentEntry {
-    /// Whether the part starts at a multiple of 256: its alignment byte isn't 3.
+    /// Whether the segment starts at a multiple of 256: its alignment byte isn't 3.
     pub fn is_paged(self) -> bool
         ensures { result ≡ is_paged self }
     {

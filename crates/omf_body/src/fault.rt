@@ -3,25 +3,26 @@
 use omf_core::RecordKind;
 use thiserror::Error;
 
-/// Why the bytes at a place in a body are no field.
+/// Why a field of a body can't be read.
 #[derive(Clone, Copy, PartialEq, Eq, Debug, Error)]
 pub enum FieldFault {
-    /// The body ends inside the field, or the field has no listed value.
+    /// The body ends inside the field, or the field's value isn't one that the format lists.
     #[error("BadBody")]
     BadBody,
-    /// The name is all there, and it has no bytes or one outside 21h to 7Eh.
+    /// A name that the body holds whole has no bytes, or one outside 21h to 7Eh.
     #[error("BadName")]
     BadName,
 }
 
-/// Why the body of a record isn't read: its first fault, from the body's start on.
+/// Why the body of a record can't be read: its first fault, the fields taken in order.
 #[derive(Clone, Copy, PartialEq, Eq, Debug, Error)]
 pub enum BodyFault {
-    /// No record of this type byte stands in an object file.
+    /// An object file has no records of this type byte.
     #[error("UnknownKind {0:02X}")]
     UnknownKind(u8),
-    /// The body of a record of this type byte ends inside a field, a field or main byte has no listed value, the id of a
-    /// common is outside 6 to 254, or an id is listed twice in a header.
+    /// The body of a record of this type byte ends inside a field, the value of a field isn't one
+    /// that the format lists, the id of a common is outside 6 to 254, or an id is listed twice in a
+    /// header.
     #[error("BadBody {0:02X}")]
     BadBody(u8),
     /// A name that the body holds whole has no bytes, or one outside 21h to 7Eh.
@@ -33,7 +34,7 @@ impl FieldFault {
     ghost use Rattle.std.specs.Prelude.{◌≡◌};
     ghost use Rattle.omf_body.specs.Faults.{fault_of};
 
-    /// Returns this fault as that of a record of the kind `kind`.
+    /// Converts the fault of a field to that of the body of a record of this kind.
     pub(crate) fn of(self, kind: RecordKind) -> BodyFault
         ensures { result ≡ fault_of kind self }
     {

@@ -6,24 +6,27 @@ ghost use Rattle.omf_body.specs.Fields.{field_byte, read_field};
 use crate::cursor::Cursor;
 use crate::fault::FieldFault;
 
-/// The bytes of a word that a reference is to: the low byte, the high byte, or both.
-/// (8080 Object Module Formats, relocation record; the numbers are this project's.)
+/// Which bytes of its target's address a reference has: the low byte, the high byte, or both. (8080
+/// Object Module Formats, relocation record; the numbers are this project's.)
 #[derive(Clone, Copy, PartialEq, Eq, Debug)]
 pub enum Field {
+    /// The low byte alone.
     Low = 1,
+    /// The high byte alone.
     High = 2,
+    /// Both bytes, the low one first.
     Both = 3,
 }
 
 impl Field {
-    /// The field byte of a record: 1, 2 or 3.
+    /// The byte that a record has for this field: 1, 2 or 3.
     pub fn byte(self) -> u8
         ensures { result ≡ field_byte self }
     {
         self as u8
     }
 
-    /// Reads a field byte.
+    /// Reads a field byte from the cursor.
     ///
     /// # Errors
     /// `BadBody` if the body ends, or the byte isn't 1, 2 or 3.

@@ -3,19 +3,19 @@
 
 ghost use Rattle.omf_body.specs.Laws.{OneBody, OneFault, NeverBoth, WrittenIsSpelled};
 
-/// Bytes spell one body at most.
+/// The bytes of a record's body spell at most one body.
 pub fn one_body()
     ensures { OneBody }
 {}
 
-/// Bytes have one first fault at most, and none if they spell a body.
+/// The bytes of a record's body have at most one first fault, and none if they spell a body.
 #[tactic(auto, using(crate::proofs::Bodies::one_fault, crate::proofs::Bodies::never_both))]
 pub fn one_fault()
     ensures one { OneFault }
     ensures never_both { NeverBoth }
 {}
 
-/// What is written of a body spells it: it is read as the same body.
+/// The bytes that are written for a body spell it: they are read as the same body.
 pub fn written_is_spelled()
     ensures { WrittenIsSpelled }
 {}

@@ -24,6 +24,7 @@ impl<'a> NameBytes<'a> {
     ghost use Rattle.std.specs.Prelude.{◌≡◌, IsTrue};
     ghost use Rattle.omf_core.specs.Name.{is_name};
 
+    /// The name of these bytes, which must be 1 to 255, each 21h to 7Eh.
     pub(crate) fn new(bytes: &'a [u8]) -> NameBytes<'a>
         requires { IsTrue (is_name bytes.now) }
         ensures { result ≡ bytes.now }
@@ -31,7 +32,7 @@ impl<'a> NameBytes<'a> {
         NameBytes { bytes }
     }
 
-    /// The bytes of a name that is kept.
+    /// The bytes of a [`Name`], borrowed from it.
     pub fn of(name: &'a Name) -> NameBytes<'a>
         ensures { result ≡ name.now }
     {

@@ -22,6 +22,8 @@ use crate::field::Field;
 use crate::row::Row;
 use omf_core::{Record, RecordKind};
 
+/// Reads the body of a module header (02), or gives its first fault; an id that is listed twice is
+/// `BadBody`.
 fn header_in<'a>(bytes: &'a [u8]) -> Result<HeaderBody<'a>, FieldFault>
     ensures spelled { IfOk result (λ b. Spells 0x02 bytes.now (body_of.ModuleHeader b)) }
     ensures fault { IfErr result (λ f. FaultsBody kind.ModuleHeader bytes.now f) }
@@ -42,6 +44,7 @@ fn header_in<'a>(bytes: &'a [u8]) -> Result<HeaderBody<'a>, FieldFault>
     })
 }
 
+/// Reads a segment id and an offset, or gives `BadBody` if fewer than three bytes are left.
 fn place_at(cursor: &mut Cursor) -> Result<Place, FieldFault>
     ensures read { IfOk result (λ p. read_place cursor.old ≡ Ok (p, cursor.new)) }
     ensures spelled { IfOk result (λ p. cursor.old ≡ place_bytes p ++ cursor.new) }
@@ -52,6 +55,7 @@ fn place_at(cursor: &mut Cursor) -> Result<Place, FieldFault>
     Ok(Place { segment, offset })
 }
 
+/// Reads the body of a module end (04), or gives its first fault.
 fn end_in<'a>(bytes: &'a [u8]) -> Result<EndBody<'a>, FieldFault>
     ensures spelled { IfOk result (λ b. Spells 0x04 bytes.now (body_of.ModuleEnd b)) }
     ensures fault { IfErr result (λ f. FaultsBody kind.ModuleEnd bytes.now f) }
@@ -66,6 +70,7 @@ fn end_in<'a>(bytes: &'a [u8]) -> Result<EndBody<'a>, FieldFault>
     Ok(EndBody { start, unread })
 }
 
+/// Reads the body of a content record (06), or gives its first fault.
 fn content_in<'a>(bytes: &'a [u8]) -> Result<ContentBody<'a>, FieldFault>
     ensures spelled { IfOk result (λ b. Spells 0x06 bytes.now (body_of.Content b)) }
     ensures fault { IfErr result (λ f. FaultsBody kind.Content bytes.now f) }
@@ -80,6 +85,7 @@ fn content_in<'a>(bytes: &'a [u8]) -> Result<ContentBody<'a>, FieldFault>
     })
 }
 
+/// Reads the body of a public declarations record (16), or gives its first fault.
 fn publics_in<'a>(bytes: &'a [u8]) -> Result<PublicsBody<'a>, FieldFault>
     ensures spelled { IfOk result (λ b. Spells 0x16 bytes.now (body_of.PublicDeclarations b)) }
     ensures fault { IfErr result (λ f. FaultsBody kind.PublicDeclarations bytes.now f) }
@@ -90,6 +96,7 @@ fn publics_in<'a>(bytes: &'a [u8]) -> Result<PublicsBody<'a>, FieldFault>
     Ok(PublicsBody { segment, publics })
 }
 
+/// Reads the body of an external names record (18), or gives its first fault.
 fn externals_in<'a>(bytes: &'a [u8]) -> Result<Row<'a, ExternalEntry<'a>>, FieldFault>
     ensures spelled { IfOk result (λ b. Spells 0x18 bytes.now (body_of.ExternalNames b)) }
     ensures fault { IfErr result (λ f. FaultsBody kind.ExternalNames bytes.now f) }
@@ -97,6 +104,7 @@ fn externals_in<'a>(bytes: &'a [u8]) -> Result<Row<'a, ExternalEntry<'a>>, Field
     Row::read(bytes)
 }
 
+/// Reads the body of a named commons record (2E), or gives its first fault.
 fn commons_in<'a>(bytes: &'a [u8]) -> Result<Row<'a, CommonEntry<'a>>, FieldFault>
     ensures spelled { IfOk result (λ b. Spells 0x2E bytes.now (body_of.NamedCommons b)) }
     ensures fault { IfErr result (λ f. FaultsBody kind.NamedCommons bytes.now f) }
@@ -104,6 +112,7 @@ fn commons_in<'a>(bytes: &'a [u8]) -> Result<Row<'a, CommonEntry<'a>>, FieldFaul
     Row::read(bytes)
 }
 
+/// Reads the body of an external references record (20), or gives its first fault.
 fn external_references_in<'a>(bytes: &'a [u8]) -> Result<ExternalReferencesBody<'a>, FieldFault>
     ensures spelled { IfOk result (λ b. Spells 0x20 bytes.now (body_of.ExternalReferences b)) }
     ensures fault { IfErr result (λ f. FaultsBody kind.ExternalReferences bytes.now f) }
@@ -114,6 +123,7 @@ fn external_references_in<'a>(bytes: &'a [u8]) -> Result<ExternalReferencesBody<
     Ok(ExternalReferencesBody { field, references })
 }
 
+/// Reads the body of a relocation record (22), or gives its first fault.
 fn relocation_in<'a>(bytes: &'a [u8]) -> Result<RelocationBody<'a>, FieldFault>
     ensures spelled { IfOk result (λ b. Spells 0x22 bytes.now (body_of.Relocation b)) }
     ensures fault { IfErr result (λ f. FaultsBody kind.Relocation bytes.now f) }
@@ -124,6 +134,7 @@ fn relocation_in<'a>(bytes: &'a [u8]) -> Result<RelocationBody<'a>, FieldFault>
     Ok(RelocationBody { field, references })
 }
 
+/// Reads the body of an intersegment references record (24), or gives its first fault.
 fn intersegment_in<'a>(bytes: &'a [u8]) -> Result<IntersegmentBody<'a>, FieldFault>
     ensures spelled { IfOk result (λ b. Spells 0x24 bytes.now (body_of.IntersegmentReferences b)) }
     ensures fault { IfErr result (λ f. FaultsBody kind.IntersegmentReferences bytes.now f) }
@@ -139,7 +150,8 @@ fn intersegment_in<'a>(bytes: &'a [u8]) -> Result<IntersegmentBody<'a>, FieldFau
     })
 }
 
-/// The body of a record of this kind, or its first fault; `None` if no record of this kind stands in an object file.
+/// Reads the body of a record of this kind, or gives its first fault; `None` if an object file has
+/// no records of this kind.
 fn body_in<'a>(kind: RecordKind, bytes: &'a [u8]) -> Option<Result<Body<'a>, FieldFault>>
     ensures spelled { IfSome result (λ r. IfOk r (λ body. Spells (kind_byte kind) bytes.now body)) }
     ensures fault { IfSome result (λ r. IfErr r (λ f. FaultsBody kind bytes.now f)) }
@@ -171,7 +183,7 @@ fn body_in<'a>(kind: RecordKind, bytes: &'a [u8]) -> Option<Result<Body<'a>, Fie
     }
 }
 
-/// The body of a record. It borrows from the file and takes no memory.
+/// Reads the body of a record. The body borrows from the file and takes no memory.
 ///
 /// # Errors
 /// The first fault of the body, its fields taken in order:

@@ -5,11 +5,13 @@ use crate::entry::{Entry, ReadEntry};
 use crate::fault::FieldFault;
 use std::marker::{Model, PhantomData};
 
-/// Entries that lie one after another in a body, up to its end. It is an iterator over them: a contract sees the list of the
-/// entries that are left. It takes no memory.
+/// The entries that a body repeats, one after another up to its end. An iterator over them: a
+/// contract sees the list of the entries that are left. It takes no memory.
 #[derive(Drop)]
 pub struct Row<'a, E: Entry> {
+    /// The bytes of the entries that are left.
     bytes: &'a [u8],
+    /// The type of the entries; no data.
     of: PhantomData<E>,
 }
 
@@ -28,7 +30,7 @@ impl<'a, E: ReadEntry<'a>> Row<'a, E> {
     ghost use Rattle.std.specs.Prelude.{◌≡◌, IfOk, IfErr};
     ghost use Rattle.omf_body.specs.Layouts.{SpellsRow, FaultsRow};
 
-    /// Reads entries up to the end of the body, in order.
+    /// Checks that `bytes` are entries up to their end, and returns the row of them.
     ///
     /// # Errors
     /// The fault of the first entry that can't be read.
@@ -46,7 +48,7 @@ impl<'a, E: ReadEntry<'a>> Row<'a, E> {
         })
     }
 
-    /// Returns a row of the same entries that begins again at the first one.
+    /// A second row of the entries that are left; `self` stays as it is.
     pub fn again(&self) -> Row<'a, E>
         ensures { result ≡ self.now }
     {

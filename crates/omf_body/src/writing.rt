@@ -16,7 +16,7 @@ use crate::name::NameBytes;
 use omf_core::{PutFault, RecordKind, push_name, push_word, put_record};
 use std::alloc::{AllocError, Global};
 
-/// Appends the entries' bytes, one entry after another.
+/// Appends the bytes of the entries to `out`, in order. `Err` only if memory runs out.
 fn push_row<E: Entry>(entries: &[E], out: &mut Vec<u8>) -> Result<(), AllocError>
     ensures { OnOk result (out.new.items ≡ out.old.items ++ flat_map E.layout.bytes entries.now) }
 {
@@ -26,11 +26,12 @@ fn push_row<E: Entry>(entries: &[E], out: &mut Vec<u8>) -> Result<(), AllocError
     Ok(())
 }
 
-/// Appends a module header (02): the module's name and its segments.
+/// Appends a module header record (02) to `out`: the module's name and its segments. The
+/// translator's id and version are written as 0.
 ///
 /// # Errors
-/// `TooLong` only if the body would have more than 65534 bytes, and then never `Ok`; `Memory` only if there is no
-/// memory. After either, `out` holds the bytes that it held.
+/// `TooLong` only if the body would have more than 65534 bytes; such a record is never appended.
+/// `Memory` only if memory runs out. After either, `out` holds the bytes that it held.
 pub fn put_header(
     alloc: Global,
     name: &NameBytes,
@@ -47,11 +48,11 @@ pub fn put_header(
     put_record(alloc, RecordKind::ModuleHeader.byte(), &body, out)
 }
 
-/// Appends content (06): bytes of a segment from an offset on.
+/// Appends a content record (06) to `out`: bytes of a segment from an offset on.
 ///
 /// # Errors
-/// `TooLong` only if the body would have more than 65534 bytes, and then never `Ok`; `Memory` only if there is no
-/// memory. After either, `out` holds the bytes that it held.
+/// `TooLong` only if the body would have more than 65534 bytes; such a record is never appended.
+/// `Memory` only if memory runs out. After either, `out` holds the bytes that it held.
 pub fn put_content(
     alloc: Global,
     segment: u8,
@@ -68,11 +69,11 @@ pub fn put_content(
     put_record(alloc, RecordKind::Content.byte(), &body, out)
 }
 
-/// Appends publics (16) of one segment.
+/// Appends a public declarations record (16) to `out`: publics of one segment.
 ///
 /// # Errors
-/// `TooLong` only if the body would have more than 65534 bytes, and then never `Ok`; `Memory` only if there is no
-/// memory. After either, `out` holds the bytes that it held.
+/// `TooLong` only if the body would have more than 65534 bytes; such a record is never appended.
+/// `Memory` only if memory runs out. After either, `out` holds the bytes that it held.
 pub fn put_publics(
     alloc: Global,
     segment: u8,
@@ -87,11 +88,11 @@ pub fn put_publics(
     put_record(alloc, RecordKind::PublicDeclarations.byte(), &body, out)
 }
 
-/// Appends externals (18).
+/// Appends an external names record (18) to `out`.
 ///
 /// # Errors
-/// `TooLong` only if the body would have more than 65534 bytes, and then never `Ok`; `Memory` only if there is no
-/// memory. After either, `out` holds the bytes that it held.
+/// `TooLong` only if the body would have more than 65534 bytes; such a record is never appended.
+/// `Memory` only if memory runs out. After either, `out` holds the bytes that it held.
 pub fn put_externals(
     alloc: Global,
     externals: &[ExternalEntry],
@@ -104,11 +105,11 @@ pub fn put_externals(
     put_record(alloc, RecordKind::ExternalNames.byte(), &body, out)
 }
 
-/// Appends named commons (2E).
+/// Appends a named commons record (2E) to `out`.
 ///
 /// # Errors
-/// `TooLong` only if the body would have more than 65534 bytes, and then never `Ok`; `Memory` only if there is no
-/// memory. After either, `out` holds the bytes that it held.
+/// `TooLong` only if the body would have more than 65534 bytes; such a record is never appended.
+/// `Memory` only if memory runs out. After either, `out` holds the bytes that it held.
 pub fn put_commons(
     alloc: Global,
     commons: &[CommonEntry],
@@ -121,11 +122,12 @@ pub fn put_commons(
     put_record(alloc, RecordKind::NamedCommons.byte(), &body, out)
 }
 
-/// Appends references to externals (20) in the content before.
+/// Appends an external references record (20) to `out`: references in the content before to
+/// externals.
 ///
 /// # Errors
-/// `TooLong` only if the body would have more than 65534 bytes, and then never `Ok`; `Memory` only if there is no
-/// memory. After either, `out` holds the bytes that it held.
+/// `TooLong` only if the body would have more than 65534 bytes; such a record is never appended.
+/// `Memory` only if memory runs out. After either, `out` holds the bytes that it held.
 pub fn put_external_references(
     alloc: Global,
     field: Field,
@@ -140,11 +142,11 @@ pub fn put_external_references(
     put_record(alloc, RecordKind::ExternalReferences.byte(), &body, out)
 }
 
-/// Appends references (22) in the content before to its own segment.
+/// Appends a relocation record (22) to `out`: references in the content before to its own segment.
 ///
 /// # Errors
-/// `TooLong` only if the body would have more than 65534 bytes, and then never `Ok`; `Memory` only if there is no
-/// memory. After either, `out` holds the bytes that it held.
+/// `TooLong` only if the body would have more than 65534 bytes; such a record is never appended.
+/// `Memory` only if memory runs out. After either, `out` holds the bytes that it held.
 pub fn put_relocation(
     alloc: Global,
     field: Field,
@@ -159,11 +161,12 @@ pub fn put_relocation(
     put_record(alloc, RecordKind::Relocation.byte(), &body, out)
 }
 
-/// Appends references (24) in the content before to the segment of this id.
+/// Appends an intersegment references record (24) to `out`: references in the content before to the
+/// segment with this id.
 ///
 /// # Errors
-/// `TooLong` only if the body would have more than 65534 bytes, and then never `Ok`; `Memory` only if there is no
-/// memory. After either, `out` holds the bytes that it held.
+/// `TooLong` only if the body would have more than 65534 bytes; such a record is never appended.
+/// `Memory` only if memory runs out. After either, `out` holds the bytes that it held.
 pub fn put_intersegment(
     alloc: Global,
     segment: u8,
@@ -179,11 +182,11 @@ pub fn put_intersegment(
     put_record(alloc, RecordKind::IntersegmentReferences.byte(), &body, out)
 }
 
-/// Appends a module end (04), with the start if the module is a main program.
+/// Appends a module end record (04) to `out`, with the start if the module is a main program.
 ///
 /// # Errors
-/// `TooLong` only if the body would have more than 65534 bytes, and then never `Ok`; `Memory` only if there is no
-/// memory. After either, `out` holds the bytes that it held.
+/// `TooLong` only if the body would have more than 65534 bytes; such a record is never appended.
+/// `Memory` only if memory runs out. After either, `out` holds the bytes that it held.
 pub fn put_end(alloc: Global, start: Option<Place>, out: &mut Vec<u8>) -> Result<(), PutFault>
     ensures { Appends (body_of.ModuleEnd
         (record { start = start; unread = end_filling start })) out.old.items out.new.items result }
