@@ -8,6 +8,8 @@ use crate::segment::Segment;
 use crate::symbols::Common;
 use std::alloc::{AllocError, Global};
 
+/// The entry of the segment with this id, if a canonical module lists it: the id is a named
+/// common's, or the segment has bytes or is paged. `None` otherwise.
 fn entry_for(entries: &[(u8, Segment)], commons: &[Common], id: u8) -> Option<(u8, Segment)>
     ensures { result ≡ entry_for entries.now commons.now id }
 {
@@ -19,7 +21,8 @@ fn entry_for(entries: &[(u8, Segment)], commons: &[Common], id: u8) -> Option<(u
     }
 }
 
-/// The entries in ascending order of ids: every named common, and of the others those that have bytes or are paged.
+/// The entries that a canonical module lists, in ascending order of ids from 1: every named common,
+/// and of the others those that have bytes or are paged. `Err` only if memory runs out.
 pub(crate) fn canonical_segments(
     alloc: Global,
     entries: &[(u8, Segment)],

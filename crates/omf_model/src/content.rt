@@ -7,9 +7,13 @@ use std::marker::Model;
 /// (8080 Object Module Formats, content record, and the fixup records that follow it.)
 #[derive(Debug, Drop)]
 pub struct Content {
+    /// The segment's id.
     pub segment: u8,
+    /// The offset of the first byte in the segment.
     pub offset: u16,
+    /// The bytes, before their references are resolved.
     pub bytes: Vec<u8>,
+    /// The references in the bytes, in order; no two share a byte if the content is in a module.
     pub fixups: Vec<Fixup>,
 }
 

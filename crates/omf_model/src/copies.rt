@@ -10,7 +10,7 @@ use std::alloc::{AllocError, Global};
 /// A copy of the names.
 ///
 /// # Errors
-/// `AllocError` only if there is no memory for them.
+/// `AllocError` only if memory runs out.
 pub fn copy_names(alloc: Global, names: &[Name]) -> Result<Vec<Name>, AllocError>
     ensures { IfOk result (λ copies. copies.items ≡ names.now) }
 {
@@ -24,7 +24,7 @@ pub fn copy_names(alloc: Global, names: &[Name]) -> Result<Vec<Name>, AllocError
 /// A copy of the named commons.
 ///
 /// # Errors
-/// `AllocError` only if there is no memory for them.
+/// `AllocError` only if memory runs out.
 pub(crate) fn copy_commons(alloc: Global, commons: &[Common]) -> Result<Vec<Common>, AllocError>
     ensures { IfOk result (λ copies. copies.items ≡ commons.now) }
 {
@@ -41,7 +41,7 @@ pub(crate) fn copy_commons(alloc: Global, commons: &[Common]) -> Result<Vec<Comm
 /// A copy of the publics.
 ///
 /// # Errors
-/// `AllocError` only if there is no memory for them.
+/// `AllocError` only if memory runs out.
 pub fn copy_publics(alloc: Global, publics: &[Public]) -> Result<Vec<Public>, AllocError>
     ensures { IfOk result (λ copies. copies.items ≡ publics.now) }
 {
@@ -59,7 +59,7 @@ pub fn copy_publics(alloc: Global, publics: &[Public]) -> Result<Vec<Public>, Al
 /// A copy of the contents, with their fixups.
 ///
 /// # Errors
-/// `AllocError` only if there is no memory for them.
+/// `AllocError` only if memory runs out.
 pub(crate) fn copy_contents(alloc: Global, contents: &[Content]) -> Result<Vec<Content>, AllocError>
     ensures { IfOk result (λ copies. copies.items ≡ contents.now) }
 {

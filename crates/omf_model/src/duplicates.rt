@@ -10,20 +10,22 @@ use crate::segment::Segment;
 use crate::symbols::Common;
 use omf_core::segment_id::{FIRST_COMMON, LAST_COMMON};
 
+/// Whether an entry has this segment id.
 fn lists_id(entries: &[(u8, Segment)], id: u8) -> bool
     ensures { result ≡ list_any (λ d. d.0 == id) entries.now }
 {
     entries.iter().any(|d| d.0 == id)
 }
 
-/// Whether a common segment of a list has this name. It takes no memory.
+/// Whether a named common in the list has this name. It takes no memory.
 pub fn has_common_name(commons: &[Common], name: &[u8]) -> bool
     ensures { result ≡ has_common_name commons.now name.now }
 {
     commons.iter().any(|common| common.name.bytes() == name)
 }
 
-/// Whether each entry is of a segment that the module has, and no id is listed twice.
+/// Whether a module with these commons has the segment of each entry, and no two entries have one
+/// id.
 pub(crate) fn are_entries(commons: &[Common], entries: &[(u8, Segment)]) -> bool
     ensures { result ≡ each_after (is_new_entry commons.now) [] entries.now }
 {
@@ -35,7 +37,7 @@ pub(crate) fn are_entries(commons: &[Common], entries: &[(u8, Segment)]) -> bool
     true
 }
 
-/// Whether the common's id is one for commons, and neither its id nor its name stands before.
+/// Whether the common's id is from 6 to 254, and no common in `before` has its id or its name.
 fn is_new_common(before: &[Common], common: &Common) -> bool
     ensures { result ≡ is_new_common before.now common.now }
 {
@@ -44,7 +46,7 @@ fn is_new_common(before: &[Common], common: &Common) -> bool
         && !has_common_name(before, common.name.bytes())
 }
 
-/// Whether no id and no name stands twice, and each id is one for commons.
+/// Whether the ids of the commons are from 6 to 254, and no two have one id or one name.
 pub(crate) fn are_commons(commons: &[Common]) -> bool
     ensures { result ≡ each_after is_new_common [] commons.now }
 {

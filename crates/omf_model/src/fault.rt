@@ -5,13 +5,13 @@ ghost use Rattle.omf_model.specs.Fault.{parts_fault_code};
 
 use thiserror::Error;
 
-/// Why parts make no module.
+/// Why no module can be made of some [`Parts`](crate::Parts).
 #[derive(Clone, Copy, PartialEq, Eq, Debug, Error)]
 pub enum PartsFault {
-    /// The parts don't keep the rules of a module.
+    /// The parts break a rule that modules keep.
     #[error("Rule")]
     Rule,
-    /// There is no memory for the module.
+    /// Out of memory for the module.
     #[error("Memory")]
     Memory,
 }

@@ -3,7 +3,8 @@
 
 ghost use Rattle.omf_model.specs.Laws.{SegmentsAreKept, AbsoluteIsEmpty};
 
-/// A module that is made of parts has their segments, in whatever order they were listed; absolute bytes have no length.
+/// A module made of parts has their segments, in whatever order they were listed; the absolute
+/// segment has length 0.
 pub fn segments_are_kept()
     ensures kept { SegmentsAreKept }
     ensures absolute { AbsoluteIsEmpty }

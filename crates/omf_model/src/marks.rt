@@ -12,6 +12,8 @@ use crate::symbols::Common;
 use omf_body::Field;
 use std::alloc::{AllocError, Global};
 
+/// Whether the target of a fixup exists in a module with these commons and this number of
+/// externals.
 fn has_target(commons: &[Common], externals: usize, target: Target) -> bool
     ensures { result ≡ has_target commons.now externals target }
 {
@@ -21,7 +23,7 @@ fn has_target(commons: &[Common], externals: usize, target: Target) -> bool
     }
 }
 
-/// Whether each byte of the reference is one of the `size` bytes from offset `first` on.
+/// Whether each byte of the fixup is one of the `size` bytes from offset `first` on.
 pub fn is_inside(first: u16, size: usize, fixup: Fixup) -> bool
     ensures { result ≡ is_inside first size fixup }
 {
@@ -35,7 +37,7 @@ pub fn is_inside(first: u16, size: usize, fixup: Fixup) -> bool
     }
 }
 
-/// Marks a byte, and answers whether it had no mark.
+/// Marks the byte at index `place`; `true` if it had no mark before.
 fn take_byte(marks: &mut Vec<bool>, place: usize) -> bool
     requires { place < vec_len marks.old }
     ensures marked { marks.new.items ≡ slice_set marks.old.items place true }
@@ -46,7 +48,8 @@ fn take_byte(marks: &mut Vec<bool>, place: usize) -> bool
     !was_taken
 }
 
-/// Whether none of the bytes of a reference has a mark.
+/// Whether no byte of the fixup has a mark. The marks are those of a content at offset `first`,
+/// inside which the fixup must lie.
 pub fn is_free(marks: &[bool], first: u16, fixup: Fixup) -> bool
     requires { IsTrue (is_inside first (length marks.now) fixup) }
     ensures { (before : List Fixup)
@@ -60,7 +63,8 @@ pub fn is_free(marks: &[bool], first: u16, fixup: Fixup) -> bool
     }
 }
 
-/// Marks the bytes of a fixup, and answers whether none of them had a mark.
+/// Marks the bytes of the fixup; `true` if none of them had a mark before. The marks are those of a
+/// content at offset `first`, inside which the fixup must lie.
 pub fn mark(marks: &mut Vec<bool>, first: u16, fixup: Fixup) -> bool
     requires { IsTrue (is_inside first (vec_len marks.old) fixup) }
     ensures free { (before : List Fixup)
@@ -82,7 +86,8 @@ pub fn mark(marks: &mut Vec<bool>, first: u16, fixup: Fixup) -> bool
     }
 }
 
-/// Marks of no fixup.
+/// The marks of a content of `size` bytes without fixups: `false` for each byte. `Err` only if
+/// memory runs out.
 pub fn no_marks(alloc: Global, size: usize) -> Result<Vec<bool>, AllocError>
     ensures none { IfOk result (λ marks. (first : ℕ) → AreMarks marks.items first (is_taken [])) }
     ensures as_many { IfOk result (λ marks. vec_len marks ≡ size) }
@@ -91,8 +96,9 @@ pub fn no_marks(alloc: Global, size: usize) -> Result<Vec<bool>, AllocError>
     Ok(marks)
 }
 
-/// Whether each reference lies inside the `size` bytes from `first` on, shares none of them with those before it,
-/// and its target is there.
+/// Whether each fixup lies inside the `size` bytes from offset `first` on, shares no byte with one
+/// before it, and has a target that exists in a module with these commons and this number of
+/// externals. `Err` only if memory runs out.
 pub(crate) fn are_fitting(
     alloc: Global,
     commons: &[Common],

@@ -18,12 +18,19 @@ use std::marker::Model;
 /// (8080 Object Module Formats, module.)
 #[derive(Debug, Drop)]
 pub struct Module {
+    /// The module's name.
     name: Name,
+    /// The ids and sizes of the segments, in ascending order of ids.
     segments: Vec<(u8, Segment)>,
+    /// The named commons.
     commons: Vec<Common>,
+    /// The names that the module declares public.
     publics: Vec<Public>,
+    /// The names of other modules that fixups refer to by index.
     externals: Vec<Name>,
+    /// The bytes of the segments, with their fixups.
     contents: Vec<Content>,
+    /// The segment id and the offset where the program starts, if the module is a main program.
     start: Option<(u8, u16)>,
 }
 
@@ -62,17 +69,18 @@ impl Module {
     ghost use Rattle.omf_model.specs.Modules.{made_of, segment_of};
     ghost use Rattle.omf_model.specs.Rules.{keeps_rules, keeps_rules_but_for_fixups, has_names, IsModule};
 
-    /// The module of these parts. The order of `segments` doesn't matter, nor whether a segment without bytes
-    /// that isn't paged is among them.
+    /// The module of these parts. The order of `segments` doesn't matter, nor whether a segment
+    /// without bytes that isn't paged is among them.
     ///
     /// # Errors
-    /// `Rule` exactly where the parts don't keep the rules: an id that is used is of no segment that the module has
-    /// (ids 0 to 4 and 255 always exist, 6 to 254 if a common has it); an id stands twice in `segments` or in
-    /// `commons`, or a common's name twice; a common's id is outside 6 to 254; a content is in STACK, passes the end of its
-    /// segment (of absolute bytes: 65536) or has more than 65531 bytes; a fixup's bytes aren't all in its content, or
-    /// one of them is another fixup's; an external index isn't below the number of externals.
-    /// `Memory` only if there is none, and the parts keep all rules but perhaps those of fixups. Either hands the parts
-    /// back.
+    /// `Rule` exactly if the parts break a rule: an id that is used is of no segment that the
+    /// module has (ids 0 to 4 and 255 always exist, 6 to 254 if a common has it); an id stands
+    /// twice in `segments` or in `commons`, or a common's name twice; a common's id is outside 6 to
+    /// 254; a content is in STACK, passes the end of its segment (of absolute bytes: 65536) or has
+    /// more than 65531 bytes; a fixup's bytes aren't all in its content, or one of them is another
+    /// fixup's; an external index isn't below the number of externals. `Memory` only if memory runs
+    /// out, and the parts keep all rules but perhaps those of fixups. After either, the parts are
+    /// given back.
     pub fn from_parts(alloc: Global, parts: Parts) -> Result<Module, (Parts, PartsFault)>
         ensures made { IfOk result (λ m. m ≡ made_of parts) }
         ensures kept { OnOk result (IsTrue (keeps_rules parts)) }
@@ -96,7 +104,7 @@ impl Module {
         Ok(Module::with_segments(parts, segments))
     }
 
-    /// The module of parts that keep the rules.
+    /// The module of these parts, which must keep all rules. `Err` only if memory runs out.
     pub fn from_sound_parts(alloc: Global, parts: Parts) -> Result<Module, AllocError>
         requires { IsTrue (keeps_rules parts) }
         ensures { IfOk result (λ m. m ≡ made_of parts) }
@@ -106,6 +114,8 @@ impl Module {
         Ok(Module::with_segments(parts, segments))
     }
 
+    /// The module of these parts with `segments` in place of theirs. The parts must keep all rules,
+    /// and `segments` must be the canonical list of theirs.
     fn with_segments(parts: Parts, segments: Vec<(u8, Segment)>) -> Module
         requires rules { IsTrue (keeps_rules parts) }
         requires names { IsTrue (has_names parts) }
@@ -126,7 +136,7 @@ impl Module {
     /// A copy of the module.
     ///
     /// # Errors
-    /// `AllocError` only if there is no memory for it.
+    /// `AllocError` only if memory runs out.
     pub fn copy(&self, alloc: Global) -> Result<Module, AllocError>
         ensures { IfOk result (λ m. m ≡ self.now) }
     {
@@ -154,7 +164,8 @@ impl Module {
         &self.name
     }
 
-    /// The segment of this id, or `None` if the module has none. The absolute segment has length 0.
+    /// The segment with this id, or `None` if the module has none. The absolute segment has length
+    /// 0.
     pub fn segment(&self, id: u8) -> Option<Segment>
         ensures { result ≡ segment_of self.now id }
     {
@@ -165,7 +176,8 @@ impl Module {
         }
     }
 
-    /// The segments as a module's header lists them.
+    /// The ids and sizes of the segments as a module's header lists them: in ascending order of
+    /// ids, every named common, and of the others those that have bytes or are paged.
     pub fn segments(&self) -> &[(u8, Segment)]
         ensures value { result.now ≡ self.now.segments }
         ensures rules { IsModule self.now }
@@ -182,7 +194,7 @@ impl Module {
         self.commons.as_slice()
     }
 
-    /// The names that the module declares, in order.
+    /// The names that the module declares public, in order, with their places.
     pub fn publics(&self) -> &[Public]
         ensures value { result.now ≡ self.now.publics }
         ensures rules { IsModule self.now }
@@ -190,7 +202,7 @@ impl Module {
         self.publics.as_slice()
     }
 
-    /// The names of other modules that fixups refer to, by their index.
+    /// The names of other modules that fixups refer to; a fixup has the index in this list.
     pub fn externals(&self) -> &[Name]
         ensures value { result.now ≡ self.now.externals }
         ensures rules { IsModule self.now }
@@ -198,7 +210,7 @@ impl Module {
         self.externals.as_slice()
     }
 
-    /// The module's bytes and the references in them, in the order of the records.
+    /// The bytes of the segments and the fixups in them, in the order of the records.
     pub fn contents(&self) -> &[Content]
         ensures value { result.now ≡ self.now.contents }
         ensures rules { IsModule self.now }
@@ -206,7 +218,8 @@ impl Module {
         self.contents.as_slice()
     }
 
-    /// The segment and the offset where the program starts, if the module is a main program.
+    /// The segment id and the offset where the program starts, or `None` if the module is no main
+    /// program.
     pub fn start(&self) -> Option<(u8, u16)>
         ensures value { result ≡ self.now.start }
         ensures rules { IsModule self.now }

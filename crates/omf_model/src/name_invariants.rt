@@ -9,6 +9,7 @@ use crate::parts::Parts;
 use crate::symbols::{Common, Public};
 use omf_core::Name;
 
+/// For the proof alone: the names of the commons keep the rules of names.
 fn look_at_commons(commons: &[Common])
     ensures { IsTrue (list_all (λ c. is_name c.name) commons.now) }
 {
@@ -17,6 +18,7 @@ fn look_at_commons(commons: &[Common])
     }
 }
 
+/// For the proof alone: the names of the publics keep the rules of names.
 fn look_at_publics(publics: &[Public])
     ensures { IsTrue (list_all (λ p. is_name p.name) publics.now) }
 {
@@ -25,6 +27,7 @@ fn look_at_publics(publics: &[Public])
     }
 }
 
+/// For the proof alone: the externals keep the rules of names.
 fn look_at_externals(externals: &[Name])
     ensures { IsTrue (list_all is_name externals.now) }
 {
@@ -33,6 +36,7 @@ fn look_at_externals(externals: &[Name])
     }
 }
 
+/// For the proof alone: all names in the parts keep the rules of names. Nothing is changed.
 pub(crate) fn look_at_names(parts: &Parts)
     ensures { IsTrue (has_names parts.now) }
 {

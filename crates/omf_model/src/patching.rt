@@ -5,17 +5,20 @@ ghost use Rattle.omf_model.specs.Patches.{with_patches, are_inside, are_apart, i
 
 use crate::Field;
 
-/// A word to be added to a byte or to two bytes at a place.
+/// A word, or one of its bytes, that is added to the bytes at an index.
 #[derive(Clone, Copy, Debug, PartialEq, Eq)]
 pub struct Patch {
-    /// The place of the first byte.
+    /// The index of the first byte that is changed.
     pub at: usize,
-    /// The low byte of the word is added to a byte, its high byte, or the word to a word.
+    /// What is added: the low byte of the word to one byte, its high byte to one byte, or the whole
+    /// word to two bytes, low byte first.
     pub field: Field,
+    /// The word.
     pub word: u16,
 }
 
-/// Adds each word at its place. The patches lie inside the bytes, and no two of them share a byte.
+/// Adds the word of each patch, or one of its bytes, at the patch's index. Each patch must lie
+/// inside `bytes`, and no two may share a byte.
 pub fn apply_patches(bytes: &mut [u8], patches: &[Patch])
     requires inside { IsTrue (are_inside (length bytes.old) patches.now) }
     requires apart { IsTrue (are_apart patches.now) }
@@ -26,7 +29,8 @@ pub fn apply_patches(bytes: &mut [u8], patches: &[Patch])
     }
 }
 
-/// Adds one word at its place.
+/// Adds the word of one patch, or one of its bytes, at the patch's index, without carry into other
+/// bytes. The patch must lie inside `bytes`.
 fn apply_patch(bytes: &mut [u8], patch: Patch)
     requires { IsTrue (is_inside_bytes (length bytes.old) patch) }
     ensures { bytes.new ≡ with_patches (patch ∷ []) bytes.old }
@@ -43,19 +47,21 @@ fn apply_patch(bytes: &mut [u8], patch: Patch)
     }
 }
 
-/// The word of a low and a high byte plus a word, modulo 65536.
+/// The word of these two bytes plus `word`, modulo 65536.
 fn add_words(low: u8, high: u8, word: u16) -> u16
     ensures { result ≡ (low + 256 * high + word) % 65536 }
 {
     u16::from_le_bytes([low, high]).wrapping_add(word)
 }
 
+/// The low byte of a word.
 fn low_byte(word: u16) -> u8
     ensures { result ≡ word % 256 }
 {
     (word % 256) as u8
 }
 
+/// The high byte of a word.
 fn high_byte(word: u16) -> u8
     ensures { result ≡ word / 256 % 256 }
 {

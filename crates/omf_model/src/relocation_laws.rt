@@ -4,8 +4,9 @@
 ghost use Rattle.omf_model.specs.PatchLaws.{LowTwice, BothTwice, HighTwice, PatchedTwice, TwoPassesAreOne};
 ghost use Rattle.omf_model.specs.SoundModules.{SoundModulesKeepRules, CommonsByName, PartsOfOneStartAtZero};
 
-/// Adding a part's start to a reference and then a base is adding their sum: to a low byte, to a word, and to a high byte
-/// if one of the two is a multiple of 256; and so in the bytes of a content, for one fixup and for all of them together.
+/// Adding first one word to a reference and then another is adding their sum: to a low byte, to a
+/// word, and to a high byte if one of the two words is a multiple of 256; and so in the bytes of a
+/// content, for one fixup and for all of them together.
 pub fn adding_twice_is_adding_once()
     ensures low { LowTwice }
     ensures both { BothTwice }
@@ -20,12 +21,13 @@ pub fn sound_modules_keep_rules()
     ensures { SoundModulesKeepRules }
 {}
 
-/// What stands beside the name of a common in a list by names is what its id gives.
+/// In a list of a module's common names, each with the base of the common's id, looking up the name
+/// of an id's common gives the base of that id.
 pub fn commons_are_found_by_name()
     ensures { CommonsByName }
 {}
 
-/// The parts of a module alone start where their segments do.
+/// If one module is linked alone, its part of each segment starts at offset 0.
 pub fn parts_of_one_start_at_zero()
     ensures { PartsOfOneStartAtZero }
 {}

@@ -15,17 +15,17 @@ use crate::symbols::{Common, Public};
 use omf_core::segment_id::{ABSOLUTE, MEMORY, STACK, UNNAMED_COMMON};
 use std::alloc::{AllocError, Global};
 
-/// How many bytes one content record carries.
+/// The most bytes that one content record has.
 const LONGEST_CONTENT: usize = 65531;
 
-/// Whether a common segment of a list has this id. It takes no memory.
+/// Whether a named common in the list has this segment id. It takes no memory.
 pub fn has_common_id(commons: &[Common], id: u8) -> bool
     ensures { result ≡ has_common_id commons.now id }
 {
     commons.iter().any(|c| c.id == id)
 }
 
-/// The name of the common of this id; it has no bytes if no common has the id.
+/// The name of the named common with this segment id; empty if no common has it.
 pub fn common_name(commons: &[Common], id: u8) -> &[u8]
     ensures { result.now ≡ common_name commons.now id }
 {
@@ -37,28 +37,29 @@ pub fn common_name(commons: &[Common], id: u8) -> &[u8]
     &[]
 }
 
-/// Whether every module has a segment of this id: absolute, CODE, DATA, STACK, MEMORY and the unnamed common.
+/// Whether every module has a segment with this id: 0 absolute, 1 CODE, 2 DATA, 3 STACK, 4 MEMORY,
+/// 255 the unnamed common.
 pub fn is_fixed_id(id: u8) -> bool
     ensures { result ≡ is_fixed_id id }
 {
     id <= MEMORY || id == UNNAMED_COMMON
 }
 
-/// Whether the id is one of a segment that the module has.
+/// Whether a module with these named commons has a segment with this id.
 pub fn has_segment(commons: &[Common], id: u8) -> bool
     ensures { result ≡ has_segment commons.now id }
 {
     is_fixed_id(id) || has_common_id(commons, id)
 }
 
-/// Whether a segment, or a part of one, has bytes or is paged.
+/// Whether the segment has bytes or is paged.
 pub fn is_used(segment: Segment) -> bool
     ensures { result ≡ is_used segment }
 {
     0 < segment.length || segment.paged
 }
 
-/// The listed segment of this id, and an empty one if none is listed.
+/// The segment that is listed with this id; one of length 0 that isn't paged if none is listed.
 pub fn segment_in(entries: &[(u8, Segment)], id: u8) -> Segment
     ensures { result ≡ segment_in entries.now id }
 {
@@ -73,7 +74,7 @@ pub fn segment_in(entries: &[(u8, Segment)], id: u8) -> Segment
     }
 }
 
-/// The end of a segment: its length, and for absolute bytes the end of memory.
+/// The first offset after the segment with this id: its length, or 65536 for absolute bytes.
 pub fn end_of(segments: &[(u8, Segment)], id: u8) -> usize
     ensures { result ≡ end_of segments.now id }
 {
@@ -84,6 +85,8 @@ pub fn end_of(segments: &[(u8, Segment)], id: u8) -> usize
     }
 }
 
+/// Whether the content is in a segment that the module has, not in STACK, ends within it, and has
+/// at most 65531 bytes.
 fn is_in_bounds(segments: &[(u8, Segment)], commons: &[Common], content: &Content) -> bool
     ensures { result ≡ is_in_bounds segments.now commons.now content.now }
 {
@@ -93,19 +96,22 @@ fn is_in_bounds(segments: &[(u8, Segment)], commons: &[Common], content: &Conten
         && content.offset as usize + content.bytes.len() <= end_of(segments, content.segment)
 }
 
-/// Whether each content lies where it may.
+/// Whether each content is in a segment that the module has, not in STACK, ends within it, and has
+/// at most 65531 bytes.
 fn are_in_bounds(segments: &[(u8, Segment)], commons: &[Common], contents: &[Content]) -> bool
     ensures { result ≡ list_all (is_in_bounds segments.now commons.now) contents.now }
 {
     contents.iter().all(|c| is_in_bounds(segments, commons, c))
 }
 
+/// Whether each public is in a segment that the module has.
 fn are_publics(commons: &[Common], publics: &[Public]) -> bool
     ensures { result ≡ list_all (λ p. has_segment commons.now p.segment) publics.now }
 {
     publics.iter().all(|p| has_segment(commons, p.segment))
 }
 
+/// Whether the start, if there is one, is in a segment that the module has.
 fn is_start(commons: &[Common], start: Option<(u8, u16)>) -> bool
     ensures { result ≡ is_start commons.now start }
 {
@@ -115,7 +121,8 @@ fn is_start(commons: &[Common], start: Option<(u8, u16)>) -> bool
     }
 }
 
-/// Whether the parts keep the rules that don't speak of references. It takes no memory.
+/// Whether the parts keep all rules of modules but those of fixups, which aren't checked. It takes
+/// no memory.
 pub(crate) fn keeps_rules_but_for_fixups(parts: &Parts) -> bool
     ensures { result ≡ keeps_rules_but_for_fixups parts.now }
 {
@@ -128,7 +135,8 @@ pub(crate) fn keeps_rules_but_for_fixups(parts: &Parts) -> bool
         && is_start(commons, parts.start)
 }
 
-/// Whether the references of each content lie inside it, share no byte, and are to what is there.
+/// Whether the fixups of each content lie inside it, share no byte, and have targets that exist in
+/// a module with these commons and this number of externals. `Err` only if memory runs out.
 fn have_fitting(
     alloc: Global,
     commons: &[Common],
@@ -153,7 +161,8 @@ fn have_fitting(
     Ok(true)
 }
 
-/// Whether the parts keep the rules of references.
+/// Whether the fixups of each content lie inside it, share no byte, and have existing targets.
+/// `Err` only if memory runs out.
 pub(crate) fn keeps_fixup_rules(alloc: Global, parts: &Parts) -> Result<bool, AllocError>
     ensures { IfOk result (λ kept. kept ≡ keeps_fixup_rules parts.now) }
 {

@@ -7,6 +7,8 @@
 /// 255 the unnamed common.
 #[derive(Clone, Copy, PartialEq, Eq, Debug)]
 pub struct Segment {
+    /// The number of bytes.
     pub length: u16,
+    /// Whether the segment starts at a multiple of 256, in place of at any byte.
     pub paged: bool,
 }
