@@ -9,7 +9,8 @@ use omf_model::{Common, Content, Public, Segment};
 use std::alloc::AllocError;
 use text80::word_digits;
 
-/// Appends the line of a segment.
+/// Appends the line of a segment, as `CODE 0064 PAGED`, with the name of a named common at its end.
+/// `Err` only if memory runs out.
 pub(crate) fn append_segment(
     text: &mut Vec<u8>,
     commons: &[Common],
@@ -24,7 +25,7 @@ pub(crate) fn append_segment(
     Ok(())
 }
 
-/// Appends the line of a public name.
+/// Appends the line of a public, as `PUBLIC CODE 0012 SCALE`. `Err` only if memory runs out.
 pub(crate) fn append_public(
     text: &mut Vec<u8>,
     commons: &[Common],
@@ -40,7 +41,7 @@ pub(crate) fn append_public(
     Ok(())
 }
 
-/// Appends the line of an external name.
+/// Appends the line of an external, as `NEEDS GETKEY`. `Err` only if memory runs out.
 pub(crate) fn append_external(text: &mut Vec<u8>, name: &Name) -> Result<(), AllocError>
     ensures { OnOk result (text.new.items ≡ text.old.items ++ external_line name.now) }
 {
@@ -50,7 +51,8 @@ pub(crate) fn append_external(text: &mut Vec<u8>, name: &Name) -> Result<(), All
     Ok(())
 }
 
-/// Appends the line of a content.
+/// Appends the line of a content, as `CONTENT CODE 0000 0064`: its segment, its offset and its
+/// number of bytes. `Err` only if memory runs out.
 pub(crate) fn append_content(
     text: &mut Vec<u8>,
     commons: &[Common],

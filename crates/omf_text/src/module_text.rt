@@ -34,7 +34,8 @@ pub fn append_module_text(text: &mut Vec<u8>, module: &Module) -> Result<(), All
     append_defined(text, module)
 }
 
-/// Appends the lines of its name, of its segments and of the names that it declares.
+/// Appends the lines of the module's name, of its segments and of its publics. `Err` only if memory
+/// runs out.
 fn append_declared(text: &mut Vec<u8>, module: &Module) -> Result<(), AllocError>
     ensures { OnOk result (text.new.items ≡ text.old.items ++ declared_text «module».now) }
 {
@@ -43,7 +44,8 @@ fn append_declared(text: &mut Vec<u8>, module: &Module) -> Result<(), AllocError
     append_publics(text, module.commons(), module.publics())
 }
 
-/// Appends the lines of the names that it needs, of its contents and of its start.
+/// Appends the lines of the module's externals, of its contents and of its start. `Err` only if
+/// memory runs out.
 fn append_defined(text: &mut Vec<u8>, module: &Module) -> Result<(), AllocError>
     ensures { OnOk result (text.new.items ≡ text.old.items ++ defined_text «module».now) }
 {
@@ -52,7 +54,7 @@ fn append_defined(text: &mut Vec<u8>, module: &Module) -> Result<(), AllocError>
     append_start(text, module.commons(), module.start())
 }
 
-/// Appends the line of a module's name.
+/// Appends the line of a module's name, as `MODULE METER`. `Err` only if memory runs out.
 fn append_name(text: &mut Vec<u8>, name: &Name) -> Result<(), AllocError>
     ensures { OnOk result (text.new.items ≡ text.old.items ++ name_line name.now) }
 {
@@ -62,6 +64,7 @@ fn append_name(text: &mut Vec<u8>, name: &Name) -> Result<(), AllocError>
     Ok(())
 }
 
+/// Appends a line for each segment, in order. `Err` only if memory runs out.
 fn append_segments(
     text: &mut Vec<u8>,
     commons: &[Common],
@@ -75,6 +78,7 @@ fn append_segments(
     Ok(())
 }
 
+/// Appends a line for each public, in order. `Err` only if memory runs out.
 fn append_publics(
     text: &mut Vec<u8>,
     commons: &[Common],
@@ -88,6 +92,7 @@ fn append_publics(
     Ok(())
 }
 
+/// Appends a line for each external, in order. `Err` only if memory runs out.
 fn append_externals(text: &mut Vec<u8>, names: &[Name]) -> Result<(), AllocError>
     ensures { OnOk result (text.new.items ≡ text.old.items ++ flat_map external_line names.now) }
 {
@@ -97,6 +102,7 @@ fn append_externals(text: &mut Vec<u8>, names: &[Name]) -> Result<(), AllocError
     Ok(())
 }
 
+/// Appends a line for each content, in order. `Err` only if memory runs out.
 fn append_contents(
     text: &mut Vec<u8>,
     commons: &[Common],
@@ -110,7 +116,8 @@ fn append_contents(
     Ok(())
 }
 
-/// Appends the line of the start, if there is one.
+/// Appends the line of a module's start, as `START CODE 0000`, or nothing if `start` is `None`.
+/// `Err` only if memory runs out.
 fn append_start(
     text: &mut Vec<u8>,
     commons: &[Common],

@@ -8,7 +8,8 @@ use omf_model::{Common, Segment};
 use std::alloc::AllocError;
 use text80::word_digits;
 
-/// Appends a segment and an offset in it, as `CODE 0012`, and a named common's name behind.
+/// Appends the name of the segment with this id and an offset in it, as `CODE 0012`, and for a
+/// named common a space and its name.
 ///
 /// # Errors
 /// `AllocError` only if memory runs out; the text may then have some of the words.
@@ -24,7 +25,8 @@ pub fn append_place(
     append_common(text, commons, id)
 }
 
-/// Appends a segment and its length, or that of a part of it, as `CODE 0064 PAGED`.
+/// Appends the name of the segment with this id and the length of `part`, as `CODE 0064`, and `
+/// PAGED` if it starts at a multiple of 256.
 ///
 /// # Errors
 /// `AllocError` only if memory runs out; the text may then have some of the words.
@@ -38,10 +40,11 @@ pub fn append_part(text: &mut Vec<u8>, id: u8, part: Segment) -> Result<(), Allo
     Ok(())
 }
 
-/// Appends a blank and the name of the common of this id, if it has one.
+/// Appends a space and the name of the named common with this segment id; nothing if no common has
+/// it.
 ///
 /// # Errors
-/// `AllocError` only if memory runs out; the text may then have the blank.
+/// `AllocError` only if memory runs out; the text may then have the space.
 pub fn append_common(text: &mut Vec<u8>, commons: &[Common], id: u8) -> Result<(), AllocError>
     ensures { OnOk result (text.new.items ≡ text.old.items ++ common_part commons.now id) }
 {
@@ -55,7 +58,8 @@ pub fn append_common(text: &mut Vec<u8>, commons: &[Common], id: u8) -> Result<(
     Ok(())
 }
 
-/// Appends a segment and an offset in it.
+/// Appends the name of the segment with this id and an offset in it, as `CODE 0012`. `Err` only if
+/// memory runs out.
 pub(crate) fn append_offset(text: &mut Vec<u8>, id: u8, offset: u16) -> Result<(), AllocError>
     ensures { OnOk result (text.new.items ≡ text.old.items ++ offset_words id offset) }
 {
