@@ -14,7 +14,7 @@ use omf_core::{Name, NameFault};
 use omf_model::{Common, has_common_id, has_common_name};
 use std::alloc::{AllocError, Global};
 
-/// A copy of a name that stands in a file.
+/// A copy of a name that lies in a file. `Err` only if memory runs out.
 pub(crate) fn keep_name(alloc: Global, name: &NameBytes) -> Result<Name, AllocError>
     ensures { IfOk result (λ kept. kept ≡ name.now) }
 {
@@ -25,7 +25,9 @@ pub(crate) fn keep_name(alloc: Global, name: &NameBytes) -> Result<Name, AllocEr
     }
 }
 
-/// Reads a common that is new after those before: first its id is checked, then its name.
+/// Reads an entry of a named commons record (2E). `BadBody` if the body ends inside it, its id is
+/// outside 6 to 254, or a common in `before` has its id or its name; `BadName` if the name has no
+/// bytes, or one outside 21h to 7Eh. The id is checked first.
 fn new_common<'a>(cursor: &mut Cursor<'a>, before: &[Common]) -> Result<CommonEntry<'a>, FieldFault>
     ensures read { IfOk result (λ common. read_new_common before.now cursor.old ≡ Ok (common_of common, cursor.new)) }
     ensures spelled { IfOk result (λ common. cursor.old ≡ common_bytes common ++ cursor.new) }
@@ -44,7 +46,9 @@ fn new_common<'a>(cursor: &mut Cursor<'a>, before: &[Common]) -> Result<CommonEn
     Ok(CommonEntry { id, name })
 }
 
-/// Takes the commons of a record, if each is new.
+/// Appends the commons of a named commons record (2E) with this body to `commons`. The fault is
+/// that of the first entry that can't be read, or whose id or name a common before it has, or
+/// `Memory`; the entries before that are then appended.
 pub(crate) fn take_commons(
     alloc: Global,
     body: &[u8],

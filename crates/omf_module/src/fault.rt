@@ -14,10 +14,10 @@ use thiserror::Error;
 /// What is wrong with a record of a module. (8080 Object Module Formats, and the rules of this project.)
 #[derive(Clone, Copy, PartialEq, Eq, Debug, Error)]
 pub enum Cause {
-    /// The bytes are no record.
+    /// The bytes at the place are no record, for this reason.
     #[error("{0}")]
     Record(RecordFault),
-    /// No byte stands where a module should start, or a record that isn't a module header.
+    /// Where a module should begin there is no byte, or a record that isn't a module header.
     #[error("NoHeader")]
     NoHeader,
     /// No record of this type byte may stand in a module.
@@ -30,28 +30,29 @@ pub enum Cause {
     /// A name is empty, or has a byte outside 21h to 7Eh.
     #[error("BadName")]
     BadName,
-    /// No segment of the module has this id, or content is said to be in STACK.
+    /// No segment of the module has this id, or content is given for STACK (03).
     #[error("SegmentUnknown {0:02X}")]
     SegmentUnknown(u8),
     /// Content passes the end of its segment.
     #[error("OffsetOutside")]
     OffsetOutside,
-    /// No content stands before a fixup.
+    /// A fixup record has no content record before it.
     #[error("FixupBeforeContent")]
     FixupBeforeContent,
-    /// The bytes of a reference aren't all in its content.
+    /// The bytes of a fixup aren't all in its content.
     #[error("FixupOutside")]
     FixupOutside,
-    /// A reference shares a byte with one before it.
+    /// A fixup shares a byte with one before it.
     #[error("FixupTwice")]
     FixupTwice,
-    /// No external has the index of a reference.
+    /// No external of the module has the index that a fixup gives.
     #[error("IndexUnknown")]
     IndexUnknown,
-    /// No byte stands where a module should go on, or an end-of-file record.
+    /// Where a module or a file should go on there is no byte, or in a module an end-of-file
+    /// record.
     #[error("NoEnd")]
     NoEnd,
-    /// There is no memory for the module.
+    /// Out of memory for the module.
     #[error("Memory")]
     Memory,
 }
@@ -93,7 +94,7 @@ impl From<BodyFault> for Cause {
 }
 
 impl Cause {
-    /// A fault of a named commons record (2E).
+    /// Converts the fault of a field of a named commons record (2E).
     pub(crate) fn of_commons(fault: FieldFault) -> Cause
         ensures { result ≡ commons_cause fault }
     {
@@ -103,7 +104,7 @@ impl Cause {
         }
     }
 
-    /// The fault of the record at this place; out of memory has no place, and stands at 0.
+    /// The fault with this cause at this place; `Memory` is always at place 0.
     pub(crate) fn at(self, place: usize) -> ModuleFault
         ensures { result ≡ fault_of place self }
     {
@@ -117,11 +118,12 @@ impl Cause {
     }
 }
 
-/// Why no module is read: what is wrong with the record at place `at`, in bytes from the start of the file.
-/// Out of memory stands at place 0.
+/// Why no module can be read.
 #[derive(Clone, Copy, PartialEq, Eq, Debug)]
 pub struct ModuleFault {
+    /// The place of the faulty record, in bytes from the start of the file; 0 if memory ran out.
     pub at: usize,
+    /// What is wrong with the record.
     pub cause: Cause,
 }
 

@@ -22,8 +22,9 @@ use omf_model::Module;
 use std::alloc::Global;
 use std::marker::Model;
 
-/// The modules of an object file that comes in pieces, read as they are whole. A contract sees the bytes that were taken and the
-/// fault that is kept. (8080 Object Module Formats, object file.)
+/// Takes an object file in pieces and reads its modules as they become whole. A contract sees the
+/// bytes of the pieces that were taken and the fault that was found. (8080 Object Module Formats,
+/// object file.)
 ///
 /// # Example
 /// ```
@@ -34,17 +35,24 @@ use std::marker::Model;
 /// ```
 #[derive(Debug, Drop)]
 pub struct FileFeed {
+    /// The allocator of the bytes and the modules.
     alloc: Global,
+    /// The bytes of the pieces that were taken.
     bytes: Vec<u8>,
+    /// How far `bytes` are read.
     read: Progress,
+    /// The fault that was found; every later piece, and `finish`, is answered with it.
     kept: Option<ModuleFault>,
 }
 
-/// How far a file is read: the whole modules, the one that follows them, and whether the file ends in its place.
+/// How far a file is read.
 #[derive(Debug, Drop)]
 pub(crate) struct Progress {
+    /// The whole modules, in order.
     modules: Vec<Module>,
+    /// The module that follows them.
     unfinished: UnfinishedModule,
+    /// Whether the end-of-file record stands in place of that module.
     ended: bool,
 }
 
@@ -59,7 +67,7 @@ impl Model for FileFeed {
 }
 
 impl FileFeed {
-    /// A feed that has taken no bytes. It takes no memory; the feed grows by `alloc`.
+    /// A feed that has taken no bytes. It takes no memory yet; all will be allocated from `alloc`.
     pub fn new(alloc: Global) -> FileFeed
         ensures { result ≡ record { bytes = []; kept = None } }
     {
@@ -79,13 +87,15 @@ impl FileFeed {
         }
     }
 
-    /// Takes a piece of the file, and gives the number of whole modules so far. What the piece cuts off is completed by later
-    /// pieces; pieces after the end-of-file record are taken, and aren't read.
+    /// Takes a piece of the file, and returns the number of whole modules so far. Later pieces
+    /// complete a module that is cut off by the end of this one; pieces after the end-of-file
+    /// record are taken, and aren't read.
     ///
     /// # Errors
-    /// The fault of [`read_file`](crate::read_file) exactly where all bytes so far, this piece's too, have it whatever bytes
-    /// follow. It is kept, and answered to every later piece; the bytes are those before the piece.
-    /// `Memory` at place 0, only if there is none: the feed is unchanged, and the fault isn't kept.
+    /// A fault of [`read_file`](crate::read_file) exactly if an earlier piece was answered with it,
+    /// or all bytes so far, with this piece, have it whatever bytes follow. The fault is kept for
+    /// all later calls, and the bytes of this piece aren't taken. `Memory` at place 0 only if
+    /// memory runs out: the feed is unchanged, and the fault isn't kept.
     pub fn piece(&mut self, piece: &[u8]) -> Result<usize, ModuleFault>
         ensures kept { (fault : ModuleFaultValue) → self.old.kept ≡ Some fault → (result ≡ Err fault) × (self.new ≡ self.old) }
         ensures taken { OnOk result (self.new ≡ record { bytes = self.old.bytes ++ piece.now; kept = None }) }
@@ -122,11 +132,13 @@ impl FileFeed {
         }
     }
 
-    /// The modules of the file whose pieces were taken: what [`read_file`](crate::read_file) gives of all bytes.
+    /// The modules of the file whose pieces were taken: what [`read_file`](crate::read_file) gives
+    /// for all bytes.
     ///
     /// # Errors
-    /// The fault that is kept; else the first fault of the bytes as they stand: also `NoHeader` if there are none, `NoEnd`
-    /// and `Record` if they end too early. `Memory` at place 0, only if there is none. Either hands nothing back.
+    /// The fault that was kept; else the first fault of the bytes: also `NoHeader` if there are
+    /// none, and `NoEnd` or `Record` if they end too early. `Memory` at place 0 only if memory runs
+    /// out.
     pub fn finish(self) -> Result<Vec<Module>, ModuleFault>
         ensures kept { (fault : ModuleFaultValue) → self.kept ≡ Some fault → result ≡ Err fault }
         ensures read { self.kept ≡ None → IfOk result (λ modules. SpellsFile self.bytes modules.items) }
@@ -150,7 +162,8 @@ impl FileFeed {
     }
 }
 
-/// The modules of a file that has no more bytes than these, of which so much was read before.
+/// The modules of a file that has these bytes and no more, read on from `before`; or the file's
+/// first fault, or `Memory`.
 fn modules_of(alloc: Global, bytes: &[u8], before: Progress) -> Result<Vec<Module>, ModuleFault>
     requires { ReadsFile bytes.now before }
     ensures read { IfOk result (λ modules. SpellsFile bytes.now modules.items) }
@@ -164,7 +177,8 @@ fn modules_of(alloc: Global, bytes: &[u8], before: Progress) -> Result<Vec<Modul
     Err(missing_end_fault(alloc, bytes, &read))
 }
 
-/// The fault of a file whose bytes end where more of them are needed.
+/// The fault of a file that ends too early, read as far as `read` says: `NoEnd` after a whole
+/// module, or the fault of the module that is cut off; or `Memory`.
 fn missing_end_fault(alloc: Global, bytes: &[u8], read: &Progress) -> ModuleFault
     requires reads { ReadsFile bytes.now read.now }
     requires waits { WaitsModule bytes.now read.now.unfinished.begin }
@@ -184,7 +198,8 @@ fn missing_end_fault(alloc: Global, bytes: &[u8], read: &Progress) -> ModuleFaul
     }
 }
 
-/// Reads the modules that follow those read before, up to the end of the file or as far as the bytes go.
+/// Reads the modules from where `read` stands up to the end of the file or as far as the bytes go.
+/// A fault is one that the file has whatever bytes follow, or `Memory`; the modules stay read.
 fn read_on(alloc: Global, bytes: &[u8], read: &mut Progress) -> Result<(), ModuleFault>
     requires { ReadsFile bytes.now read.old }
     ensures grown { GrowsBy read.old.modules.items read.new.modules.items }
@@ -206,7 +221,8 @@ fn read_on(alloc: Global, bytes: &[u8], read: &mut Progress) -> Result<(), Modul
     }
 }
 
-/// Reads one module, and answers whether it was whole: otherwise the file ends, or more bytes are needed.
+/// Reads one more module into `read`. `false` if the file ends there, or more bytes are needed. A
+/// fault is one that the file has whatever bytes follow, or `Memory`.
 fn read_one(alloc: Global, bytes: &[u8], read: &mut Progress) -> Result<bool, ModuleFault>
     requires { ReadsFile bytes.now read.old }
     ensures grown { GrowsBy read.old.modules.items read.new.modules.items }
@@ -236,7 +252,8 @@ fn read_one(alloc: Global, bytes: &[u8], read: &mut Progress) -> Result<bool, Mo
     Ok(true)
 }
 
-/// Whether the file ends where the next module should begin. A record is read only if none of that module is.
+/// Whether a module was read, nothing is read of the next one, and the end-of-file record stands in
+/// its place.
 fn ends_here(bytes: &[u8], read: &Progress) -> bool
     requires { ReadsModule bytes.now read.now.unfinished.begin read.now.unfinished.here read.now.unfinished.commons.items }
     ensures ends { IsTrue result → EndsAfter bytes.now read.now.unfinished.begin read.now.modules.items }
@@ -249,7 +266,7 @@ fn ends_here(bytes: &[u8], read: &Progress) -> bool
         && ends_file(bytes, unfinished.begin)
 }
 
-/// Whether the record that ends a file stands at a place. It takes no memory.
+/// Whether an end-of-file record stands at this place. It takes no memory.
 fn ends_file(bytes: &[u8], at: usize) -> bool
     ensures ends { IsTrue result → EndsFile bytes.now at }
     ensures goes_on { result ≡ false → EndsFile bytes.now at → ⊥ }
@@ -260,7 +277,8 @@ fn ends_file(bytes: &[u8], at: usize) -> bool
     }
 }
 
-/// Goes back to the first `modules` modules, after which one begins at a place of which nothing is read.
+/// Shortens `read` to its first `modules` modules, with nothing read of the next, which begins at
+/// place `begin`.
 fn go_back(read: &mut Progress, modules: usize, begin: usize)
     ensures modules { read.new.modules.items ≡ take modules read.old.modules.items }
     ensures unread { IsUnread read.new.unfinished begin }
@@ -271,7 +289,7 @@ fn go_back(read: &mut Progress, modules: usize, begin: usize)
     read.ended = false;
 }
 
-/// Begins a module at a place. It takes no memory.
+/// Makes `unfinished` a module that begins at place `begin`, with nothing read. It takes no memory.
 fn begin_anew(unfinished: &mut UnfinishedModule, begin: usize)
     ensures { IsUnread unfinished.new begin }
 {

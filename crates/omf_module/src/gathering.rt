@@ -12,7 +12,7 @@ use omf_core::Name;
 use omf_model::{Fixup, Public, Segment, Target};
 use std::alloc::{AllocError, Global};
 
-/// The segments of a header.
+/// The segments that a header lists, with their ids, in its order. `Err` only if memory runs out.
 pub(crate) fn segments_in(
     alloc: Global,
     header: &HeaderBody,
@@ -31,7 +31,8 @@ pub(crate) fn segments_in(
     Ok(segments)
 }
 
-/// Takes the publics of a record.
+/// Appends the publics of a record to `publics`; none if it isn't a public declarations record.
+/// `Err` only if memory runs out.
 fn take_publics(alloc: Global, body: &Body, publics: &mut Vec<Public>) -> Result<(), AllocError>
     ensures { OnOk result (publics.new.items ≡ publics.old.items ++ publics_in body.now) }
 {
@@ -49,7 +50,7 @@ fn take_publics(alloc: Global, body: &Body, publics: &mut Vec<Public>) -> Result
     Ok(())
 }
 
-/// The publics of all records.
+/// The publics that all the records declare, in order. `Err` only if memory runs out.
 pub(crate) fn publics_of(alloc: Global, bodies: &[PlacedBody]) -> Result<Vec<Public>, AllocError>
     ensures { IfOk result (λ publics. publics.items ≡ flat_map (λ p. publics_in p.body) bodies.now) }
 {
@@ -60,7 +61,8 @@ pub(crate) fn publics_of(alloc: Global, bodies: &[PlacedBody]) -> Result<Vec<Pub
     Ok(publics)
 }
 
-/// Takes the externals of a record.
+/// Appends the externals of a record to `externals`; none if it isn't an external names record.
+/// `Err` only if memory runs out.
 fn take_externals(alloc: Global, body: &Body, externals: &mut Vec<Name>) -> Result<(), AllocError>
     ensures { OnOk result (externals.new.items ≡ externals.old.items ++ externals_in body.now) }
 {
@@ -74,7 +76,7 @@ fn take_externals(alloc: Global, body: &Body, externals: &mut Vec<Name>) -> Resu
     Ok(())
 }
 
-/// The externals of all records.
+/// The externals that all the records name, in order. `Err` only if memory runs out.
 pub(crate) fn externals_of(alloc: Global, bodies: &[PlacedBody]) -> Result<Vec<Name>, AllocError>
     ensures { IfOk result (λ externals. externals.items ≡ flat_map (λ p. externals_in p.body) bodies.now) }
 {
@@ -85,7 +87,7 @@ pub(crate) fn externals_of(alloc: Global, bodies: &[PlacedBody]) -> Result<Vec<N
     Ok(externals)
 }
 
-/// The fixups of entries that give offsets.
+/// A fixup for each offset, with this field and target. `Err` only if memory runs out.
 fn by_offset(
     alloc: Global,
     field: Field,
@@ -108,7 +110,7 @@ fn by_offset(
     Ok(fixups)
 }
 
-/// The fixups of entries that give indices of externals.
+/// A fixup for each entry of an external references record. `Err` only if memory runs out.
 fn by_index(alloc: Global, body: &ExternalReferencesBody) -> Result<Vec<Fixup>, AllocError>
     ensures { IfOk result (λ fixups. fixups.items
         ≡ map (λ r. record { offset = r.offset; field = body.now.field; target = target.External r.index }) body.now.references) }
@@ -125,7 +127,8 @@ fn by_index(alloc: Global, body: &ExternalReferencesBody) -> Result<Vec<Fixup>, 
     Ok(fixups)
 }
 
-/// The fixups of a record, in a content of segment `own`.
+/// The fixups that a record gives for a content of the segment with id `own`; none if it isn't a
+/// fixup record. `Err` only if memory runs out.
 pub(crate) fn fixups_in(alloc: Global, own: u8, body: &Body) -> Result<Vec<Fixup>, AllocError>
     ensures { IfOk result (λ fixups. fixups.items ≡ fixups_in own body.now) }
 {

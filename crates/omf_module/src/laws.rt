@@ -16,7 +16,7 @@ use omf_core::laws::{
 };
 pub use omf_model::laws::segments_are_kept;
 
-/// Bytes spell one module at a place at most, or have one first fault there, and never both.
+/// Bytes spell at most one module at a place, or have one first fault there, and never both.
 pub fn one_reading()
     ensures module { OneModule }
     ensures fault { OneFault }
@@ -30,7 +30,7 @@ pub fn one_reading()
     one_fault();
 }
 
-/// Bytes spell one list of modules as a file at most, or have one first fault, and never both.
+/// Bytes spell at most one list of modules as a file, or have one first fault, and never both.
 pub fn one_file_reading()
     ensures file { OneFile }
     ensures fault { OneFileFault }
@@ -42,7 +42,8 @@ pub fn one_file_reading()
     one_fault();
 }
 
-/// What is spelled of modules is spelled whatever bytes follow. Modules reach further than to their begin, inside the bytes.
+/// A module that bytes spell at a place is spelled there whatever bytes follow; it ends after the
+/// place where it begins, inside the bytes.
 pub fn modules_stay()
     ensures stay { ModulesStay }
     ensures stand { ModulesStand }
@@ -51,47 +52,50 @@ pub fn modules_stay()
     other_faults_stay();
 }
 
-/// Bytes hold one number of whole modules.
+/// The bytes of a file have one number of whole modules.
 pub fn one_module_count()
     ensures { OneModuleCount }
 {
     one_reading();
 }
 
-/// A fault of a file that is there whatever bytes follow is still so after any bytes more.
+/// A fault that a file has whatever bytes follow is one that it has with any bytes after it.
 #[tactic(auto, using(crate::proofs::FileFeedLemmas::lasting_file_faults_last))]
 pub fn lasting_file_faults_last()
     ensures { LastingFileFaultsLast }
 {}
 
-/// The contents of records are those that they begin, each with the fixups of the records after it up to the next content.
+/// Each content record gives one content, with the fixups of the records after it up to the next
+/// one.
 #[tactic(auto, using(crate::proofs::GatheredLemmas::contents_have_the_fixups_up_to_the_next))]
 pub fn contents_have_the_fixups_up_to_the_next()
     ensures { ContentsHaveTheFixupsUpToTheNext }
 {}
 
-/// The records of a module have no fault of use exactly where what they say keeps the rules, each segment that they speak of is
-/// there, and each record of fixups comes after a content.
+/// The uses in a module's records have no fault exactly if what the records say keeps the rules of
+/// modules, each segment that they name exists, and each fixup record comes after a content record.
 pub fn records_without_fault_keep_the_rules()
     ensures { NoFaultExactlyWhereUsesAreThere }
 {}
 
-/// The fault of use of a module's records is the first of all: of the entries of its records, in order, the first that uses what
-/// isn't there gives it. A fixup is seen in the last content that the records before it begin, with the fixups that come before
-/// it.
+/// The fault in the uses of a module's records is the first: that of the first entry, in order,
+/// that uses what doesn't exist. A fixup is checked against the last content record before it, and
+/// the fixups of that which come before it.
 pub fn fault_of_use_is_the_first()
     ensures bodies { BodiesFaultIsTheFirst }
     ensures all { UseFaultIsTheFirst }
 {}
 
-/// What is written of a module spells it, wherever it stands: it is read again as the same module.
+/// The bytes that are written for a module spell it at any place: it is read again as the same
+/// module.
 pub fn written_module_is_spelled()
     ensures { WrittenModuleIsSpelled }
 {
     written_is_spelled();
 }
 
-/// A file that is written spells its modules: it is read again as the same modules.
+/// The bytes that are written for a file spell its modules: they are read again as the same
+/// modules.
 pub fn written_file_is_spelled()
     ensures { WrittenFileIsSpelled }
 {

@@ -8,12 +8,18 @@ use omf_model::{Content, Fixup, Parts, Target};
 use std::alloc::{AllocError, Global};
 use std::marker::Model;
 
+/// A content to which fixups may still be added.
 #[derive(Drop)]
 pub(crate) struct OpenContent<'a> {
+    /// The segment's id.
     segment: u8,
+    /// The offset of the first byte in the segment.
     offset: u16,
+    /// The bytes, which borrow from the file.
     bytes: &'a [u8],
+    /// The fixups so far.
     fixups: Vec<Fixup>,
+    /// A mark for each byte, `true` if a fixup has it.
     marks: Vec<bool>,
 }
 
@@ -37,7 +43,7 @@ impl<'a> OpenContent<'a> {
     ghost use Rattle.omf_module.specs.Uses.{fixup_fault, fixups_fault};
     ghost use Rattle.omf_module.specs.Reading.{with_contents};
 
-    /// The content of these bytes, without fixups.
+    /// The content of these bytes from an offset on, without fixups. `Err` only if memory runs out.
     pub(crate) fn new(
         alloc: Global,
         segment: u8,
@@ -56,14 +62,16 @@ impl<'a> OpenContent<'a> {
         })
     }
 
-    /// The segment that it is in.
+    /// The id of the content's segment.
     fn segment(&self) -> u8
         ensures { result ≡ self.now.segment }
     {
         self.segment
     }
 
-    /// Takes one fixup more.
+    /// Adds a fixup. The fault is `FixupOutside` if it isn't inside the content, `FixupTwice` if it
+    /// shares a byte with one before it, `IndexUnknown` if `parts` has no such external, or
+    /// `Memory`.
     fn take(&mut self, parts: &Parts, fixup: Fixup) -> Result<(), Cause>
         ensures taken { OnOk result (self.new ≡ with_fixups self.old (fixup ∷ [])) }
         ensures sound { OnOk result ((cs : List ContentValue) → fixup_fault (with_contents parts.now cs) self.old fixup ≡ None) }
@@ -86,7 +94,8 @@ impl<'a> OpenContent<'a> {
         Ok(())
     }
 
-    /// Takes these fixups, in order.
+    /// Adds these fixups in order, up to the first that has a fault: `FixupOutside`, `FixupTwice`,
+    /// `IndexUnknown` or `Memory`.
     fn take_all(&mut self, parts: &Parts, fixups: &[Fixup]) -> Result<(), Cause>
         ensures taken { OnOk result (self.new ≡ with_fixups self.old fixups.now) }
         ensures sound { OnOk result ((cs : List ContentValue)
@@ -100,7 +109,8 @@ impl<'a> OpenContent<'a> {
         Ok(())
     }
 
-    /// Takes the fixups that a record says.
+    /// Adds the fixups of a record, in order, up to the first that has a fault: `FixupOutside`,
+    /// `FixupTwice`, `IndexUnknown` or `Memory`.
     pub(crate) fn take_those_of(
         &mut self,
         alloc: Global,
@@ -117,7 +127,7 @@ impl<'a> OpenContent<'a> {
         self.take_all(parts, &fixups)
     }
 
-    /// The content, with its bytes copied.
+    /// The content with the fixups that it has, its bytes copied. `Err` only if memory runs out.
     pub(crate) fn close(self, alloc: Global) -> Result<Content, AllocError>
         ensures { IfOk result (λ c. c ≡ self.entry) }
     {

@@ -17,17 +17,19 @@ use omf_core::laws::{other_faults_stay, records_stay, truncated_can_be_spoilt};
 use omf_model::{Common, Module};
 use std::alloc::Global;
 
-/// How far the module is read that begins at place `begin`: its records are checked up to place `here`, and declare these
-/// commons.
-/// If that is `begin`, nothing is checked.
+/// How far a module is read whose last bytes are still to come.
 #[derive(Debug, Drop)]
 pub struct UnfinishedModule {
+    /// The place where the module begins.
     pub begin: usize,
+    /// The place up to which its records are checked; `begin` if not even its header is.
     pub here: usize,
+    /// The named commons that the checked records declare.
     pub commons: Vec<Common>,
 }
 
-/// The place after the header of the module that begins at a place, or `None` if the header is cut off. It takes no memory.
+/// The place after the header of the module that begins at a place, or `None` if that record is cut
+/// off. A fault is one that the module has whatever bytes follow. It takes no memory.
 fn after_header(bytes: &[u8], begin: usize) -> Result<Option<usize>, ModuleFault>
     ensures begun { IfOk result (λ after. IfSome after (λ first. BegunModule bytes.now begin first [])) }
     ensures waits { result ≡ Ok None → IsCutOff bytes.now begin }
@@ -44,8 +46,9 @@ fn after_header(bytes: &[u8], begin: usize) -> Result<Option<usize>, ModuleFault
     }
 }
 
-/// Checks the records of a module from a place on, as far as the bytes go. The answer is the place of the record that is cut
-/// off, or `None` if the module's end stands.
+/// Checks the records of a module from place `from` on, and appends the commons that they declare.
+/// Returns the place of the record that is cut off, or `None` if the module's end record is
+/// reached. A fault is one that the module has whatever bytes follow, or `Memory`.
 fn walk_on(
     alloc: Global,
     bytes: &[u8],
@@ -75,8 +78,9 @@ fn walk_on(
     Ok(Some(here))
 }
 
-/// The place from which the records of an unfinished module are to be checked, or `None` if its header is cut off. It takes
-/// no memory.
+/// The place from which the records of an unfinished module are still to be checked, or `None` if
+/// its header is cut off. A fault is one that the module has whatever bytes follow. It takes no
+/// memory.
 fn unchecked_from(bytes: &[u8], unfinished: &UnfinishedModule) -> Result<Option<usize>, ModuleFault>
     requires { ReadsModule bytes.now unfinished.now.begin unfinished.now.here unfinished.now.commons.items }
     ensures begun { IfOk result (λ from. IfSome from (λ here.
@@ -91,8 +95,12 @@ fn unchecked_from(bytes: &[u8], unfinished: &UnfinishedModule) -> Result<Option<
     after_header(bytes, unfinished.begin)
 }
 
-/// The module that is unfinished, with the place after its end, or `None` if more bytes are needed. Its records are checked
-/// once, whatever the pieces in which the bytes come, and read again where the end stands.
+/// The module that begins at `unfinished.begin`, with the place after its end, or `None` if more
+/// bytes are needed; `unfinished` then says how far its records are checked. Each record is checked
+/// once, whatever the pieces in which the bytes come, and read again when the module is whole.
+///
+/// # Errors
+/// The first fault that the module has whatever bytes follow, or `Memory` at place 0.
 pub fn next_module(
     alloc: Global,
     bytes: &[u8],

@@ -25,7 +25,7 @@ use omf_body::{HeaderBody, Place};
 use omf_model::{Common, Content, Module, Parts};
 use std::alloc::{AllocError, Global};
 
-/// The parts that records say, but for their contents.
+/// The parts that a module's records give, but without contents. `Err` only if memory runs out.
 fn without_contents(
     alloc: Global,
     header: &HeaderBody,
@@ -58,7 +58,9 @@ fn without_contents(
     })
 }
 
-/// The contents that the records of a module say, if they use nothing that isn't there; `draft` has the other parts.
+/// The contents that a module's records give, with their fixups; `draft` has the other parts. The
+/// fault is the first in what the records use, from `SegmentUnknown` to `IndexUnknown`, or
+/// `Memory`.
 fn used_contents(
     alloc: Global,
     draft: &Parts,
@@ -80,7 +82,9 @@ fn used_contents(
     }
 }
 
-/// The parts that the records of a module say, if they use nothing that isn't there, and these are its commons.
+/// The parts that a module's records give; `commons` must be the named commons that they declare.
+/// The fault is the first in what the records use, from `SegmentUnknown` to `IndexUnknown`, or
+/// `Memory`.
 fn parts_of(alloc: Global, file: &ModuleFile, commons: Vec<Common>) -> Result<Parts, ModuleFault>
     requires { commons.items ≡ commons_of file.now.within.bodies.items }
     ensures parts { IfOk result (λ parts. parts ≡ parts_of (records_of file.now)) }
@@ -99,7 +103,8 @@ fn parts_of(alloc: Global, file: &ModuleFile, commons: Vec<Common>) -> Result<Pa
     Ok(parts)
 }
 
-/// The module that begins at a place, and the place after its end record.
+/// The module that begins at a place, and the place after its end record; or its first fault, or
+/// `Memory` at place 0.
 pub(crate) fn module_at(
     alloc: Global,
     bytes: &[u8],
@@ -120,14 +125,15 @@ pub(crate) fn module_at(
 
 /// The module that begins at place `at` of an object file, and the place after its end record.
 ///
-/// All records up to the end are read first, by place, and within a record by its fields in order: `Record` if the
-/// bytes are no record; `NoHeader` if no byte stands at `at`, or a record that isn't a module header; `UnknownKind` of a
-/// record that may not stand in a module; `BadBody` if a body ends inside a field, a field has no listed value, or an id
-/// or a common's name is listed twice; `BadName` of a name that is empty or has other bytes than 21h to 7Eh; `NoEnd` if no
-/// byte stands where a record should, or an end-of-file record. Only then what they use is checked, and the first of
-/// `SegmentUnknown`, `OffsetOutside`, `FixupBeforeContent`, `FixupOutside`, `FixupTwice` and `IndexUnknown` is given, by entries
-/// in order, and for one entry in this order.
-/// (8080 Object Module Formats, module.)
+/// All records up to the end are read first, by place, and within a record by its fields in order:
+/// `Record` if the bytes are no record; `NoHeader` if there is no byte at `at`, or a record that
+/// isn't a module header; `UnknownKind` for a record that no module may have; `BadBody` if a body
+/// ends inside a field, a field has no listed value, or an id or a common's name is listed twice;
+/// `BadName` for a name that is empty or has a byte outside 21h to 7Eh; `NoEnd` if there is no byte
+/// where a record should follow, or an end-of-file record. Only then what the records use is
+/// checked, entry by entry in order, and each entry for `SegmentUnknown`, `OffsetOutside`,
+/// `FixupBeforeContent`, `FixupOutside`, `FixupTwice` and `IndexUnknown`, in this order. (8080
+/// Object Module Formats, module.)
 ///
 /// # Example
 /// ```
@@ -137,8 +143,8 @@ pub(crate) fn module_at(
 /// ```
 ///
 /// # Errors
-/// The first fault, at the place of its record; or `Memory` at place 0, only if there is none: not before the module's
-/// header is read, so that bytes where no module begins are reported in any case.
+/// The first fault, at the place of its record; or `Memory` at place 0 only if memory runs out,
+/// which is never before the header is read: bytes that begin no module are reported in any case.
 pub fn read_module(alloc: Global, bytes: &[u8], at: usize) -> Result<(Module, usize), ModuleFault>
     // What is read is what the bytes spell, and nothing that they spell is refused or read as another.
     ensures read { IfOk result (λ r. SpellsModule bytes.now at r.1 r.0) }
@@ -156,12 +162,13 @@ pub fn read_module(alloc: Global, bytes: &[u8], at: usize) -> Result<(Module, us
     }
 }
 
-/// The modules of an object file, which are one or more, up to the end-of-file record after them. Bytes after that aren't
-/// read. A file that comes in pieces is read by a [`FileFeed`]. (8080 Object Module Formats, object file.)
+/// The modules of an object file, one or more, up to the end-of-file record after them. Bytes after
+/// that aren't read. For a file that comes in pieces there is [`FileFeed`]. (8080 Object Module
+/// Formats, object file.)
 ///
 /// # Errors
-/// The first fault of the modules as they stand, as [`read_module`] gives it; `NoEnd` if no byte stands after a module;
-/// `Record` if the bytes there are no record. `Memory` at place 0, only if there is none.
+/// The first fault: that of a module, as [`read_module`] gives it; `NoEnd` if no byte follows a
+/// module; `Record` if the bytes there are no record. `Memory` at place 0 only if memory runs out.
 pub fn read_file(alloc: Global, bytes: &[u8]) -> Result<Vec<Module>, ModuleFault>
     ensures read { IfOk result (λ modules. SpellsFile bytes.now modules.items) }
     ensures every_file { (ms : List ModuleValue) → SpellsFile bytes.now ms → (IsOk result) ⊎ (result ≡ Err no_memory) }

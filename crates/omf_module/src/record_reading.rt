@@ -13,7 +13,8 @@ use omf_core::{RecordKind, next_record};
 use omf_model::Common;
 use std::alloc::Global;
 
-/// The module header at a place, and the place after it. It takes no memory.
+/// The module header at a place, and the place after it; or the first fault of that record,
+/// `NoHeader` if there is none or it is of another kind. It takes no memory.
 pub(crate) fn header_at<'a>(bytes: &'a [u8], at: usize) -> Result<(HeaderBody<'a>, usize), Cause>
     ensures spelled { IfOk result (λ r. BeginsModule bytes.now at r.1 r.0) }
     ensures fault { IfErr result (λ why. FaultsHeader bytes.now at why) }
@@ -32,7 +33,9 @@ pub(crate) fn header_at<'a>(bytes: &'a [u8], at: usize) -> Result<(HeaderBody<'a
     }
 }
 
-/// The body of the record at a place after a header and records that declare these commons, and the place after it.
+/// The body of the record at place `at` after a module's header, and the place after it. Named
+/// commons that it declares are appended to `commons`, which are those of the records before it.
+/// The fault is the record's first, or `Memory`.
 pub(crate) fn next_body<'a>(
     alloc: Global,
     bytes: &'a [u8],
@@ -58,8 +61,8 @@ pub(crate) fn next_body<'a>(
     Ok((parse(record)?, after))
 }
 
-/// The records that follow a header, from a place on, the commons that they declare, and the place after the end of the
-/// module.
+/// The records of a module from place `first` after its header up to its end, the named commons
+/// that they declare, and the place after the end; or their first fault, or `Memory`.
 fn within_at<'a>(
     alloc: Global,
     bytes: &'a [u8],
@@ -94,7 +97,8 @@ fn within_at<'a>(
     }
 }
 
-/// The records of the module that should begin at a place, the commons that they declare, and the place after them.
+/// The records of the module that begins at a place, the named commons that they declare, and the
+/// place after the module; or its first fault, or `Memory`.
 pub(crate) fn records_at<'a>(
     alloc: Global,
     bytes: &'a [u8],

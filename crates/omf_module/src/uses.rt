@@ -16,7 +16,7 @@ use omf_core::segment_id::STACK;
 use omf_model::{Content, Parts, end_of, has_segment};
 use std::alloc::{AllocError, Global};
 
-/// Whether the module has a segment of this id.
+/// Checks that the module has a segment with this id; `SegmentUnknown` if not.
 fn look_at_id(parts: &Parts, id: u8) -> Result<(), Cause>
     ensures { (cs : List ContentValue) → result_err result ≡ unknown_id (with_contents parts.now cs) (id ∷ []) }
 {
@@ -27,7 +27,8 @@ fn look_at_id(parts: &Parts, id: u8) -> Result<(), Cause>
     }
 }
 
-/// Whether the module has the segments that its header lists.
+/// Checks that the module has the segments that its header lists; `SegmentUnknown` for the first
+/// that it hasn't.
 pub(crate) fn look_at_header(parts: &Parts, header: &HeaderBody) -> Result<(), Cause>
     ensures { (cs : List ContentValue)
         → result_err result ≡ unknown_id (with_contents parts.now cs) (map (λ e. e.id) header.now.segments) }
@@ -39,7 +40,8 @@ pub(crate) fn look_at_header(parts: &Parts, header: &HeaderBody) -> Result<(), C
     Ok(())
 }
 
-/// Whether the module has the segment where it starts.
+/// Checks that the module has the segment where it starts, if it is a main program;
+/// `SegmentUnknown` if not.
 pub(crate) fn look_at_start(parts: &Parts, start: Option<Place>) -> Result<(), Cause>
     ensures { (cs : List ContentValue)
         → result_err result ≡ unknown_id (with_contents parts.now cs) (option_to_list (option_map (λ p. p.segment) start)) }
@@ -50,7 +52,8 @@ pub(crate) fn look_at_start(parts: &Parts, start: Option<Place>) -> Result<(), C
     }
 }
 
-/// Whether the module has the segments that a record speaks of.
+/// Checks that the module has the segment that a record names, if it names one; `SegmentUnknown` if
+/// not.
 fn look_at_ids(parts: &Parts, body: &Body) -> Result<(), Cause>
     ensures { (cs : List ContentValue) → result_err result ≡ unknown_id (with_contents parts.now cs) (ids_in body.now) }
 {
@@ -62,7 +65,8 @@ fn look_at_ids(parts: &Parts, body: &Body) -> Result<(), Cause>
     }
 }
 
-/// Whether content lies within its segment, and isn't in STACK.
+/// Checks that content isn't in STACK (`SegmentUnknown`), and ends within its segment
+/// (`OffsetOutside`). Other records pass.
 fn look_at_place(parts: &Parts, body: &Body) -> Result<(), Cause>
     ensures { (cs : List ContentValue) → result_err result ≡ place_fault (with_contents parts.now cs) body.now }
 {
@@ -78,7 +82,8 @@ fn look_at_place(parts: &Parts, body: &Body) -> Result<(), Cause>
     Ok(())
 }
 
-/// Whether a record's own segments and place are there.
+/// Checks that the module has the segment that a record names, and that content ends within its
+/// segment; `SegmentUnknown` or `OffsetOutside` if not.
 fn look_at(parts: &Parts, body: &Body) -> Result<(), Cause>
     ensures { (cs : List ContentValue)
         → result_err result ≡ option_or (unknown_id (with_contents parts.now cs) (ids_in body.now))
@@ -88,7 +93,9 @@ fn look_at(parts: &Parts, body: &Body) -> Result<(), Cause>
     look_at_place(parts, body)
 }
 
-/// Takes the fixups of a record that isn't content into the nearest content before it.
+/// Adds the fixups of a record to `nearest`, the content before it, and returns that. The fault is
+/// `FixupBeforeContent` if it is a fixup record and there is no content, a fault of a fixup, or
+/// `Memory`.
 fn take_fixups<'a>(
     alloc: Global,
     parts: &Parts,
@@ -113,7 +120,8 @@ fn take_fixups<'a>(
     Ok(Some(open))
 }
 
-/// Adds a content that is whole to the others.
+/// Appends the content `nearest`, which gets no more fixups, to `whole`; nothing if it is `None`.
+/// `Err` only if memory runs out.
 fn close(
     alloc: Global,
     nearest: Option<OpenContent>,
@@ -127,7 +135,9 @@ fn close(
     Ok(())
 }
 
-/// Looks at a record, and takes what it says of contents.
+/// Checks a record and takes its content or its fixups: a new content closes `nearest`, the content
+/// before it, into `whole`. Returns the content that may get fixups next. The fault is the first in
+/// what the record uses, or `Memory`.
 fn take_body<'a>(
     alloc: Global,
     parts: &Parts,
@@ -147,7 +157,8 @@ fn take_body<'a>(
     Ok(Some(OpenContent::new(alloc, b.segment, b.offset, b.bytes.bytes)?))
 }
 
-/// The contents of a module, each with the fixups of the records up to the next one.
+/// The contents of a module, each with the fixups of the records up to the next one; or the first
+/// fault in what the records use, at the place of its record, or `Memory`.
 pub(crate) fn contents_of(
     alloc: Global,
     parts: &Parts,

@@ -20,10 +20,10 @@ use omf_core::{Name, RecordKind, never_too_long, put_record};
 use omf_model::{Common, Content, Fixup, Module, Public, Segment, Target};
 use std::alloc::{AllocError, Global};
 
-/// The alignment byte of a part that starts at a multiple of 256.
+/// The alignment byte of a segment that starts at a multiple of 256.
 pub(crate) const PAGED: u8 = 2;
 
-/// The name as an entry has it.
+/// The bytes of a name, borrowed, as the entries of records have them.
 fn name_bytes(name: &Name) -> NameBytes
     ensures value { result ≡ name.now }
     ensures name { IsTrue (is_name name.now) }
@@ -33,6 +33,7 @@ fn name_bytes(name: &Name) -> NameBytes
     bytes
 }
 
+/// The header's entries for these segments, in order. `Err` only if memory runs out.
 fn segment_entries(
     alloc: Global,
     segments: &[(u8, Segment)],
@@ -50,6 +51,7 @@ fn segment_entries(
     Ok(entries)
 }
 
+/// Appends the header record of the module. `Err` only if memory runs out.
 fn append_header(alloc: Global, source: &Module, out: &mut Vec<u8>) -> Result<(), AllocError>
     ensures { OnOk result (out.new.items ≡ out.old.items ++ record_bytes (ModuleHeader (header_body source.now))) }
 {
@@ -58,6 +60,8 @@ fn append_header(alloc: Global, source: &Module, out: &mut Vec<u8>) -> Result<()
     never_too_long(put_header(alloc, &name, &entries, out))
 }
 
+/// Appends the record of one fixup in a content of the segment with id `own`: a relocation (22), an
+/// intersegment reference (24) or an external reference (20). `Err` only if memory runs out.
 fn append_fixup(alloc: Global, own: u8, fixup: Fixup, out: &mut Vec<u8>) -> Result<(), AllocError>
     ensures { OnOk result (out.new.items ≡ out.old.items ++ record_bytes (fixup_body own fixup)) }
 {
@@ -78,6 +82,7 @@ fn append_fixup(alloc: Global, own: u8, fixup: Fixup, out: &mut Vec<u8>) -> Resu
     }
 }
 
+/// Appends the module end record, with the start if there is one. `Err` only if memory runs out.
 fn append_end(alloc: Global, start: Option<(u8, u16)>, out: &mut Vec<u8>) -> Result<(), AllocError>
     ensures { OnOk result (out.new.items ≡ out.old.items ++ record_bytes (ModuleEnd (end_body start))) }
 {
@@ -85,6 +90,7 @@ fn append_end(alloc: Global, start: Option<(u8, u16)>, out: &mut Vec<u8>) -> Res
     never_too_long(put_end(alloc, place, out))
 }
 
+/// Appends a record for each named common. `Err` only if memory runs out.
 fn append_commons(alloc: Global, commons: &[Common], out: &mut Vec<u8>) -> Result<(), AllocError>
     ensures { OnOk result (out.new.items ≡ out.old.items ++ flat_map record_bytes (map common_body commons.now)) }
 {
@@ -98,6 +104,7 @@ fn append_commons(alloc: Global, commons: &[Common], out: &mut Vec<u8>) -> Resul
     Ok(())
 }
 
+/// Appends a record for each public. `Err` only if memory runs out.
 fn append_publics(alloc: Global, publics: &[Public], out: &mut Vec<u8>) -> Result<(), AllocError>
     ensures { OnOk result (out.new.items ≡ out.old.items ++ flat_map record_bytes (map public_body publics.now)) }
 {
@@ -112,6 +119,7 @@ fn append_publics(alloc: Global, publics: &[Public], out: &mut Vec<u8>) -> Resul
     Ok(())
 }
 
+/// Appends a record for each external. `Err` only if memory runs out.
 fn append_externals(alloc: Global, externals: &[Name], out: &mut Vec<u8>) -> Result<(), AllocError>
     ensures { OnOk result (out.new.items ≡ out.old.items ++ flat_map record_bytes (map external_body externals.now)) }
 {
@@ -125,6 +133,8 @@ fn append_externals(alloc: Global, externals: &[Name], out: &mut Vec<u8>) -> Res
     Ok(())
 }
 
+/// Appends a record for each fixup in a content of the segment with id `own`. `Err` only if memory
+/// runs out.
 fn append_fixups(
     alloc: Global,
     own: u8,
@@ -139,6 +149,8 @@ fn append_fixups(
     Ok(())
 }
 
+/// Appends a content record, and a record for each of its fixups. The content must have at most
+/// 65531 bytes. `Err` only if memory runs out.
 fn append_content(alloc: Global, content: &Content, out: &mut Vec<u8>) -> Result<(), AllocError>
     requires { length content.now.bytes ≤ 65531 }
     ensures { OnOk result (out.new.items ≡ out.old.items ++ flat_map record_bytes (content_bodies content.now)) }
@@ -147,6 +159,8 @@ fn append_content(alloc: Global, content: &Content, out: &mut Vec<u8>) -> Result
     append_fixups(alloc, content.segment, &content.fixups, out)
 }
 
+/// Appends the records of the contents and their fixups, in order. No content may have more than
+/// 65531 bytes. `Err` only if memory runs out.
 fn append_contents(alloc: Global, contents: &[Content], out: &mut Vec<u8>) -> Result<(), AllocError>
     requires { AllByRecursion (λ c. length c.bytes ≤ 65531) contents.now }
     ensures { OnOk result (out.new.items ≡ out.old.items ++ flat_map record_bytes (flat_map content_bodies contents.now)) }
@@ -157,7 +171,8 @@ fn append_contents(alloc: Global, contents: &[Content], out: &mut Vec<u8>) -> Re
     Ok(())
 }
 
-/// Appends the records of the module; if memory runs out, some of them.
+/// Appends the records of the module. `Err` only if memory runs out; some records may then have
+/// been appended.
 fn append_module(alloc: Global, source: &Module, out: &mut Vec<u8>) -> Result<(), AllocError>
     ensures written { OnOk result (out.new.items ≡ out.old.items ++ module_bytes source.now) }
     ensures rules { OnOk result (IsModule source.now) }
@@ -171,12 +186,13 @@ fn append_module(alloc: Global, source: &Module, out: &mut Vec<u8>) -> Result<()
     Ok(())
 }
 
-/// Appends the records of one module to `out`, which grows by its own allocator: a header with its segments in ascending
-/// order of ids, one record for each named common, public and external, each content followed by one record for each of its
-/// fixups, and an end. (8080 Object Module Formats, module.)
+/// Appends the records of one module to `out`, which grows by its own allocator: a header with its
+/// segments in ascending order of ids, one record for each named common, public and external, each
+/// content followed by one record for each of its fixups, and an end. (8080 Object Module Formats,
+/// module.)
 ///
 /// # Errors
-/// `AllocError` only if there is no memory; `out` is then unchanged.
+/// `AllocError` only if memory runs out; `out` is then unchanged.
 pub fn write_module(alloc: Global, source: &Module, out: &mut Vec<u8>) -> Result<(), AllocError>
     ensures written { OnOk result (out.new.items ≡ out.old.items ++ module_bytes source.now) }
     ensures read { OnOk result (IsReadAgain source.now) }
@@ -188,7 +204,7 @@ pub fn write_module(alloc: Global, source: &Module, out: &mut Vec<u8>) -> Result
     out.extend_from_slice(&records)
 }
 
-/// The object file of these modules.
+/// The bytes of the object file of these modules. `Err` only if memory runs out.
 #[tactic(auto, unfolding(crate::specs::Writing::file_bytes))]
 fn file_of(alloc: Global, modules: &[Module]) -> Result<Vec<u8>, AllocError>
     ensures written { IfOk result (λ file. file.items ≡ file_bytes modules.now) }
@@ -203,11 +219,12 @@ fn file_of(alloc: Global, modules: &[Module]) -> Result<Vec<u8>, AllocError>
     Ok(file)
 }
 
-/// Appends the object file of these modules to `out`, which grows by its own allocator: the records of each, as
-/// [`write_module`] writes them, and after them all an end-of-file record. (8080 Object Module Formats, object file.)
+/// Appends the object file of these modules, at least one, to `out`, which grows by its own
+/// allocator: the records of each, as [`write_module`] writes them, and then an end-of-file record.
+/// (8080 Object Module Formats, object file.)
 ///
 /// # Errors
-/// `AllocError` only if there is no memory; `out` is then unchanged.
+/// `AllocError` only if memory runs out; `out` is then unchanged.
 pub fn write_file(alloc: Global, modules: &[Module], out: &mut Vec<u8>) -> Result<(), AllocError>
     requires { 0 < length modules.now }
     ensures written { OnOk result (out.new.items ≡ out.old.items ++ file_bytes modules.now) }
