@@ -14,19 +14,20 @@ use thiserror::Error;
 /// Why bytes aren't a library. Places are in bytes from the start of the file.
 #[derive(Clone, Copy, PartialEq, Eq, Debug, Error)]
 pub enum LibraryFault {
-    /// A record outside a module is no record, or of a type that may not stand there; or a module has this fault.
+    /// A module has this fault; or outside the modules the bytes are no record, or one of a type
+    /// that may not stand there.
     #[error("{0}")]
     Module(ModuleFault),
-    /// The bytes don't begin with a library header that says how many modules there are.
+    /// The bytes don't begin with a library header record that has the number of modules.
     #[error("NotLibrary")]
     NotLibrary,
-    /// The header says one number of modules, and another was found.
+    /// The first number, of the header, isn't the second, that of the modules that were found.
     #[error("CountDiffers {0} {1}")]
     CountDiffers(u16, usize),
-    /// No byte stands at this place, where the library should go on.
+    /// The file ends at this place, outside the modules, where the library should go on.
     #[error("NoEnd {0}")]
     NoEnd(usize),
-    /// There is no memory for the library.
+    /// Out of memory for the library.
     #[error("Memory")]
     Memory,
 }
@@ -45,7 +46,7 @@ impl LibraryFault {
         }
     }
 
-    /// The fault, or `None` if memory ran out.
+    /// The fault itself, or `None` if it is `Memory`.
     pub(crate) fn unless_memory(self) -> Option<LibraryFault>
         ensures memory { self ≡ LibraryFault.Memory → result ≡ None }
         ensures other { self ≢ LibraryFault.Memory → result ≡ Some self }
@@ -56,7 +57,7 @@ impl LibraryFault {
         }
     }
 
-    /// The fault of the record at this place, outside a module.
+    /// The fault of a record outside the modules: its place and what is wrong with it.
     pub(crate) fn of_record(at: usize, cause: Cause) -> LibraryFault
         ensures { result ≡ InModule (fault_by at cause) }
     {
@@ -91,13 +92,13 @@ impl<T: Drop> From<AllocFailed<T>> for LibraryFault {
     }
 }
 
-/// Why a library isn't written.
+/// Why no library can be written of some modules.
 #[derive(Clone, Copy, PartialEq, Eq, Debug, Error)]
 pub enum LibraryPutFault {
     /// The library has more modules, names or bytes than its header and its index can count.
     #[error("TooLarge")]
     TooLarge,
-    /// There is no memory for the library.
+    /// Out of memory for the library.
     #[error("Memory")]
     Memory,
 }

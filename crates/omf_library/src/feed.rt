@@ -17,13 +17,18 @@ use omf_module::laws::modules_stay;
 use std::alloc::Global;
 use std::marker::Model;
 
-/// A library that comes in pieces. A contract sees the bytes that were taken and the fault that is kept.
-/// (8080 Object Module Formats, library file.)
+/// Takes a library in pieces and reads its modules as they become whole. A contract sees the bytes
+/// of the pieces that were taken and the fault that was found. (8080 Object Module Formats, library
+/// file.)
 #[derive(Debug, Drop)]
 pub struct LibraryFeed {
+    /// The allocator of the bytes and the modules.
     alloc: Global,
+    /// The bytes of the pieces that were taken.
     bytes: Vec<u8>,
+    /// How far `bytes` are read.
     library: UnfinishedLibrary,
+    /// The fault that was found; every later piece, and `finish`, is answered with it.
     kept: Option<LibraryFault>,
 }
 
@@ -39,7 +44,7 @@ impl Model for LibraryFeed {
 }
 
 impl LibraryFeed {
-    /// A feed that has taken no bytes. It takes no memory; the feed grows by `alloc`.
+    /// A feed that has taken no bytes. It takes no memory yet; all will be allocated from `alloc`.
     pub fn new(alloc: Global) -> LibraryFeed
         ensures { result ≡ record { bytes = []; kept = None } }
     {
@@ -51,14 +56,15 @@ impl LibraryFeed {
         }
     }
 
-    /// Takes a piece of the library, and gives the number of whole modules so far. A record or a module that the piece cuts off
-    /// is completed by later pieces; bytes after the end-of-file record aren't read.
+    /// Takes a piece of the library, and returns the number of whole modules so far. Later pieces
+    /// complete a record or a module that is cut off by the end of this one; bytes after the
+    /// end-of-file record aren't read.
     ///
     /// # Errors
-    /// A fault other than `Memory` exactly where [`read_library`](crate::read_library) gives it on all bytes so far, this piece's
-    /// too, and on those followed by any others. It is kept, and answered to every later piece and by `finish`; the bytes are
-    /// those before the piece.
-    /// `Memory` only if there is none; the feed is unchanged.
+    /// A fault other than `Memory` exactly if an earlier piece was answered with it, or
+    /// [`read_library`](crate::read_library) gives it for all bytes so far, with this piece, and
+    /// for those followed by any others. The fault is kept for all later calls, and the bytes of
+    /// this piece aren't taken. `Memory` only if memory runs out; the feed is unchanged.
     pub fn piece(&mut self, piece: &[u8]) -> Result<usize, LibraryFault>
         ensures kept { (fault : LibraryFaultValue) → self.old.kept ≡ Some fault
             → (result ≡ Err fault) × (self.new ≡ self.old) }
@@ -96,11 +102,12 @@ impl LibraryFeed {
         }
     }
 
-    /// The library that the bytes of all pieces are, as [`read_library`](crate::read_library) reads them.
+    /// The library whose pieces were taken: what [`read_library`](crate::read_library) gives for
+    /// all bytes.
     ///
     /// # Errors
-    /// The fault that is kept; or the fault of the bytes, as [`read_library`](crate::read_library) gives it. `Memory` only if
-    /// there is none.
+    /// The fault that was kept; else that of the bytes, as [`read_library`](crate::read_library)
+    /// gives it. `Memory` only if memory runs out.
     pub fn finish(self) -> Result<Library, LibraryFault>
         ensures kept { (fault : LibraryFaultValue) → self.kept ≡ Some fault → result ≡ Err fault }
 
@@ -123,7 +130,8 @@ impl LibraryFeed {
     }
 }
 
-/// The library that bytes are which are read so far, and of which no more come.
+/// The library of a file that has these bytes and no more, read on from `unfinished`; or the file's
+/// first fault, or `Memory`.
 fn finish(
     alloc: Global,
     bytes: &[u8],

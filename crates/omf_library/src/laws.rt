@@ -11,7 +11,7 @@ use omf_core::laws::{
 };
 use omf_module::laws::{modules_stay, one_reading};
 
-/// Bytes spell one list of modules as a library at most, or have one first fault, and never both.
+/// Bytes spell at most one list of modules as a library, or have one first fault, and never both.
 pub fn one_library()
     ensures library { OneLibrary }
     ensures fault { OneLibraryFault }
@@ -22,7 +22,8 @@ pub fn one_library()
     one_reading();
 }
 
-/// A library that is written spells its modules: it is read again as the same modules.
+/// The bytes that are written for a library spell its modules: they are read again as the same
+/// modules.
 pub fn written_library_is_spelled()
     ensures { WrittenLibraryIsSpelled }
 {
@@ -31,7 +32,7 @@ pub fn written_library_is_spelled()
     modules_stay();
 }
 
-/// Bytes hold one number of whole modules.
+/// The bytes of a library have one number of whole modules.
 pub fn one_module_count()
     ensures { OneModuleCount }
 {
@@ -41,13 +42,13 @@ pub fn one_module_count()
     modules_stay();
 }
 
-/// A fault that lasts of some bytes lasts of those and any others.
+/// A fault that a library has whatever bytes follow is one that it has with any bytes after it.
 #[tactic(auto, using(crate::proofs::FeedLemmas::lasting_faults_last))]
 pub fn lasting_faults_last()
     ensures { LastingFaultsLast }
 {}
 
-/// If whole modules are counted, no fault lasts.
+/// Bytes whose whole modules are counted have no fault that lasts whatever bytes follow.
 pub fn counted_have_none()
     ensures { CountedHaveNone }
 {

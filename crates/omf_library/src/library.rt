@@ -8,6 +8,7 @@ use std::marker::Model;
 /// (8080 Object Module Formats, library file.)
 #[derive(Debug, Drop)]
 pub struct Library {
+    /// The modules, in the order of the file.
     pub modules: Vec<Module>,
 }
 
@@ -25,8 +26,8 @@ ghost use Rattle.std.specs.List.{list_any};
 ghost use Rattle.omf_library.specs.Providers.{declares, first_provider};
 
 impl Library {
-    /// The place in `modules` of the first module that declares the name public, or `None` if none does.
-    /// Takes no memory, and looks through the modules.
+    /// The index in `modules` of the first module that declares the name public; `None` if none
+    /// does. It takes no memory, and searches the modules one after another.
     pub fn provider(&self, name: &Name) -> Option<usize>
         ensures first { result ≡ first_provider self.now name.now }
         ensures none { result ≡ None ↔ (list_any (declares name.now) self.now ≡ false) }
@@ -42,6 +43,7 @@ fn declares(source: &Module, name: &Name) -> bool
     source.publics().iter().any(|public| public.name == *name)
 }
 
+/// The index of the first module in the list that declares the name public; `None` if none does.
 fn first_provider(modules: &[Module], name: &Name) -> Option<usize>
     ensures { result ≡ first_provider modules.now name.now }
 {

@@ -3,9 +3,9 @@
 use omf_core::Name;
 use std::hash::{BuildHasher, DefaultHasher, Hasher};
 
-/// Makes the hashers of a table of names, each of which begins with all names that were fed. If those are all that the table
-/// will have, whoever chooses them knows the hash of none before the last is chosen, so that names with one hash can't be
-/// looked for. What a table answers doesn't depend on it.
+/// Builds the hashers for a table of names. Each starts from all names that were fed: if those are
+/// all that the table will have, a name's hash depends on the others, so that names with one hash
+/// can't be prepared. The table's answers don't depend on it.
 #[derive(Clone, Copy)]
 pub struct NameHashes {
     /// A hasher that was given the names that were fed.
@@ -13,14 +13,14 @@ pub struct NameHashes {
 }
 
 impl NameHashes {
-    /// No names were fed.
+    /// Hashes of a table for which no names were fed yet.
     pub fn new() -> NameHashes {
         NameHashes {
             fed: DefaultHasher::new(),
         }
     }
 
-    /// Feeds a name.
+    /// Feeds a name that the table will have; the hash of every name changes by it.
     pub fn feed(&mut self, name: &Name) {
         self.fed.write(name.bytes());
     }

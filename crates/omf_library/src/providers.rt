@@ -12,10 +12,11 @@ use omf_module::Module;
 use std::alloc::{AllocError, Global};
 use std::marker::Model;
 
-/// For each name that some modules of a list declare public, the place of the first module that declares it. No name is
-/// copied. A contract sees the names with their places.
+/// For each name that some modules of a list declare public, the index of the first module that
+/// declares it. No name is copied. A contract sees the names with their indices.
 #[derive(Drop)]
 pub struct Providers<'a> {
+    /// The index of the first module that declares each name.
     places: IndexMap<&'a [u8], usize, NameHashes>,
 }
 
@@ -28,10 +29,10 @@ impl<'a> Model for Providers<'a> {
 }
 
 impl<'a> Providers<'a> {
-    /// The first providers of the names that some modules declare, by one entry a name.
+    /// The first providers of all names that the modules declare public.
     ///
     /// # Errors
-    /// `AllocError` only if there is no memory for the entries.
+    /// `AllocError` only if memory runs out.
     pub fn of(alloc: Global, modules: &[&'a Module]) -> Result<Providers<'a>, AllocError>
         ensures { IfOk result (AreProviders (map (λ m. m.now) modules.now)) }
     {
@@ -47,15 +48,15 @@ impl<'a> Providers<'a> {
         Ok(providers)
     }
 
-    /// The place of the first module of the list that declares the name of these bytes, or `None` if none does, as
-    /// [`Library::provider`](crate::Library::provider) gives it for its modules. It takes no memory, and doesn't look through
-    /// the modules.
+    /// The index of the first module in the list that declares the name of these bytes public;
+    /// `None` if none does. It takes no memory, and doesn't search the modules.
     pub fn first(&self, name: &[u8]) -> Option<usize>
         ensures { (modules : List ModuleValue) → AreProviders modules self.now → result ≡ first_provider modules name.now }
     {
         self.places.get(name).copied()
     }
 
+    /// Sets the index of a name, in place of an earlier one. `Err` only if memory runs out.
     fn take_name(&mut self, name: &'a Name, place: usize) -> Result<(), AllocError>
         ensures { OnOk result (TakesNames (same_name name.now) place self.old self.new) }
     {
@@ -63,7 +64,8 @@ impl<'a> Providers<'a> {
         Ok(())
     }
 
-    /// The names of a module have its place from then on.
+    /// Sets the index of each name that the module declares public to `place`, in place of earlier
+    /// ones. `Err` only if memory runs out.
     fn take_names(&mut self, source: &'a Module, place: usize) -> Result<(), AllocError>
         ensures { OnOk result (TakesNames (λ name. declares name source.now) place self.old self.new) }
     {
@@ -74,7 +76,7 @@ impl<'a> Providers<'a> {
     }
 }
 
-/// The hashes of a table of the names that these modules declare.
+/// The hashes for a table of the names that these modules declare public.
 fn hashes_of(modules: &[&Module]) -> NameHashes {
     let mut hashes = NameHashes::new();
     for source in modules {
@@ -83,7 +85,7 @@ fn hashes_of(modules: &[&Module]) -> NameHashes {
     hashes
 }
 
-/// Feeds the names that a module declares.
+/// Feeds the names that a module declares public to `hashes`.
 fn feed_publics(hashes: &mut NameHashes, source: &Module) {
     for public in source.publics() {
         hashes.feed(&public.name);

@@ -18,42 +18,48 @@ use std::alloc::Global;
 /// How far a library is read.
 #[derive(Clone, Copy, Debug)]
 pub enum Progress {
-    /// The header is still to come.
+    /// The library header is still to come.
     Header,
-    /// The header has said how many modules there are. No index record has come.
+    /// Modules are read. The value is the number of modules in the header.
     Modules(u16),
-    /// The header has said how many modules there are. Index records are read up to this place.
+    /// Index records are read. The values are the number of modules in the header, and the place up
+    /// to which the records are read.
     Index(u16, usize),
-    /// The end-of-file record has come.
+    /// The end-of-file record was read.
     Ended,
 }
 
-/// What stands where a module may begin.
+/// What the bytes have at the place where a module may begin.
 #[derive(Clone, Copy, Debug)]
 pub enum Standing {
     /// No whole record.
     CutOff,
-    /// The header of a module.
+    /// A module header record.
     ModuleHeader,
-    /// A record of another type, and the place after it.
+    /// Another record: its type byte, and the place after it.
     Other(u8, usize),
 }
 
-/// A library as far as it is read: its whole modules, and the module that follows them.
+/// How far a library is read whose last bytes are still to come.
 #[derive(Debug, Drop)]
 pub struct UnfinishedLibrary {
+    /// The whole modules, in order.
     pub modules: Vec<Module>,
+    /// The module that follows them.
     pub next: UnfinishedModule,
+    /// How far the records outside the modules are read.
     pub progress: Progress,
 }
 
-/// Whether a record says how many modules a library has.
+/// Whether a record of this type byte and body is a library header with the number of modules.
 fn is_library_header(kind: u8, body: &[u8]) -> bool
     ensures { result ≡ is_library_header kind body.now }
 {
     kind == RecordKind::LibraryHeader.byte() && 2 <= body.len()
 }
 
+/// Whether records of this type byte are in a library's index: locations (26), names (28) or the
+/// dictionary (2A).
 fn is_index_kind(kind: u8) -> bool
     ensures { result ≡ is_index_kind kind }
 {
@@ -62,7 +68,8 @@ fn is_index_kind(kind: u8) -> bool
         || kind == RecordKind::LibraryDictionary.byte()
 }
 
-/// How many modules the header of a library says there are, and the place after it, or `None` if it is cut off.
+/// The number of modules in the library header that the bytes begin with, and the place after it;
+/// `None` if the record is cut off. `NotLibrary` if it is another record, `Module` if it is none.
 fn read_header(bytes: &[u8]) -> Result<Option<(u16, usize)>, LibraryFault>
     ensures begins { IfOk result (λ header. IfSome header (λ r. BeginsLibrary bytes.now r.1 r.0)) }
     ensures cut_off { result ≡ Ok None → IsCutOff bytes.now 0 }
@@ -83,7 +90,8 @@ fn read_header(bytes: &[u8]) -> Result<Option<(u16, usize)>, LibraryFault>
     }
 }
 
-/// The type of the record that stands at a place, with the place after it, or `None` if it is cut off.
+/// The type byte of the record at a place, and the place after it; `None` if it is cut off.
+/// `Module` if the bytes there are no record.
 fn record_at(bytes: &[u8], at: usize) -> Result<Option<(u8, usize)>, LibraryFault>
     ensures record { IfOk result (λ next. IfSome next (RecordStands bytes.now at)) }
     ensures cut_off { result ≡ Ok None → IsCutOff bytes.now at }
@@ -97,8 +105,9 @@ fn record_at(bytes: &[u8], at: usize) -> Result<Option<(u8, usize)>, LibraryFaul
     }
 }
 
-/// How far the record of this type leads that stands at a place outside the modules and is no module header that may stand there:
-/// to the place after it if it is one of the index, and to the end of a library of as many modules as were found.
+/// The progress after a record of type `kind` outside the modules, from place `at` to `after`.
+/// `said` is the header's number of modules, `found` that of those read. `Module` if the record may
+/// not stand there, `CountDiffers` if it ends the file and the numbers differ.
 fn after_record(
     kind: u8,
     at: usize,
@@ -121,7 +130,8 @@ fn after_record(
     Ok(Progress::Ended)
 }
 
-/// What stands where the next module may begin. Of a module that is begun the header isn't read again.
+/// What the bytes have where the module `next` begins; its header isn't read again if it was read.
+/// `Module` if the bytes there are no record.
 fn standing_at(bytes: &[u8], next: &UnfinishedModule) -> Result<Standing, LibraryFault>
     requires { ReadsModule bytes.now next.now.begin next.now.here next.now.commons.items }
     ensures stands { IfOk result (StandsAt bytes.now next.now) }
@@ -141,7 +151,7 @@ fn standing_at(bytes: &[u8], next: &UnfinishedModule) -> Result<Standing, Librar
     }
 }
 
-/// Begins a module at a place: nothing of it is read.
+/// Makes `next` a module that begins at a place, with nothing read.
 fn begin_at(next: &mut UnfinishedModule, place: usize)
     ensures begin { next.new.begin ≡ place }
     ensures here { next.new.here ≡ place }
@@ -152,7 +162,9 @@ fn begin_at(next: &mut UnfinishedModule, place: usize)
     next.commons.clear();
 }
 
-/// Appends the module whose header stands where the next one begins, if all of it has come. The answer is whether it has.
+/// Reads on in the module `next`, whose header is there, and if it is whole appends it to `modules`
+/// and makes `next` the one after it. `false` if more bytes are needed. A fault is one that the
+/// library has whatever bytes follow, or `Memory`.
 fn read_module(
     alloc: Global,
     bytes: &[u8],
@@ -181,8 +193,9 @@ fn read_module(
     }
 }
 
-/// Reads the next module, or the record that stands in its place. The answer is how far that leads, or `None` if more bytes
-/// are needed.
+/// Reads the next module, or the record in its place: the first of the index, or the end of the
+/// file. Returns the new progress, or `None` if more bytes are needed. A fault is one that the
+/// library has whatever bytes follow, or `Memory`.
 fn read_after_modules(
     alloc: Global,
     bytes: &[u8],
@@ -214,7 +227,8 @@ fn read_after_modules(
     }
 }
 
-/// Reads the record that stands at a place after index records. The answer is how far it leads, or `None` if it is cut off.
+/// Reads the record at a place after index records. Returns the new progress, or `None` if the
+/// record is cut off. A fault is one that the library has whatever bytes follow.
 fn read_after_index(
     bytes: &[u8],
     said: u16,
@@ -238,7 +252,8 @@ fn read_after_index(
     Ok(Some(progress))
 }
 
-/// The fault of bytes that end at a place, or inside the record there; `none` is that if no byte stands there.
+/// The fault of bytes that end at place `at` (then `none`), or inside the record there (then
+/// `Truncated`).
 fn fault_where_cut(bytes: &[u8], at: usize, none: LibraryFault) -> LibraryFault
     ensures { FaultsWhereCut bytes.now at none result }
 {
@@ -264,7 +279,8 @@ impl UnfinishedLibrary {
         }
     }
 
-    /// Reads the header, if it is whole.
+    /// Reads the library header. Returns the new progress, or `None` if the record is cut off. A
+    /// fault is one that the library has whatever bytes follow.
     fn read_header(&mut self, bytes: &[u8]) -> Result<Option<Progress>, LibraryFault>
         requires { self.old.modules.items ≡ [] }
         ensures modules { self.new.modules.items ≡ self.old.modules.items }
@@ -281,8 +297,9 @@ impl UnfinishedLibrary {
         Ok(Some(Progress::Modules(said)))
     }
 
-    /// Reads the next module, or the next record outside the modules. The answer is how far it leads, or `None` if more bytes
-    /// are needed or the library has ended.
+    /// Reads the next module, or the next record outside the modules. Returns the new progress, or
+    /// `None` if more bytes are needed or the library has ended. A fault is one that the library
+    /// has whatever bytes follow, or `Memory`.
     fn read_next(&mut self, alloc: Global, bytes: &[u8]) -> Result<Option<Progress>, LibraryFault>
         requires { ReadsLibrary bytes.now self.old }
         ensures further { IfOk result (λ o. IfSome o
@@ -301,7 +318,8 @@ impl UnfinishedLibrary {
         }
     }
 
-    /// Reads as far as the bytes go.
+    /// Reads on as far as the bytes go. A fault is one that the library has whatever bytes follow,
+    /// or `Memory`; the modules before it stay read.
     fn read_all(&mut self, alloc: Global, bytes: &[u8]) -> Result<(), LibraryFault>
         requires { ReadsLibrary bytes.now self.old }
         ensures all { OnOk result (ReadsAll bytes.now self.new.modules.items self.new.next self.new.progress) }
@@ -316,7 +334,8 @@ impl UnfinishedLibrary {
         }
     }
 
-    /// Forgets what was read after the first `count` modules.
+    /// Goes back to the first `count` modules and the given progress, with nothing read of the
+    /// module after them, which begins at place `begin`.
     fn forget(&mut self, count: usize, begin: usize, progress: Progress)
         ensures modules { self.new.modules.items ≡ take count self.old.modules.items }
         ensures begin { self.new.next.begin ≡ begin }
@@ -329,7 +348,9 @@ impl UnfinishedLibrary {
         self.progress = progress;
     }
 
-    /// Reads on as far as the bytes go. After a fault what was read before is read; of a module that was unfinished nothing is.
+    /// Reads on as far as the bytes go. A fault is one that the library has whatever bytes follow,
+    /// or `Memory`: then the library is as it was, except that nothing is read of the module that
+    /// was unfinished.
     pub fn read_on(&mut self, alloc: Global, bytes: &[u8]) -> Result<(), LibraryFault>
         requires { ReadsLibrary bytes.now self.old }
         ensures reads { OnOk result (ReadsLibrary bytes.now self.new) }
@@ -349,7 +370,8 @@ impl UnfinishedLibrary {
         }
     }
 
-    /// The fault of a library of which no more bytes come, or `None` if it has ended.
+    /// The fault of a library that has these bytes and no more, all of them read; `None` if it has
+    /// ended.
     pub fn fault_at_end(&self, bytes: &[u8]) -> Option<LibraryFault>
         requires reads { ReadsLibrary bytes.now self.now }
         requires waits { WaitsLibrary bytes.now self.now }
@@ -365,7 +387,7 @@ impl UnfinishedLibrary {
         }
     }
 
-    /// The fault of a library that ends between modules or inside one.
+    /// The fault of a library whose bytes end between modules or inside one.
     fn fault_in_modules(&self, bytes: &[u8]) -> LibraryFault
         ensures between { self.now.next.here ≡ self.now.next.begin
             → FaultsWhereCut bytes.now self.now.next.here (LibraryFault.NoEnd self.now.next.here) result }

@@ -16,21 +16,23 @@ use omf_core::{RecordKind, never_too_long, push_name, push_word, put_record};
 use omf_module::{Module, write_module};
 use std::alloc::{AllocError, Global};
 
-/// The place of the first module: after a header of three words.
+/// The place of the first module, which follows the header record: 3 + 6 + 1 bytes.
 const FIRST_PLACE: usize = 10;
 
-/// Places are counted by blocks of this many bytes.
+/// The number of bytes of a block: a place is written as its block and the byte in that.
 const BLOCK: usize = 128;
 
-/// The most bytes that a record's body has, and the greatest number that a word holds.
+/// The most bytes that a record's body has.
 const LONGEST_BODY: usize = 65534;
 
-/// The bytes that a place takes.
+/// The number of bytes of a written place.
 const LOCATION: usize = 4;
 
+/// The greatest number that a word holds.
 const GREATEST_WORD: usize = 65535;
 
-/// Appends a place's block and the byte in it.
+/// Appends a place as two words: its block of 128 bytes, which must be at most 65535, and the byte
+/// in that. `Err` only if memory runs out.
 fn push_location(place: usize, out: &mut Vec<u8>) -> Result<(), AllocError>
     requires { place / 128 ≤ 65535 }
     ensures { OnOk result (out.new.items ≡ out.old.items ++ location_bytes place) }
@@ -39,7 +41,8 @@ fn push_location(place: usize, out: &mut Vec<u8>) -> Result<(), AllocError>
     push_word((place % BLOCK) as u16, out)
 }
 
-/// Appends the bytes of a module, and the place at which it begins.
+/// Appends the records of a module to `bytes`, and the place in the library where it begins to
+/// `places`. `Err` only if memory runs out.
 fn push_module(
     alloc: Global,
     source: &Module,
@@ -54,7 +57,8 @@ fn push_module(
     write_module(alloc, source, bytes)
 }
 
-/// The bytes of the modules one after another, and where each begins.
+/// The records of the modules, one module after another, and the place in the library where each
+/// begins. `Err` only if memory runs out.
 fn modules_with_places(
     alloc: Global,
     modules: &[Module],
@@ -71,6 +75,7 @@ fn modules_with_places(
     Ok((bytes, places))
 }
 
+/// The body of the library module names record (28). `Err` only if memory runs out.
 fn names_of(alloc: Global, modules: &[Module]) -> Result<Vec<u8>, AllocError>
     ensures { IfOk result (λ body. body.items ≡ names_body modules.now) }
 {
@@ -81,6 +86,8 @@ fn names_of(alloc: Global, modules: &[Module]) -> Result<Vec<u8>, AllocError>
     Ok(body)
 }
 
+/// The body of the library module locations record (26) for these places. `Err` only if memory runs
+/// out.
 fn locations_of(alloc: Global, places: &[usize]) -> Result<Vec<u8>, AllocError>
     requires { AllByRecursion (λ place. place / 128 ≤ 65535) places.now }
     ensures { IfOk result (λ body. body.items ≡ flat_map location_bytes places.now) }
@@ -92,6 +99,8 @@ fn locations_of(alloc: Global, places: &[usize]) -> Result<Vec<u8>, AllocError>
     Ok(body)
 }
 
+/// Appends the names of a module's publics, and a 0 after them, as the dictionary has them. `Err`
+/// only if memory runs out.
 fn push_public_names(source: &Module, out: &mut Vec<u8>) -> Result<(), AllocError>
     ensures { OnOk result (out.new.items ≡ out.old.items ++ public_names source.now) }
 {
@@ -101,6 +110,7 @@ fn push_public_names(source: &Module, out: &mut Vec<u8>) -> Result<(), AllocErro
     out.extend_from_slice(&[0])
 }
 
+/// The body of the library dictionary record (2A). `Err` only if memory runs out.
 fn dictionary_of(alloc: Global, modules: &[Module]) -> Result<Vec<u8>, AllocError>
     ensures { IfOk result (λ body. body.items ≡ dictionary_body modules.now) }
 {
@@ -111,22 +121,23 @@ fn dictionary_of(alloc: Global, modules: &[Module]) -> Result<Vec<u8>, AllocErro
     Ok(body)
 }
 
-/// What is counted in a library by words, or stands in a body.
+/// The sizes of a library that its header and its index limit.
 #[derive(Clone, Copy)]
 struct Sizes {
     /// The number of modules.
     modules: usize,
-    /// The bytes of the modules' names.
+    /// The number of bytes of the modules' names.
     names: usize,
-    /// The number of the modules' places.
+    /// The number of places of modules.
     places: usize,
-    /// The bytes of the dictionary.
+    /// The number of bytes of the dictionary.
     dictionary: usize,
-    /// The place of the index.
+    /// The place of the index in the file.
     index: usize,
 }
 
-/// Whether a size of a list is too great for a library.
+/// Whether one of the sizes is too great for a library: a word can't hold the number of modules or
+/// the block of the index, or a body of the index has more than 65534 bytes.
 fn exceeds(sizes: Sizes) -> bool
     ensures { result ≡ (nat_lt 65535 sizes.modules || nat_lt 65534 sizes.names || nat_lt 16383 sizes.places
         || nat_lt 65534 sizes.dictionary || nat_lt 65535 (sizes.index / 128)) }
@@ -138,7 +149,8 @@ fn exceeds(sizes: Sizes) -> bool
         || sizes.index / BLOCK > GREATEST_WORD
 }
 
-/// Whether the library of these modules isn't written: their names, places, public names and bytes are these.
+/// Whether the library of these modules is too large to be written. The other arguments must be
+/// theirs: the body of the names, the places, the body of the dictionary, and the records.
 fn is_too_large(
     modules: &[Module],
     names: &[u8],
@@ -161,7 +173,8 @@ fn is_too_large(
     })
 }
 
-/// Appends a record whose body fits it.
+/// Appends the record of this kind and body to `out`; the body must have at most 65534 bytes. `Err`
+/// only if memory runs out.
 fn append(alloc: Global, kind: RecordKind, body: &[u8], out: &mut Vec<u8>) -> Result<(), AllocError>
     requires { length body.now ≤ 65534 }
     ensures { OnOk result (out.new.items ≡ out.old.items ++ spelling (kind_byte kind) body.now) }
@@ -169,7 +182,8 @@ fn append(alloc: Global, kind: RecordKind, body: &[u8], out: &mut Vec<u8>) -> Re
     never_too_long(put_record(alloc, kind.byte(), body, out))
 }
 
-/// The body of the header.
+/// The body of the library header (2C): the number of modules, and the place of the index. `Err`
+/// only if memory runs out.
 fn header_of(alloc: Global, count: u16, index: usize) -> Result<Vec<u8>, AllocError>
     requires { index / 128 ≤ 65535 }
     ensures { IfOk result (λ body. body.items ≡ word_bytes count ++ location_bytes index) }
@@ -180,15 +194,19 @@ fn header_of(alloc: Global, count: u16, index: usize) -> Result<Vec<u8>, AllocEr
     Ok(body)
 }
 
-/// The records of the index.
+/// The bodies of the records of a library's index.
 #[derive(Drop)]
 struct Index {
+    /// The body of the library module names record (28).
     names: Vec<u8>,
+    /// The body of the library module locations record (26).
     locations: Vec<u8>,
+    /// The body of the library dictionary record (2A).
     dictionary: Vec<u8>,
 }
 
-/// The file of these parts.
+/// The bytes of a library file: a header record with this body, the modules' records, those of the
+/// index, and an end-of-file record. `Err` only if memory runs out.
 fn file_of(
     alloc: Global,
     header: &[u8],
@@ -227,7 +245,8 @@ fn file_of(
     Ok(file)
 }
 
-/// The index of these modules, whose places and bytes are these.
+/// The index of these modules, whose places and records are given. `TooLarge` only if the modules
+/// are too large for a library, `Memory` only if memory runs out.
 fn index_of(
     alloc: Global,
     modules: &[Module],
@@ -255,7 +274,8 @@ fn index_of(
     })
 }
 
-/// The library of modules that aren't too large for one, whose bytes and index are these.
+/// The bytes of the library of these modules, whose records and index are given, and which must not
+/// be too large for one. `Err` only if memory runs out.
 fn library_with(
     alloc: Global,
     modules: &[Module],
@@ -273,7 +293,8 @@ fn library_with(
     file_of(alloc, &header, bytes, index)
 }
 
-/// The library of these modules.
+/// The bytes of the library of these modules. `TooLarge` only if the modules are too large for one,
+/// `Memory` only if memory runs out.
 fn library_of(alloc: Global, modules: &[Module]) -> Result<Vec<u8>, LibraryPutFault>
     ensures written { IfOk result (λ file. file.items ≡ library_bytes modules.now) }
     ensures fits { OnOk result (is_too_large modules.now ≡ false) }
@@ -286,15 +307,16 @@ fn library_of(alloc: Global, modules: &[Module]) -> Result<Vec<u8>, LibraryPutFa
     Ok(file)
 }
 
-/// Appends the library of these modules to `out`, which grows by its own allocator: a library header (2C) with the number of
-/// modules and the place of the index, the records of each module, as [`write_module`] writes them, library module names
-/// (28), library module locations (26), a library dictionary (2A), and an end-of-file record. A place is written as two
-/// words: its block of 128 bytes, and the byte in it. (8080 Object Module Formats, library file.)
+/// Appends the library of these modules to `out`, which grows by its own allocator: a library
+/// header (2C) with the number of modules and the place of the index, the records of each module,
+/// as [`write_module`] writes them, library module names (28), library module locations (26), a
+/// library dictionary (2A), and an end-of-file record. A place is written as two words: its block
+/// of 128 bytes, and the byte in that. (8080 Object Module Formats, library file.)
 ///
 /// # Errors
-/// `TooLarge` only if there are more than 65535 modules, the body of an index record would have more than 65534 bytes, or
-/// the place of the index is in a block above 65535; the library is then never written. `Memory` only if there is none.
-/// After either `out` is unchanged.
+/// `TooLarge` only if there are more than 65535 modules, the body of an index record would have
+/// more than 65534 bytes, or the place of the index is in a block above 65535; such a library is
+/// never written. `Memory` only if memory runs out. After either, `out` is unchanged.
 pub fn write_library(
     alloc: Global,
     modules: &[Module],
