@@ -3,8 +3,8 @@
 
 ghost use Rattle.link80_select.specs.SelectionLaws.{SelectionsAreUnique};
 
-/// What a link takes is determined: two lists of all chosen places and of no others, both in ascending
-/// order, are the same.
+/// The modules that a link takes are determined: two lists that have all of them and no others,
+/// both in ascending order, are the same.
 pub fn selections_are_unique()
     ensures { SelectionsAreUnique }
 {}

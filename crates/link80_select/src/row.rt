@@ -9,10 +9,13 @@ use omf_model::Module;
 use std::alloc::{AllocError, Global};
 use std::marker::Model;
 
-/// Modules by number, and the first of them that declares each name. A contract sees their list.
+/// All modules that a link may take, by index, and the first that declares each name. A contract
+/// sees the list of the modules.
 #[derive(Drop)]
 pub(crate) struct Row<'a> {
+    /// The roots, and then the modules of each library.
     modules: Vec<&'a Module>,
+    /// The first of them that declares each name.
     providers: Providers<'a>,
 }
 
@@ -28,7 +31,7 @@ impl<'a> Model for Row<'a> {
     ghost invariant = { λ r. AreProviders (map (λ m. m.now) r.modules.items) r.providers };
 }
 
-/// Appends some modules.
+/// Appends these modules to the row, in order. `Err` only if memory runs out.
 fn push_modules<'a>(row: &mut Vec<&'a Module>, modules: &'a [Module]) -> Result<(), AllocError>
     ensures { OnOk result (map (λ m. m.now) row.new.items ≡ map (λ m. m.now) row.old.items ++ modules.now) }
 {
@@ -39,7 +42,7 @@ fn push_modules<'a>(row: &mut Vec<&'a Module>, modules: &'a [Module]) -> Result<
 }
 
 impl<'a> Row<'a> {
-    /// The roots, and then the modules of each library.
+    /// The row of the roots and then the modules of each library. `Err` only if memory runs out.
     pub(crate) fn of(
         alloc: Global,
         roots: &'a [Module],
@@ -56,14 +59,14 @@ impl<'a> Row<'a> {
         Ok(Row { modules, providers })
     }
 
-    /// How many modules there are.
+    /// The number of modules.
     pub(crate) fn len(&self) -> usize
         ensures { result ≡ length self.now }
     {
         self.modules.len()
     }
 
-    /// The module with this number.
+    /// The module with this index, which must be below the number of modules.
     pub(crate) fn get(&self, number: usize) -> &'a Module
         requires { number < length self.now }
         ensures { slice_get self.now number ≡ Some result.now }
@@ -71,7 +74,8 @@ impl<'a> Row<'a> {
         self.modules[number]
     }
 
-    /// The number of the first module that declares the name of these bytes.
+    /// The index of the first module that declares the name of these bytes public; `None` if none
+    /// does.
     pub(crate) fn first(&self, name: &[u8]) -> Option<usize>
         ensures first { result ≡ first_provider self.now name.now }
         ensures within { IfSome result (λ number. number < length self.now) }

@@ -10,15 +10,19 @@ use omf_library::Library;
 use omf_model::Module;
 use std::alloc::{AllocError, Global};
 
-/// Marks on a row of modules, and the queue of the numbers that have one, in the order in which they got it.
+/// A search for the modules that a link takes: which modules of a row are marked, and a queue of
+/// them.
 #[derive(Drop)]
 struct Search {
+    /// For each module of the row, whether it is marked.
     marked: Vec<bool>,
+    /// The indices of the marked modules, in the order in which they were marked.
     queue: Vec<usize>,
 }
 
 impl Search {
-    /// A search with the first `roots` modules marked.
+    /// A search that has the first `roots` modules of the row marked. `Err` only if memory runs
+    /// out.
     fn from_roots(alloc: Global, row: &Row<'_>, roots: usize) -> Result<Search, AllocError>
         requires { roots ≤ length row.now }
         ensures { IfOk result (λ search. IsSearched row.now roots 0 search.marked.items search.queue.items) }
@@ -33,7 +37,8 @@ impl Search {
         Ok(search)
     }
 
-    /// Marks a module, and appends it to the queue, if it isn't marked yet.
+    /// Marks the module with this index, and appends it to the queue; nothing changes if it is
+    /// marked. `Err` only if memory runs out.
     fn mark(&mut self, number: usize) -> Result<(), AllocError>
         requires { number < length self.old.marked.items }
         ensures { OnOk result (MarksIn (number ∷ []) self.old self.new) }
@@ -45,7 +50,8 @@ impl Search {
         Ok(())
     }
 
-    /// Marks the modules that a module needs.
+    /// Marks the modules that declare the externals of `source`, for each the first of the row that
+    /// does. `Err` only if memory runs out.
     fn mark_needed(&mut self, row: &Row<'_>, source: &Module) -> Result<(), AllocError>
         requires { length self.old.marked.items ≡ length row.now }
         ensures { OnOk result (MarksIn (needed row.now source.now) self.old self.new) }
@@ -59,7 +65,8 @@ impl Search {
     }
 }
 
-/// Marks of the first `roots` modules of a row and of all that they need, by themselves or through others.
+/// For each module of the row, whether it is one of the first `roots` or they need it, themselves
+/// or through others. `Err` only if memory runs out.
 fn mark_reached(alloc: Global, row: &Row<'_>, roots: usize) -> Result<Vec<bool>, AllocError>
     requires { roots ≤ length row.now }
     ensures { IfOk result (λ marked. AreReached row.now roots marked.items) }
@@ -74,7 +81,8 @@ fn mark_reached(alloc: Global, row: &Row<'_>, roots: usize) -> Result<Vec<bool>,
     Ok(search.marked)
 }
 
-/// Marks of the roots, of the modules of all libraries that they need, and of no others.
+/// For each root and then each module of the libraries, whether a link of the roots takes it. `Err`
+/// only if memory runs out.
 fn marks_of(alloc: Global, roots: &[Module], libraries: &[Library]) -> Result<Vec<bool>, AllocError>
     ensures { IfOk result (λ marked. AreReached (roots.now ++ members libraries.now) (length roots.now) marked.items) }
 {
@@ -82,7 +90,7 @@ fn marks_of(alloc: Global, roots: &[Module], libraries: &[Library]) -> Result<Ve
     mark_reached(alloc, &row, roots.len())
 }
 
-/// Appends the places of a library's modules.
+/// Appends the places of all modules of the library with this index. `Err` only if memory runs out.
 fn push_places(
     places: &mut Vec<Chosen>,
     library: usize,
@@ -99,7 +107,7 @@ fn push_places(
     Ok(())
 }
 
-/// The places of the modules of all libraries.
+/// The places of all modules of all libraries, in order. `Err` only if memory runs out.
 fn places_of(alloc: Global, libraries: &[Library]) -> Result<Vec<Chosen>, AllocError>
     ensures { IfOk result (λ places. places.items ≡ places_from 0 libraries.now) }
 {
@@ -110,7 +118,7 @@ fn places_of(alloc: Global, libraries: &[Library]) -> Result<Vec<Chosen>, AllocE
     Ok(places)
 }
 
-/// The places that have a mark.
+/// The places whose mark is `true`, in order. `Err` only if memory runs out.
 fn with_mark(alloc: Global, places: &[Chosen], marked: &[bool]) -> Result<Vec<Chosen>, AllocError>
     ensures { IfOk result (λ taken. taken.items ≡ marked_places places.now marked.now) }
 {
@@ -123,9 +131,9 @@ fn with_mark(alloc: Global, places: &[Chosen], marked: &[bool]) -> Result<Vec<Ch
     Ok(taken)
 }
 
-/// The modules that a link of these roots takes from these libraries: the first that declares a name which a root has as
-/// external and no root declares, and so on for the modules taken. They come by library and, in each, by module.
-/// (ISIS-II User's Guide, LINK.)
+/// The modules that a link of these roots takes from these libraries: for each external of a root
+/// that no root declares, the first module that declares it, and so on for the modules taken. They
+/// are sorted by library and, in each, by module. (ISIS-II User's Guide, LINK.)
 ///
 /// # Errors
 /// `AllocError` only if memory runs out.
