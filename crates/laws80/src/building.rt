@@ -15,18 +15,22 @@ use omf_module::Module;
 use place80::{Image, Options, locate};
 use std::alloc::Global;
 
-/// An image, and the places of the modules that were taken from libraries.
+/// What [`build`] makes.
 #[derive(Debug, Drop)]
 pub struct Built {
+    /// The image of the linked and located modules.
     pub image: Image,
+    /// The modules that were taken from libraries, by library and, in each, by module.
     pub taken: Vec<Chosen>,
 }
 
-/// Links modules, and the modules that they need of libraries, into one of the given name, and locates it.
+/// Links modules, and the modules that they need from libraries, into one of the given name, and
+/// locates it.
 ///
-/// The image's memory is at each address the byte that these modules define, each content at the place of its part in the
-/// linked segments, with all its references resolved, and 0 if none covers the address. Its regions are the linked segments
-/// at their places. (ISIS-II User's Guide, LINK and LOCATE.)
+/// The image has at each address the byte that these modules define, each content at the address of
+/// its part in the linked segments, with all its references resolved, and 0 if none covers the
+/// address. Its regions are the linked segments at their addresses. (ISIS-II User's Guide, LINK and
+/// LOCATE.)
 ///
 /// # Example
 /// ```
@@ -38,8 +42,8 @@ pub struct Built {
 /// ```
 ///
 /// # Errors
-/// `Link` with the fault of [`link`](link80::link), which comes first, or `Place` with that of [`locate`](place80::locate); `Memory`
-/// only if memory ran out.
+/// `Link` with the fault of [`link`](link80::link), which comes first, or `Place` with that of
+/// [`locate`](place80::locate); `Memory` only if memory runs out.
 pub fn build(
     alloc: Global,
     name: &Name,

@@ -4,7 +4,8 @@ use link80::LinkFault;
 use place80::PlaceFault;
 use thiserror::Error;
 
-/// Why modules make no image. A fault of LINK or LOCATE prints as itself, and is never its `Memory`.
+/// Why modules make no image. A fault of `link` or `locate` prints as itself; if they run out of
+/// memory, the fault is `Memory` here.
 #[derive(Debug, PartialEq, Eq, Drop, Error)]
 pub enum BuildFault {
     /// The modules can't be linked.

@@ -11,10 +11,10 @@ use place80::laws::{
 };
 use rom80_find::link_of_found_modules_has_the_bytes;
 
-/// If nothing forbids to link modules and to locate what they are linked into, and the bases that it is located with give each
-/// module its part's place, its segments' places and its externals' words with which it lies in a dump, the dump has at each
-/// address that a content in CODE covers the byte that the modules give: so the image that `locate` answers of the linked
-/// module, and the one that `build` answers of the modules.
+/// If modules found in a dump can be linked and located, with bases that put each module's part,
+/// its segments and its externals at the addresses that it has in the dump, then the image has the
+/// dump's byte at each address that a content in CODE covers: the image that `locate` gives for the
+/// linked module, and the one that `build` gives for the modules.
 pub fn found_modules_are_rebuilt()
     ensures bytes { BytesAreTheDumps }
     ensures located { LocatedImageIsTheDumps }

@@ -5,8 +5,9 @@ ghost use Rattle.laws80.specs.Migrated.{MigratedTextsSayTheSame};
 
 use image80::laws::text_of_regions_is_read_as_itself;
 
-/// Three texts, and the three with the regions migrated in place of theirs, have the same answers with the same transcripts: what
-/// may be said of the ones may be said of the others. So `run` and a bundle say the same before `regions` and after it.
+/// A session over an image, a regions text and inputs has the same answers, with the same
+/// transcripts, as one over the same with the regions text migrated to version 2: so `run` and a
+/// bundle print the same before `regions` and after it.
 pub fn migrated_texts_say_the_same()
     ensures { MigratedTextsSayTheSame }
 {
