@@ -17,10 +17,11 @@ use omf_model::{Common, Module, common_name, is_fixed_id};
 use std::alloc::{AllocError, Global};
 use std::marker::Model;
 
-/// How many ids there are for named commons.
+/// The number of ids for named commons, 6 to 254.
 const MOST_COMMONS: usize = 249;
 
-/// Appends the names of a module's commons that are new.
+/// Appends the names of a module's named commons that are new to `names`, and copies of them to
+/// `copies`. `Err` only if memory runs out.
 fn add_commons<'a>(
     alloc: Global,
     names: &mut NameTable<'a>,
@@ -36,10 +37,11 @@ fn add_commons<'a>(
     Ok(())
 }
 
-/// The names of all commons, in order of first sight, by number and as a list.
+/// The names of all named commons of the modules, each once, in order of first sight: as a table,
+/// and as a list of copies.
 ///
 /// # Errors
-/// `AllocError` only if there is no memory for them.
+/// `AllocError` only if memory runs out.
 fn common_names<'a>(
     alloc: Global,
     modules: &LaidModules<'a>,
@@ -55,7 +57,7 @@ fn common_names<'a>(
     Ok((names, copies))
 }
 
-/// The hashes of a table of the names of all commons.
+/// The hashes for a table of the names of all named commons.
 fn common_hashes(modules: &LaidModules<'_>) -> NameHashes {
     let mut hashes = NameHashes::new();
     for number in 0..modules.len() {
@@ -64,20 +66,22 @@ fn common_hashes(modules: &LaidModules<'_>) -> NameHashes {
     hashes
 }
 
-/// Feeds the names of a module's commons.
+/// Feeds the names of a module's named commons to `hashes`.
 fn feed_commons(hashes: &mut NameHashes, source: &Module) {
     for common in source.commons() {
         hashes.feed(&common.name);
     }
 }
 
-/// Laid modules, and the ids of their named commons in the linked module. A contract sees the modules.
+/// Modules whose parts are laid out and whose named commons have ids in the linked module. A
+/// contract sees the modules.
 #[derive(Drop)]
 pub(crate) struct JoinedModules<'a> {
-    /// The modules.
+    /// The modules, with their parts laid out.
     laid: &'a LaidModules<'a>,
-    /// The names of the commons, in order of first sight: ids go by their numbers.
+    /// The names of the commons in order of first sight; each has the id 6 + its index.
     commons: NameTable<'a>,
+    /// Copies of the same names in the same order.
     names: Vec<Name>,
 }
 
@@ -96,10 +100,11 @@ impl<'a> Model for JoinedModules<'a> {
 }
 
 impl<'a> JoinedModules<'a> {
-    /// Gives the named commons their ids.
+    /// Gives the named commons of the modules their ids in the linked module.
     ///
     /// # Errors
-    /// `TooManyCommons` exactly where there are more than 249; `Memory` if memory runs out.
+    /// `TooManyCommons` exactly if there are more than 249 different names; `Memory` only if memory
+    /// runs out.
     pub(crate) fn new(
         alloc: Global,
         laid: &'a LaidModules<'a>,
@@ -119,14 +124,14 @@ impl<'a> JoinedModules<'a> {
         })
     }
 
-    /// How many modules there are.
+    /// The number of modules.
     pub(crate) fn len(&self) -> usize
         ensures { result ≡ length self.now }
     {
         self.laid.len()
     }
 
-    /// The module with this number.
+    /// The module with this index, which must be below the number of modules.
     pub(crate) fn get(&self, number: usize) -> &'a Module
         requires { number < length self.now }
         ensures { slice_get self.now number ≡ Some result.now }
@@ -134,7 +139,8 @@ impl<'a> JoinedModules<'a> {
         self.laid.get(number)
     }
 
-    /// Where the part of a module starts in a segment: 0 but for CODE, DATA and STACK.
+    /// The offset at which the part of the module with index `number` starts in the linked segment
+    /// `id`: 0 but for CODE, DATA and STACK.
     pub(crate) fn start(&self, number: usize, id: u8) -> u16
         requires { number < length self.now }
         ensures { result ≡ part_start self.now number id }
@@ -142,7 +148,9 @@ impl<'a> JoinedModules<'a> {
         self.laid.start(number, id)
     }
 
-    /// An offset in a module's segment, moved with its part.
+    /// The offset in the linked segment of an offset in segment `id` of the module with index
+    /// `number`: the start of the module's part is added, modulo 65536, but for absolute bytes and
+    /// STACK.
     pub(crate) fn linked_offset(&self, number: usize, id: u8, offset: u16) -> u16
         requires { number < length self.now }
         ensures { result ≡ moved self.now number id offset }
@@ -150,7 +158,8 @@ impl<'a> JoinedModules<'a> {
         self.laid.linked_offset(number, id, offset)
     }
 
-    /// The end of the last part of CODE, DATA or STACK; the parts of other segments lie over one another.
+    /// The end of the last part of the linked segment `id`; `None` but for CODE, DATA and STACK, as
+    /// the parts of other segments overlay one another.
     pub(crate) fn end_of(&self, id: u8) -> Option<u16>
         ensures end { IfSome result (λ end. end ≡ parts_end id 0 self.now) }
         ensures which { is_some result ≡ is_laid_out id }
@@ -161,7 +170,7 @@ impl<'a> JoinedModules<'a> {
         }
     }
 
-    /// How many named commons there are.
+    /// The number of named commons in the linked module, at most 249.
     pub(crate) fn common_count(&self) -> usize
         ensures count { result ≡ length (common_names self.now) }
         ensures few { result ≤ 249 }
@@ -169,7 +178,8 @@ impl<'a> JoinedModules<'a> {
         self.commons.len()
     }
 
-    /// The number of a named common, in order of first sight.
+    /// The index of the named common with this name, in order of first sight; `None` if no module
+    /// has one.
     pub(crate) fn common_number(&self, name: &[u8]) -> Option<usize>
         ensures number { result ≡ number_in (common_names self.now) name.now }
         ensures within { IfSome result (λ number. number < length (common_names self.now)) }
@@ -177,7 +187,8 @@ impl<'a> JoinedModules<'a> {
         self.commons.number_of(name)
     }
 
-    /// The id that a module's segment has in the linked module: a named common's goes by its name.
+    /// The id in the linked module of a module's segment: the id of the common of the same name for
+    /// a named common, the same id for others.
     pub(crate) fn linked_id(&self, source: &Module, id: u8) -> u8
         ensures { result ≡ linked_id self.now source.now id }
     {
@@ -190,7 +201,7 @@ impl<'a> JoinedModules<'a> {
         }
     }
 
-    /// The named commons of the linked module.
+    /// The named commons of the linked module, with ids from 6 on. `Err` only if memory runs out.
     pub(crate) fn linked_commons(&self, alloc: Global) -> Result<Vec<Common>, AllocError>
         ensures { IfOk result (λ commons. commons.items ≡ linked_commons self.now) }
     {

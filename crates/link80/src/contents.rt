@@ -13,8 +13,9 @@ use omf_model::relocation_laws::sound_modules_keep_rules;
 use omf_model::{Content, Fixup, Module, Patch, apply_patches};
 use std::alloc::{AllocError, Global};
 
-/// What LINK makes of a content's fixups: the words that it adds to the bytes, one for each fixup, and the fixups that are left,
-/// as those to absolute bytes are done with.
+/// What LINK makes of the fixups of a content: for each a patch to the content's bytes, and the
+/// fixups that the linked module still has, which are all but those to absolute bytes. `source` is
+/// the module with index `number`. `Err` only if memory runs out.
 fn resolve_fixups(
     alloc: Global,
     tables: &SymbolTables,
@@ -50,7 +51,8 @@ fn resolve_fixups(
     Ok((patches, left))
 }
 
-/// A copy of bytes, with words added at their places.
+/// A copy of the bytes with the patches applied, which must lie inside them and share no byte.
+/// `Err` only if memory runs out.
 fn patched_copy(alloc: Global, bytes: &[u8], patches: &[Patch]) -> Result<Vec<u8>, AllocError>
     requires inside { IsTrue (are_inside (length bytes.now) patches.now) }
     requires apart { IsTrue (are_apart patches.now) }
@@ -61,7 +63,9 @@ fn patched_copy(alloc: Global, bytes: &[u8], patches: &[Patch]) -> Result<Vec<u8
     Ok(copy)
 }
 
-/// A content, moved with its part, with the words added that LINK adds to its bytes.
+/// A content as the linked module has it: its segment's id, its offset and its fixups are those of
+/// the linked module, and its patches are applied. `source` is the module with index `number`.
+/// `Err` only if memory runs out.
 fn linked_content(
     alloc: Global,
     tables: &SymbolTables,
@@ -83,7 +87,8 @@ fn linked_content(
     })
 }
 
-/// Appends a module's contents, moved with their parts.
+/// Appends the contents of `source`, the module with index `number`, as the linked module has them.
+/// `Err` only if memory runs out.
 fn add_contents(
     alloc: Global,
     tables: &SymbolTables,
@@ -104,7 +109,7 @@ fn add_contents(
     Ok(())
 }
 
-/// The contents of all modules, moved with their parts, by module and then by record.
+/// The contents of the linked module, by module and then by record. `Err` only if memory runs out.
 pub(crate) fn linked_contents(
     alloc: Global,
     tables: &SymbolTables,

@@ -12,10 +12,11 @@ use omf_library::NameHashes;
 use omf_model::Module;
 use std::alloc::Global;
 
-/// Appends the names of a module's publics.
+/// Appends the names of a module's publics to `names`.
 ///
 /// # Errors
-/// `DuplicatePublic` with the first of them that stands before; `Memory` if memory runs out.
+/// `DuplicatePublic` with the first of them that is already in `names`; `Memory` only if memory
+/// runs out.
 fn add_publics<'a>(
     alloc: Global,
     names: &mut NameTable<'a>,
@@ -32,10 +33,11 @@ fn add_publics<'a>(
     Ok(())
 }
 
-/// The names of all publics, by module and then by record.
+/// The names of the publics of all modules, by module and then by record, no two the same.
 ///
 /// # Errors
-/// `DuplicatePublic` with the first public whose name stands before; `Memory` if memory runs out.
+/// `DuplicatePublic` with the first public whose name an earlier one has; `Memory` only if memory
+/// runs out.
 pub(crate) fn declared_names<'a>(
     alloc: Global,
     modules: &Modules<'a>,
@@ -51,7 +53,7 @@ pub(crate) fn declared_names<'a>(
     Ok(names)
 }
 
-/// The hashes of a table of the names of all publics.
+/// The hashes for a table of the names of all publics.
 fn public_hashes(modules: &Modules<'_>) -> NameHashes {
     let mut hashes = NameHashes::new();
     for number in 0..modules.len() {
@@ -60,7 +62,7 @@ fn public_hashes(modules: &Modules<'_>) -> NameHashes {
     hashes
 }
 
-/// Feeds the names of a module's publics.
+/// Feeds the names of a module's publics to `hashes`.
 fn feed_publics(hashes: &mut NameHashes, source: &Module) {
     for public in source.publics() {
         hashes.feed(&public.name);

@@ -4,22 +4,25 @@ use omf_core::Name;
 use std::alloc::{AllocError, AllocFailed};
 use thiserror::Error;
 
-/// Why modules can't be linked: the first of these that holds, in the order of their numbers, or that memory ran out.
+/// Why modules can't be linked: the first of these faults, in the order of their numbers, that they
+/// have, or that memory ran out.
 #[derive(Debug, PartialEq, Eq, Drop, Error)]
 pub enum LinkFault {
-    /// The first public, by module and then by record, whose name occurred before.
+    /// A public has the name of an earlier one; the first such, by module and then by record.
     #[error("DuplicatePublic {0}")]
     DuplicatePublic(Name),
-    /// The first of CODE, DATA and STACK, by its id, whose parts add up to more than 65535 bytes.
+    /// The module parts of this segment, CODE, DATA or STACK, need more than 65535 bytes one after
+    /// another; the first such segment by its id.
     #[error("SegmentTooLong {0:02X}")]
     SegmentTooLong(u8),
-    /// Two modules have a start.
+    /// Two modules or more have a start.
     #[error("TwoMains")]
     TwoMains,
-    /// A fixup takes the high byte of the place of a part that doesn't start at a multiple of 256.
+    /// A fixup refers to the high byte of an address in a segment in which its module's part
+    /// doesn't start at a multiple of 256.
     #[error("HighNotPaged")]
     HighNotPaged,
-    /// There are more than 249 named commons.
+    /// There are more than 249 named commons with different names.
     #[error("TooManyCommons")]
     TooManyCommons,
     /// Out of memory.

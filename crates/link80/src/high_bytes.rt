@@ -7,7 +7,8 @@ ghost use Rattle.link80.specs.LinkFault.{is_high_off_page, has_high_off_page, an
 use crate::starts::LaidModules;
 use omf_model::{Content, Field, Fixup, Target};
 
-/// Whether a fixup takes the high byte of the place of a part that doesn't start at a multiple of 256.
+/// Whether a fixup in the modules is for the high byte of an address in a segment in which its
+/// module's part doesn't start at a multiple of 256.
 pub(crate) fn any_high_off_page(modules: &LaidModules) -> bool
     ensures { result ≡ any_high_off_page modules.now }
 {
@@ -19,6 +20,8 @@ pub(crate) fn any_high_off_page(modules: &LaidModules) -> bool
     false
 }
 
+/// Whether a fixup in these contents of the module with index `number` is for the high byte of an
+/// address in a segment in which the module's part doesn't start at a multiple of 256.
 fn has_high_off_page(modules: &LaidModules, number: usize, contents: &[Content]) -> bool
     requires { number < length modules.now }
     ensures { result ≡ has_high_off_page modules.now number contents.now }
@@ -31,6 +34,8 @@ fn has_high_off_page(modules: &LaidModules, number: usize, contents: &[Content])
     false
 }
 
+/// Whether one of these fixups of the module with index `number` is for the high byte of an address
+/// in a segment in which the module's part doesn't start at a multiple of 256.
 fn takes_high_off_page(modules: &LaidModules, number: usize, fixups: &[Fixup]) -> bool
     requires { number < length modules.now }
     ensures { result ≡ list_any (is_high_off_page modules.now number) fixups.now }
@@ -43,6 +48,8 @@ fn takes_high_off_page(modules: &LaidModules, number: usize, fixups: &[Fixup]) -
     false
 }
 
+/// Whether this fixup of the module with index `number` is for the high byte of an address in a
+/// segment in which the module's part doesn't start at a multiple of 256.
 fn is_high_off_page(modules: &LaidModules, number: usize, fixup: Fixup) -> bool
     requires { number < length modules.now }
     ensures { result ≡ is_high_off_page modules.now number fixup }

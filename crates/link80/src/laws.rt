@@ -9,8 +9,10 @@ use omf_model::relocation_laws::{
     sound_modules_keep_rules,
 };
 
-/// The linked module alone defines the bytes that its modules define, for all bases, stack's tops and words of unresolved
-/// names under which no fixup of it loses its low byte; and it starts where its main program does.
+/// The linked module alone defines the bytes that its modules define, whatever the segments' bases,
+/// the stack's top and the values of unresolved names, unless a fixup of it is for the high byte of
+/// an address in a segment whose base isn't a multiple of 256. It starts where its main program
+/// does.
 pub fn linking_keeps_bytes()
     ensures chunks { LinkedChunksAreTheModules }
     ensures bytes { LinkedBytesAreTheModules }
@@ -21,8 +23,8 @@ pub fn linking_keeps_bytes()
     sound_modules_keep_rules();
 }
 
-/// The linked module keeps the rules of modules, if its modules do and no fault holds; and the lengths of its segments are
-/// words, as its modules' are.
+/// The linked module keeps the rules of modules if its modules do and link has no fault; the
+/// lengths of its segments are then at most 65535, if those of its modules are.
 pub fn linked_module_keeps_rules()
     ensures rules { LinkedModuleKeepsRules }
     ensures words { LinkedLengthsAreWords }
@@ -31,14 +33,15 @@ pub fn linked_module_keeps_rules()
     commons_are_found_by_name();
 }
 
-/// The parts that lie one after another end at a word if no fault holds, and none before what lies before it.
+/// If link has no fault, the parts of CODE, DATA and STACK that lie one after another end at 65535
+/// at most; and parts never end before the offset after which they are laid.
 pub fn laid_parts_end_at_words()
     ensures words { LaidPartsEndAtWords }
     ensures later { PartsEndLater }
 {}
 
-/// The duplicate that LINK reports is the first public, by module and then by record, whose name some earlier one has; and there
-/// is none exactly where each public has a new name.
+/// The duplicate that LINK reports is the first public, by module and then by record, that has the
+/// name of an earlier one; there is none exactly if no public has the name of an earlier one.
 pub fn duplicate_is_the_first()
     ensures name { FirstAgainIsTheFirst }
     ensures none { NoneAgainWhereAllAreNew }

@@ -29,16 +29,18 @@ use omf_library::Library;
 use omf_model::{Module, Parts, copy_names};
 use std::alloc::{AllocError, Global};
 
-/// What a link makes: one module, the places of the modules that were taken from libraries, and the names that no module
-/// declares, which are the externals of the linked module.
+/// What [`link`] makes.
 #[derive(Debug, Drop)]
 pub struct Linked {
+    /// The linked module.
     pub module: Module,
+    /// The modules that were taken from libraries, by library and, in each, by module.
     pub taken: Vec<Chosen>,
+    /// The names that no module declares, which are the externals of the linked module.
     pub unresolved: Vec<Name>,
 }
 
-/// The module at a place in the libraries.
+/// The module at this place in the libraries; `None` if there is none.
 fn module_at(libraries: &[Library], place: Chosen) -> Option<&Module>
     ensures { option_copied result ≡ module_at libraries.now place }
 {
@@ -46,7 +48,7 @@ fn module_at(libraries: &[Library], place: Chosen) -> Option<&Module>
     library.modules.get(place.module)
 }
 
-/// The roots, and the modules that were taken.
+/// The roots, and after them the modules that were taken. `Err` only if memory runs out.
 fn modules_with<'a>(
     alloc: Global,
     roots: &'a [Module],
@@ -67,7 +69,8 @@ fn modules_with<'a>(
     Ok(modules)
 }
 
-/// The start of the main program, moved with its part.
+/// The start of the linked module: that of the main program, as segment id and offset in the linked
+/// module. `None` if `main`, the index of the main program, is `None`.
 fn start_of(tables: &SymbolTables, main: Option<usize>) -> Option<(u8, u16)>
     requires { cons_option main [] ≡ mains_from 0 tables.now }
     ensures { result ≡ slice_get (starts tables.now) 0 }
@@ -81,7 +84,8 @@ fn start_of(tables: &SymbolTables, main: Option<usize>) -> Option<(u8, u16)>
     ))
 }
 
-/// The parts of the linked module but for its publics, which are still among the tables.
+/// The parts of the linked module but for its publics, which are empty. `main` is the index of the
+/// main program, if there is one. `Err` only if memory runs out.
 fn parts_without_publics(
     alloc: Global,
     name: &Name,
@@ -109,7 +113,8 @@ fn parts_without_publics(
     })
 }
 
-/// The parts of the linked module, and the names that no module declares.
+/// The parts of the linked module, and the names that no module declares. `main` is the index of
+/// the main program, if there is one. `Err` only if memory runs out.
 fn parts_of(
     alloc: Global,
     name: &Name,
@@ -127,10 +132,12 @@ fn parts_of(
     Ok((parts, unresolved))
 }
 
-/// The module that is linked of joined modules, and the names that none of them declares.
+/// The module of this name that joined modules are linked into, and the names that none of them
+/// declares. `declared` has the names of their publics, `main` is the index of the main program.
 ///
 /// # Errors
-/// `TooManyExternals` exactly where these are more than 65536; `Memory` if memory runs out.
+/// `TooManyExternals` exactly if more than 65536 names are undeclared; `Memory` only if memory runs
+/// out.
 fn link_joined(
     alloc: Global,
     name: &Name,
@@ -152,7 +159,9 @@ fn link_joined(
     Ok((linked, unresolved))
 }
 
-/// The module that is linked of laid modules, and the names that none of them declares.
+/// The module of this name that laid modules are linked into, and the names that none of them
+/// declares. `declared` has the names of their publics. The fault is the first of `TwoMains`,
+/// `HighNotPaged`, `TooManyCommons` and `TooManyExternals`, or `Memory`.
 fn link_laid(
     alloc: Global,
     name: &Name,
@@ -173,7 +182,9 @@ fn link_laid(
     link_joined(alloc, name, &joined, declared, main)
 }
 
-/// The module that is linked of modules whose publics have these names, and the names that none of them declares.
+/// The module of this name that modules are linked into, and the names that none of them declares.
+/// `declared` has the names of their publics, no two the same. The fault is the first but for
+/// `DuplicatePublic`, or `Memory`.
 fn link_declared(
     alloc: Global,
     name: &Name,
@@ -189,7 +200,8 @@ fn link_declared(
     link_laid(alloc, name, &laid, declared)
 }
 
-/// The module that is linked of these, and the names that none of them declares.
+/// The module of this name that modules are linked into, and the names that none of them declares.
+/// The fault is the first of [`LinkFault`], or `Memory`.
 fn link_modules(
     alloc: Global,
     name: &Name,
@@ -202,11 +214,12 @@ fn link_modules(
     link_declared(alloc, name, modules, &declared)
 }
 
-/// Links modules, and the modules that they need of libraries, into one of the given name.
+/// Links modules, and the modules that they need from libraries, into one of the given name.
 ///
-/// The parts of CODE, DATA and STACK lie one after another in the order of the modules, those of MEMORY and of each common over
-/// one another; publics and contents move with their parts; references to segments and to names that are declared are resolved;
-/// the main program's start is the linked module's. (ISIS-II User's Guide, LINK.)
+/// The parts of CODE, DATA and STACK lie one after another in the order of the modules, those of
+/// MEMORY and of each common overlay one another; publics and contents move with their parts;
+/// references to segments and to names that are declared are resolved; the main program's start is
+/// the linked module's. (ISIS-II User's Guide, LINK.)
 ///
 /// # Example
 /// ```
@@ -218,11 +231,12 @@ fn link_modules(
 /// ```
 ///
 /// # Errors
-/// The first of these that holds of the roots and the modules that are taken: `DuplicatePublic` with the first public whose name
-/// stands before; `SegmentTooLong` with the first of CODE, DATA and STACK that adds up to more than 65535 bytes; `TwoMains`;
-/// `HighNotPaged`, if a fixup takes the high byte of a segment's place whose part doesn't start at a multiple of 256;
-/// `TooManyCommons`, if more than 249 commons have names; `TooManyExternals`, if no module declares more than 65536 names
-/// that are used. `Memory` if memory runs out.
+/// The first fault of the roots and the modules that are taken: `DuplicatePublic` with the first
+/// public that has the name of an earlier one; `SegmentTooLong` with the first of CODE, DATA and
+/// STACK that needs more than 65535 bytes; `TwoMains`; `HighNotPaged`, if a fixup refers to the
+/// high byte of an address in a segment in which its module's part doesn't start at a multiple of
+/// 256; `TooManyCommons`, if there are more than 249 named commons; `TooManyExternals`, if more
+/// than 65536 names are used that no module declares. `Memory` only if memory runs out.
 pub fn link(
     alloc: Global,
     name: &Name,

@@ -7,10 +7,10 @@ ghost use Rattle.link80.specs.Gathered.{mains_from};
 use crate::fault::LinkFault;
 use crate::starts::LaidModules;
 
-/// The number of the main program, if there is one.
+/// The index of the main program, which is the module that has a start; `None` if there is none.
 ///
 /// # Errors
-/// `TwoMains` exactly where there are two or more.
+/// `TwoMains` exactly if two or more modules have a start.
 pub(crate) fn main_of(modules: &LaidModules) -> Result<Option<usize>, LinkFault>
     ensures main { IfOk result (λ main. cons_option main [] ≡ mains_from 0 modules.now) }
     ensures fault { IfErr result (λ fault. (fault ≡ LinkFault.TwoMains) × (1 < length (mains_from 0 modules.now))) }

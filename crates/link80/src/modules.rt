@@ -6,9 +6,11 @@ use omf_model::Module;
 use std::alloc::{AllocError, Global};
 use std::marker::Model;
 
-/// Modules in the order in which they are laid. A contract sees their list.
+/// The modules that are linked, in the order in which their parts are laid out. A contract sees
+/// their list.
 #[derive(Drop)]
 pub(crate) struct Modules<'a> {
+    /// The modules, in order.
     modules: Vec<&'a Module>,
 }
 
@@ -22,7 +24,7 @@ impl<'a> Model for Modules<'a> {
 }
 
 impl<'a> Modules<'a> {
-    /// No modules.
+    /// An empty list of modules.
     pub(crate) fn new(alloc: Global) -> Modules<'a>
         ensures { result ≡ [] }
     {
@@ -31,7 +33,7 @@ impl<'a> Modules<'a> {
         }
     }
 
-    /// Appends a module.
+    /// Appends a module. `Err` only if memory runs out.
     pub(crate) fn push(&mut self, added: &'a Module) -> Result<(), AllocError>
         ensures { OnOk result (self.new ≡ self.old ++ added.now ∷ []) }
     {
@@ -39,14 +41,14 @@ impl<'a> Modules<'a> {
         Ok(())
     }
 
-    /// How many modules there are.
+    /// The number of modules.
     pub(crate) fn len(&self) -> usize
         ensures { result ≡ length self.now }
     {
         self.modules.len()
     }
 
-    /// The module with this number.
+    /// The module with this index, which must be below the number of modules.
     pub(crate) fn get(&self, number: usize) -> &'a Module
         requires { number < length self.now }
         ensures { slice_get self.now number ≡ Some result.now }

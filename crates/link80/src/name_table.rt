@@ -9,9 +9,10 @@ use omf_library::NameHashes;
 use std::alloc::{AllocError, Global};
 use std::marker::Model;
 
-/// Distinct names by number, in order of first sight. A contract sees their list.
+/// Distinct names with indices, in order of first sight. A contract sees their list.
 #[derive(Drop)]
 pub(crate) struct NameTable<'a> {
+    /// The names, borrowed from modules.
     names: IndexSet<&'a [u8], NameHashes>,
 }
 
@@ -24,7 +25,8 @@ impl<'a> Model for NameTable<'a> {
 }
 
 impl<'a> NameTable<'a> {
-    /// No names. They are hashed by `hashes`, which should have been fed all that will come.
+    /// An empty table. Names are hashed by `hashes`, which should have been fed all that will be
+    /// added.
     pub(crate) fn new(alloc: Global, hashes: NameHashes) -> NameTable<'a>
         ensures { result ≡ [] }
     {
@@ -33,7 +35,7 @@ impl<'a> NameTable<'a> {
         }
     }
 
-    /// Appends a name if it isn't there yet; the answer says whether it is new.
+    /// Appends a name if the table hasn't it; `true` if it was new. `Err` only if memory runs out.
     pub(crate) fn add(&mut self, name: &'a [u8]) -> Result<bool, AllocError>
         ensures new { IfOk result (λ new. new ≡ not (is_among self.old name.now)) }
         ensures names { OnOk result (self.new ≡ with_name self.old name.now) }
@@ -42,14 +44,14 @@ impl<'a> NameTable<'a> {
         Ok(new)
     }
 
-    /// How many names there are.
+    /// The number of names.
     pub(crate) fn len(&self) -> usize
         ensures { result ≡ length self.now }
     {
         self.names.len()
     }
 
-    /// The number of a name, if it is there.
+    /// The index of a name, or `None` if the table hasn't it.
     pub(crate) fn number_of(&self, name: &[u8]) -> Option<usize>
         ensures number { result ≡ number_in self.now name.now }
         ensures within { IfSome result (λ number. number < length self.now) }
@@ -58,7 +60,8 @@ impl<'a> NameTable<'a> {
     }
 }
 
-/// Appends a name if it isn't there yet, and then a copy of it too.
+/// Appends a name to `names`, and a copy of it to `copies`, if `names` hasn't it. `Err` only if
+/// memory runs out.
 pub(crate) fn add_name<'a>(
     alloc: Global,
     names: &mut NameTable<'a>,

@@ -14,13 +14,13 @@ use omf_core::segment_id::{CODE, DATA, FIRST_COMMON, MEMORY, STACK, UNNAMED_COMM
 use omf_model::{Module, Segment};
 use std::alloc::{AllocError, Global};
 
-/// A segment without bytes.
+/// A segment of length 0 that isn't paged.
 const EMPTY: Segment = Segment {
     length: 0,
     paged: false,
 };
 
-/// Two parts that lie over one another: the longer length, paged if one of them is.
+/// A segment of which these are two overlaying parts: the longer length, paged if one of them is.
 fn joined_parts(one: Segment, other: Segment) -> Segment
     ensures { result ≡ joined_parts one other }
 {
@@ -30,7 +30,8 @@ fn joined_parts(one: Segment, other: Segment) -> Segment
     }
 }
 
-/// CODE, DATA, STACK, MEMORY or the unnamed common of the linked module.
+/// The segment of the linked module with this id, which must be that of CODE, DATA, STACK, MEMORY
+/// or the unnamed common: paged if a part of it is.
 fn fixed_segment(joined: &JoinedModules, id: u8) -> Segment
     requires { IsTrue (is_fixed_id id) }
     ensures { result ≡ linked_segment joined.now id }
@@ -48,7 +49,8 @@ fn fixed_segment(joined: &JoinedModules, id: u8) -> Segment
     }
 }
 
-/// Joins a module's parts of named commons to the segments of their names.
+/// Joins the named commons of a module to the linked segments of the same names; `segments` has one
+/// for each, in order of first sight.
 fn join_commons(segments: &mut Vec<Segment>, joined: &JoinedModules, source: &Module)
     requires { length segments.old.items ≡ length (common_names joined.now) }
     ensures joined { segments.new.items
@@ -63,7 +65,8 @@ fn join_commons(segments: &mut Vec<Segment>, joined: &JoinedModules, source: &Mo
     }
 }
 
-/// The segments of the named commons, in order of first sight.
+/// The segments of the linked module's named commons, in order of first sight. `Err` only if memory
+/// runs out.
 fn common_segments(alloc: Global, joined: &JoinedModules) -> Result<Vec<Segment>, AllocError>
     ensures segments { IfOk result (λ segments. enumerate_from 6 segments.items
         ≡ numbered_segments joined.now (map (λ c. c.id) (linked_commons joined.now))) }
@@ -76,7 +79,8 @@ fn common_segments(alloc: Global, joined: &JoinedModules) -> Result<Vec<Segment>
     Ok(segments)
 }
 
-/// The segments that every module has, with their ids.
+/// CODE, DATA, STACK, MEMORY and the unnamed common of the linked module, with their ids. `Err`
+/// only if memory runs out.
 fn fixed_segments(alloc: Global, joined: &JoinedModules) -> Result<Vec<(u8, Segment)>, AllocError>
     ensures { IfOk result (λ segments. segments.items ≡ numbered_segments joined.now (1 ∷ 2 ∷ 3 ∷ 4 ∷ 255 ∷ [])) }
 {
@@ -89,10 +93,11 @@ fn fixed_segments(alloc: Global, joined: &JoinedModules) -> Result<Vec<(u8, Segm
     Ok(segments)
 }
 
-/// The segments of the linked module with their ids: those that every module has, and then the named commons.
+/// The segments of the linked module with their ids: CODE, DATA, STACK, MEMORY and the unnamed
+/// common, and then the named commons.
 ///
 /// # Errors
-/// `AllocError` only if there is no memory for them.
+/// `AllocError` only if memory runs out.
 pub(crate) fn linked_segments(
     alloc: Global,
     joined: &JoinedModules,

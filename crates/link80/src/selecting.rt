@@ -9,12 +9,12 @@ use omf_library::Library;
 use omf_model::Module;
 use std::alloc::Global;
 
-/// The modules that a link of these roots takes from these libraries: the first that declares a name which a root has as
-/// external and no root declares, and so on for the modules taken. They come by library and, in each, by module.
-/// (ISIS-II User's Guide, LINK.)
+/// The modules that a link of these roots takes from these libraries: for each external of a root
+/// that no root declares, the first module that declares it, and so on for the modules taken. They
+/// are sorted by library and, in each, by module. (ISIS-II User's Guide, LINK.)
 ///
 /// # Errors
-/// [`LinkFault::Memory`] only.
+/// [`LinkFault::Memory`] only, if memory runs out.
 pub fn select(
     alloc: Global,
     roots: &[Module],

@@ -14,12 +14,12 @@ use omf_model::{Module, Segment};
 use std::alloc::Global;
 use std::marker::Model;
 
-/// The parts of one segment, laid one after another.
+/// The parts that modules have of one segment, laid one after another.
 #[derive(Drop)]
 pub(crate) struct LaidOut {
-    /// Where the part of each module starts.
+    /// For each module, the offset at which its part starts.
     starts: Vec<u16>,
-    /// The end of the last part.
+    /// The offset after the last part.
     end: u16,
 }
 
@@ -31,7 +31,7 @@ impl Model for LaidOut {
     ghost view = { λ l. record { starts = l.starts.items; end = l.end } };
 }
 
-/// A segment that the module has.
+/// The module's segment with this id, which the module must have.
 pub(crate) fn segment_of(source: &Module, id: u8) -> Segment
     requires { IsTrue (has_segment source.now.commons id) }
     ensures { result ≡ segment_in source.now.segments id }
@@ -42,7 +42,8 @@ pub(crate) fn segment_of(source: &Module, id: u8) -> Segment
     }
 }
 
-/// The start and the end of a part that is laid after what ends at `before`, if its end is a word.
+/// The start and the end offset of a part that is laid after offset `before`; a paged one starts at
+/// the next multiple of 256. `None` if it would end above 65535.
 fn next_part(before: u16, segment: Segment) -> Option<(u16, u16)>
     ensures { result ≡ next_part before segment }
 {
@@ -61,10 +62,11 @@ fn next_part(before: u16, segment: Segment) -> Option<(u16, u16)>
 }
 
 impl LaidOut {
-    /// The parts of CODE, DATA or STACK.
+    /// Lays out the parts that the modules have of segment `id`, one after another.
     ///
     /// # Errors
-    /// `SegmentTooLong` exactly where they add up to more than 65535 bytes; `Memory` if memory runs out.
+    /// `SegmentTooLong` exactly if they need more than 65535 bytes; `Memory` only if memory runs
+    /// out.
     fn new(alloc: Global, modules: &Modules, id: u8) -> Result<LaidOut, LinkFault>
         requires { IsTrue (is_fixed_id id) }
         ensures laid { IfOk result (λ l. l ≡ laid_out modules.now id) }
@@ -86,7 +88,7 @@ impl LaidOut {
         Ok(LaidOut { starts, end })
     }
 
-    /// Where the part of a module starts.
+    /// The offset at which the part of the module with index `number` starts.
     fn start(&self, number: usize) -> u16
         requires { number < length self.now.starts }
         ensures { result ≡ slice_index self.now.starts number }
@@ -94,7 +96,7 @@ impl LaidOut {
         self.starts[number]
     }
 
-    /// The end of the last part.
+    /// The offset after the last part.
     pub(crate) fn end(&self) -> u16
         ensures { result ≡ self.now.end }
     {
@@ -102,12 +104,17 @@ impl LaidOut {
     }
 }
 
-/// Modules whose parts of CODE, DATA and STACK are laid one after another. A contract sees the modules.
+/// Modules whose parts of CODE, DATA and STACK are laid out, each one after another. A contract
+/// sees the modules.
 #[derive(Drop)]
 pub(crate) struct LaidModules<'a> {
+    /// The modules, in order.
     modules: &'a Modules<'a>,
+    /// Their parts of CODE.
     code: LaidOut,
+    /// Their parts of DATA.
     variables: LaidOut,
+    /// Their parts of STACK.
     stack: LaidOut,
 }
 
@@ -124,11 +131,11 @@ impl<'a> Model for LaidModules<'a> {
 }
 
 impl<'a> LaidModules<'a> {
-    /// Lays the parts of the modules one after another.
+    /// Lays out the parts of CODE, DATA and STACK of the modules.
     ///
     /// # Errors
-    /// `SegmentTooLong` with the first of CODE, DATA and STACK, by its id, whose parts add up to more than 65535 bytes;
-    /// `Memory` if memory runs out.
+    /// `SegmentTooLong` with the first of CODE, DATA and STACK, by its id, whose parts need more
+    /// than 65535 bytes; `Memory` only if memory runs out.
     pub(crate) fn new(alloc: Global, modules: &'a Modules<'a>) -> Result<LaidModules<'a>, LinkFault>
         ensures same { IfOk result (λ laid. laid ≡ modules.now) }
         ensures fit { OnOk result (segment_too_long modules.now ≡ None) }
@@ -145,14 +152,14 @@ impl<'a> LaidModules<'a> {
         })
     }
 
-    /// How many modules there are.
+    /// The number of modules.
     pub(crate) fn len(&self) -> usize
         ensures { result ≡ length self.now }
     {
         self.modules.len()
     }
 
-    /// The module with this number.
+    /// The module with this index, which must be below the number of modules.
     pub(crate) fn get(&self, number: usize) -> &'a Module
         requires { number < length self.now }
         ensures { slice_get self.now number ≡ Some result.now }
@@ -160,7 +167,8 @@ impl<'a> LaidModules<'a> {
         self.modules.get(number)
     }
 
-    /// The parts of CODE, DATA or STACK; the parts of other segments lie over one another.
+    /// The layout of CODE, DATA or STACK; `None` for other ids, as the parts of other segments
+    /// overlay one another.
     pub(crate) fn parts_of(&self, id: u8) -> Option<&LaidOut>
         ensures laid { IfSome result (λ laid. laid.now ≡ laid_out self.now id) }
         ensures which { is_some result ≡ is_laid_out id }
@@ -173,7 +181,8 @@ impl<'a> LaidModules<'a> {
         }
     }
 
-    /// Where the part of a module starts in a segment: 0 but for CODE, DATA and STACK.
+    /// The offset at which the part of the module with index `number` starts in the linked segment
+    /// `id`: 0 but for CODE, DATA and STACK.
     pub(crate) fn start(&self, number: usize, id: u8) -> u16
         requires { number < length self.now }
         ensures { result ≡ part_start self.now number id }
@@ -184,8 +193,9 @@ impl<'a> LaidModules<'a> {
         }
     }
 
-    /// An offset in a module's segment, moved with its part: absolute offsets aren't moved, and those in STACK count
-    /// from its top.
+    /// The offset in the linked segment of an offset in segment `id` of the module with index
+    /// `number`: the start of the module's part is added, modulo 65536. Absolute offsets stay as
+    /// they are, and so do those in STACK, which count from its top.
     pub(crate) fn linked_offset(&self, number: usize, id: u8, offset: u16) -> u16
         requires { number < length self.now }
         ensures { result ≡ moved self.now number id offset }

@@ -18,10 +18,11 @@ use omf_model::{Module, Public, Target};
 use std::alloc::{AllocError, Global};
 use std::marker::Model;
 
-/// How many names may be unresolved: their indices are words.
+/// The most names that may be unresolved: externals have indices of 16 bits.
 const MOST_EXTERNALS: usize = 65536;
 
-/// Appends a module's publics, moved with their parts.
+/// Appends the publics of `source`, the module with index `number`, with their segments and offsets
+/// in the linked module. `Err` only if memory runs out.
 fn add_moved_publics(
     alloc: Global,
     joined: &JoinedModules,
@@ -43,7 +44,7 @@ fn add_moved_publics(
     Ok(())
 }
 
-/// The publics of all modules, moved with their parts, by module and then by record.
+/// The publics of the linked module, by module and then by record. `Err` only if memory runs out.
 fn linked_publics(alloc: Global, joined: &JoinedModules) -> Result<Vec<Public>, AllocError>
     ensures { IfOk result (λ publics. publics.items ≡ linked_publics joined.now) }
 {
@@ -54,7 +55,8 @@ fn linked_publics(alloc: Global, joined: &JoinedModules) -> Result<Vec<Public>, 
     Ok(publics)
 }
 
-/// Appends the externals of a module that no module declares and that are new.
+/// Appends the externals of a module that aren't in `declared` to `names`, if they are new, and
+/// copies of them to `copies`. `Err` only if memory runs out.
 fn add_undeclared<'a>(
     alloc: Global,
     names: &mut NameTable<'a>,
@@ -74,7 +76,8 @@ fn add_undeclared<'a>(
     Ok(())
 }
 
-/// The names that no module declares, in order of first sight, by number and as a list.
+/// The externals that no module declares, each once, in order of first sight: as a table, and as a
+/// list of copies. `declared` has the names of all publics. `Err` only if memory runs out.
 fn find_unresolved<'a>(
     alloc: Global,
     joined: &JoinedModules<'a>,
@@ -92,7 +95,7 @@ fn find_unresolved<'a>(
     Ok((names, copies))
 }
 
-/// The hashes of a table of the names of all externals.
+/// The hashes for a table of the names of all externals.
 fn external_hashes(joined: &JoinedModules<'_>) -> NameHashes {
     let mut hashes = NameHashes::new();
     for number in 0..joined.len() {
@@ -101,14 +104,14 @@ fn external_hashes(joined: &JoinedModules<'_>) -> NameHashes {
     hashes
 }
 
-/// Feeds the names of a module's externals.
+/// Feeds the names of a module's externals to `hashes`.
 fn feed_externals(hashes: &mut NameHashes, source: &Module) {
     for name in source.externals() {
         hashes.feed(name);
     }
 }
 
-/// A reference to an offset in a segment of the linked module.
+/// What LINK makes of a reference to this offset of the linked module's segment `id`.
 fn to_place(id: u8, offset: u16) -> Reference
     ensures { result ≡ to_place id offset }
 {
@@ -122,16 +125,19 @@ fn to_place(id: u8, offset: u16) -> Reference
     }
 }
 
-/// Joined modules, their publics and their unresolved names. A contract sees the modules.
+/// By what references are resolved: the publics of the linked module and the names that no module
+/// declares. A contract sees the modules.
 #[derive(Drop)]
 pub(crate) struct SymbolTables<'t, 'a> {
-    /// The modules.
+    /// The modules, joined.
     pub joined: &'t JoinedModules<'a>,
-    /// The names of the publics; each public has its name's number.
+    /// The names of the publics; each public has its name's index.
     declared: &'t NameTable<'a>,
+    /// The publics, as the linked module has them.
     publics: Vec<Public>,
-    /// The numbers of the names that no module declares, and the names.
+    /// The names that no module declares, in order of first sight.
     unresolved: NameTable<'a>,
+    /// Copies of the same names in the same order.
     names: Vec<Name>,
 }
 
@@ -148,10 +154,12 @@ impl<'t, 'a> Model for SymbolTables<'t, 'a> {
 }
 
 impl<'t, 'a> SymbolTables<'t, 'a> {
-    /// Moves the publics and finds the names that no module declares.
+    /// Moves the publics of the modules and finds the names that no module declares. `declared` has
+    /// the names of all publics.
     ///
     /// # Errors
-    /// `TooManyExternals` exactly where these are more than 65536; `Memory` if memory runs out.
+    /// `TooManyExternals` exactly if more than 65536 names are undeclared; `Memory` only if memory
+    /// runs out.
     pub(crate) fn new(
         alloc: Global,
         joined: &'t JoinedModules<'a>,
@@ -177,14 +185,14 @@ impl<'t, 'a> SymbolTables<'t, 'a> {
         })
     }
 
-    /// The names that no module declares.
+    /// The names that no module declares, in order of first sight.
     pub(crate) fn unresolved(&self) -> &[Name]
         ensures { result.now ≡ unresolved self.now }
     {
         &self.names
     }
 
-    /// The publics, and the names that no module declares.
+    /// The publics of the linked module, and the names that no module declares.
     pub(crate) fn into_names(self) -> (Vec<Public>, Vec<Name>)
         ensures publics { result.0.items ≡ linked_publics self.entry }
         ensures names { result.1.items ≡ unresolved self.entry }
@@ -192,7 +200,8 @@ impl<'t, 'a> SymbolTables<'t, 'a> {
         (self.publics, self.names)
     }
 
-    /// What LINK makes of a reference of a module.
+    /// What LINK makes of a reference to this target in `source`, the module with index `number`;
+    /// the target must exist there.
     pub(crate) fn reference(&self, number: usize, source: &Module, target: Target) -> Reference
         requires here { slice_get self.now number ≡ Some source.now }
         requires there { has_target source.now.commons (length source.now.externals) target ≡ true }
@@ -209,7 +218,8 @@ impl<'t, 'a> SymbolTables<'t, 'a> {
         }
     }
 
-    /// What an external of the modules stands for: the public that bears the name, or else the name itself.
+    /// What LINK makes of a reference to an external with this name, which some module must have:
+    /// one to the public of that name, or to the linked module's external.
     fn reference_to(&self, name: &[u8]) -> Reference
         requires { is_among (flat_map (λ m. m.externals) self.now) name.now ≡ true }
         ensures { result ≡ to_public self.now name.now (public_of self.now name.now) }
