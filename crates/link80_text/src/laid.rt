@@ -10,7 +10,8 @@ use link80::laws::laid_parts_end_at_words;
 use omf_model::{Common, Module, segment_in};
 use std::alloc::AllocError;
 
-/// Appends the lines of the parts that lie one after another.
+/// Appends a line for each module's part of segment `id`, CODE, DATA or STACK, that has bytes or is
+/// paged: the parts lie one after another. `Err` only if memory runs out.
 pub(crate) fn append_laid(
     text: &mut Vec<u8>,
     modules: &[&Module],
@@ -31,7 +32,8 @@ pub(crate) fn append_laid(
     Ok(())
 }
 
-/// The start of a part that is laid after what ends at `before`.
+/// The start of a part that is laid after offset `before`: the next multiple of 256 for a paged
+/// one, `before` for others.
 fn round_up(before: u32, paged: bool) -> u32
     requires { before ≤ 65535 }
     ensures { result ≡ rounded paged before }

@@ -10,7 +10,8 @@ use omf_text::append_common;
 use std::alloc::AllocError;
 use text80::word_digits;
 
-/// Appends the line of a part, if it has bytes or is paged.
+/// Appends the line of a part of segment `id`, which starts at offset `start`, of the module with
+/// this name; nothing if it has no bytes and isn't paged. `Err` only if memory runs out.
 pub(crate) fn append_part(
     text: &mut Vec<u8>,
     commons: &[Common],
@@ -28,7 +29,7 @@ pub(crate) fn append_part(
     }
 }
 
-/// Appends the line of a part.
+/// Appends the line of a part, as `PART 0000 0064 CODE METER`. `Err` only if memory runs out.
 fn append_line(
     text: &mut Vec<u8>,
     commons: &[Common],
@@ -43,7 +44,8 @@ fn append_line(
     append_owner(text, commons, id, name)
 }
 
-/// Appends where a part starts, and its length.
+/// Appends the word `PART`, where a part starts, its length, and a space, as `PART 0000 0064 `.
+/// `Err` only if memory runs out.
 fn append_extent(text: &mut Vec<u8>, start: u16, length: u16) -> Result<(), AllocError>
     ensures { OnOk result (text.new.items ≡ text.old.items ++ extent_of start length) }
 {
@@ -55,7 +57,8 @@ fn append_extent(text: &mut Vec<u8>, start: u16, length: u16) -> Result<(), Allo
     Ok(())
 }
 
-/// Appends the segment of a part, and its module's name.
+/// Appends the segment of a part, a named common's name, the name of the part's module, and a line
+/// end, as `CODE METER`. `Err` only if memory runs out.
 fn append_owner(
     text: &mut Vec<u8>,
     commons: &[Common],

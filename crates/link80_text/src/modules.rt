@@ -9,7 +9,7 @@ use omf_library::Library;
 use omf_model::Module;
 use std::alloc::{AllocError, Global};
 
-/// The module at a place in the libraries.
+/// The module at this place in the libraries; `None` if there is none.
 pub(crate) fn module_at(libraries: &[Library], place: Chosen) -> Option<&Module>
     ensures { option_copied result ≡ module_at libraries.now place }
 {
@@ -17,7 +17,8 @@ pub(crate) fn module_at(libraries: &[Library], place: Chosen) -> Option<&Module>
     library.modules.get(place.module)
 }
 
-/// The modules that were linked, in their order: the roots, and then those that were taken from the libraries.
+/// The modules that were linked, in their order: the roots, and then those that were taken from the
+/// libraries.
 ///
 /// # Errors
 /// `AllocError` only if memory runs out.

@@ -6,13 +6,14 @@ ghost use Rattle.link80_text.specs.Words.{named_part};
 
 use omf_model::{Common, Module, Segment, common_name, is_fixed_id, segment_in};
 
-/// A segment without bytes.
+/// A segment of length 0 that isn't paged.
 const EMPTY: Segment = Segment {
     length: 0,
     paged: false,
 };
 
-/// The part that a module has of the segment with this id in a linked module with these commons.
+/// The part that a module has of the linked segment with this id; a named common's is found by the
+/// name that `commons`, those of the linked module, have for the id.
 pub(crate) fn part_of(commons: &[Common], source: &Module, id: u8) -> Segment
     ensures { result ≡ part_of commons.now source.now id }
 {
@@ -23,7 +24,8 @@ pub(crate) fn part_of(commons: &[Common], source: &Module, id: u8) -> Segment
     }
 }
 
-/// The part that a module has of the common with this name; it is empty if the module has no such common.
+/// The part that a module has of the common with this name; one of length 0 if it has no such
+/// common.
 fn named_part(source: &Module, name: &[u8]) -> Segment
     ensures { result ≡ named_part source.now.segments source.now.commons name.now }
 {

@@ -11,17 +11,21 @@ use omf_model::Module;
 use std::alloc::{AllocError, Global};
 use std::marker::Model;
 
-/// A module that needs a name, by its number, and the entry of the next one that does.
+/// An entry of [`Needs`]: a module that needs a name.
 #[derive(Clone, Copy)]
 pub(crate) struct Need {
+    /// The index of the module.
     pub number: usize,
+    /// The index of the entry of the next module that needs the same name, if there is one.
     pub next: Option<usize>,
 }
 
-/// For each name the modules that need it, one after another: one table for all names. No name is copied.
+/// For each name a chain of the modules that need it, all in one table. No name is copied.
 #[derive(Drop)]
 pub(crate) struct Needs<'a> {
+    /// For each name, the index in `needs` of the first module's entry.
     heads: IndexMap<&'a [u8], usize, NameHashes>,
+    /// The entries of all chains.
     needs: Vec<Need>,
 }
 
@@ -35,7 +39,8 @@ impl<'a> Model for Needs<'a> {
 }
 
 impl<'a> Needs<'a> {
-    /// What these modules need. They are taken from the last one on, so that the first one that needs a name comes first.
+    /// The table of what these modules need: each name's chain has the modules in their order.
+    /// `Err` only if memory runs out.
     pub(crate) fn of(alloc: Global, modules: &[&'a Module]) -> Result<Needs<'a>, AllocError>
         ensures { IfOk result (λ needs. AreNeeds (map (λ m. m.now) modules.now) 0 needs) }
     {
@@ -50,7 +55,8 @@ impl<'a> Needs<'a> {
         Ok(needs)
     }
 
-    /// Adds the names of a module, which comes before those that are there.
+    /// Puts the module with index `number` at the front of the chains of these names, once in each.
+    /// `Err` only if memory runs out.
     fn add_all(&mut self, number: usize, names: &'a [Name]) -> Result<(), AllocError>
         ensures { OnOk result ((rest : List ℕ → List ℕ) → AreWith [] number rest self.old → AreWith names.now number rest self.new) }
     {
@@ -60,7 +66,8 @@ impl<'a> Needs<'a> {
         Ok(())
     }
 
-    /// Adds a name of a module, if that isn't there yet.
+    /// Puts the module with index `number` at the front of the name's chain, if it isn't there
+    /// already. `Err` only if memory runs out.
     fn add(&mut self, number: usize, name: &'a Name) -> Result<(), AllocError>
         ensures { OnOk result ((names : List (List ℕ)) (rest : List ℕ → List ℕ) → AreWith names number rest self.old
             → AreWith (names ++ name.now ∷ []) number rest self.new) }
@@ -74,21 +81,21 @@ impl<'a> Needs<'a> {
         Ok(())
     }
 
-    /// The entry of the first module that needs a name.
+    /// The index of the entry of the first module that needs the name; `None` if none does.
     pub(crate) fn first(&self, name: &Name) -> Option<usize>
         ensures { result ≡ first_of self.now.heads name.now }
     {
         self.heads.get(name.bytes()).copied()
     }
 
-    /// An entry.
+    /// The entry with this index; `None` if there is none.
     pub(crate) fn get(&self, index: usize) -> Option<Need>
         ensures { result ≡ slice_get self.now.needs index }
     {
         self.needs.get(index).copied()
     }
 
-    /// Whether an entry is of this module.
+    /// Whether `at` is the index of an entry of the module with index `number`.
     fn is_of(&self, at: Option<usize>, number: usize) -> bool
         ensures { result ≡ is_of self.now.needs at number }
     {
@@ -101,7 +108,8 @@ impl<'a> Needs<'a> {
         }
     }
 
-    /// Appends an entry, and gives its index.
+    /// Appends an entry of the module with index `number`, and returns the entry's index. `next` is
+    /// the entry after it in its chain. `Err` only if memory runs out.
     fn link(&mut self, number: usize, next: Option<usize>) -> Result<usize, AllocError>
         ensures heads { OnOk result (self.new.heads ≡ self.old.heads) }
         ensures needs { OnOk result (self.new.needs ≡ self.old.needs ++ record { number = number; next = next } ∷ []) }
@@ -112,7 +120,8 @@ impl<'a> Needs<'a> {
         Ok(index)
     }
 
-    /// The name has this entry from then on.
+    /// Makes the entry with this index the first in the name's chain. `Err` only if memory runs
+    /// out.
     fn set(&mut self, name: &'a Name, index: usize) -> Result<(), AllocError>
         ensures heads { OnOk result (SetsFirst name.now index self.old.heads self.new.heads) }
         ensures needs { OnOk result (self.new.needs ≡ self.old.needs) }
@@ -122,7 +131,7 @@ impl<'a> Needs<'a> {
     }
 }
 
-/// The hashes of a table of the names that the modules need.
+/// The hashes for a table of the names that the modules need.
 fn hashes_of(modules: &[&Module]) -> NameHashes {
     let mut hashes = NameHashes::new();
     for source in modules {

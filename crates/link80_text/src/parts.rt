@@ -19,11 +19,12 @@ use omf_library::Library;
 use omf_model::{Common, Module};
 use std::alloc::{AllocError, Global};
 
-/// Appends a line for each part of a linked module that has bytes or is paged: where it starts in its segment of the linked
-/// module, its length, the segment, a named common's name, and the module that it is a part of, as `PART 0000 0064 CODE METER`
-/// and `PART 0000 0010 COMMON TABLE METER`. Segment comes after segment: CODE, DATA, STACK, MEMORY, the unnamed common, and the
-/// named commons in order of first sight; in each the modules come in the order in which they were linked. Numbers are four
-/// hexadecimal digits.
+/// Appends a line for each part of a linked module that has bytes or is paged: where it starts in
+/// its linked segment, its length, the segment, a named common's name, and the module that it is a
+/// part of, as `PART 0000 0064 CODE METER` and `PART 0000 0010 COMMON TABLE METER`. Segments come
+/// in this order: CODE, DATA, STACK, MEMORY, the unnamed common, and the named commons in order of
+/// first sight; in each the modules come in the order in which they were linked. Numbers are four
+/// hexadecimal digits. `made` must be what `link` made of these roots and libraries.
 ///
 /// # Errors
 /// `AllocError` only if memory runs out; the text may then have some of the lines.
@@ -41,7 +42,8 @@ pub fn append_parts(
     append_all(text, &modules, made.module.commons())
 }
 
-/// Appends the lines of the parts of all segments.
+/// Appends a line for each part of each segment; `commons` are those of the linked module. `Err`
+/// only if memory runs out.
 fn append_all(text: &mut Vec<u8>, modules: &[&Module], commons: &[Common]) -> Result<(), AllocError>
     requires commons { commons.now ≡ linked_commons (map (λ m. m.now) modules.now) }
     requires no_fault { link_fault (map (λ m. m.now) modules.now) ≡ None }
@@ -55,7 +57,8 @@ fn append_all(text: &mut Vec<u8>, modules: &[&Module], commons: &[Common]) -> Re
     append_commons(text, modules, commons)
 }
 
-/// Appends the lines of the parts of the named commons.
+/// Appends a line for each part of each named common; `commons` are those of the linked module.
+/// `Err` only if memory runs out.
 fn append_commons(
     text: &mut Vec<u8>,
     modules: &[&Module],
@@ -72,7 +75,8 @@ fn append_commons(
     Ok(())
 }
 
-/// Appends the lines of the parts of a segment.
+/// Appends a line for each part of segment `id`; `commons` are those of the linked module. `Err`
+/// only if memory runs out.
 fn append_segment(
     text: &mut Vec<u8>,
     modules: &[&Module],
@@ -98,7 +102,8 @@ fn is_laid_out(id: u8) -> bool
     id == CODE || id == DATA || id == STACK
 }
 
-/// Appends the lines of parts that lie over one another.
+/// Appends a line for each part of segment `id`, whose parts overlay one another at offset 0. `Err`
+/// only if memory runs out.
 fn append_joined(
     text: &mut Vec<u8>,
     modules: &[&Module],

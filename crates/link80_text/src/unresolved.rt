@@ -14,8 +14,9 @@ use omf_library::Library;
 use omf_model::Module;
 use std::alloc::{AllocError, Global};
 
-/// Appends a line for each unresolved name and each module that has it as external, as `UNRESOLVED GETKEY BY METER`: the names
-/// in order of first sight, and for each the modules in the order in which they were linked.
+/// Appends a line for each unresolved name and each module that has it as external, as
+/// `UNRESOLVED GETKEY BY METER`: the names in order of first sight, and for each the modules in the
+/// order in which they were linked. `made` must be what `link` made of these roots and libraries.
 ///
 /// # Errors
 /// `AllocError` only if memory runs out; the text may then have some of the lines.
@@ -34,7 +35,8 @@ pub fn append_unresolved(
     append_names(text, &needs, &modules, &made.unresolved)
 }
 
-/// Appends the lines of these names.
+/// Appends a line for each of these names and each module that needs it. `Err` only if memory runs
+/// out.
 fn append_names(
     text: &mut Vec<u8>,
     needs: &Needs<'_>,
@@ -51,7 +53,7 @@ fn append_names(
     Ok(())
 }
 
-/// Appends the lines of the modules that need a name.
+/// Appends a line for each module that needs the name. `Err` only if memory runs out.
 fn append_needing(
     text: &mut Vec<u8>,
     needs: &Needs<'_>,
@@ -71,7 +73,9 @@ fn append_needing(
     Ok(())
 }
 
-/// Appends the line of the module of an entry, and gives the next entry.
+/// Appends the line of the module of the entry with index `at`, and returns the index of the next
+/// entry in its chain; `None`, with nothing appended, if there is no such entry. `Err` only if
+/// memory runs out.
 fn append_next(
     text: &mut Vec<u8>,
     needs: &Needs<'_>,
@@ -93,7 +97,8 @@ fn append_next(
     Ok(need.next)
 }
 
-/// Appends the line of the module with a number, if there is one.
+/// Appends the line of the module with index `number`, which needs the name; nothing if there is no
+/// such module. `Err` only if memory runs out.
 fn append_module(
     text: &mut Vec<u8>,
     modules: &[&Module],
@@ -108,7 +113,8 @@ fn append_module(
     }
 }
 
-/// Appends the line of a module that needs a name.
+/// Appends the line that the module `by` needs `name`, as `UNRESOLVED GETKEY BY METER`. `Err` only
+/// if memory runs out.
 fn append_line(text: &mut Vec<u8>, name: &Name, by: &Name) -> Result<(), AllocError>
     ensures { OnOk result (text.new.items ≡ text.old.items ++ line_of_need name.now by.now) }
 {

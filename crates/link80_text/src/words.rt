@@ -4,7 +4,7 @@ ghost use Rattle.std.specs.Prelude.{◌≡◌, ◌++◌, [], map, slice_index_or
 
 use std::alloc::AllocError;
 
-/// Appends a word, and what it introduces.
+/// Appends `word`, and `value` after it. `Err` only if memory runs out.
 pub(crate) fn append_word(text: &mut Vec<u8>, word: &[u8], value: &[u8]) -> Result<(), AllocError>
     ensures { OnOk result (text.new.items ≡ text.old.items ++ (word.now ++ value.now)) }
 {
@@ -12,7 +12,7 @@ pub(crate) fn append_word(text: &mut Vec<u8>, word: &[u8], value: &[u8]) -> Resu
     text.extend_from_slice(value)
 }
 
-/// The path with this number, empty if there is none.
+/// The path with this index, or no bytes if there is none.
 pub(crate) fn path_of<'a>(paths: &[&'a [u8]], number: usize) -> &'a [u8]
     ensures { result.now ≡ slice_index_or (map (λ p. p.now) paths.now) number [] }
 {

@@ -16,16 +16,21 @@ use omf_library::Library;
 use omf_model::Module;
 use std::alloc::{AllocError, Global};
 
-/// What is linked: modules, each with its file, and libraries, each with its file.
+/// What is linked, and the files that it comes from.
 #[derive(Clone, Copy)]
 pub struct LinkSources<'a> {
+    /// The modules that are linked in any case.
     pub roots: &'a [Module],
+    /// The path of the file of each root.
     pub root_files: &'a [&'a [u8]],
+    /// The libraries that modules are taken from.
     pub libraries: &'a [Library],
+    /// The path of the file of each library.
     pub library_files: &'a [&'a [u8]],
 }
 
-/// Appends the lines that say where the cause of a fault of `link` is, each with two blanks before it:
+/// Appends the lines that say where in the modules the cause of a fault of `link` is, each with two
+/// spaces before it:
 ///
 /// - `DuplicatePublic`: the first two modules that declare the name, as `  METER of meter.obj declares it`; it is one module twice
 ///   if that declares it twice;
@@ -36,7 +41,8 @@ pub struct LinkSources<'a> {
 ///   256, as `  METER of meter.obj uses the high byte of DATA 0064 at CODE 0012`: the part starts at 0064 in the linked segment,
 ///   the fixup is at 0012 in the module's.
 ///
-/// Of other faults there are none. Modules come in the order in which they are linked, and numbers are four hexadecimal digits.
+/// For other faults there are none. Modules come in the order in which they are linked, and numbers
+/// are four hexadecimal digits.
 ///
 /// # Errors
 /// `AllocError` only if memory runs out; the text may then have some of the lines.
@@ -59,7 +65,8 @@ pub fn append_cause(
     Ok(())
 }
 
-/// The files of the linked modules, by their numbers.
+/// The path of the file of each linked module: first of the roots, then of the library of each
+/// module taken, empty if `library_files` has none. `Err` only if memory runs out.
 fn files_with<'a>(
     alloc: Global,
     root_files: &[&'a [u8]],
@@ -79,7 +86,8 @@ fn files_with<'a>(
     Ok(files)
 }
 
-/// Appends the lines of a fault of these modules.
+/// Appends the lines for a fault of these modules; `files` has the path of each module. `Err` only
+/// if memory runs out.
 fn append_lines(
     alloc: Global,
     text: &mut Vec<u8>,
@@ -99,7 +107,8 @@ fn append_lines(
     }
 }
 
-/// Appends the lines of the first two publics that have the name.
+/// Appends a line for each of the first two publics with this name, as
+/// `  METER of meter.obj declares it`. `Err` only if memory runs out.
 fn append_duplicate(
     alloc: Global,
     text: &mut Vec<u8>,
@@ -115,7 +124,8 @@ fn append_duplicate(
     append_first_two(text, files, modules, b" declares it".as_slice(), &numbers)
 }
 
-/// Appends the lines of the first two main programs.
+/// Appends a line for each of the first two modules with a start, as
+/// `  METER of meter.obj is a main program`. `Err` only if memory runs out.
 fn append_mains(
     alloc: Global,
     text: &mut Vec<u8>,

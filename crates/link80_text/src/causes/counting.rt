@@ -7,7 +7,8 @@ use omf_core::Name;
 use omf_model::Module;
 use std::alloc::{AllocError, Global};
 
-/// The numbers of the modules that declare the name, each once for each of its publics that has it.
+/// The index of each module that declares the name, once for each of its publics that has it. `Err`
+/// only if memory runs out.
 pub(crate) fn declarations(
     alloc: Global,
     modules: &[&Module],
@@ -22,7 +23,8 @@ pub(crate) fn declarations(
     Ok(numbers)
 }
 
-/// Appends the number of a module, once for each of its publics that has the name.
+/// Appends `number`, the index of the module, once for each of its publics that has the name. `Err`
+/// only if memory runs out.
 fn append_declarations(
     numbers: &mut Vec<usize>,
     number: usize,
@@ -39,7 +41,7 @@ fn append_declarations(
     Ok(())
 }
 
-/// The numbers of the main programs.
+/// The indices of the modules that have a start. `Err` only if memory runs out.
 pub(crate) fn mains(alloc: Global, modules: &[&Module]) -> Result<Vec<usize>, AllocError>
     ensures { IfOk result (λ numbers. numbers.items ≡ mains (map (λ m. m.now) modules.now)) }
 {

@@ -6,18 +6,24 @@ ghost use Rattle.link80_text.specs.HighBytes.{first_given, high_of_fixup, high_o
 use crate::causes::starts::{PartEnds, PartStarts};
 use omf_model::{Content, Field, Fixup, Module, Target};
 
-/// A fixup of a high byte: the number of its module, the segment and the offset where it is, the segment that it refers to, and where the
-/// module's part of that starts in the linked segment.
+/// A fixup for the high byte of an address in a segment in which its module's part doesn't start at
+/// a multiple of 256.
 #[derive(Clone, Copy, PartialEq, Eq, Debug)]
 pub(crate) struct HighByte {
+    /// The index of the fixup's module among those that are linked.
     pub source: usize,
+    /// The id of the segment that the fixup is in.
     pub segment: u8,
+    /// The fixup's offset in its module's part of that segment.
     pub offset: u16,
+    /// The id of the segment that the fixup refers to.
     pub target: u8,
+    /// The offset at which the module's part of the target starts in the linked segment.
     pub start: u16,
 }
 
-/// The first such fixup of a list of modules, by module, by content and by record.
+/// The first fixup, by module, by content and by record, for the high byte of an address in a
+/// segment in which its module's part doesn't start at a multiple of 256; `None` if there is none.
 pub(crate) fn first_high(modules: &[&Module]) -> Option<HighByte>
     ensures { result ≡ first_high (map (λ m. m.now) modules.now) }
 {
@@ -32,7 +38,8 @@ pub(crate) fn first_high(modules: &[&Module]) -> Option<HighByte>
     None
 }
 
-/// The first such fixup of a module.
+/// The first fixup in these contents of the module with index `number`, whose parts start at
+/// `starts`, that makes a [`HighByte`]; `None` if none does.
 fn high_of_module(
     starts: &PartStarts<'_, '_>,
     number: usize,
@@ -49,7 +56,8 @@ fn high_of_module(
     None
 }
 
-/// The first such fixup of a content.
+/// The first fixup in this content of the module with index `number`, whose parts start at
+/// `starts`, that makes a [`HighByte`]; `None` if none does.
 fn high_of_content(
     starts: &PartStarts<'_, '_>,
     number: usize,
@@ -66,7 +74,8 @@ fn high_of_content(
     None
 }
 
-/// Whether a fixup is one, and which.
+/// The [`HighByte`] that a fixup in a content of the module with index `number` makes; `None` if it
+/// isn't for a high byte of a segment, or the module's part of that starts at a multiple of 256.
 fn high_of_fixup(
     starts: &PartStarts<'_, '_>,
     number: usize,

@@ -11,7 +11,8 @@ use omf_model::{Common, Module};
 use omf_text::append_place;
 use std::alloc::AllocError;
 
-/// Appends the lines of the first two modules with these numbers, and what they do.
+/// Appends a line for each of the first two of these indices of modules: two spaces, the module's
+/// name, its file, and the text `does`. `Err` only if memory runs out.
 pub(crate) fn append_first_two(
     text: &mut Vec<u8>,
     files: &[&[u8]],
@@ -28,7 +29,8 @@ pub(crate) fn append_first_two(
     Ok(())
 }
 
-/// Appends the line of the module with this number, and what it does.
+/// Appends the line of the module with index `number`: its name, its file, and the text `does`;
+/// nothing if there is no such module. `Err` only if memory runs out.
 fn append_line(
     text: &mut Vec<u8>,
     files: &[&[u8]],
@@ -45,7 +47,8 @@ fn append_line(
     }
 }
 
-/// Appends the line of a module, and what it does.
+/// Appends the line of a module with this index and name: two spaces, the name, the file, and the
+/// text `does`. `Err` only if memory runs out.
 fn append_deed(
     text: &mut Vec<u8>,
     files: &[&[u8]],
@@ -62,7 +65,7 @@ fn append_deed(
     Ok(())
 }
 
-/// Appends the line of a high byte, if one was found.
+/// Appends the line of a [`HighByte`], or nothing for `None`. `Err` only if memory runs out.
 pub(crate) fn append_high(
     text: &mut Vec<u8>,
     files: &[&[u8]],
@@ -78,7 +81,8 @@ pub(crate) fn append_high(
     }
 }
 
-/// Appends the line of a high byte.
+/// Appends the line of a [`HighByte`], or nothing if its module isn't in `modules`. `Err` only if
+/// memory runs out.
 fn append_high_line(
     text: &mut Vec<u8>,
     files: &[&[u8]],
@@ -94,7 +98,9 @@ fn append_high_line(
     }
 }
 
-/// Appends the line of a high byte in a module with this name and these commons.
+/// Appends the line of a [`HighByte`] whose module has this name and these commons, as
+/// `  METER of meter.obj uses the high byte of DATA 0064 at CODE 0012`. `Err` only if memory runs
+/// out.
 fn append_use(
     text: &mut Vec<u8>,
     files: &[&[u8]],
@@ -114,7 +120,8 @@ fn append_use(
     Ok(())
 }
 
-/// Appends a module's name and file.
+/// Appends the name of the module with index `number` and the path of its file, as
+/// `METER of meter.obj`. `Err` only if memory runs out.
 pub(crate) fn append_module(
     text: &mut Vec<u8>,
     files: &[&[u8]],

@@ -9,7 +9,8 @@ use omf_model::{Module, Segment, is_used, segment_in};
 use omf_text::append_part;
 use std::alloc::AllocError;
 
-/// Appends the lines of the parts that modules have of CODE, DATA or STACK.
+/// Appends a line for each module's part of segment `id` that has bytes or is paged. `Err` only if
+/// memory runs out.
 pub(crate) fn append_parts(
     text: &mut Vec<u8>,
     files: &[&[u8]],
@@ -25,7 +26,8 @@ pub(crate) fn append_parts(
     Ok(())
 }
 
-/// Appends the line of a module's part, if that has bytes or is paged.
+/// Appends the line of the part that the module with index `number` has of segment `id`, or nothing
+/// if it has no bytes and isn't paged. `Err` only if memory runs out.
 fn append_line(
     text: &mut Vec<u8>,
     files: &[&[u8]],
@@ -43,7 +45,8 @@ fn append_line(
     }
 }
 
-/// Appends the line of a part of the module with this number and name.
+/// Appends the line of a part of segment `id`, as `  CODE 4000 METER of meter.obj`; `number` and
+/// `name` are its module's index and name. `Err` only if memory runs out.
 fn append_used(
     text: &mut Vec<u8>,
     files: &[&[u8]],

@@ -10,13 +10,17 @@ use omf_core::segment_id::{CODE, DATA};
 use omf_model::{Module, Segment, segment_in};
 use std::marker::Model;
 
-/// A module by its number among those that are linked, and where its parts of CODE and DATA start. A contract sees the modules and
-/// the number.
+/// Where the parts of one of the linked modules start in the linked CODE and DATA. A contract sees
+/// the modules and the index.
 #[derive(Drop)]
 pub(crate) struct PartStarts<'a, 'b> {
+    /// All modules that are linked, in order.
     modules: &'b [&'a Module],
+    /// The index of the module that this is about.
     number: usize,
+    /// The offset at which its part of CODE starts, modulo 65536.
     code: u16,
+    /// The offset at which its part of DATA starts, modulo 65536.
     variables: u16,
 }
 
@@ -35,7 +39,8 @@ impl<'a, 'b> Model for PartStarts<'a, 'b> {
 }
 
 impl<'a, 'b> PartStarts<'a, 'b> {
-    /// The module with this number, if the parts of those before it end there.
+    /// The starts of the parts of the module with index `number`; `ends` must be the ends of the
+    /// parts of the modules before it.
     pub(crate) fn new(
         modules: &'b [&'a Module],
         number: usize,
@@ -54,8 +59,8 @@ impl<'a, 'b> PartStarts<'a, 'b> {
         }
     }
 
-    /// Where the module's part of a segment starts in the linked one, as a word: 0 but for CODE and DATA, as STACK is spoken of from
-    /// its top.
+    /// The offset at which the module's part of the linked segment `id` starts, modulo 65536; 0 but
+    /// for CODE and DATA, as offsets in STACK count from its top.
     pub(crate) fn start(&self, id: u8) -> u16
         ensures { result ≡ moved self.now.0 self.now.1 id 0 }
     {
@@ -67,7 +72,8 @@ impl<'a, 'b> PartStarts<'a, 'b> {
     }
 }
 
-/// Where the part of CODE or DATA of the module with this number starts, as a word, if those before it end at `end`.
+/// The offset, modulo 65536, at which the part of segment `id` of the module with index `number`
+/// starts, if the part before it ends at offset `end`.
 fn moved_start(modules: &[&Module], number: usize, id: u8, end: u128) -> u16
     requires number { number < length modules.now }
     requires laid { IsTrue (is_laid_out id) }
@@ -79,15 +85,18 @@ fn moved_start(modules: &[&Module], number: usize, id: u8, end: u128) -> u16
     (round_up(end, part.paged) % 65536) as u16
 }
 
-/// The ends of the last of some modules' parts of CODE and DATA, which lie one after another.
+/// The offsets after the last part of CODE and of DATA, with the parts of some modules laid one
+/// after another.
 #[derive(Clone, Copy)]
 pub(crate) struct PartEnds {
+    /// The end of the parts of CODE.
     pub code: u128,
+    /// The end of the parts of DATA.
     pub variables: u128,
 }
 
 impl PartEnds {
-    /// The ends of no parts.
+    /// The ends for no modules: both 0.
     pub(crate) fn none() -> PartEnds
         ensures near { AreNear 0 result }
         ensures ends { AreEnds [] result }
@@ -98,7 +107,8 @@ impl PartEnds {
         }
     }
 
-    /// The ends with the parts of one more module, which is the one with this number.
+    /// The ends if the parts of `source` are laid after these; `number` is its index, the number of
+    /// modules before it.
     pub(crate) fn with(self, source: &Module, number: usize) -> PartEnds
         requires { AreNear number self }
         ensures near { AreNear (number + 1) result }
@@ -111,7 +121,8 @@ impl PartEnds {
     }
 }
 
-/// The end of a part that is laid after what ends at `before`.
+/// The end of a part that is laid after offset `before`; a paged one starts at the next multiple of
+/// 256.
 fn end_with(before: u128, part: Segment) -> u128
     requires { before + 255 < 340282366920938463463374607431768145920 }
     ensures { result ≡ rounded part.paged before + part.length }
@@ -119,7 +130,8 @@ fn end_with(before: u128, part: Segment) -> u128
     round_up(before, part.paged) + u128::from(part.length)
 }
 
-/// The start of a part that is laid after what ends at `before`.
+/// The start of a part that is laid after offset `before`: the next multiple of 256 for a paged
+/// one, `before` for others.
 fn round_up(before: u128, paged: bool) -> u128
     requires { before + 255 < 340282366920938463463374607431768211456 }
     ensures { result ≡ rounded paged before }

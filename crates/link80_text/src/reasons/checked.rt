@@ -8,7 +8,9 @@ use crate::reasons::search::{Need, nearest_needs};
 use omf_model::Module;
 use std::alloc::{AllocError, Global};
 
-/// The needs of a given number of modules that were taken, if the search finds them. The first `roots` of the modules are roots.
+/// For each of the `count` modules that were taken, a need that explains it; `None` if the search
+/// didn't find one for each. The first `roots` of the modules are roots. `Err` only if memory runs
+/// out.
 pub(crate) fn checked_needs(
     alloc: Global,
     roots: usize,
@@ -27,7 +29,8 @@ pub(crate) fn checked_needs(
     }
 }
 
-/// Whether some needs are those of a given number of modules that were taken, and lead to roots.
+/// Whether `needs` has one need for each of the `count` modules that were taken, each is one of
+/// that module, and following needs reaches a root.
 fn are_needs(linked: &LinkedModules<'_>, needs: &[Need], count: usize) -> bool
     ensures { result ≡ true → AreNeeds linked.now needs.now count }
 {
@@ -43,7 +46,8 @@ fn are_needs(linked: &LinkedModules<'_>, needs: &[Need], count: usize) -> bool
     true
 }
 
-/// Whether a need is one of the module with a number among those that were taken.
+/// Whether the need is of an external for which the module with index `number` among those taken
+/// was taken.
 fn is_needed(linked: &LinkedModules<'_>, number: usize, need: Need) -> bool
     ensures { result ≡ true → IsNeeded linked.now number need }
 {
@@ -56,7 +60,7 @@ fn is_needed(linked: &LinkedModules<'_>, number: usize, need: Need) -> bool
     linked.target(name.bytes()) == Some(number)
 }
 
-/// Whether a need is that of a root, or of a module that is needed itself, in fewer steps.
+/// Whether the need is a root's, or that of a module taken which itself is needed in fewer steps.
 fn is_nearer(linked: &LinkedModules<'_>, needs: &[Need], need: Need) -> bool
     ensures { result ≡ true → IsNearer linked.now.roots needs.now need }
 {

@@ -8,12 +8,15 @@ use omf_model::Module;
 use std::alloc::{AllocError, Global};
 use std::marker::Model;
 
-/// The linked modules, of which the first ones are roots, and the first that declares each name: one table of all names. A contract
-/// sees the modules and the number of roots.
+/// The linked modules, and the first of them that declares each name. A contract sees the modules
+/// and the number of roots.
 #[derive(Drop)]
 pub(crate) struct LinkedModules<'a> {
+    /// The number of modules that are roots; they come first.
     roots: usize,
+    /// The modules: the roots, and then those that were taken.
     modules: &'a [&'a Module],
+    /// The first module that declares each name.
     providers: Providers<'a>,
 }
 
@@ -30,7 +33,8 @@ impl<'a> Model for LinkedModules<'a> {
 }
 
 impl<'a> LinkedModules<'a> {
-    /// Makes the table of these modules, of which the first `roots` are roots.
+    /// The table of these modules, of which the first `roots` are roots. `Err` only if memory runs
+    /// out.
     pub(crate) fn of(
         alloc: Global,
         roots: usize,
@@ -45,14 +49,14 @@ impl<'a> LinkedModules<'a> {
         })
     }
 
-    /// How many of the modules are roots.
+    /// The number of modules that are roots.
     pub(crate) fn roots(&self) -> usize
         ensures { result ≡ self.now.roots }
     {
         self.roots
     }
 
-    /// The linked module with this number.
+    /// The module with this index; `None` if there is none.
     pub(crate) fn module(&self, number: usize) -> Option<&'a Module>
         ensures { option_copied result ≡ slice_get self.now.modules number }
     {
@@ -62,7 +66,8 @@ impl<'a> LinkedModules<'a> {
         }
     }
 
-    /// The number, among the modules that were taken, of the one that was taken for the name of these bytes.
+    /// The index, among the modules that were taken, of the first module that declares the name of
+    /// these bytes; `None` if that is a root, or no module declares it.
     pub(crate) fn target(&self, name: &[u8]) -> Option<usize>
         ensures { result ≡ target self.now.roots self.now.modules name.now }
     {
@@ -71,7 +76,7 @@ impl<'a> LinkedModules<'a> {
     }
 }
 
-/// The number of a linked module among those that were taken, `None` of a root.
+/// The index among the modules taken of the linked module with index `number`; `None` for a root.
 fn number_of(roots: usize, number: usize) -> Option<usize>
     ensures { result ≡ number_of roots number }
 {

@@ -17,11 +17,12 @@ use omf_model::Module;
 use std::alloc::{AllocError, Global};
 use std::marker::Model;
 
-/// Appends a line for each module that was taken, in order: its name, a name for which it was taken, a module that needs that name,
-/// and the path of its library, as `TAKEN @P0029 FOR @P0029 BY CALC FROM plm80.lib`. Of the modules that need it the nearest to the
-/// roots is named, of several the first, with the first of its names that need it. So one reaches a root, from BY to BY. The
-/// paths are those of the libraries, by their numbers; a library without one has an empty path. Answers `false`, and appends nothing, if
-/// the reasons aren't found.
+/// Appends a line for each module that was taken, in order: its name, a name for which it was
+/// taken, a module that needs that name, and the path of its library, as
+/// `TAKEN @P0029 FOR @P0029 BY CALC FROM plm80.lib`. Of the modules that need it, the nearest to
+/// the roots is named, of several the first, with the first of its names that need it; so following
+/// BY leads to a root. `paths` has the path of each library; one without has an empty path. Returns
+/// `false`, and appends nothing, if the reasons aren't found.
 ///
 /// # Errors
 /// `AllocError` only if memory runs out; the text may then have some of the lines.
@@ -45,13 +46,19 @@ pub fn append_reasons(
     Ok(true)
 }
 
-/// Why modules were taken: for each the need of another one, by which one reaches a root.
+/// Why modules were taken: for each the need of another one, such that following needs reaches a
+/// root.
 #[derive(Drop)]
 struct Reasons<'a> {
+    /// The modules that are linked in any case.
     roots: &'a [Module],
+    /// The libraries that modules are taken from.
     libraries: &'a [Library],
+    /// The places of the modules that were taken.
     taken: &'a [Chosen],
+    /// The linked modules: the roots, and then those that were taken.
     modules: Vec<&'a Module>,
+    /// For each module that was taken, a need that explains it.
     needs: Vec<Need>,
 }
 
@@ -67,7 +74,8 @@ impl<'a> Model for Reasons<'a> {
 }
 
 impl<'a> Reasons<'a> {
-    /// Finds why modules were taken from libraries for roots; `None` if the search doesn't find it.
+    /// Finds why the modules `taken` from the libraries were taken for the roots; `None` if the
+    /// search doesn't find it. `Err` only if memory runs out.
     fn find(
         alloc: Global,
         roots: &'a [Module],
@@ -90,7 +98,8 @@ impl<'a> Reasons<'a> {
         }
     }
 
-    /// Appends the lines of all modules that were taken.
+    /// Appends a line for each module that was taken; `paths` has the path of each library. `Err`
+    /// only if memory runs out.
     fn append_lines(
         &self,
         text: &mut Vec<u8>,
@@ -106,7 +115,8 @@ impl<'a> Reasons<'a> {
         Ok(())
     }
 
-    /// Appends the line of the module at this place, which has this number among those that were taken.
+    /// Appends the line of the module at `place`, which has index `number` among those that were
+    /// taken. `Err` only if memory runs out.
     fn append_line(
         &self,
         text: &mut Vec<u8>,
@@ -133,7 +143,8 @@ impl<'a> Reasons<'a> {
     }
 }
 
-/// Appends the line of a module that was taken.
+/// Appends the line of the module `taken` for the need that the module `by` has of `name`, from the
+/// library at `path`. `Err` only if memory runs out.
 fn append_line(
     text: &mut Vec<u8>,
     taken: &Name,

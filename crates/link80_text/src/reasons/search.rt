@@ -5,17 +5,21 @@ use crate::reasons::linked::LinkedModules;
 use std::alloc::{AllocError, Global};
 use std::mem;
 
-/// A linked module, by its number, needs one that was taken, for its external with this index. The need is the last of a given number of
-/// steps from a root, each from a module to one that it needs.
+/// Why a module was taken: another module has an external that it declares.
 #[derive(Clone, Copy)]
 pub(crate) struct Need {
+    /// The index of the module that has the external, among those that are linked.
     pub by: usize,
+    /// The index of the external in that module.
     pub name: usize,
+    /// The number of steps from a root to the module taken, each from a module to one that it
+    /// needs.
     pub steps: usize,
 }
 
 impl Need {
-    /// Whether this need is better than what is known: by the same steps an earlier module, or an earlier name of it.
+    /// Whether this need is to be preferred to the known one: there is none, or it has the same
+    /// number of steps and an earlier module, or the same module and an earlier name.
     fn is_better(self, known: Option<Need>) -> bool {
         match known {
             None => true,
@@ -26,7 +30,9 @@ impl Need {
     }
 }
 
-/// For each of a given number of modules that were taken the need of the fewest steps, of several the first; fewer, if one isn't reached.
+/// For each of the `count` modules that were taken, the need with the fewest steps, of several the
+/// first by module and then by name. The list ends before the first module that the search doesn't
+/// reach. `Err` only if memory runs out.
 pub(crate) fn nearest_needs(
     alloc: Global,
     linked: &LinkedModules<'_>,
@@ -53,7 +59,7 @@ pub(crate) fn nearest_needs(
     Ok(needs)
 }
 
-/// The numbers below this one.
+/// The numbers from 0 to `count` - 1. `Err` only if memory runs out.
 fn numbers_below(alloc: Global, count: usize) -> Result<Vec<usize>, AllocError> {
     let mut numbers = Vec::new(alloc);
     for number in 0..count {
@@ -62,7 +68,9 @@ fn numbers_below(alloc: Global, count: usize) -> Result<Vec<usize>, AllocError> 
     Ok(numbers)
 }
 
-/// Follows what a linked module needs, the last of a given number of steps, and notes from which modules to go on.
+/// Notes in `found` the needs of the linked module with index `number`, each of this number of
+/// steps, and appends to `next` the modules that are found for the first time. `Err` only if memory
+/// runs out.
 fn follow(
     linked: &LinkedModules<'_>,
     number: usize,
