@@ -23,8 +23,8 @@ pub struct SegmentEntry {
     pub id: u8,
     /// The number of the module's bytes in the segment.
     pub length: u16,
-    /// The alignment byte: 3 if the segment may start at any byte, else it starts at a multiple of
-    /// 256.
+    /// The alignment byte: 3 if the segment may start at any byte, else it starts at a page of 256
+    /// bytes.
     pub alignment: u8,
 }
 
