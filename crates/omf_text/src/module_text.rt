@@ -20,10 +20,11 @@ use omf_core::Name;
 use omf_model::{Common, Content, Module, Public, Segment};
 use std::alloc::AllocError;
 
-/// Appends what the module holds, a line each: its name, as `MODULE METER`; its segments as the header lists them, as `CODE 0064
-/// PAGED`, a named common with its name behind; its public names with their places, as `PUBLIC CODE 0012 SCALE`; its external names,
-/// as `NEEDS GETKEY`; its contents with their places and numbers of bytes, as `CONTENT CODE 0000 0064`; its start, if it has one, as
-/// `START CODE 0000`. Numbers are four hexadecimal digits.
+/// Appends what the module holds, a line each: its name, as `MODULE METER`; its segments as the
+/// header lists them, as `CODE 0064 PAGED`, a named common with its name behind; its public names
+/// with their places, as `PUBLIC CODE 0012 SCALE`; its external names, as `NEEDS GETKEY`; its
+/// contents with their places and numbers of bytes, as `CONTENT CODE 0000 0064`; its start, if it
+/// has one, as `START CODE 0000`. Numbers are four hexadecimal digits.
 ///
 /// # Errors
 /// `AllocError` only if memory runs out; the text may then have some of the lines.

@@ -25,8 +25,8 @@ pub fn append_place(
     append_common(text, commons, id)
 }
 
-/// Appends the name of the segment with this id and the length of `part`, as `CODE 0064`, and `
-/// PAGED` if it starts at a multiple of 256.
+/// Appends the name of the segment with this id and the length of `part`, as `CODE 0064`, and
+/// ` PAGED` if it starts at a multiple of 256.
 ///
 /// # Errors
 /// `AllocError` only if memory runs out; the text may then have some of the words.
