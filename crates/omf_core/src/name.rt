@@ -21,6 +21,7 @@ const LONGEST_NAME: usize = 255;
 /// (8080 Object Module Formats has names of a length byte and characters; the ranges are this project's.)
 #[derive(Debug, Drop)]
 pub struct Name {
+    /// The bytes of the name.
     bytes: Vec<u8>,
 }
 
