@@ -10,10 +10,10 @@ use std::alloc::{AllocError, Global};
 /// The most bytes that a text may have: 1 MiB.
 pub const TEXT_LIMIT: usize = 1_048_576;
 
-/// Why a source wasn't read whole.
+/// Why [`read_all`] didn't read a source to its end.
 #[derive(Clone, Copy, Debug, PartialEq, Eq)]
 pub enum ReadAllFault {
-    /// A read failed.
+    /// A read of the source failed.
     Read,
     /// The source has more bytes than the limit.
     TooLong,
