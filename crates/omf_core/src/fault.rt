@@ -11,13 +11,13 @@ use thiserror::Error;
 /// file.
 #[derive(Clone, Copy, PartialEq, Eq, Debug, Error)]
 pub enum RecordFault {
-    /// The bytes end before the record does.
+    /// The bytes end before the record at this place does.
     #[error("Truncated {0}")]
     Truncated(usize),
-    /// The bytes of the record don't sum to 0 modulo 256.
+    /// The bytes of the record at this place don't sum to 0 modulo 256.
     #[error("BadSum {0}")]
     BadSum(usize),
-    /// The length word is 0, so that it leaves no room for the checksum.
+    /// The length word of the record at this place is 0, which leaves no room for the checksum.
     #[error("ZeroLength {0}")]
     ZeroLength(usize),
 }
@@ -46,7 +46,7 @@ impl RecordFault {
     }
 }
 
-/// Why a record isn't written.
+/// Why a record can't be appended to bytes.
 #[derive(Clone, Copy, PartialEq, Eq, Debug, Error)]
 pub enum PutFault {
     /// The body has more than 65534 bytes, the most that one record carries.
@@ -77,7 +77,7 @@ impl From<AllocError> for PutFault {
     }
 }
 
-/// Why bytes aren't taken as a name.
+/// Why bytes can't be made a [`Name`](crate::Name).
 #[derive(Clone, Copy, PartialEq, Eq, Debug, Error)]
 pub enum NameFault {
     /// The bytes are none or more than 255, or one of them is outside 21h to 7Eh.

@@ -21,7 +21,7 @@ pub struct Feed {
     kept: Option<RecordFault>,
 }
 
-/// How far bytes are read: `count` records up to place `at`, the last of which ends the file if `ended`.
+/// How far the bytes of a [`Feed`] are read.
 #[derive(Clone, Copy, Debug)]
 pub(crate) struct Progress {
     /// The place after the last whole record.

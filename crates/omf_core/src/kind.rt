@@ -4,7 +4,7 @@ ghost use Rattle.std.specs.Prelude.{◌≡◌, ◌≢◌, IfSome, IfNone};
 ghost use Rattle.omf_core.specs.declared.kind.RecordKind.{RecordKind};
 ghost use Rattle.omf_core.specs.Kind.{kind_byte};
 
-/// The kinds of record that the standard has, by its words (8080 Object Module Formats, record types).
+/// The kinds of record that the standard has (8080 Object Module Formats, record types).
 #[derive(Clone, Copy, PartialEq, Eq, Debug)]
 pub enum RecordKind {
     /// The module's name and segments; the first record of a module.

@@ -28,7 +28,7 @@ pub fn records_stay()
     ensures { RecordsStay }
 {}
 
-/// `BadSum` and `ZeroLength` are reported whatever bytes follow.
+/// A record fault `BadSum` or `ZeroLength` at a place is reported there whatever bytes follow.
 #[tactic(auto, using(crate::proofs::Spelled::faults_stay))]
 pub fn faults_stay()
     ensures { FaultsStay }

@@ -54,7 +54,7 @@ impl Name {
     /// A copy of the name.
     ///
     /// # Errors
-    /// `AllocError` only if there is no memory for it.
+    /// `AllocError` only if memory runs out.
     pub fn copy(&self, alloc: Global) -> Result<Name, AllocError>
         ensures same { IfOk result (λ name. name ≡ self.now) }
         ensures name { OnOk result (IsTrue (is_name self.now)) }
