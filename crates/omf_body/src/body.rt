@@ -63,7 +63,7 @@ pub struct PublicsBody<'a> {
 /// The body of an external references record (20): references to externals in the content before.
 #[derive(Drop)]
 pub struct ExternalReferencesBody<'a> {
-    /// Which bytes of the external's value each reference has.
+    /// Which bytes of the external's address each reference has.
     pub field: Field,
     /// The references, in order.
     pub references: Row<'a, IndexEntry>,

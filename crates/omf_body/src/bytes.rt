@@ -2,10 +2,10 @@
 
 use std::marker::Model;
 
-/// Bytes where they lie in a file. A contract sees the list of them.
+/// Bytes of a record's body, borrowed from the file. A contract sees the list of them.
 #[derive(Debug, Drop)]
 pub struct Bytes<'a> {
-    /// The bytes, which borrow from the file.
+    /// The bytes themselves.
     pub bytes: &'a [u8],
 }
 

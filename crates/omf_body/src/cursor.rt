@@ -27,14 +27,14 @@ impl<'a> Cursor<'a> {
     ghost use Rattle.omf_core.specs.Name.{is_name, name_spelling};
     ghost use Rattle.omf_body.specs.Fields.{read_byte, read_word, read_name, word_bytes};
 
-    /// A cursor at the front of these bytes.
+    /// A cursor that reads these bytes from the first one on.
     pub fn new(bytes: &'a [u8]) -> Cursor<'a>
         ensures { result ≡ bytes.now }
     {
         Cursor { rest: bytes }
     }
 
-    /// Whether no byte is left.
+    /// Whether no byte of the body is left to read.
     pub fn is_empty(&self) -> bool
         ensures { IsTrue result ↔ (self.now ≡ []) }
     {
@@ -51,7 +51,7 @@ impl<'a> Cursor<'a> {
     /// Reads a byte.
     ///
     /// # Errors
-    /// `BadBody` if no byte is left.
+    /// `BadBody` if no byte is left; the cursor is then unchanged.
     pub fn byte(&mut self) -> Result<u8, FieldFault>
         ensures read { IfOk result (λ byte. read_byte self.old ≡ Ok (byte, self.new)) }
         ensures spelled { IfOk result (λ byte. self.old ≡ byte ∷ self.new) }
@@ -67,10 +67,10 @@ impl<'a> Cursor<'a> {
         }
     }
 
-    /// Reads a word, low byte first.
+    /// Reads two bytes as a word, low byte first.
     ///
     /// # Errors
-    /// `BadBody` if fewer than two bytes are left.
+    /// `BadBody` if fewer than two bytes are left; the cursor is then unchanged.
     pub fn word(&mut self) -> Result<u16, FieldFault>
         ensures read { IfOk result (λ word. read_word self.old ≡ Ok (word, self.new)) }
         ensures spelled { IfOk result (λ word. self.old ≡ word_bytes word ++ self.new) }

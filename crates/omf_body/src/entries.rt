@@ -16,19 +16,19 @@ use std::alloc::AllocError;
 /// The alignment byte of a segment that may start at any byte.
 pub const ANY_BYTE: u8 = 3;
 
-/// A segment in a module header.
+/// A segment in a module header record (02).
 #[derive(Clone, Copy, PartialEq, Eq, Debug)]
 pub struct SegmentEntry {
     /// The segment's id.
     pub id: u8,
     /// The number of the module's bytes in the segment.
     pub length: u16,
-    /// The alignment byte: 3 if the segment may start at any byte, else it starts at a page of 256
-    /// bytes.
+    /// The alignment byte: with 3 the segment may start at any byte, with others at a multiple of
+    /// 256.
     pub alignment: u8,
 }
 
-/// A named common of a module.
+/// A common in a named commons record (2E).
 #[derive(Debug, Drop)]
 pub struct CommonEntry<'a> {
     /// The segment id, from 6 to 254.
@@ -37,7 +37,7 @@ pub struct CommonEntry<'a> {
     pub name: NameBytes<'a>,
 }
 
-/// A public in a public declarations record.
+/// A public in a public declarations record (16).
 #[derive(Debug, Drop)]
 pub struct PublicEntry<'a> {
     /// The offset in the record's segment.
@@ -48,7 +48,7 @@ pub struct PublicEntry<'a> {
     pub unread: u8,
 }
 
-/// A name that is declared by another module.
+/// A name in an external names record (18), which another module declares.
 #[derive(Debug, Drop)]
 pub struct ExternalEntry<'a> {
     /// The external's name.
@@ -57,14 +57,14 @@ pub struct ExternalEntry<'a> {
     pub unread: u8,
 }
 
-/// A reference to the segment that its record is about.
+/// A reference in a relocation (22) or intersegment references record (24).
 #[derive(Clone, Copy, PartialEq, Eq, Debug)]
 pub struct OffsetEntry {
     /// The reference's offset in the segment of the content.
     pub offset: u16,
 }
 
-/// A reference to an external.
+/// A reference in an external references record (20).
 #[derive(Clone, Copy, PartialEq, Eq, Debug)]
 pub struct IndexEntry {
     /// The index of the external among the module's externals, from 0.
