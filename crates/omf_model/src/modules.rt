@@ -186,7 +186,7 @@ impl Module {
         self.segments.as_slice()
     }
 
-    /// The named commons, in the order in which they were listed.
+    /// The named commons, in the order of the records.
     pub fn commons(&self) -> &[Common]
         ensures value { result.now ≡ self.now.commons }
         ensures rules { IsModule self.now }

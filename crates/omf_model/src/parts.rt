@@ -6,8 +6,8 @@ use crate::symbols::{Common, Public};
 use omf_core::Name;
 use std::marker::Model;
 
-/// What a module is made of, in any form: [`Module::from_parts`](crate::Module::from_parts) tests the rules.
-/// A segment that isn't listed has length 0 and isn't paged; an entry for id 0 is ignored.
+/// What a module is made of: [`Module::from_parts`](crate::Module::from_parts) checks the rules. A
+/// segment that isn't listed has length 0 and isn't paged; an entry for id 0 is ignored.
 #[derive(Debug, Drop)]
 pub struct Parts {
     /// The module's name.

@@ -15,8 +15,8 @@ pub fn adding_twice_is_adding_once()
     ensures two_passes { TwoPassesAreOne }
 {}
 
-/// The rules that a module keeps, one by one: those of its commons, publics, contents, fixups and start. The fixups of a
-/// content, as patches, lie inside its bytes and share none of them.
+/// A module keeps the rules of its commons, publics, contents, fixups and start, one by one. The
+/// fixups of a content, as patches, lie inside its bytes and share none of them.
 pub fn sound_modules_keep_rules()
     ensures { SoundModulesKeepRules }
 {}

@@ -9,6 +9,6 @@
 pub struct Segment {
     /// The number of bytes.
     pub length: u16,
-    /// Whether the segment starts at a multiple of 256, in place of at any byte.
+    /// Whether the segment starts at a multiple of 256; otherwise it may start at any byte.
     pub paged: bool,
 }
