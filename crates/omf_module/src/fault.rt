@@ -20,7 +20,7 @@ pub enum Cause {
     /// Where a module should begin there is no byte, or a record that isn't a module header.
     #[error("NoHeader")]
     NoHeader,
-    /// No record of this type byte may stand in a module.
+    /// A module may have no record of this type byte.
     #[error("UnknownKind {0:02X}")]
     UnknownKind(u8),
     /// The body of a record of this type byte ends inside a field, a field has no listed value,
@@ -33,7 +33,7 @@ pub enum Cause {
     /// No segment of the module has this id, or content is given for STACK (03).
     #[error("SegmentUnknown {0:02X}")]
     SegmentUnknown(u8),
-    /// Content passes the end of its segment.
+    /// A content passes the end of its segment.
     #[error("OffsetOutside")]
     OffsetOutside,
     /// A fixup record has no content record before it.
@@ -144,7 +144,7 @@ impl<T: Drop> From<AllocFailed<T>> for ModuleFault {
 }
 
 impl ModuleFault {
-    /// Whether the fault is that memory ran out.
+    /// Whether the fault is `Memory` at place 0.
     pub(crate) fn is_memory(&self) -> bool
         ensures memory { IsTrue result → self.now ≡ no_memory }
         ensures other { result ≡ false → self.now ≢ no_memory }
