@@ -15,7 +15,7 @@ use omf_module::laws::modules_stay;
 use omf_module::{Cause, Module, UnfinishedModule, next_module};
 use std::alloc::Global;
 
-/// How far a library is read.
+/// How far the records outside the modules of a library are read.
 #[derive(Clone, Copy, Debug)]
 pub enum Progress {
     /// The library header is still to come.
@@ -32,7 +32,7 @@ pub enum Progress {
 /// What the bytes have at the place where a module may begin.
 #[derive(Clone, Copy, Debug)]
 pub enum Standing {
-    /// No whole record.
+    /// No whole record: the bytes end before it does.
     CutOff,
     /// A module header record.
     ModuleHeader,
