@@ -28,7 +28,7 @@ pub enum LinkFault {
     /// Out of memory.
     #[error("Memory")]
     Memory,
-    /// More than 65536 names are unresolved.
+    /// More than 65536 names are used that no module declares.
     #[error("TooManyExternals")]
     TooManyExternals,
 }
@@ -59,7 +59,8 @@ impl LinkFault {
     ghost use Rattle.std.specs.Prelude.{◌≡◌};
     ghost use Rattle.link80.specs.LinkFault.{link_fault_code};
 
-    /// The fault's number, from 1 `DuplicatePublic` to 7 `TooManyExternals`.
+    /// The fault's number: 1 `DuplicatePublic`, 2 `SegmentTooLong`, 3 `TwoMains`, 4 `HighNotPaged`,
+    /// 5 `TooManyCommons`, 6 `Memory`, 7 `TooManyExternals`.
     pub fn code(&self) -> u8
         ensures { result ≡ link_fault_code self.now }
     {
