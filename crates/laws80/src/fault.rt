@@ -8,10 +8,10 @@ use thiserror::Error;
 /// memory, the fault is `Memory` here.
 #[derive(Debug, PartialEq, Eq, Drop, Error)]
 pub enum BuildFault {
-    /// The modules can't be linked.
+    /// The modules can't be linked, for this reason.
     #[error("{0}")]
     Link(LinkFault),
-    /// The linked module can't be located.
+    /// The linked module can't be located, for this reason.
     #[error("{0}")]
     Place(PlaceFault),
     /// Out of memory.
