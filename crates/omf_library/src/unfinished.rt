@@ -20,10 +20,11 @@ use std::alloc::Global;
 pub enum Progress {
     /// The library header is still to come.
     Header,
-    /// Modules are read. The value is the number of modules in the header.
+    /// The library header was read, and no index record. The value is the number of modules in the
+    /// header.
     Modules(u16),
-    /// Index records are read. The values are the number of modules in the header, and the place up
-    /// to which the records are read.
+    /// At least one index record was read. The values are the number of modules in the header, and
+    /// the place after the last of these records.
     Index(u16, usize),
     /// The end-of-file record was read.
     Ended,
