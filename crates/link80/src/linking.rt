@@ -84,8 +84,8 @@ fn start_of(tables: &SymbolTables, main: Option<usize>) -> Option<(u8, u16)>
     ))
 }
 
-/// The parts of the linked module but for its publics, which are empty. `main` is the index of the
-/// main program, if there is one. `Err` only if memory runs out.
+/// The [`Parts`] of the linked module but for its publics, which are empty. `main` is the index of
+/// the main program, if there is one. `Err` only if memory runs out.
 fn parts_without_publics(
     alloc: Global,
     name: &Name,
@@ -113,8 +113,8 @@ fn parts_without_publics(
     })
 }
 
-/// The parts of the linked module, and the names that no module declares. `main` is the index of
-/// the main program, if there is one. `Err` only if memory runs out.
+/// The [`Parts`] of the linked module, and the names that no module declares. `main` is the index
+/// of the main program, if there is one. `Err` only if memory runs out.
 fn parts_of(
     alloc: Global,
     name: &Name,

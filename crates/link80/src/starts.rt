@@ -14,7 +14,7 @@ use omf_model::{Module, Segment};
 use std::alloc::Global;
 use std::marker::Model;
 
-/// The parts that modules have of one segment, laid one after another.
+/// The parts of one segment that modules contribute to the linked module, one after another.
 #[derive(Drop)]
 pub(crate) struct LaidOut {
     /// For each module, the offset at which its part starts.

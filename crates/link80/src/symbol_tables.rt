@@ -129,7 +129,7 @@ fn to_place(id: u8, offset: u16) -> Reference
 /// declares. A contract sees the modules.
 #[derive(Drop)]
 pub(crate) struct SymbolTables<'t, 'a> {
-    /// The modules, joined.
+    /// The modules, with their parts laid out and their commons' ids in the linked module.
     pub joined: &'t JoinedModules<'a>,
     /// The names of the publics; each public has its name's index.
     declared: &'t NameTable<'a>,

@@ -25,7 +25,7 @@ use omf_body::{HeaderBody, Place};
 use omf_model::{Common, Content, Module, Parts};
 use std::alloc::{AllocError, Global};
 
-/// The parts that a module's records give, but without contents. `Err` only if memory runs out.
+/// The [`Parts`] that a module's records give, but without contents. `Err` only if memory runs out.
 fn without_contents(
     alloc: Global,
     header: &HeaderBody,
@@ -82,9 +82,9 @@ fn used_contents(
     }
 }
 
-/// The parts that a module's records give; `commons` must be the named commons that they declare.
-/// The fault is the first in what the records use, from `SegmentUnknown` to `IndexUnknown`, or
-/// `Memory`.
+/// The [`Parts`] that a module's records give; `commons` must be the named commons that they
+/// declare. The fault is the first in what the records use, from `SegmentUnknown` to
+/// `IndexUnknown`, or `Memory`.
 fn parts_of(alloc: Global, file: &ModuleFile, commons: Vec<Common>) -> Result<Parts, ModuleFault>
     requires { commons.items ≡ commons_of file.now.within.bodies.items }
     ensures parts { IfOk result (λ parts. parts ≡ parts_of (records_of file.now)) }

@@ -16,7 +16,7 @@ use std::marker::Model;
 pub(crate) struct PartStarts<'a, 'b> {
     /// All modules that are linked, in order.
     modules: &'b [&'a Module],
-    /// The index of the module that this is about.
+    /// The index of the module whose parts these are.
     number: usize,
     /// The offset at which its part of CODE starts, modulo 65536.
     code: u16,

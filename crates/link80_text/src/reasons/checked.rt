@@ -29,8 +29,8 @@ pub(crate) fn checked_needs(
     }
 }
 
-/// Whether `needs` has one need for each of the `count` modules that were taken, each is one of
-/// that module, and following needs reaches a root.
+/// Whether `needs` has one need for each of the `count` modules that were taken, in order, each
+/// explains its module, and going from need to need reaches a root.
 fn are_needs(linked: &LinkedModules<'_>, needs: &[Need], count: usize) -> bool
     ensures { result ≡ true → AreNeeds linked.now needs.now count }
 {
@@ -46,8 +46,8 @@ fn are_needs(linked: &LinkedModules<'_>, needs: &[Need], count: usize) -> bool
     true
 }
 
-/// Whether the need is of an external for which the module with index `number` among those taken
-/// was taken.
+/// Whether the need's module has the external that the need says, and the module with index
+/// `number` among those taken is the first to declare it.
 fn is_needed(linked: &LinkedModules<'_>, number: usize, need: Need) -> bool
     ensures { result ≡ true → IsNeeded linked.now number need }
 {
@@ -60,7 +60,7 @@ fn is_needed(linked: &LinkedModules<'_>, number: usize, need: Need) -> bool
     linked.target(name.bytes()) == Some(number)
 }
 
-/// Whether the need is a root's, or that of a module taken which itself is needed in fewer steps.
+/// Whether the need is that of a root, or of a module taken whose own need has fewer steps.
 fn is_nearer(linked: &LinkedModules<'_>, needs: &[Need], need: Need) -> bool
     ensures { result ≡ true → IsNearer linked.now.roots needs.now need }
 {
