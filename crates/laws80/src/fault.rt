@@ -41,6 +41,7 @@ impl From<LinkFault> for BuildFault {
 
     ghost from_gives = { λ cause fault. fault ≡ from_link cause };
 
+    /// Converts a fault of `link` to `Link`; running out of memory is `Memory`.
     fn from(cause: LinkFault) -> BuildFault {
         match cause {
             LinkFault::Memory => BuildFault::Memory,
@@ -55,6 +56,7 @@ impl From<PlaceFault> for BuildFault {
 
     ghost from_gives = { λ cause fault. fault ≡ from_place cause };
 
+    /// Converts a fault of `locate` to `Place`; running out of memory is `Memory`.
     fn from(cause: PlaceFault) -> BuildFault {
         match cause {
             PlaceFault::Memory => BuildFault::Memory,

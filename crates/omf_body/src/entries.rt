@@ -85,6 +85,7 @@ impl SegmentEntry {
 impl Entry for SegmentEntry {
     ghost layout = { segment_layout };
 
+    /// Appends the id, the length as a word, and the alignment byte.
     fn write(&self, out: &mut Vec<u8>) -> Result<(), AllocError> {
         out.push(self.id)?;
         push_word(self.length, out)?;
@@ -96,6 +97,7 @@ impl Entry for SegmentEntry {
 }
 
 impl<'a> ReadEntry<'a> for SegmentEntry {
+    /// Reads the id, the length as a word, and the alignment byte.
     fn read(cursor: &mut Cursor<'a>) -> Result<SegmentEntry, FieldFault> {
         let id = cursor.byte()?;
         let length = cursor.word()?;
@@ -111,6 +113,7 @@ impl<'a> ReadEntry<'a> for SegmentEntry {
 impl<'a> Entry for CommonEntry<'a> {
     ghost layout = { common_layout };
 
+    /// Appends the id and the name.
     fn write(&self, out: &mut Vec<u8>) -> Result<(), AllocError> {
         out.push(self.id)?;
         push_name(self.name.bytes(), out)
@@ -120,6 +123,7 @@ impl<'a> Entry for CommonEntry<'a> {
 }
 
 impl<'a> ReadEntry<'a> for CommonEntry<'a> {
+    /// Reads the id, `BadBody` if it is outside 6 to 254, and the name.
     fn read(cursor: &mut Cursor<'a>) -> Result<CommonEntry<'a>, FieldFault> {
         let id = cursor.byte()?;
         if !(FIRST_COMMON <= id && id <= LAST_COMMON) {
@@ -133,6 +137,7 @@ impl<'a> ReadEntry<'a> for CommonEntry<'a> {
 impl<'a> Entry for PublicEntry<'a> {
     ghost layout = { public_layout };
 
+    /// Appends the offset as a word, the name, and the byte without effect.
     fn write(&self, out: &mut Vec<u8>) -> Result<(), AllocError> {
         push_word(self.offset, out)?;
         push_name(self.name.bytes(), out)?;
@@ -144,6 +149,7 @@ impl<'a> Entry for PublicEntry<'a> {
 }
 
 impl<'a> ReadEntry<'a> for PublicEntry<'a> {
+    /// Reads the offset as a word, the name, and the byte without effect.
     fn read(cursor: &mut Cursor<'a>) -> Result<PublicEntry<'a>, FieldFault> {
         let offset = cursor.word()?;
         let name = cursor.name()?;
@@ -159,6 +165,7 @@ impl<'a> ReadEntry<'a> for PublicEntry<'a> {
 impl<'a> Entry for ExternalEntry<'a> {
     ghost layout = { external_layout };
 
+    /// Appends the name and the byte without effect.
     fn write(&self, out: &mut Vec<u8>) -> Result<(), AllocError> {
         push_name(self.name.bytes(), out)?;
         out.push(self.unread)?;
@@ -169,6 +176,7 @@ impl<'a> Entry for ExternalEntry<'a> {
 }
 
 impl<'a> ReadEntry<'a> for ExternalEntry<'a> {
+    /// Reads the name and the byte without effect.
     fn read(cursor: &mut Cursor<'a>) -> Result<ExternalEntry<'a>, FieldFault> {
         let name = cursor.name()?;
         let unread = cursor.byte()?;
@@ -179,6 +187,7 @@ impl<'a> ReadEntry<'a> for ExternalEntry<'a> {
 impl Entry for OffsetEntry {
     ghost layout = { offset_layout };
 
+    /// Appends the offset as a word.
     fn write(&self, out: &mut Vec<u8>) -> Result<(), AllocError> {
         push_word(self.offset, out)
     }
@@ -187,6 +196,7 @@ impl Entry for OffsetEntry {
 }
 
 impl<'a> ReadEntry<'a> for OffsetEntry {
+    /// Reads the offset as a word.
     fn read(cursor: &mut Cursor<'a>) -> Result<OffsetEntry, FieldFault> {
         let offset = cursor.word()?;
         Ok(OffsetEntry { offset })
@@ -196,6 +206,7 @@ impl<'a> ReadEntry<'a> for OffsetEntry {
 impl Entry for IndexEntry {
     ghost layout = { index_layout };
 
+    /// Appends the external's index and the offset as words.
     fn write(&self, out: &mut Vec<u8>) -> Result<(), AllocError> {
         push_word(self.index, out)?;
         push_word(self.offset, out)
@@ -205,6 +216,7 @@ impl Entry for IndexEntry {
 }
 
 impl<'a> ReadEntry<'a> for IndexEntry {
+    /// Reads the external's index and the offset as words.
     fn read(cursor: &mut Cursor<'a>) -> Result<IndexEntry, FieldFault> {
         let index = cursor.word()?;
         let offset = cursor.word()?;

@@ -76,6 +76,7 @@ impl<'a, E: ReadEntry<'a>> Iterator for Row<'a, E> {
 
     ghost remaining = { item_count (λ entries. entries) };
 
+    /// The next entry, which is then no longer in the row; `None` if no entry is left.
     fn next(&mut self) -> Option<E> {
         if self.bytes.is_empty() {
             return None;

@@ -99,6 +99,7 @@ impl Hash for Name {
 impl fmt::Display for Name {
     ghost output = { λ name. Some name };
 
+    /// Writes the name's bytes, which are printable ASCII.
     fn fmt<W: fmt::Write>(&self, f: &mut fmt::Formatter<W>) -> fmt::Result {
         match str::from_utf8(self.bytes()) {
             Ok(text) => f.write_str(text),

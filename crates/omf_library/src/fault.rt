@@ -68,6 +68,7 @@ impl LibraryFault {
 impl From<ModuleFault> for LibraryFault {
     ghost from_gives = { λ fault given. given ≡ of_module fault };
 
+    /// Converts a module's fault to `Module`; running out of memory is the library's own `Memory`.
     fn from(fault: ModuleFault) -> LibraryFault {
         match fault.cause {
             Cause::Memory => LibraryFault::Memory,

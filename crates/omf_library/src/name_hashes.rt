@@ -31,6 +31,7 @@ impl BuildHasher for NameHashes {
 
     ghost build_hasher = { λ h. h.fed };
 
+    /// A hasher that starts from the names that were fed.
     fn build_hasher(&self) -> DefaultHasher {
         self.fed
     }

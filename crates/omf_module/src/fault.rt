@@ -84,6 +84,7 @@ impl From<RecordFault> for Cause {
 impl From<BodyFault> for Cause {
     ghost from_gives = { λ fault cause. cause ≡ cause_of fault };
 
+    /// Converts the fault of a record's body to the cause of the same name.
     fn from(fault: BodyFault) -> Cause {
         match fault {
             BodyFault::UnknownKind(kind) => Cause::UnknownKind(kind),
@@ -176,6 +177,7 @@ impl ModuleFault {
 }
 
 impl fmt::Display for ModuleFault {
+    /// Writes the cause and the place, as `NoEnd AT 20`; for `Memory` no place.
     fn fmt<W: fmt::Write>(&self, f: &mut fmt::Formatter<W>) -> fmt::Result {
         let cause = self.cause;
         let at = self.at;

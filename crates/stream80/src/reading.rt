@@ -33,6 +33,7 @@ impl<R: Read> Source for Reading<R> {
         self.failures
     }
 
+    /// Reads from `inner`; every error of it is counted, and answered as `Failed`.
     fn read(&mut self, buffer: &mut [u8]) -> Result<usize, Failed> {
         match self.inner.read(buffer) {
             Ok(count) => Ok(count),

@@ -33,6 +33,8 @@ impl<W: Write> Sink for Writing<W> {
         self.failures
     }
 
+    /// Writes to `inner`; every error of it and every `Ok(0)` is counted, an error answered as
+    /// `Failed`.
     fn write(&mut self, bytes: &[u8]) -> Result<usize, Failed> {
         match self.inner.write(bytes) {
             Ok(0) => {
