@@ -30,7 +30,12 @@ pub(crate) fn append_path(text: &mut Vec<u8>, path: &[u8]) -> Result<(), AllocEr
 /// Appends a byte of a path, as `\x` and two hexadecimal digits if it belongs to a control
 /// character. `before` is the byte before it, 0 if there is none, `behind` the bytes after it.
 /// `Err` only if memory runs out.
-fn append_shown_byte(text: &mut Vec<u8>, before: u8, byte: u8, behind: &[u8]) -> Result<(), AllocError>
+fn append_shown_byte(
+    text: &mut Vec<u8>,
+    before: u8,
+    byte: u8,
+    behind: &[u8],
+) -> Result<(), AllocError>
     ensures { OnOk result (text.new.items ≡ text.old.items ++ shown_byte before byte (slice_index_or behind.now 0 160)) }
 {
     let after = match behind.first() {
