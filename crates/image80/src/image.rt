@@ -27,8 +27,7 @@ impl Image {
     ghost use Rattle.std.specs.Prelude.{◌≡◌};
     ghost use Rattle.image80.specs.Image.{byte_at};
 
-    /// The byte of the image's memory at the address: that of the last chunk that covers it, and
-    /// 0 if none does.
+    /// The byte of the image's memory at the address: that of the last chunk that covers it, or 0 if no chunk does.
     pub fn byte(&self, address: u16) -> u8
         ensures { result ≡ byte_at self.now.chunks address }
     {

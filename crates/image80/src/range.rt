@@ -23,7 +23,8 @@ impl Range {
     }
 }
 
-/// Whether a range of a short list contains an address. Most programs have one range of a kind.
+/// Whether an address lies in one of the ranges, which must be ascending and disjoint. A single range, as most
+/// programs have it, is checked at once; more of them by binary search.
 #[inline]
 pub(crate) fn in_ranges(ranges: &[Range], address: u16) -> bool
     requires { AreApart ranges.now }
@@ -35,7 +36,7 @@ pub(crate) fn in_ranges(ranges: &[Range], address: u16) -> bool
     }
 }
 
-/// Whether a range of a long list contains an address. The time grows with the logarithm of the list's length.
+/// Whether an address lies in one of the ranges, which must be ascending and disjoint; a binary search.
 #[inline(never)]
 fn in_many_ranges(ranges: &[Range], address: u16) -> bool
     requires { AreApart ranges.now }
