@@ -23,8 +23,8 @@ impl Range {
     }
 }
 
-/// Whether an address lies in one of the ranges, which must be ascending and disjoint. A single range, as most
-/// programs have it, is checked at once; more of them by binary search.
+/// Whether an address lies in one of the ranges, which must be ascending, disjoint and not empty. A single range, as
+/// most programs have it, is checked at once; others by binary search.
 #[inline]
 pub(crate) fn in_ranges(ranges: &[Range], address: u16) -> bool
     requires { AreApart ranges.now }
@@ -36,7 +36,7 @@ pub(crate) fn in_ranges(ranges: &[Range], address: u16) -> bool
     }
 }
 
-/// Whether an address lies in one of the ranges, which must be ascending and disjoint; a binary search.
+/// Whether an address lies in one of the ranges, which must be ascending, disjoint and not empty; a binary search.
 #[inline(never)]
 fn in_many_ranges(ranges: &[Range], address: u16) -> bool
     requires { AreApart ranges.now }

@@ -48,8 +48,8 @@ impl Regions {
     ghost use Rattle.image80.specs.Range.{IsInMemory};
     ghost use Rattle.image80.specs.Regions.{AreDisjoint, AreRegions, Arranges, in_code, in_data, targets_at, top_of};
 
-    /// Makes regions without cases of these ranges, in any order; `None` if an address lies in two of them. Code and
-    /// data must have no empty range.
+    /// Makes regions without cases of these ranges, in any order; `None` if an address lies in two of them. All
+    /// ranges must end in memory, and those of code and data must not be empty.
     pub(crate) fn from_ranges(
         alloc: Global,
         code: Vec<Range>,
@@ -70,8 +70,8 @@ impl Regions {
         Ok(Some(Regions::from_disjoint(alloc, code, stack, data_ranges)))
     }
 
-    /// Makes regions without cases of these ranges, in any order. Code and data must have no empty range, and no two
-    /// ranges may share an address.
+    /// Makes regions without cases of these ranges, in any order. All ranges must end in memory, those of code and
+    /// data must not be empty, and no two may share an address.
     pub fn from_disjoint(
         alloc: Global,
         mut code: Vec<Range>,
