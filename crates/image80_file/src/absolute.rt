@@ -4,7 +4,8 @@ use image80::Chunk;
 use omf_core::Name;
 use std::marker::Model;
 
-/// What an object file holds of an image: all but its regions.
+/// The part of an image that an object file holds, all but the regions: the name, the chunks in the order of their
+/// content records, and the start address.
 #[derive(Drop)]
 pub(crate) struct AbsoluteProgram {
     pub name: Name,
