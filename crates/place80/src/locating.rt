@@ -24,9 +24,10 @@ use omf_model::relocation_laws::{
 use omf_module::Module;
 use std::alloc::{AllocError, Global};
 
-/// The program's image at its places.
+/// Locates a program: makes its image, with the segments placed by the options.
 ///
-/// The image's memory is at each address the byte that the module defines under those places: that of the last content over it,
+/// The image's memory has at each address the byte that the module defines under those places: that of the last
+/// content over it,
 /// with its fixups applied, and 0 if none covers it. There is one chunk for each content, in order. Code is CODE,
 /// data are DATA, MEMORY and all commons, and the stack is STACK. No fixup lost the low byte of its word.
 ///
@@ -71,7 +72,7 @@ pub fn locate(alloc: Global, program: &Module, options: &Options) -> Result<Imag
     Ok(image_of(alloc, program, &segments, start)?)
 }
 
-/// The image of a program with its segments at these places, which starts at this address.
+/// Makes the image of a program with its segments at these places and its start at this address.
 fn image_of(
     alloc: Global,
     program: &Module,
@@ -96,7 +97,7 @@ fn image_of(
     })
 }
 
-/// The fault of an external without a public.
+/// The fault `Unresolved` with a copy of the external's name, or `Memory` if there is no memory for the copy.
 fn unresolved_fault(alloc: Global, name: &Name) -> PlaceFault
     ensures { (result ≡ Memory) ⊎ (result ≡ Unresolved name.now) }
 {
