@@ -27,9 +27,9 @@ use std::alloc::{AllocError, Global};
 /// Locates a program: makes its image, with the segments placed by the options.
 ///
 /// The image's memory has at each address the byte that the module defines under those places: that of the last
-/// content over it,
-/// with its fixups applied, and 0 if none covers it. There is one chunk for each content, in order. Code is CODE,
-/// data are DATA, MEMORY and all commons, and the stack is STACK. No fixup lost the low byte of its word.
+/// content over it, with its fixups applied, and 0 if none covers it. There is one chunk for each content, in order.
+/// Code is CODE, data are DATA, MEMORY and all commons, and the stack is STACK. No fixup lost the low byte of its
+/// word.
 ///
 /// # Example
 /// ```
@@ -39,8 +39,8 @@ use std::alloc::{AllocError, Global};
 /// ```
 ///
 /// # Errors
-/// The first that holds of `Unresolved`, `NoStart`, `OutsideMemory`, `Overlap`, `HighNotPaged` and `StartNotCode`; `Memory`
-/// only if memory ran out, and never of a module without externals that is no main program.
+/// The first that holds of `Unresolved`, `NoStart`, `OutsideMemory`, `Overlap`, `HighNotPaged` and `StartNotCode`;
+/// `Memory` only if memory ran out, and never of a module without externals that is no main program.
 pub fn locate(alloc: Global, program: &Module, options: &Options) -> Result<Image, PlaceFault>
     ensures name { IfOk result (λ image. image.name ≡ program.now.name) }
     ensures chunks { IfOk result (λ image. image.chunks ≡ located_chunks options.now program.now) }
