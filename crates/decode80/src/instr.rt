@@ -112,7 +112,7 @@ pub enum Instr {
     Hlt,
 }
 
-/// Instructions are equal if they are written with the same bytes: no two of them are.
+/// Instructions are equal exactly if their bytes are: no two different ones are written alike.
 impl PartialEq for Instr {
     ghost eq = { on written (pointwise nat_eq) };
 
