@@ -32,14 +32,14 @@ pub struct Comparison {
 /// The number of bytes that a line shows at most, of the image and of the dump each.
 const SHOWN: usize = 8;
 
-/// Compares the image's memory with a dump whose first byte has the address `first`; if no chunk covers an address,
-/// the image has `fill` there. An address is in one of the ranges exactly if the bytes differ; they ascend, and no two of them
-/// touch. The text has a line for each, such as `DIFFERS 0123 0002 3E05 3E07` with up to eight bytes of the image and of the
-/// dump, and then one such as `SAME 2046 OF 2048`.
+/// Compares the image's memory with a dump whose first byte has the address `first`; at an address that no chunk
+/// covers, the image has `fill`. An address is in one of the ranges exactly if the bytes differ; the ranges ascend,
+/// and no two of them touch. The text has a line for each, such as `DIFFERS 0123 0002 3E05 3E07` with up to eight
+/// bytes of the image and of the dump, and then one such as `SAME 2046 OF 2048`.
 ///
 /// # Errors
-/// `EmptyFile` exactly where the dump has no bytes, `PastMemory` exactly where it goes past FFFF; `Memory` only if memory ran
-/// out.
+/// `EmptyFile` exactly if the dump has no bytes, `PastMemory` exactly if it goes past FFFF; `Memory` only if memory
+/// ran out.
 pub fn compare(
     alloc: Global,
     image: &Image,
