@@ -45,7 +45,8 @@ pub fn step<B: Bus, P: Ports>(
     execute(found, cpu, bus, ports, regions)
 }
 
-/// Guards an instruction and executes it.
+/// Executes a fetched instruction with its checks, and returns how the run ends, if it does; then nothing has changed
+/// but the count of refused outputs.
 #[inline]
 fn execute<B: Bus, P: Ports>(
     found: Fetched,
@@ -85,7 +86,8 @@ fn execute<B: Bus, P: Ports>(
     }
 }
 
-/// PCHL goes to HL, unless targets are declared for its address and HL is none of them: then nothing changes.
+/// Executes PCHL: the program counter becomes HL. If targets are declared for its address and HL is none of them,
+/// returns `End::JumpOutside` with HL, and nothing has changed.
 fn jump_by_pair(cpu: &mut Cpu, regions: &Regions) -> Option<End>
     ensures end { result ≡ jump_end (targets_at regions.now cpu.old.pc) (hl_of cpu.old.registers) }
     ensures kept { OnSome result (cpu.new ≡ cpu.old) }
@@ -101,7 +103,7 @@ fn jump_by_pair(cpu: &mut Cpu, regions: &Regions) -> Option<End>
     None
 }
 
-/// Whether the address is one of the targets, which ascend.
+/// Whether the address is one of the targets, which must ascend.
 fn is_target(targets: &[u16], to: u16) -> bool
     requires { AllPairs (λ a b. a < b) targets.now }
     ensures { result ≡ list_any (λ target. target == to) targets.now }
