@@ -14,7 +14,7 @@ pub struct Range {
 }
 
 impl Range {
-    /// Whether the address is one of the range's.
+    /// Whether the address lies in the range.
     #[inline]
     pub fn contains(&self, address: u16) -> bool
         ensures { result ≡ in_range self.now address }

@@ -70,7 +70,7 @@ fn append_text(
     out.extend_from_slice(&text)
 }
 
-/// The text of the regions in the version.
+/// The whole regions text of the regions, in the version.
 fn spell(alloc: Global, version: Version, regions: &Regions) -> Result<Vec<u8>, AllocError>
     ensures text { IfOk result (λ text. text.items ≡ text_in version regions.now) }
     ensures rules { OnOk result (AreRegions regions.now) }
