@@ -1,4 +1,4 @@
-//! The chunks of an image: contents at their places, with their references applied.
+//! The chunks of an image: contents at their places, with their fixups applied.
 
 ghost use Rattle.std.specs.Prelude.{◌≡◌, ◌≤◌, map, IfOk};
 ghost use Rattle.std.specs.List.{AllByRecursion, list_any};

@@ -67,7 +67,7 @@ fn push_filled(ranges: &mut Vec<Range>, range: Range) -> Result<(), AllocError>
     Ok(())
 }
 
-/// The range of STACK.
+/// The range of STACK, which may be empty.
 pub(crate) fn stack_range(segments: &[Placed]) -> Range
     requires { AllByRecursion (λ p. p.length < 65536) segments.now }
     ensures { result ≡ located_stack segments.now }

@@ -40,7 +40,7 @@ pub fn locate_with_restart(
     ensures fault { IfErr result (λ fault. (fault ≡ Memory) ⊎ (restart_fault options.now program.now ≡ Some fault)) }
 {
     let image = locate(alloc, program, options)?;
-    // It has no other fault, since it can be located.
+    // The layout has no fault but `Memory`, since the program can be located.
     let Ok(layout) = layout(alloc, program, options) else {
         return Err(PlaceFault::Memory);
     };
