@@ -29,7 +29,8 @@ pub struct Board<'a> {
 #[derive(Clone, Copy, Debug, PartialEq, Eq, Error)]
 #[error("OutsideRanges {segment:02X}")]
 pub struct Unmapped {
-    /// 0 absolute content or a restart, 1 CODE, 2 DATA, 3 STACK, 4 MEMORY, 6 to 254 named commons, 255 the unnamed common.
+    /// The segment's id: 0 absolute content or a restart, 1 CODE, 2 DATA, 3 STACK, 4 MEMORY, 6 to 254 named commons,
+    /// 255 the unnamed common.
     pub segment: u8,
     /// The address without memory, which may be past FFFF.
     pub address: u64,

@@ -25,7 +25,7 @@ pub fn map_text(alloc: Global, program: &Module, options: &Options) -> Result<Ve
     ensures fault { IfErr result (λ fault. (fault ≡ Memory) ⊎ (locate_fault options.now program.now ≡ Some fault)) }
 {
     locate(alloc, program, options)?;
-    // It has no other fault, since it can be located.
+    // The layout has no fault but `Memory`, since the program can be located.
     let Ok(layout) = layout(alloc, program, options) else {
         return Err(PlaceFault::Memory);
     };
