@@ -1,4 +1,4 @@
-//! What a file seems to be that was to be a dump.
+//! What a file that is given as a dump seems to be.
 
 ghost use Rattle.std.specs.Prelude.{◌≡◌, ◌==◌};
 ghost use Rattle.std.specs.Char.{is_ascii_hexdigit};
