@@ -18,7 +18,7 @@ use crate::table::ROWS;
 pub fn decode(bytes: [u8; 3]) -> Option<(Instr, usize)>
     // The answer as a value that computes.
     ensures value { result ≡ decoded (slice_index bytes 0) (slice_index bytes 1) (slice_index bytes 2) }
-    // It is the one instruction whose spelling begins the bytes.
+    // The answer is the one instruction whose spelling begins the bytes.
     ensures found { (i : Instr) (n : ℕ) →
         (result ≡ Some (i, n)) ↔ (BeginsWith bytes i × (n ≡ length (spelling i))) }
     ensures none { (result ≡ None) ↔ ((i : Instr) → BeginsWith bytes i → ⊥) }

@@ -16,7 +16,7 @@ const MEMORY: u8 = 6;
 pub fn encode(instr: Instr) -> ([u8; 3], usize)
     ensures bytes { result.0 ≡ padded (spelling instr) }
     ensures length { result.1 ≡ length (spelling instr) }
-    // It is decoded as itself.
+    // What is encoded is decoded as itself.
     ensures again { decoded (slice_index result.0 0) (slice_index result.0 1) (slice_index result.0 2) ≡ Some (instr, result.1) }
 {
     spell(instr)

@@ -5,19 +5,19 @@ use crate::register::Register;
 /// An operation on the accumulator: a field of three bits, 0 to 7 in this order.
 #[derive(Clone, Copy, Debug, PartialEq, Eq)]
 pub enum Operation {
-    /// ADD, ADI.
+    /// ADD, ADI: add.
     Add,
     /// ADC, ACI: add with the carry.
     AddCarry,
-    /// SUB, SUI.
+    /// SUB, SUI: subtract.
     Subtract,
     /// SBB, SBI: subtract with the borrow.
     SubtractBorrow,
-    /// ANA, ANI.
+    /// ANA, ANI: bitwise and.
     And,
-    /// XRA, XRI.
+    /// XRA, XRI: bitwise exclusive or.
     ExclusiveOr,
-    /// ORA, ORI.
+    /// ORA, ORI: bitwise or.
     Or,
     /// CMP, CPI: the flags of a subtraction, and the accumulator stays.
     Compare,

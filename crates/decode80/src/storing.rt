@@ -2,7 +2,7 @@
 
 use crate::pair::IndexPair;
 
-/// Where an instruction stores, apart from the stack, to which PUSH, CALL, RST and XTHL write.
+/// Where an instruction stores, apart from the stack, to which PUSH, XTHL, RST and calls write.
 #[derive(Clone, Copy, Debug, PartialEq, Eq)]
 pub enum Storing {
     /// The instruction stores nowhere, or only on the stack.
