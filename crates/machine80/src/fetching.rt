@@ -1,4 +1,4 @@
-//! An instruction is fetched from a processor's memory, inside the code.
+//! Fetches an instruction from a processor's memory, inside the code.
 
 ghost use Rattle.std.specs.Prelude.{◌≡◌, ◌+◌, ◌&&◌, [], ◌∷◌, nat_le, slice_index};
 ghost use Rattle.decode80.specs.Fetch.{all_code};

@@ -1,4 +1,4 @@
-//! The bytes that an instruction may not touch: the end at the first of them.
+//! Checks of the bytes that an instruction touches: the end at the first that it may not.
 
 ghost use Rattle.std.specs.Prelude.{◌≡◌, [], ◌∷◌, None};
 ghost use Rattle.std.specs.Result.{result_err};

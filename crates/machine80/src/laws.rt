@@ -24,9 +24,9 @@ pub fn status_word_round_trip()
     ensures { StatusWordRoundTrip }
 {}
 
-/// A law: an instruction keeps to its facts ([`decode80::Facts`]). It leaves unchanged the registers and the flags
-/// that it doesn't write, and stores only at the bytes that it pushes, names or points to. (IN, which the ports
-/// serve, writes A.)
+/// A law: an instruction keeps to its facts ([`decode80::Facts`]). Its effect leaves unchanged the registers and the
+/// flags that aren't among those that it writes, and it stores at exactly the bytes that it pushes, exchanges, names
+/// or points to. What IN reads isn't part of this: the ports put it in A.
 pub fn instructions_keep_to_facts()
     ensures { InstructionsKeepToFacts }
 {}

@@ -16,12 +16,12 @@ use crate::ports::Ports;
 use decode80::{Fetched, Instr};
 use image80::Regions;
 
-/// Makes one step: the instruction at the program counter is fetched, guarded and executed (Intel 8080 Microcomputer Systems
-/// User's Manual, chapter 4; docs/MACHINE.md). The answer is `None`, or how the run ends: [`End::Fetch`] if no instruction is
-/// fetched; else [`End::Stack`], [`End::Direct`] or [`End::StoreOutside`] at the first byte that it would touch outside its
-/// region; else [`End::Halt`] at HLT, [`End::InputEnd`] at IN if no byte waits, [`End::OutputRefused`] at OUT if the ports
-/// refuse the byte, [`End::JumpOutside`] at a PCHL if HL is none of the targets that are declared for its address. (If none
-/// are declared, it goes where HL says.)
+/// Makes one step: the instruction at the program counter is fetched, guarded and executed (Intel 8080 Microcomputer
+/// Systems User's Manual, chapter 4; docs/MACHINE.md). Returns `None` if the run goes on, or how it ends:
+/// [`End::Fetch`] if no instruction can be fetched; else [`End::Stack`], [`End::Direct`] or [`End::StoreOutside`] at
+/// the first byte that it would touch outside its region; else [`End::Halt`] at HLT, [`End::InputEnd`] at IN if no
+/// byte waits, [`End::OutputRefused`] at OUT if the ports refuse the byte, [`End::JumpOutside`] at a PCHL if targets
+/// are declared for its address and HL is none of them.
 ///
 /// If the run ends, nothing has changed but the count of refused outputs, which is one higher after
 /// [`End::OutputRefused`]. The count must be below the greatest `u64`.
