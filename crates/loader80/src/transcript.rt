@@ -47,9 +47,9 @@ pub fn front_text(
     Ok(text)
 }
 
-/// The last line of a transcript: how the run ended, such as `HALT 3012 AFTER 11`; `STEPS AFTER 11` if the steps were
-/// used up. `at` is the program counter, and `steps` the number of steps that were made. Of the ends that a vouched
-/// image never has, it is empty.
+/// The last line of a transcript: how the run ended, such as `HALT 3012 AFTER 11`, or `STEPS AFTER 11` if the steps
+/// were used up. `at` is the program counter, and `steps` the number of steps that were made. The text is empty for
+/// an end that a vouched image never has.
 ///
 /// # Errors
 /// `AllocError` only if memory runs out.
