@@ -1,4 +1,4 @@
-//! A bundle parted into its three texts.
+//! A bundle split into its three texts.
 ghost use Rattle.std.specs.Prelude.{◌≡◌, None, Some, IfOk};
 ghost use Rattle.std.specs.Option.{option_map};
 ghost use Rattle.loader80_text.specs.BundleText.{bundle_texts, sides_of, texts_of};

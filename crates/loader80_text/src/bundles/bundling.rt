@@ -14,7 +14,7 @@ use loader80::{Outcome, SessionFault, SessionTexts, TEXT_LIMIT, answer_texts};
 use std::alloc::Global;
 use stream80::{Failed, ReadAllFault, Sink, Source, read_all, write_all};
 
-/// The greatest number of bytes of a bundle whose three parts can be within their limits.
+/// The greatest number of bytes of a bundle whose three texts can be within their limits.
 pub const BUNDLE_LIMIT: usize = 4_194_312;
 
 /// Reads a bundle whole, checks and runs its image, and writes the transcript or the refusal's line, as
