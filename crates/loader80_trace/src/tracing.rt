@@ -193,8 +193,8 @@ fn show_step(
     Ok(end)
 }
 
-/// The byte that an instruction took from a port or gave to one, by the accumulator before and after it: after an IN
-/// that didn't end the run, or before an OUT. `None` for any other.
+/// The byte that an instruction took from a port or gave to one: of IN, unless it ended the run, the accumulator
+/// after it; of OUT, the accumulator before it. `None` for any other.
 fn byte_seen(instr: Instr, before: u8, end: Option<End>, after: u8) -> Option<u8>
     ensures { result ≡ byte_seen instr before «end» after }
 {

@@ -65,7 +65,7 @@ fn lines_of(
     Ok(lines)
 }
 
-/// Appends the line that begins at each address, if one does, with its count if `shown`.
+/// Appends the lines that begin at all addresses, in order, with their counts if `shown`.
 fn append_lines(
     alloc: Global,
     layout: &Layout<'_>,
@@ -98,9 +98,9 @@ fn count_shown(shown: bool, counts: &[u64], at: usize) -> u64
     0
 }
 
-/// Appends the line that begins at an address: that of a reached instruction, or that of up to eight bytes of data,
-/// which is due at every eighth byte after the first. Nothing is appended if none begins there. `before` is the
-/// number of bytes of data right before the address.
+/// Appends the line that begins at an address: that of a reached instruction, or that of up to eight bytes of data if
+/// the address is the first of a run of data or a multiple of eight bytes behind it. Nothing is appended if no line
+/// begins there. `before` is the number of bytes of data right before the address.
 fn append_line(
     alloc: Global,
     layout: &Layout<'_>,
