@@ -12,6 +12,7 @@ use std::marker::Model;
 pub struct Case {
     /// The address of the PCHL.
     pub at: u16,
+    /// The addresses that the PCHL may jump to, ascending, without duplicates.
     pub targets: Vec<u16>,
 }
 

@@ -15,7 +15,9 @@ use text80::word_of_digits;
 /// A CASE line as it is read: the address of a PCHL and at least one target, in the line's order, duplicates included.
 #[derive(Drop)]
 pub(crate) struct CaseLine {
+    /// The address of the PCHL.
     pub at: u16,
+    /// The targets, at least one, in the line's order.
     pub targets: Vec<u16>,
 }
 

@@ -8,7 +8,9 @@ use std::marker::Model;
 /// makes a chunk must ensure this.
 #[derive(Debug, Drop)]
 pub struct Chunk {
+    /// The address of the first byte.
     pub address: u16,
+    /// The bytes, at consecutive addresses.
     pub bytes: Vec<u8>,
 }
 

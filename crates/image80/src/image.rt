@@ -9,9 +9,13 @@ use std::marker::Model;
 /// the address where it starts.
 #[derive(Debug, Drop)]
 pub struct Image {
+    /// The program's name.
     pub name: Name,
+    /// The bytes, in the order of their content records: a later chunk hides an earlier one.
     pub chunks: Vec<Chunk>,
+    /// The addresses that the program may use.
     pub regions: Regions,
+    /// The address where the program starts.
     pub start: u16,
 }
 

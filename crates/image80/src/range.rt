@@ -9,7 +9,9 @@ ghost use Rattle.image80.specs.Regions.{AreApart};
 /// A range that lies in memory ends at or below 65536, the first address past memory.
 #[derive(Clone, Copy, Debug, PartialEq, Eq)]
 pub struct Range {
+    /// The lowest address.
     pub first: u16,
+    /// The number of addresses, 0 for an empty range.
     pub length: u16,
 }
 

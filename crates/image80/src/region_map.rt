@@ -19,6 +19,7 @@ const DATA: u8 = 2;
 /// time for any number of ranges.
 #[derive(Drop)]
 pub struct RegionMap {
+    /// The mark of each address.
     marks: Vec<u8>,
 }
 

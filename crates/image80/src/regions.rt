@@ -16,9 +16,13 @@ use std::marker::Model;
 /// The cases are kept by address, one for an address at most.
 #[derive(Debug, Drop)]
 pub struct Regions {
+    /// The ranges of code, by address.
     code: Vec<Range>,
+    /// The range of the stack, which may be empty.
     stack: Range,
+    /// The ranges of data, by address.
     data_ranges: Vec<Range>,
+    /// The declared targets of PCHLs, by the address of the PCHL.
     cases: Vec<Case>,
 }
 
