@@ -8,8 +8,11 @@ use std::marker::Model;
 /// content records, and the start address.
 #[derive(Drop)]
 pub(crate) struct AbsoluteProgram {
+    /// The program's name.
     pub name: Name,
+    /// The bytes, in the order of their content records.
     pub chunks: Vec<Chunk>,
+    /// The address where the program starts.
     pub start: u16,
 }
 
