@@ -51,8 +51,8 @@ fn append_labelled(
     text.extend_from_slice(line)
 }
 
-/// The lines of a text, each that begins with this word and an address in four digits with the name of that address behind it. Every
-/// other line stays as it is, and so does what follows the last line feed.
+/// The lines of a text, with the name of an address behind each line that begins with `word` and that address in four
+/// digits. Every other line stays as it is, and so does what follows the last line feed.
 ///
 /// The word ends with its blank, as in `PROC `; it must have no line feed.
 ///

@@ -19,6 +19,7 @@ const ADDRESSES: usize = 65_536;
 /// Publics of other segments than the absolute one, whose offsets are no addresses, are passed over.
 #[derive(Drop)]
 pub struct PublicTable {
+    /// The publics, in their order.
     publics: Vec<Public>,
     /// By address, the index in `publics` of the first public there, `None` if there is none.
     first: Vec<Option<usize>>,
