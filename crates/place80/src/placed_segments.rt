@@ -19,6 +19,7 @@ pub struct Placed {
 /// The placed segments of a program, in the order CODE, STACK, the named commons by id, the unnamed common, DATA, MEMORY.
 #[derive(Debug, Drop)]
 pub struct Layout {
+    /// The placed segments: CODE, STACK, the named commons by id, the unnamed common, DATA, MEMORY.
     pub segments: Vec<Placed>,
 }
 
