@@ -15,9 +15,9 @@ use place80::{Placed, place_of};
 use std::alloc::{AllocError, Global};
 
 /// Appends the object file of the image to `out`, as `image80_file::write_image` does, but with a public of segment 0
-/// for each of these publics, in order: the same name, at the address that it has if the segments are placed so.
-/// Intel's LOCATE keeps publics like this without PURGE. (ISIS-II User's Guide, LOCATE; 8080 Object Module Formats,
-/// public declarations record.)
+/// for each of these publics, in order: the same name, at the address that it has with the segments placed so.
+/// Intel's LOCATE keeps publics in this form unless the control PURGE is given. (ISIS-II User's Guide, LOCATE; 8080
+/// Object Module Formats, public declarations record.)
 ///
 /// The file is read as the same image as one without publics.
 ///
