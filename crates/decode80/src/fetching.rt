@@ -50,7 +50,9 @@ pub trait Program {
 /// An instruction and the address after it.
 #[derive(Clone, Copy, Debug, PartialEq, Eq)]
 pub struct Fetched {
+    /// The instruction.
     pub instr: Instr,
+    /// The address after the instruction, modulo 65536.
     pub next: u16,
 }
 
