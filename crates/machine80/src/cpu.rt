@@ -14,8 +14,11 @@ use image80::Regions;
 /// The state of the processor: the registers with the flags, the stack pointer and the program counter.
 #[derive(Clone, Copy, Debug, PartialEq, Eq)]
 pub struct Cpu {
+    /// The seven registers and the flags.
     pub registers: Registers,
+    /// The stack pointer.
     pub sp: u16,
+    /// The program counter: the address of the next instruction.
     pub pc: u16,
 }
 

@@ -11,6 +11,7 @@ use std::marker::Model;
 /// A memory of 65536 bytes in one piece.
 #[derive(Drop)]
 pub struct FlatBus {
+    /// The 65536 bytes, by address.
     bytes: Vec<u8>,
 }
 

@@ -12,6 +12,7 @@ use std::marker::Model;
 /// and are adjacent, so that a load needn't find its page first.
 #[derive(Drop)]
 pub struct PagedBus {
+    /// The 256 pages, by address.
     pages: Vec<[u8; 256]>,
 }
 
