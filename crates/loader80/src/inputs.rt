@@ -77,7 +77,9 @@ pub fn read_inputs(alloc: Global, bytes: &[u8]) -> Result<Inputs, InputsFault>
 /// A line of inputs: a port and the bytes that wait there.
 #[derive(Drop)]
 struct LineInput {
+    /// The port.
     port: u8,
+    /// The bytes, in the order in which they wait.
     bytes: Vec<u8>,
 }
 
