@@ -16,6 +16,7 @@ use stream80::TEXT_LIMIT;
 /// The input bytes that words name, in the order of the words.
 #[derive(Drop)]
 pub struct WordInputs {
+    /// The items of all words, in order.
     inputs: Vec<Repeated>,
 }
 
