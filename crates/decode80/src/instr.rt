@@ -118,6 +118,7 @@ impl PartialEq for Instr {
 
     ghost laws = { partial_equiv_from_equiv (on_texts_equal written) };
 
+    /// Whether both instructions have the same bytes.
     fn eq(&self, other: &Instr) -> bool {
         encode(*self).0 == encode(*other).0
     }
@@ -129,6 +130,7 @@ impl Eq for Instr {
 
 /// An instruction is shown by its mnemonic and its bytes: `MVI 06 A5`.
 impl fmt::Debug for Instr {
+    /// Writes the mnemonic, and each byte after a space, as `MVI 06 A5`.
     fn fmt<W: fmt::Write>(&self, f: &mut fmt::Formatter<W>) -> fmt::Result {
         f.write_str(str::from_utf8(mnemonic_of(*self)).unwrap_or("?"))?;
         let (bytes, length) = encode(*self);
