@@ -26,7 +26,7 @@ impl Condition {
     ghost use Rattle.decode80.specs.Condition.{condition_code};
     ghost use Rattle.decode80.specs.Text.{condition_text};
 
-    /// The field that names the condition in an opcode.
+    /// The three bits that name the condition in an opcode, 0 to 7.
     pub(crate) fn code(self) -> u8
         ensures value { result ≡ condition_code self }
         ensures small { result < 8 }
@@ -43,7 +43,7 @@ impl Condition {
         }
     }
 
-    /// The mnemonic of the jump on the condition.
+    /// The mnemonic of the jump on the condition, such as JNZ.
     pub(crate) fn jump_text(self) -> &'static [u8]
         ensures { result.now ≡ codes "J" ++ condition_text self }
     {
@@ -59,7 +59,7 @@ impl Condition {
         }
     }
 
-    /// The mnemonic of the call on the condition.
+    /// The mnemonic of the call on the condition, such as CNZ.
     pub(crate) fn call_text(self) -> &'static [u8]
         ensures { result.now ≡ codes "C" ++ condition_text self }
     {
@@ -75,7 +75,7 @@ impl Condition {
         }
     }
 
-    /// The mnemonic of the return on the condition.
+    /// The mnemonic of the return on the condition, such as RNZ.
     pub(crate) fn return_text(self) -> &'static [u8]
         ensures { result.now ≡ codes "R" ++ condition_text self }
     {

@@ -11,14 +11,14 @@ use crate::table::ROWS;
 
 /// The instruction that the bytes begin with, and its length, 1 to 3.
 ///
-/// `None` exactly where the first byte is one of the twelve unused ones, 0x08 0x10 0x18 0x20 0x28 0x30 0x38 0xCB 0xD9 0xDD
+/// `None` exactly if the first byte is one of the twelve unused ones, 0x08 0x10 0x18 0x20 0x28 0x30 0x38 0xCB 0xD9 0xDD
 /// 0xED 0xFD: these begin no instruction (Intel 8080 Assembly Language Programming Manual). The bytes past the length have
 /// no part in the answer.
 #[inline]
 pub fn decode(bytes: [u8; 3]) -> Option<(Instr, usize)>
     // The answer as a value that computes.
     ensures value { result ≡ decoded (slice_index bytes 0) (slice_index bytes 1) (slice_index bytes 2) }
-    // It is the one instruction whose spelling begins the bytes.
+    // The answer is the one instruction whose spelling begins the bytes.
     ensures found { (i : Instr) (n : ℕ) →
         (result ≡ Some (i, n)) ↔ (BeginsWith bytes i × (n ≡ length (spelling i))) }
     ensures none { (result ≡ None) ↔ ((i : Instr) → BeginsWith bytes i → ⊥) }
@@ -30,7 +30,7 @@ pub fn decode(bytes: [u8; 3]) -> Option<(Instr, usize)>
 
 /// The length, 1 to 3, of every instruction with this first byte.
 ///
-/// `None` exactly where it is one of the twelve unused bytes, 0x08 0x10 0x18 0x20 0x28 0x30 0x38 0xCB 0xD9 0xDD 0xED 0xFD
+/// `None` exactly if it is one of the twelve unused bytes, 0x08 0x10 0x18 0x20 0x28 0x30 0x38 0xCB 0xD9 0xDD 0xED 0xFD
 /// (Intel 8080 Assembly Language Programming Manual).
 #[inline]
 pub fn length_of(first: u8) -> Option<usize>
@@ -44,7 +44,7 @@ pub fn length_of(first: u8) -> Option<usize>
     row_at(first).map(|row| complete(row, 0, 0).1)
 }
 
-// The row of the opcode table with this first byte.
+/// The instruction with this first byte, its operand byte or word being 0; `None` for the twelve unused bytes.
 #[inline]
 fn row_at(first: u8) -> Option<Instr>
     ensures { result ≡ row first }
@@ -52,7 +52,8 @@ fn row_at(first: u8) -> Option<Instr>
     ROWS[first as usize]
 }
 
-// The row with these bytes as its operand, and its length.
+/// An instruction of the opcode table with its operand made of the bytes that follow the opcode, as many as it takes,
+/// and its length, 1 to 3.
 #[inline]
 fn complete(row: Instr, low: u8, high: u8) -> (Instr, usize)
     ensures { result ≡ completed low high row }

@@ -7,7 +7,7 @@ ghost use Rattle.decode80.specs.Spelling.{opcode, padded, spelling};
 use crate::instr::Instr;
 use crate::operation::Operand;
 
-// The field that names M, the byte that HL points to, in a register's place.
+/// The three bits that name M, the byte that HL points to, in place of a register.
 const MEMORY: u8 = 6;
 
 /// The bytes that an instruction is written with, 00 past its length, and that length, 1 to 3.
@@ -16,13 +16,13 @@ const MEMORY: u8 = 6;
 pub fn encode(instr: Instr) -> ([u8; 3], usize)
     ensures bytes { result.0 ≡ padded (spelling instr) }
     ensures length { result.1 ≡ length (spelling instr) }
-    // It is decoded as itself.
+    // What is encoded is decoded as itself.
     ensures again { decoded (slice_index result.0 0) (slice_index result.0 1) (slice_index result.0 2) ≡ Some (instr, result.1) }
 {
     spell(instr)
 }
 
-// The spelling filled with 00, and its length.
+/// The bytes of an instruction, filled with 00 to three, and its length, 1 to 3.
 fn spell(instr: Instr) -> ([u8; 3], usize)
     ensures bytes { result.0 ≡ padded (spelling instr) }
     ensures length { result.1 ≡ length (spelling instr) }
@@ -48,14 +48,14 @@ fn spell(instr: Instr) -> ([u8; 3], usize)
     }
 }
 
-/// The encoding of an opcode and a byte.
+/// The three bytes and the length, 2, of an instruction with a byte operand.
 fn with_byte(opcode: u8, byte: u8) -> ([u8; 3], usize)
     ensures { result ≡ (opcode ∷ byte ∷ 0 ∷ [], 2) }
 {
     ([opcode, byte, 0], 2)
 }
 
-/// The encoding of an opcode and a word, low byte first.
+/// The three bytes and the length, 3, of an instruction with a word operand, low byte first.
 fn with_word(opcode: u8, word: u16) -> ([u8; 3], usize)
     ensures { result ≡ (opcode ∷ word % 256 ∷ word / 256 ∷ [], 3) }
 {
@@ -63,7 +63,7 @@ fn with_word(opcode: u8, word: u16) -> ([u8; 3], usize)
     ([opcode, low, high], 3)
 }
 
-// The opcode of an instruction of one byte.
+/// The opcode of an instruction that has one byte only; no other may be given.
 fn opcode_alone(instr: Instr) -> u8
     requires { length (spelling instr) ≡ 1 }
     ensures { result ≡ opcode instr }

@@ -14,13 +14,18 @@ use crate::writes::{AffectedFlags, Writes};
 /// How an instruction goes on, what it writes, and where it stores.
 #[derive(Clone, Copy, Debug, PartialEq, Eq)]
 pub struct Facts {
+    /// How the instruction goes on, and what it does with the stack.
     pub flow: Flow,
+    /// The registers that the instruction writes.
     pub writes: Writes,
+    /// The flags that the instruction affects.
     pub flags: AffectedFlags,
+    /// Where the instruction stores, apart from the stack.
     pub storing: Storing,
 }
 
-/// The facts of an instruction that goes on to the next one and stores nothing.
+/// The facts of an instruction that goes on to the next one, writes these registers, affects these flags and stores
+/// nothing.
 fn works(writes: Writes, flags: AffectedFlags) -> Facts
     ensures { result ≡ works writes flags }
 {
@@ -32,7 +37,7 @@ fn works(writes: Writes, flags: AffectedFlags) -> Facts
     }
 }
 
-/// The facts of an instruction that stores and goes on to the next one.
+/// The facts of an instruction that goes on to the next one, stores so, affects these flags and writes no register.
 fn stores_to(storing: Storing, flags: AffectedFlags) -> Facts
     ensures { result ≡ stores_to storing flags }
 {
@@ -44,7 +49,8 @@ fn stores_to(storing: Storing, flags: AffectedFlags) -> Facts
     }
 }
 
-/// The facts of an instruction that only goes on in its own way.
+/// The facts of an instruction with this flow that writes no register, affects no flag and stores nothing, or only on
+/// the stack.
 fn goes(flow: Flow) -> Facts
     ensures { result ≡ goes flow }
 {
@@ -56,7 +62,7 @@ fn goes(flow: Flow) -> Facts
     }
 }
 
-/// The registers that an operation on the accumulator writes.
+/// The registers that an operation on the accumulator writes: A, or none for a comparison.
 fn writes_of_operation(operation: Operation) -> Writes
     ensures { result ≡ operated operation }
 {
@@ -68,7 +74,7 @@ fn writes_of_operation(operation: Operation) -> Writes
     }
 }
 
-/// The registers that a POP writes.
+/// The registers that POP of a pair writes: both of the pair, or A for PSW.
 fn writes_of_pop(pair: StackPair) -> Writes
     ensures { result ≡ popped pair }
 {
@@ -80,7 +86,7 @@ fn writes_of_pop(pair: StackPair) -> Writes
     }
 }
 
-/// The flags that a POP affects.
+/// The flags that POP of a pair affects: all for PSW, and none for any other.
 fn popped_flags(pair: StackPair) -> AffectedFlags
     ensures { result ≡ popped_flags pair }
 {
@@ -93,7 +99,7 @@ fn popped_flags(pair: StackPair) -> AffectedFlags
 impl Instr {
     ghost use Rattle.decode80.specs.Facts.{facts, flow, storing, writes};
 
-    /// How it goes on, what it writes, and where it stores: each instruction by its name.
+    /// The facts of the instruction: how it goes on, which registers and flags it writes, and where it stores.
     pub fn facts(self) -> Facts
         ensures { result ≡ facts self }
     {
@@ -159,21 +165,21 @@ impl Instr {
         }
     }
 
-    /// How it goes on.
+    /// How the instruction goes on, and what it does with the stack.
     pub fn flow(self) -> Flow
         ensures { result ≡ flow self }
     {
         self.facts().flow
     }
 
-    /// The registers that it writes.
+    /// The registers that the instruction writes, apart from the stack pointer if it pushes or pops.
     pub fn writes(self) -> Writes
         ensures { result ≡ writes self }
     {
         self.facts().writes
     }
 
-    /// Where the instruction stores.
+    /// Where the instruction stores, apart from the stack.
     pub fn storing(self) -> Storing
         ensures { result ≡ storing self }
     {

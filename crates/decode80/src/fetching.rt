@@ -50,7 +50,9 @@ pub trait Program {
 /// An instruction and the address after it.
 #[derive(Clone, Copy, Debug, PartialEq, Eq)]
 pub struct Fetched {
+    /// The instruction.
     pub instr: Instr,
+    /// The address after the instruction, modulo 65536.
     pub next: u16,
 }
 
@@ -63,7 +65,7 @@ pub enum FetchFault {
     Unused,
 }
 
-/// The address a given number of bytes after another one, modulo 65536.
+/// The address `bytes` after `address`, modulo 65536.
 #[inline]
 #[tactic(auto, unfolding(crate::specs::Fetch::ahead))]
 pub fn ahead(address: u16, bytes: u16) -> u16
@@ -72,7 +74,7 @@ pub fn ahead(address: u16, bytes: u16) -> u16
     address.wrapping_add(bytes)
 }
 
-/// The address a given number of bytes before another one, modulo 65536.
+/// The address `bytes` before `address`, modulo 65536.
 #[inline]
 #[tactic(auto, unfolding(crate::specs::Fetch::behind))]
 pub fn behind(address: u16, bytes: u16) -> u16
@@ -106,7 +108,8 @@ pub fn fetch<P: Program>(address: u16, program: &P) -> Result<Fetched, FetchFaul
     }
 }
 
-/// The addresses that an instruction names to store to, in order: one of STA, two of SHLD, none of any other.
+/// The addresses that an instruction names to store to, in order: one of STA, two of SHLD, none of any other. `None`
+/// fills the array up.
 #[inline]
 pub fn direct_bytes(instr: Instr) -> [Option<u16>; 2]
     ensures { filter_map (λ address. address) result ≡ direct_bytes instr }

@@ -7,28 +7,28 @@ use crate::condition::Condition;
 /// all.
 #[derive(Clone, Copy, Debug, PartialEq, Eq)]
 pub enum Flow {
-    /// To the next instruction.
+    /// To the next instruction, with the stack untouched.
     Continues,
-    /// JMP.
+    /// JMP: to this address.
     Jumps(u16),
-    /// JNZ and the other conditional jumps: to the address or to the next instruction.
+    /// JNZ and the other conditional jumps: to this address if the condition holds, else to the next instruction.
     JumpsIf(Condition, u16),
     /// PCHL: to the address in HL.
     JumpsToHl,
-    /// CALL and RST.
+    /// CALL and RST: to this address, after a push of the return address.
     Calls(u16),
-    /// CNZ and the other conditional calls.
+    /// CNZ and the other conditional calls: a call of this address if the condition holds, else to the next instruction.
     CallsIf(Condition, u16),
-    /// RET.
+    /// RET: to the address that it pops.
     Returns,
-    /// RNZ and the other conditional returns.
+    /// RNZ and the other conditional returns: a return if the condition holds, else to the next instruction.
     ReturnsIf(Condition),
-    /// PUSH.
+    /// PUSH: to the next instruction, after a push of a pair.
     Pushes,
-    /// POP.
+    /// POP: to the next instruction, after a pop of a pair.
     Pops,
-    /// XTHL.
+    /// XTHL: to the next instruction, after an exchange of HL with the top of the stack.
     Exchanges,
-    /// HLT.
+    /// HLT: not at all.
     Halts,
 }

@@ -28,45 +28,45 @@ pub enum Instr {
     Load(Register),
     /// MOV M,r: from the register to the byte that HL points to.
     Store(Register),
-    /// MVI r,b.
+    /// MVI r,b: to the register, the byte.
     Mvi(Register, u8),
     /// MVI M,b: to the byte that HL points to.
     MviMemory(u8),
-    /// LXI r,w.
+    /// LXI r,w: to the pair, the word.
     Lxi(Pair, u16),
-    /// DAD r: add the pair to HL.
+    /// DAD r: add the pair to HL, and the carry to CY.
     Dad(Pair),
-    /// INX r.
+    /// INX r: add 1 to the pair; no flag changes.
     Inx(Pair),
-    /// DCX r.
+    /// DCX r: subtract 1 from the pair; no flag changes.
     Dcx(Pair),
-    /// INR r.
+    /// INR r: add 1 to the register.
     Inr(Register),
-    /// INR M: the byte that HL points to.
+    /// INR M: add 1 to the byte that HL points to.
     InrMemory,
-    /// DCR r.
+    /// DCR r: subtract 1 from the register.
     Dcr(Register),
-    /// DCR M: the byte that HL points to.
+    /// DCR M: subtract 1 from the byte that HL points to.
     DcrMemory,
-    /// ADD r, ADD M, ADI b and the other seven operations on the accumulator.
+    /// ADD r, ADD M, ADI b, and the same of the other seven operations on the accumulator.
     Operate(Operation, Operand),
-    /// JMP w.
+    /// JMP w: jump to the address.
     Jmp(u16),
-    /// JNZ w and the other conditional jumps.
+    /// JNZ w and the other conditional jumps: jump to the address if the condition holds.
     JumpIf(Condition, u16),
-    /// CALL w.
+    /// CALL w: push the address after the instruction, and jump to the operand.
     Call(u16),
-    /// CNZ w and the other conditional calls.
+    /// CNZ w and the other conditional calls: call the address if the condition holds.
     CallIf(Condition, u16),
     /// RET: returns to the address that it pops.
     Ret,
-    /// RNZ and the other conditional returns.
+    /// RNZ and the other conditional returns: return if the condition holds.
     ReturnIf(Condition),
-    /// RST n.
+    /// RST n: call the address 8 times n.
     Rst(Restart),
-    /// PUSH r.
+    /// PUSH r: push the pair, its high byte at the upper address.
     Push(StackPair),
-    /// POP r.
+    /// POP r: pop the pair.
     Pop(StackPair),
     /// STAX r: from A to the byte that the pair points to.
     Stax(IndexPair),
@@ -80,7 +80,7 @@ pub enum Instr {
     Sta(u16),
     /// LDA w: to A from the byte at the address.
     Lda(u16),
-    /// RLC, RRC, RAL, RAR.
+    /// RLC, RRC, RAL and RAR: rotate A by one bit.
     Rotate(Rotation),
     /// DAA: decimal adjust A.
     Daa,
@@ -112,12 +112,13 @@ pub enum Instr {
     Hlt,
 }
 
-/// Instructions are equal if they are written with the same bytes: no two of them are.
+/// Instructions are equal exactly if their bytes are: no two different ones are written alike.
 impl PartialEq for Instr {
     ghost eq = { on written (pointwise nat_eq) };
 
     ghost laws = { partial_equiv_from_equiv (on_texts_equal written) };
 
+    /// Whether both instructions have the same bytes.
     fn eq(&self, other: &Instr) -> bool {
         encode(*self).0 == encode(*other).0
     }
@@ -129,6 +130,7 @@ impl Eq for Instr {
 
 /// An instruction is shown by its mnemonic and its bytes: `MVI 06 A5`.
 impl fmt::Debug for Instr {
+    /// Writes the mnemonic, and each byte after a space, as `MVI 06 A5`.
     fn fmt<W: fmt::Write>(&self, f: &mut fmt::Formatter<W>) -> fmt::Result {
         f.write_str(str::from_utf8(mnemonic_of(*self)).unwrap_or("?"))?;
         let (bytes, length) = encode(*self);

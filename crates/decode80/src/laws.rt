@@ -6,7 +6,9 @@ ghost use Rattle.decode80.specs.Decoded.{decoded, instructions, length_at};
 ghost use Rattle.decode80.specs.Fetch.{FetchReadsCodeAlone};
 ghost use Rattle.decode80.specs.Spelling.{padded, spelling, unused_bytes, BeginsWith, HasOperandInRange};
 
-/// The laws of spellings: a caller reads them off this function's contract. It does nothing.
+/// The laws of spellings, as this function's contract; it does nothing. There are 244 instructions of one to three
+/// bytes; no spelling begins another; each first byte is one of the twelve unused ones or begins a spelling; and what
+/// is encoded is decoded as itself.
 pub fn spelling_laws()
     // There are 244 rows, and each instruction's spelling has one to three bytes.
     ensures rows { length instructions ≡ 244 }
@@ -36,7 +38,8 @@ pub fn spelling_laws()
         decoded first second third ≡ Some (i, n) → HasOperandInRange i }
 {}
 
-/// What is fetched depends on the bytes of code alone: a store outside code changes no instruction. It does nothing.
+/// A law, as this function's contract; it does nothing. What is fetched depends on the bytes of code alone: a store
+/// outside code changes no instruction.
 #[inline]
 pub fn fetch_reads_code_alone()
     ensures { FetchReadsCodeAlone }

@@ -6,7 +6,7 @@ ghost use Rattle.decode80.specs.Text.{mnemonic, operand_texts};
 use crate::instr::Instr;
 use crate::operation::Operand;
 
-/// The mnemonic of an instruction.
+/// The mnemonic of an instruction, without operands.
 pub(crate) fn mnemonic_of(instr: Instr) -> &'static [u8]
     ensures { result.now ≡ mnemonic instr }
 {
@@ -40,7 +40,7 @@ pub(crate) fn mnemonic_of(instr: Instr) -> &'static [u8]
     }
 }
 
-// The mnemonic of an instruction that has no operand.
+/// The mnemonic of an instruction without operands in its text; no other may be given.
 fn mnemonic_alone(instr: Instr) -> &'static [u8]
     requires { operand_texts instr ≡ [] }
     ensures { result.now ≡ mnemonic instr }

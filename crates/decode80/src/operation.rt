@@ -5,19 +5,19 @@ use crate::register::Register;
 /// An operation on the accumulator: a field of three bits, 0 to 7 in this order.
 #[derive(Clone, Copy, Debug, PartialEq, Eq)]
 pub enum Operation {
-    /// ADD, ADI.
+    /// ADD, ADI: add.
     Add,
     /// ADC, ACI: add with the carry.
     AddCarry,
-    /// SUB, SUI.
+    /// SUB, SUI: subtract.
     Subtract,
     /// SBB, SBI: subtract with the borrow.
     SubtractBorrow,
-    /// ANA, ANI.
+    /// ANA, ANI: bitwise and.
     And,
-    /// XRA, XRI.
+    /// XRA, XRI: bitwise exclusive or.
     ExclusiveOr,
-    /// ORA, ORI.
+    /// ORA, ORI: bitwise or.
     Or,
     /// CMP, CPI: the flags of a subtraction, and the accumulator stays.
     Compare,
@@ -28,7 +28,7 @@ impl Operation {
     ghost use Rattle.decode80.specs.Operation.{operation_code};
     ghost use Rattle.decode80.specs.Text.{immediate_text, operation_text};
 
-    /// The field that names the operation in an opcode.
+    /// The three bits that name the operation in an opcode, 0 to 7.
     pub(crate) fn code(self) -> u8
         ensures value { result ≡ operation_code self }
         ensures small { result < 8 }
@@ -45,7 +45,7 @@ impl Operation {
         }
     }
 
-    /// The mnemonic of the operation on a register or M.
+    /// The mnemonic of the operation on a register or M, such as ADD.
     pub(crate) fn text(self) -> &'static [u8]
         ensures { result.now ≡ operation_text self }
     {
@@ -61,7 +61,7 @@ impl Operation {
         }
     }
 
-    /// The mnemonic of the operation on a byte.
+    /// The mnemonic of the operation on an immediate byte, such as ADI.
     pub(crate) fn immediate_text(self) -> &'static [u8]
         ensures { result.now ≡ immediate_text self }
     {

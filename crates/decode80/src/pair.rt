@@ -18,7 +18,7 @@ impl Pair {
     ghost use Rattle.decode80.specs.Pair.{pair_code};
     ghost use Rattle.decode80.specs.Text.{pair_text};
 
-    /// The field that names the pair in an opcode.
+    /// The two bits that name the pair in an opcode, 0 to 3.
     pub(crate) fn code(self) -> u8
         ensures value { result ≡ pair_code self }
         ensures small { result < 4 }
@@ -31,7 +31,7 @@ impl Pair {
         }
     }
 
-    /// How the pair is written.
+    /// The name of the pair in an instruction's text: B, D, H or SP.
     pub(crate) fn text(self) -> &'static [u8]
         ensures { result.now ≡ pair_text self }
     {
@@ -62,7 +62,7 @@ impl StackPair {
     ghost use Rattle.decode80.specs.Pair.{stack_pair_code};
     ghost use Rattle.decode80.specs.Text.{stack_pair_text};
 
-    /// The field that names the pair in an opcode.
+    /// The two bits that name the pair in PUSH and POP, 0 to 3.
     pub(crate) fn code(self) -> u8
         ensures value { result ≡ stack_pair_code self }
         ensures small { result < 4 }
@@ -75,7 +75,7 @@ impl StackPair {
         }
     }
 
-    /// How the pair is written.
+    /// The name of the pair in an instruction's text: B, D, H or PSW.
     pub(crate) fn text(self) -> &'static [u8]
         ensures { result.now ≡ stack_pair_text self }
     {
@@ -102,7 +102,7 @@ impl IndexPair {
     ghost use Rattle.decode80.specs.Pair.{index_pair_code};
     ghost use Rattle.decode80.specs.Text.{index_pair_text};
 
-    /// The field that names the pair in an opcode.
+    /// The bit that names the pair in STAX and LDAX, 0 or 1.
     pub(crate) fn code(self) -> u8
         ensures value { result ≡ index_pair_code self }
         ensures small { result < 2 }
@@ -113,7 +113,7 @@ impl IndexPair {
         }
     }
 
-    /// How the pair is written.
+    /// The name of the pair in an instruction's text: B or D.
     pub(crate) fn text(self) -> &'static [u8]
         ensures { result.now ≡ index_pair_text self }
     {

@@ -21,7 +21,7 @@ impl Register {
     ghost use Rattle.decode80.specs.Register.{register_code};
     ghost use Rattle.decode80.specs.Text.{register_text};
 
-    /// The field that names the register in an opcode.
+    /// The three bits that name the register in an opcode: 0 to 5, or 7 for A.
     pub(crate) fn code(self) -> u8
         ensures value { result ≡ register_code self }
         ensures small { result < 8 }

@@ -18,7 +18,7 @@ impl Rotation {
     ghost use Rattle.decode80.specs.Rotation.{rotation_code};
     ghost use Rattle.decode80.specs.Text.{rotation_text};
 
-    /// The field that names the rotation in an opcode.
+    /// The two bits that name the rotation in an opcode, 0 to 3.
     pub(crate) fn code(self) -> u8
         ensures value { result ≡ rotation_code self }
         ensures small { result < 4 }

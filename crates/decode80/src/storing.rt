@@ -2,10 +2,10 @@
 
 use crate::pair::IndexPair;
 
-/// Where an instruction stores, but for the stack where it pushes or exchanges.
+/// Where an instruction stores, apart from the stack, to which PUSH, XTHL, RST and calls write.
 #[derive(Clone, Copy, Debug, PartialEq, Eq)]
 pub enum Storing {
-    /// Nowhere.
+    /// The instruction stores nowhere, or only on the stack.
     Nowhere,
     /// STA: a byte at an address.
     Byte(u16),

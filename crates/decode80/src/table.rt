@@ -10,7 +10,8 @@ use crate::register::Register::*;
 use crate::restart::Restart;
 use crate::rotation::Rotation;
 
-/// The instruction with each first byte, a byte or a word in it being 0; none for the twelve unused bytes.
+/// The opcode table: for each first byte the instruction, its operand byte or word being 0; `None` for the twelve
+/// unused bytes.
 pub(crate) static ROWS: [Option<Instr>; 256] = [
     // 0x00 to 0x0F
     Some(Nop),

@@ -3,7 +3,8 @@
 use crate::pair::Pair;
 use crate::register::Register;
 
-/// The registers that an instruction writes, but for the stack pointer where it pushes or pops, and the program counter.
+/// The registers that an instruction writes, apart from the program counter, and from the stack pointer if it pushes
+/// or pops.
 #[derive(Clone, Copy, Debug, PartialEq, Eq)]
 pub enum Writes {
     /// No register.
@@ -20,7 +21,7 @@ impl Writes {
     ghost use Rattle.std.specs.Prelude.{◌≡◌};
     ghost use Rattle.decode80.specs.Facts.{writes_pair};
 
-    /// Whether a register of a pair is among them; of SP, whether the stack pointer is.
+    /// Whether a register of this pair is written; for SP, whether the stack pointer is.
     pub fn includes(self, pair: Pair) -> bool
         ensures { result ≡ writes_pair self pair }
     {
@@ -47,7 +48,7 @@ pub enum AffectedFlags {
     CarryAlone,
     /// Sign, zero, auxiliary carry and parity: all but the carry flag.
     AllButCarry,
-    /// All five.
+    /// All five flags.
     AllFlags,
 }
 
@@ -55,7 +56,7 @@ impl AffectedFlags {
     ghost use Rattle.std.specs.Prelude.{◌≡◌};
     ghost use Rattle.decode80.specs.Facts.{affects_carry};
 
-    /// Whether the carry flag is among them.
+    /// Whether the carry flag is affected.
     pub fn include_carry(self) -> bool
         ensures { result ≡ affects_carry self }
     {

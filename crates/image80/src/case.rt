@@ -5,12 +5,14 @@ ghost use Rattle.image80.specs.Case.{AreByAddress};
 
 use std::marker::Model;
 
-/// The addresses that the PCHL at an address may go to, its targets: at least one, ascending, each once.
+/// The declared targets of one PCHL: the addresses that it may jump to, at least one, ascending, without duplicates.
 ///
-/// The maker must ensure that they ascend.
+/// Whoever makes a case must ensure this.
 #[derive(Debug, Drop)]
 pub struct Case {
+    /// The address of the PCHL.
     pub at: u16,
+    /// The addresses that the PCHL may jump to, ascending, without duplicates.
     pub targets: Vec<u16>,
 }
 
@@ -24,7 +26,8 @@ impl Model for Case {
     ghost invariant = { λ c. IsCase (record { at = c.at; targets = c.targets.items }) };
 }
 
-/// The case of the address, `None` if there is none. The time grows with the logarithm of the number of cases.
+/// The case for the PCHL at the address, `None` if no case has that address. The time grows with the logarithm of the
+/// number of cases.
 pub(crate) fn case_at(cases: &[Case], address: u16) -> Option<&Case>
     requires { AreByAddress cases.now }
     ensures found { IfSome result (λ case. find (λ c. c.at == address) cases.now ≡ Some case.now) }

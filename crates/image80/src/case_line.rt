@@ -12,10 +12,12 @@ use std::alloc::{AllocError, Global};
 use std::marker::Model;
 use text80::word_of_digits;
 
-/// What a case line gives: its address and its targets as they stand, at least one.
+/// A CASE line as it is read: the address of a PCHL and at least one target, in the line's order, duplicates included.
 #[derive(Drop)]
 pub(crate) struct CaseLine {
+    /// The address of the PCHL.
     pub at: u16,
+    /// The targets, at least one, in the line's order.
     pub targets: Vec<u16>,
 }
 
@@ -30,7 +32,7 @@ impl Model for CaseLine {
     ghost invariant = { λ c. IsCaseLine (record { at = c.at; targets = c.targets.items }) };
 }
 
-/// The case of a line: its targets ascending, each once.
+/// The case that a CASE line declares: its targets sorted, without duplicates.
 pub(crate) fn case_of(alloc: Global, line: &CaseLine) -> Result<Case, AllocError>
     ensures { IfOk result (IsCaseOf line.now) }
 {
@@ -43,7 +45,8 @@ pub(crate) fn case_of(alloc: Global, line: &CaseLine) -> Result<Case, AllocError
     })
 }
 
-/// The address and the targets of a case line, `None` if the text spells none.
+/// Reads a CASE line from behind its `CASE `: an address and at least one target, each target after a space. `None`
+/// if the text has another form.
 pub(crate) fn read_case(alloc: Global, text: &[u8]) -> Result<Option<CaseLine>, AllocError>
     ensures spelled { IfOk result (λ read. IfSome read (λ case. text.now ≡ case_text case)) }
     ensures proper { IfOk result (λ read. IfSome read (λ case. IsCaseLine case)) }
@@ -60,7 +63,8 @@ pub(crate) fn read_case(alloc: Global, text: &[u8]) -> Result<Option<CaseLine>, 
     Ok(Some(CaseLine { at, targets }))
 }
 
-/// Fills an empty list with the targets that the text begins with; whether the text ends with them.
+/// Fills an empty list with the targets at the beginning of the text, and returns whether the text ends with the last
+/// of them.
 fn put_targets(text: &[u8], targets: &mut Vec<u16>) -> Result<bool, AllocError>
     requires { targets.old.items ≡ [] }
     ensures spelled { IfOk result (λ whole. IsTrue whole → text.now ≡ targets_text targets.new.items) }
@@ -76,7 +80,8 @@ fn put_targets(text: &[u8], targets: &mut Vec<u16>) -> Result<bool, AllocError>
     Ok(rest.is_empty())
 }
 
-/// The target that the text begins with after a space, and the text after it.
+/// Reads a space and a target, four upper-case hexadecimal digits, at the beginning of the text, and returns the
+/// target and the text after it; `None` if the text begins with anything else.
 fn read_target(text: &[u8]) -> Option<(u16, &[u8])>
     ensures found { IfSome result (λ (target, rest). text.now ≡ 32 ∷ (word_text target ++ rest.now)) }
     ensures shorter { IfSome result (λ (_, rest). length rest.now < length text.now) }
@@ -85,7 +90,8 @@ fn read_target(text: &[u8]) -> Option<(u16, &[u8])>
     read_word(text.strip_prefix(b" ")?)
 }
 
-/// The word that the text begins with, and the text after it.
+/// Reads a word, four upper-case hexadecimal digits, at the beginning of the text, and returns it and the text after
+/// it; `None` if the text begins with anything else.
 fn read_word(text: &[u8]) -> Option<(u16, &[u8])>
     ensures found { IfSome result (λ (word, rest). text.now ≡ word_text word ++ rest.now) }
     ensures none { IfNone result ((word : ℕ) (rest : List ℕ) → word < 65536 → text.now ≢ word_text word ++ rest) }

@@ -4,11 +4,13 @@ use std::marker::Model;
 
 /// Consecutive bytes of an image and the address of the first of them.
 ///
-/// A chunk holds what one content record carries: at most 65531 bytes, the last of which lies
-/// below 65536. Whoever makes a chunk owes this.
+/// A chunk holds what one content record carries: at most 65531 bytes, the last of which lies below 65536. Whoever
+/// makes a chunk must ensure this.
 #[derive(Debug, Drop)]
 pub struct Chunk {
+    /// The address of the first byte.
     pub address: u16,
+    /// The bytes, at consecutive addresses.
     pub bytes: Vec<u8>,
 }
 
@@ -26,7 +28,7 @@ impl Chunk {
     ghost use Rattle.std.specs.Prelude.{◌≡◌, IfSome, is_some};
     ghost use Rattle.image80.specs.Image.{covers, byte_of};
 
-    /// The chunk's byte at the address, `None` if the chunk does not cover it.
+    /// The chunk's byte at the address, `None` if the chunk doesn't cover the address.
     pub(crate) fn byte(&self, address: u16) -> Option<u8>
         ensures value { IfSome result (λ byte. byte ≡ byte_of self.now address) }
         ensures covered { is_some result ≡ covers self.now address }

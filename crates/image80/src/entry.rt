@@ -10,17 +10,21 @@ use crate::version::Version;
 use std::alloc::{AllocError, Global};
 use text80::word_of_digits;
 
-/// What a line of a regions text gives.
+/// A line of a regions text, other than the heading, as it is read.
 #[derive(Drop)]
 pub(crate) enum Entry {
+    /// The range of a CODE line, which may be empty.
     Code(Range),
+    /// The range of a STACK line, which may be empty.
     Stack(Range),
+    /// The range of a DATA line, which may be empty.
     Data(Range),
+    /// The address and the targets of a CASE line.
     Case(CaseLine),
 }
 
 impl Entry {
-    /// The range of a code line.
+    /// The range of a CODE line, `None` for any other line.
     pub(crate) fn code(&self) -> Option<Range>
         ensures { result ≡ code_range self.now }
     {
@@ -30,7 +34,7 @@ impl Entry {
         }
     }
 
-    /// The range of a stack line.
+    /// The range of a STACK line, `None` for any other line.
     pub(crate) fn stack(&self) -> Option<Range>
         ensures { result ≡ stack_range self.now }
     {
@@ -40,7 +44,7 @@ impl Entry {
         }
     }
 
-    /// The range of a data line.
+    /// The range of a DATA line, `None` for any other line.
     pub(crate) fn data(&self) -> Option<Range>
         ensures { result ≡ data_range self.now }
     {
@@ -50,7 +54,7 @@ impl Entry {
         }
     }
 
-    /// The case of a case line.
+    /// The address and the targets of a CASE line, `None` for any other line.
     pub(crate) fn case(&self) -> Option<&CaseLine>
         ensures some { IfSome result (λ case. case_of self.now ≡ Some case.now) }
         ensures none { IfNone result (case_of self.now ≡ None) }
@@ -62,7 +66,8 @@ impl Entry {
     }
 }
 
-/// The entry that a line of a text of the version spells, `None` if it spells none that is proper.
+/// Reads a line, given without its line feed, of a regions text of the version: CODE, DATA or STACK with a range in
+/// memory, or in version 2 CASE. `None` if it is no such line.
 pub(crate) fn read_entry(
     alloc: Global,
     version: Version,
@@ -81,7 +86,7 @@ pub(crate) fn read_entry(
     }
 }
 
-/// The entry that a line with a range spells, `None` if it spells none that lies in memory.
+/// Reads a CODE, DATA or STACK line; `None` if it is none of them or its range passes the end of memory.
 fn read_range_entry(line: &[u8]) -> Option<Entry>
     ensures spelled { IfSome result (λ entry. line.now ≡ entry_text entry) }
     ensures proper { IfSome result (λ entry. (version : Version) → IsProper version entry) }
@@ -98,8 +103,8 @@ fn read_range_entry(line: &[u8]) -> Option<Entry>
     Some(Entry::Stack(read_range(range)?))
 }
 
-/// The range of its first address and its length, `None` if the text spells none that lies in
-/// memory.
+/// Reads a range, `ffff llll`: its first address and its length, in upper-case hexadecimal. `None` if the text has
+/// another form or the range passes the end of memory.
 fn read_range(text: &[u8]) -> Option<Range>
     ensures spelled { IfSome result (λ range. text.now ≡ range_text range) }
     ensures in_memory { IfSome result (λ range. IsInMemory range) }

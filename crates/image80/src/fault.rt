@@ -7,8 +7,8 @@ use thiserror::Error;
 /// `NoStack`, `RegionsOverlap`; or that memory ran out.
 #[derive(Clone, Copy, Debug, PartialEq, Eq, Error)]
 pub enum RegionsFault {
-    /// The first line of that number, counted from 1, that is no line of a regions text of its
-    /// version, is a second STACK line or a second CASE line of an address, or lacks its line feed.
+    /// The number, counted from 1, of the first line that is no line of a regions text of its version, is a second
+    /// STACK line or a second CASE line for an address, or lacks its line feed.
     #[error("BadLine {0}")]
     BadLine(usize),
     /// The first line is neither `REGIONS 1` nor `REGIONS 2`.
@@ -29,7 +29,7 @@ impl RegionsFault {
     ghost use Rattle.std.specs.Prelude.{◌≡◌};
     ghost use Rattle.image80.specs.RegionsFault.{code_of};
 
-    /// The number of the fault, 1 to 5 in the order above.
+    /// The fault's number: 1 `BadLine`, 2 `BadVersion`, 3 `RegionsOverlap`, 4 `NoStack`, 5 `Memory`.
     pub fn code(&self) -> u8
         ensures { result ≡ code_of self.now }
     {
@@ -49,6 +49,7 @@ impl From<AllocError> for RegionsFault {
 
     ghost from_gives = { λ _ fault. fault ≡ Memory };
 
+    /// The fault `Memory`.
     fn from(_error: AllocError) -> RegionsFault {
         RegionsFault::Memory
     }
@@ -60,6 +61,7 @@ impl<T: Drop> From<AllocFailed<T>> for RegionsFault {
 
     ghost from_gives = { λ _ fault. fault ≡ Memory };
 
+    /// The fault `Memory`.
     fn from(_error: AllocFailed<T>) -> RegionsFault {
         RegionsFault::Memory
     }

@@ -9,9 +9,13 @@ use std::marker::Model;
 /// the address where it starts.
 #[derive(Debug, Drop)]
 pub struct Image {
+    /// The program's name.
     pub name: Name,
+    /// The bytes, in the order of their content records: a later chunk hides an earlier one.
     pub chunks: Vec<Chunk>,
+    /// The addresses that the program may use.
     pub regions: Regions,
+    /// The address where the program starts.
     pub start: u16,
 }
 
@@ -27,8 +31,7 @@ impl Image {
     ghost use Rattle.std.specs.Prelude.{◌≡◌};
     ghost use Rattle.image80.specs.Image.{byte_at};
 
-    /// The byte of the image's memory at the address: that of the last chunk that covers it, and
-    /// 0 if none does.
+    /// The byte of the image's memory at the address: that of the last chunk that covers it, or 0 if no chunk does.
     pub fn byte(&self, address: u16) -> u8
         ensures { result ≡ byte_at self.now.chunks address }
     {

@@ -8,9 +8,9 @@ ghost use Rattle.image80.specs.RegionsText.{regions_text, text_in, Migrates, Spe
 ghost use Rattle.image80.specs.declared.version.Version.{Version};
 ghost use Rattle.image80.specs.declared.fault.RegionsFault.{RegionsFault};
 
-/// A text spells one list of regions at most, and none if it is refused, when memory runs out
-/// aside; it is refused for one cause at most; and the text that is written for regions spells
-/// them, and so does that of version 2. So what is written is read as itself.
+/// A law: a text spells at most one set of regions; a text that is refused, unless for `Memory`, spells none and has
+/// one fault; and the text that is written for regions, in the version chosen for them or in version 2, spells those
+/// regions. So what is written is read as itself.
 pub fn text_of_regions_is_read_as_itself()
     ensures written { (areas : Areas) → AreRegions areas → Spells (regions_text areas) areas }
     ensures written2 { (areas : Areas) → AreRegions areas → Spells (text_in Version.Two areas) areas }
@@ -22,13 +22,13 @@ pub fn text_of_regions_is_read_as_itself()
         fault ≢ RegionsFault.Memory → other ≢ RegionsFault.Memory → fault ≡ other }
 {}
 
-/// A text that was migrated, migrated again, is the same text, and one text comes of a text.
+/// A law: migrating a regions text has one result, and migrating the result gives the same text again.
 pub fn migration_ends_at_once()
     ensures again { (bytes text other : List ℕ) → Migrates bytes [] text → Migrates text [] other → other ≡ text }
     ensures one_text { (bytes text other : List ℕ) → Migrates bytes [] text → Migrates bytes [] other → other ≡ text }
 {}
 
-/// An address lies in one at most of code, data and stack.
+/// A law: an address lies in at most one of code, data and stack.
 pub fn code_data_and_stack_are_apart()
     ensures code_or_data { (areas : Areas) (address : ℕ) → AreRegions areas →
         in_code areas address ≡ true → in_data areas address ≡ false }
@@ -38,14 +38,14 @@ pub fn code_data_and_stack_are_apart()
         in_data areas address ≡ true → in_range areas.stack address ≡ false }
 {}
 
-/// The targets that are declared for an address are those of its case.
+/// A law: an address has declared targets exactly if the regions have a case with that address and those targets.
 pub fn targets_are_those_of_the_case()
     ensures { (areas : Areas) (address : ℕ) (targets : List ℕ) → AreRegions areas →
         (targets_at areas address ≡ Some targets) ↔ Contains areas.cases (record { at = address; targets = targets }) }
 {}
 
-/// A memory has 65536 bytes, each that of the last chunk over its address: a later chunk hides what
-/// lies under it.
+/// A law: an image's memory has 65536 bytes, each that of the last chunk over its address, or 0 if there is none; so
+/// a later chunk hides what lies under it.
 pub fn memory_has_the_byte_of_the_last_chunk()
     ensures whole { (chunks : List PlacedBytes) → length (memory_of chunks) ≡ 65536 }
     ensures at_address { (chunks : List PlacedBytes) (address : ℕ) → address < 65536 →

@@ -18,7 +18,7 @@ pub fn first_line(text: &[u8]) -> Option<(&[u8], &[u8])>
     }
 }
 
-/// The place of the first line feed.
+/// The place of the text's first line feed, `None` if it has none.
 fn line_feed(text: &[u8]) -> Option<usize>
     ensures { result ≡ position is_line_feed text.now }
 {

@@ -9,8 +9,8 @@ use crate::image::Image;
 use std::alloc::{AllocError, Global};
 
 impl Image {
-    /// The image's memory: 65536 bytes by address, each that of the last chunk over it, and 0 if there is none. The time
-    /// grows with the number of the chunks' bytes.
+    /// The image's memory: 65536 bytes by address, each that of the last chunk that covers the address, or 0 if no
+    /// chunk does. The time grows with the number of the chunks' bytes.
     ///
     /// # Errors
     /// `AllocError` if there is no memory for the bytes.
@@ -26,14 +26,14 @@ impl Image {
     }
 }
 
-/// A given number of bytes of 0.
+/// A vector of `count` zeros.
 pub(crate) fn zeros(alloc: Global, count: usize) -> Result<Vec<u8>, AllocError>
     ensures { IfOk result (λ bytes. AreZeros bytes.items count) }
 {
     Ok(vec![in alloc; 0; count]?)
 }
 
-/// Writes the chunk's bytes to their addresses.
+/// Copies the chunk's bytes to their addresses in a memory of 65536 bytes, and leaves the other bytes unchanged.
 fn place(memory: &mut Vec<u8>, chunk: &Chunk)
     requires { length memory.old.items ≡ 65536 }
     ensures { Holds memory.old.items chunk.now memory.new.items }

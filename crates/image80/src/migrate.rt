@@ -10,8 +10,8 @@ use crate::read::read_regions;
 use crate::write::write_regions2;
 use std::alloc::Global;
 
-/// Appends the text of version 2 of the regions that the bytes spell, in either version. It is read as the same regions;
-/// migrated again, it is the same text. The faults are those of [`read_regions`]; after one, `out` keeps what it held.
+/// Reads a regions text of either version and appends to `out` the text of version 2 of the same regions; migrating
+/// that text again gives the same text. The faults are those of [`read_regions`]; after one, `out` is unchanged.
 pub fn migrate_regions(alloc: Global, bytes: &[u8], out: &mut Vec<u8>) -> Result<(), RegionsFault>
     ensures migrated { OnOk result (Migrates bytes.now out.old.items out.new.items) }
     ensures refused { IfErr result (Refuses bytes.now) }

@@ -16,7 +16,7 @@ pub(crate) fn sort(ranges: &mut Vec<Range>)
     ranges.sort_unstable_by_key(|range| range.first);
 }
 
-/// Whether no address lies in two of the ranges.
+/// Whether no address lies in two of the ranges of code, stack and data. The stack's may be empty.
 pub(crate) fn are_disjoint(
     alloc: Global,
     code: &[Range],

@@ -9,12 +9,14 @@ ghost use Rattle.image80.specs.Regions.{AreApart};
 /// A range that lies in memory ends at or below 65536, the first address past memory.
 #[derive(Clone, Copy, Debug, PartialEq, Eq)]
 pub struct Range {
+    /// The lowest address.
     pub first: u16,
+    /// The number of addresses, 0 for an empty range.
     pub length: u16,
 }
 
 impl Range {
-    /// Whether the address is one of the range's.
+    /// Whether the address lies in the range.
     #[inline]
     pub fn contains(&self, address: u16) -> bool
         ensures { result ≡ in_range self.now address }
@@ -23,7 +25,8 @@ impl Range {
     }
 }
 
-/// Whether a range of a short list contains an address. Most programs have one range of a kind.
+/// Whether an address lies in one of the ranges, which must be ascending, disjoint and not empty. A single range, as
+/// most programs have it, is checked at once; others by binary search.
 #[inline]
 pub(crate) fn in_ranges(ranges: &[Range], address: u16) -> bool
     requires { AreApart ranges.now }
@@ -35,7 +38,7 @@ pub(crate) fn in_ranges(ranges: &[Range], address: u16) -> bool
     }
 }
 
-/// Whether a range of a long list contains an address. The time grows with the logarithm of the list's length.
+/// Whether an address lies in one of the ranges, which must be ascending, disjoint and not empty; a binary search.
 #[inline(never)]
 fn in_many_ranges(ranges: &[Range], address: u16) -> bool
     requires { AreApart ranges.now }

@@ -45,7 +45,8 @@ pub fn read_regions(alloc: Global, bytes: &[u8]) -> Result<Regions, RegionsFault
     Ok(regions.with_cases(cases_of(alloc, &entries)?))
 }
 
-/// The version of the text, and the lines after the first, which is the heading.
+/// Reads the first line of a regions text, and returns the text's version and what follows the line. The fault is
+/// `BadVersion` if the line is no heading, `BadLine(1)` if it is one without a line feed.
 fn after_heading(text: &[u8]) -> Result<(Version, &[u8]), RegionsFault>
     ensures after { IfOk result (λ (version, after). parts text.now ≡ heading version ∷ parts after.now) }
     ensures refused { IfErr result (Refuses text.now) }
@@ -63,7 +64,8 @@ fn after_heading(text: &[u8]) -> Result<(Version, &[u8]), RegionsFault>
     }
 }
 
-/// The entries of all lines, those after the heading of a text of the version.
+/// Reads all lines after the heading of a text of the version. The first bad line is reported as `BadLine`, with the
+/// heading counted as line 1.
 fn read_entries(alloc: Global, version: Version, lines: &[u8]) -> Result<Vec<Entry>, RegionsFault>
     ensures good { IfOk result (λ entries. (text : List ℕ) → parts text ≡ heading version ∷ parts lines.now →
         GoodText version text entries.items) }
@@ -75,7 +77,8 @@ fn read_entries(alloc: Global, version: Version, lines: &[u8]) -> Result<Vec<Ent
     Ok(entries)
 }
 
-/// Fills an empty list with the entries of all lines, those after the heading of a text of the version.
+/// Fills an empty list with all lines after the heading of a text of the version. The first bad line is reported as
+/// `BadLine`, with the heading counted as line 1.
 fn put_entries(
     alloc: Global,
     version: Version,
@@ -104,7 +107,8 @@ fn put_entries(
     Ok(())
 }
 
-/// The entry of a line, `None` if it spells none that is proper, or one that repeats a line that was read.
+/// Reads a line of a text of the version. `None` if it is malformed, or if it is a second STACK line, or a second
+/// CASE line for an address, after the lines in `seen`.
 fn next_entry(
     alloc: Global,
     version: Version,
@@ -126,7 +130,7 @@ fn next_entry(
     Ok(Some(entry))
 }
 
-/// The range of the first stack line.
+/// The range of the first STACK line, `None` if there is no such line.
 fn stack_of(entries: &[Entry]) -> Option<Range>
     ensures { result ≡ slice_get (stack_ranges entries.now) 0 }
 {
@@ -138,7 +142,7 @@ fn stack_of(entries: &[Entry]) -> Option<Range>
     None
 }
 
-/// The ranges of the code lines that are not empty.
+/// The ranges of the CODE lines, in order, without the empty ones.
 fn code_of(alloc: Global, entries: &[Entry]) -> Result<Vec<Range>, AllocError>
     ensures { IfOk result (λ ranges. ranges.items ≡ code_ranges entries.now) }
 {
@@ -149,7 +153,7 @@ fn code_of(alloc: Global, entries: &[Entry]) -> Result<Vec<Range>, AllocError>
         .collect(alloc)
 }
 
-/// The ranges of the data lines that are not empty.
+/// The ranges of the DATA lines, in order, without the empty ones.
 fn data_of(alloc: Global, entries: &[Entry]) -> Result<Vec<Range>, AllocError>
     ensures { IfOk result (λ ranges. ranges.items ≡ data_ranges entries.now) }
 {
@@ -160,7 +164,7 @@ fn data_of(alloc: Global, entries: &[Entry]) -> Result<Vec<Range>, AllocError>
         .collect(alloc)
 }
 
-/// The cases of the case lines, by address.
+/// The cases that the CASE lines declare, sorted by address. No two lines may have the same address.
 fn cases_of(alloc: Global, entries: &[Entry]) -> Result<Vec<Case>, AllocError>
     requires { IsDistinct (λ a b. a == b) (map (λ case. case.at) (case_lines entries.now)) }
     ensures { IfOk result (λ cases. AreCasesOf (case_lines entries.now) cases.items) }

@@ -10,7 +10,7 @@ use crate::regions::Regions;
 use std::alloc::{AllocError, Global};
 use std::marker::Model;
 
-/// The mark of an address in the code. One that is in neither has 0.
+/// The mark of an address in the code. An address in neither code nor data is marked 0.
 const CODE: u8 = 1;
 /// The mark of an address in the data.
 const DATA: u8 = 2;
@@ -19,6 +19,7 @@ const DATA: u8 = 2;
 /// time for any number of ranges.
 #[derive(Drop)]
 pub struct RegionMap {
+    /// The mark of each address.
     marks: Vec<u8>,
 }
 
@@ -36,7 +37,7 @@ impl RegionMap {
     ghost use Rattle.std.specs.Prelude.{◌≡◌, IfOk};
     ghost use Rattle.image80.specs.RegionMap.{Maps, marks_code, marks_data};
 
-    /// The map of the regions. It takes time linear in their addresses and ranges.
+    /// Makes the map of the regions, in time linear in their addresses and ranges.
     ///
     /// # Errors
     /// `AllocError` if there is no memory for the map.
@@ -66,7 +67,7 @@ impl RegionMap {
     }
 }
 
-/// Marks the addresses of the ranges.
+/// Sets the byte of each address of the ranges to `mark`, in a table of 65536 bytes by address; the others are unchanged.
 fn mark_all(marks: &mut Vec<u8>, ranges: &[Range], mark: u8)
     requires whole { length marks.old.items ≡ 65536 }
     requires in_memory { All IsInMemory ranges.now }
@@ -77,7 +78,7 @@ fn mark_all(marks: &mut Vec<u8>, ranges: &[Range], mark: u8)
     }
 }
 
-/// Marks the addresses of the range.
+/// Sets the byte of each address of the range to `mark`, in a table of 65536 bytes by address; the others are unchanged.
 fn mark_range(marks: &mut Vec<u8>, range: Range, mark: u8)
     requires whole { length marks.old.items ≡ 65536 }
     requires in_memory { IsInMemory range }

@@ -16,9 +16,13 @@ use std::marker::Model;
 /// The cases are kept by address, one for an address at most.
 #[derive(Debug, Drop)]
 pub struct Regions {
+    /// The ranges of code, by address.
     code: Vec<Range>,
+    /// The range of the stack, which may be empty.
     stack: Range,
+    /// The ranges of data, by address.
     data_ranges: Vec<Range>,
+    /// The declared targets of PCHLs, by the address of the PCHL.
     cases: Vec<Case>,
 }
 
@@ -48,8 +52,8 @@ impl Regions {
     ghost use Rattle.image80.specs.Range.{IsInMemory};
     ghost use Rattle.image80.specs.Regions.{AreDisjoint, AreRegions, Arranges, in_code, in_data, targets_at, top_of};
 
-    /// The regions of these ranges, which may come in any order, without cases; `None` if an
-    /// address lies in two of them.
+    /// Makes regions without cases of these ranges, in any order; `None` if an address lies in two of them. All
+    /// ranges must end in memory, and those of code and data must not be empty.
     pub(crate) fn from_ranges(
         alloc: Global,
         code: Vec<Range>,
@@ -70,8 +74,8 @@ impl Regions {
         Ok(Some(Regions::from_disjoint(alloc, code, stack, data_ranges)))
     }
 
-    /// The regions of these ranges, which may come in any order, and of which no two share an address, without
-    /// cases.
+    /// Makes regions without cases of these ranges, in any order. All ranges must end in memory, those of code and
+    /// data must not be empty, and no two may share an address.
     pub fn from_disjoint(
         alloc: Global,
         mut code: Vec<Range>,
@@ -96,7 +100,8 @@ impl Regions {
         }
     }
 
-    /// Returns regions of the same ranges with these cases, which stand by address, one for an address at most.
+    /// Returns the regions with their cases replaced by these, which must be sorted by address, at most one for an
+    /// address.
     pub(crate) fn with_cases(self, cases: Vec<Case>) -> Self
         requires by_address { AreByAddress cases.items }
         requires each { All IsCase cases.items }
@@ -116,7 +121,7 @@ impl Regions {
         }
     }
 
-    /// The ranges of code, by address.
+    /// The ranges of code, sorted by address.
     pub fn code(&self) -> &[Range]
         ensures ranges { result.now ≡ self.now.code }
         ensures rules { AreRegions self.now }
@@ -124,7 +129,7 @@ impl Regions {
         &self.code
     }
 
-    /// The ranges of data, by address.
+    /// The ranges of data, sorted by address.
     pub fn data_ranges(&self) -> &[Range]
         ensures ranges { result.now ≡ self.now.data_ranges }
         ensures rules { AreRegions self.now }
@@ -140,7 +145,7 @@ impl Regions {
         self.stack
     }
 
-    /// The cases, by address.
+    /// The cases, sorted by the address of their PCHL.
     pub fn cases(&self) -> &[Case]
         ensures cases { result.now ≡ self.now.cases }
         ensures rules { AreRegions self.now }
@@ -148,8 +153,8 @@ impl Regions {
         &self.cases
     }
 
-    /// The targets that are declared for the address, ascending, each once; `None` if none are declared. The time
-    /// grows with the logarithm of the number of cases.
+    /// The targets that are declared for the PCHL at the address, ascending, each once; `None` if none are declared.
+    /// The time grows with the logarithm of the number of cases.
     #[inline]
     pub fn targets(&self, address: u16) -> Option<&[u16]>
         ensures declared { IfSome result (λ targets. targets_at self.now address ≡ Some targets.now) }

@@ -8,14 +8,16 @@ use crate::memory::zeros;
 use std::alloc::{AllocError, Global};
 use std::marker::Model;
 
-/// The mark of an address that has a case line. One that has none has 0.
+/// The mark of an address that has a CASE line; an address without one is marked 0.
 const SEEN: u8 = 1;
 
-/// The lines of a regions text that may stand once and were read: whether there was a stack line, and for each address
-/// whether there was a case line, so that a look-up takes the same time for any number of lines.
+/// Which of the lines that may not be repeated were read: whether a STACK line was, and for each address whether a
+/// CASE line was, so that a look-up takes the same time for any number of lines.
 #[derive(Drop)]
 pub(crate) struct Seen {
+    /// Whether a STACK line was read.
     stack: bool,
+    /// The mark of each of the 65536 addresses.
     marks: Vec<u8>,
 }
 
@@ -31,7 +33,7 @@ impl Model for Seen {
 }
 
 impl Seen {
-    /// No line was read.
+    /// A table in which no line is noted yet.
     pub(crate) fn new(alloc: Global) -> Result<Self, AllocError>
         ensures { IfOk result (λ seen. HasSeen seen []) }
     {
@@ -41,7 +43,8 @@ impl Seen {
         })
     }
 
-    /// Whether the line repeats one that was read.
+    /// Whether a line with this range or case was noted and may not be repeated: a STACK line, or a CASE line for the
+    /// same address.
     pub(crate) fn has(&self, entry: &Entry) -> bool
         ensures { result ≡ is_seen self.now entry.now }
     {
@@ -52,7 +55,7 @@ impl Seen {
         }
     }
 
-    /// Notes that the line was read.
+    /// Notes that a STACK or CASE line was read; CODE and DATA lines may be repeated and change nothing.
     pub(crate) fn add(&mut self, entry: &Entry)
         ensures { SeesToo self.old entry.now self.new }
     {

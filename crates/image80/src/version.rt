@@ -3,10 +3,12 @@
 ghost use Rattle.std.specs.Prelude.{◌≡◌, ◌≢◌, IfSome, IfNone};
 ghost use Rattle.image80.specs.RegionsText.{heading};
 
-/// A version of regions texts.
+/// A version of the format of regions texts.
 #[derive(Clone, Copy)]
 pub(crate) enum Version {
+    /// Version 1, without CASE lines.
     One,
+    /// Version 2, with CASE lines.
     Two,
 }
 
@@ -16,7 +18,7 @@ const FIRST: &[u8] = b"REGIONS 1";
 const SECOND: &[u8] = b"REGIONS 2";
 
 impl Version {
-    /// The version of the first line, `None` if it is the first line of neither.
+    /// The version whose heading the line is; `None` if it is neither `REGIONS 1` nor `REGIONS 2`.
     pub(crate) fn of_heading(line: &[u8]) -> Option<Version>
         ensures known { IfSome result (λ version. line.now ≡ heading version) }
         ensures unknown { IfNone result ((version : Version) → line.now ≢ heading version) }
@@ -30,7 +32,7 @@ impl Version {
         }
     }
 
-    /// The first line of a text.
+    /// The first line of a text of this version, without its line feed.
     pub(crate) fn heading(self) -> &'static [u8]
         ensures { result.now ≡ heading self }
     {

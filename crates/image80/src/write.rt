@@ -14,9 +14,10 @@ use crate::version::Version;
 use std::alloc::{AllocError, Global};
 use text80::word_digits;
 
-/// Appends the text of the regions, of version 2 if they have a case, of version 1 if they have none: the line
-/// `REGIONS 1` or `REGIONS 2`, the code lines by address, the stack line, the data lines by address, the case lines by
-/// address with their targets ascending. It is read as the same regions. When memory runs out, `out` keeps what it held.
+/// Appends the text of the regions, of version 2 if they have a case and of version 1 if they have none: the line
+/// `REGIONS 1` or `REGIONS 2`, the code lines by address, the stack line, the data lines by address, the case lines
+/// by address with their targets ascending. [`read_regions`](crate::read_regions) reads it as the same regions. When
+/// memory runs out, `out` is unchanged.
 pub fn write_regions(alloc: Global, regions: &Regions, out: &mut Vec<u8>) -> Result<(), AllocError>
     ensures ok { OnOk result (out.new.items ≡ out.old.items ++ regions_text regions.now) }
     ensures read { OnOk result (Spells (regions_text regions.now) regions.now) }
@@ -30,8 +31,9 @@ pub fn write_regions(alloc: Global, regions: &Regions, out: &mut Vec<u8>) -> Res
     append_text(alloc, version, regions, out)
 }
 
-/// Appends the text of the regions, of version 2 whether they have a case or none, with the lines in the order of
-/// [`write_regions`]. It is read as the same regions. When memory runs out, `out` keeps what it held.
+/// Appends the text of the regions in version 2, whether they have a case or not, with the lines in the order of
+/// [`write_regions`]. [`read_regions`](crate::read_regions) reads it as the same regions. When memory runs out, `out`
+/// is unchanged.
 pub fn write_regions2(alloc: Global, regions: &Regions, out: &mut Vec<u8>) -> Result<(), AllocError>
     ensures ok { OnOk result (out.new.items ≡ out.old.items ++ text_in Two regions.now) }
     ensures read { OnOk result (Spells (text_in Two regions.now) regions.now) }
@@ -41,7 +43,7 @@ pub fn write_regions2(alloc: Global, regions: &Regions, out: &mut Vec<u8>) -> Re
     append_text(alloc, Version::Two, regions, out)
 }
 
-/// The lines of cases, each as a regions text of version 2 has it.
+/// The CASE lines of the cases, in order, as a regions text of version 2 has them.
 ///
 /// # Errors
 /// `AllocError` only if memory runs out.
@@ -53,7 +55,7 @@ pub fn case_lines(alloc: Global, cases: &[Case]) -> Result<Vec<u8>, AllocError>
     Ok(text)
 }
 
-/// Appends the text of the regions in the version.
+/// Appends the text of the regions in the version. When memory runs out, `out` is unchanged.
 fn append_text(
     alloc: Global,
     version: Version,
@@ -68,7 +70,7 @@ fn append_text(
     out.extend_from_slice(&text)
 }
 
-/// The text of the regions in the version.
+/// The whole regions text of the regions, in the version.
 fn spell(alloc: Global, version: Version, regions: &Regions) -> Result<Vec<u8>, AllocError>
     ensures text { IfOk result (λ text. text.items ≡ text_in version regions.now) }
     ensures rules { OnOk result (AreRegions regions.now) }
@@ -82,7 +84,7 @@ fn spell(alloc: Global, version: Version, regions: &Regions) -> Result<Vec<u8>, 
     Ok(text)
 }
 
-/// Appends a line for each range.
+/// Appends a line for each range: the keyword, the first address and the length.
 fn put_lines(text: &mut Vec<u8>, keyword: &[u8], ranges: &[Range]) -> Result<(), AllocError>
     ensures { OnOk result (text.new.items ≡ text.old.items
         ++ flat_map (λ range. (keyword.now ++ range_text range) ++ 10 ∷ []) ranges.now) }
@@ -93,7 +95,7 @@ fn put_lines(text: &mut Vec<u8>, keyword: &[u8], ranges: &[Range]) -> Result<(),
     Ok(())
 }
 
-/// Appends the keyword, the range's first address and its length, and a line feed.
+/// Appends the line of a range: the keyword, the first address, a space, the length and a line feed.
 fn put_line(text: &mut Vec<u8>, keyword: &[u8], range: Range) -> Result<(), AllocError>
     ensures { OnOk result (text.new.items ≡ text.old.items
         ++ ((keyword.now ++ range_text range) ++ 10 ∷ [])) }
@@ -106,7 +108,7 @@ fn put_line(text: &mut Vec<u8>, keyword: &[u8], range: Range) -> Result<(), Allo
     Ok(())
 }
 
-/// Appends a line for each case.
+/// Appends the CASE line of each case, in order.
 fn put_cases(text: &mut Vec<u8>, cases: &[Case]) -> Result<(), AllocError>
     ensures { OnOk result (text.new.items ≡ text.old.items ++ cases_text cases.now) }
 {
@@ -116,7 +118,7 @@ fn put_cases(text: &mut Vec<u8>, cases: &[Case]) -> Result<(), AllocError>
     Ok(())
 }
 
-/// Appends the line of a case.
+/// Appends the CASE line of a case, with its line feed.
 fn put_case(text: &mut Vec<u8>, case: &Case) -> Result<(), AllocError>
     ensures { OnOk result (text.new.items ≡ text.old.items ++ ((codes "CASE " ++ case_text case.now) ++ 10 ∷ [])) }
 {
@@ -127,7 +129,7 @@ fn put_case(text: &mut Vec<u8>, case: &Case) -> Result<(), AllocError>
     Ok(())
 }
 
-/// Appends the targets, each after a space.
+/// Appends the targets, each as a space and four hexadecimal digits.
 fn put_targets(text: &mut Vec<u8>, targets: &[u16]) -> Result<(), AllocError>
     ensures { OnOk result (text.new.items ≡ text.old.items ++ targets_text targets.now) }
 {

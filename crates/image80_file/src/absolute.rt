@@ -4,11 +4,15 @@ use image80::Chunk;
 use omf_core::Name;
 use std::marker::Model;
 
-/// What an object file holds of an image: all but its regions.
+/// The part of an image that an object file holds, all but the regions: the name, the chunks in the order of their
+/// content records, and the start address.
 #[derive(Drop)]
 pub(crate) struct AbsoluteProgram {
+    /// The program's name.
     pub name: Name,
+    /// The bytes, in the order of their content records.
     pub chunks: Vec<Chunk>,
+    /// The address where the program starts.
     pub start: u16,
 }
 

@@ -13,7 +13,7 @@ pub enum ImageFault {
     /// The object file has other than one module.
     #[error("NotOneModule")]
     NotOneModule,
-    /// The module has an external name or a reference, or has content or its start in a segment other than 0.
+    /// The module has an external name or a fixup, or has content or its start in a segment other than 0.
     #[error("NotAbsolute")]
     NotAbsolute,
     /// The module is no main program.
@@ -48,6 +48,7 @@ impl From<AllocError> for ImageFault {
 
     ghost from_gives = { λ _ fault. fault ≡ Memory };
 
+    /// The fault `Memory`.
     fn from(_error: AllocError) -> ImageFault {
         ImageFault::Memory
     }
@@ -59,7 +60,7 @@ impl From<ModuleFault> for ImageFault {
 
     ghost from_gives = { λ cause fault. fault ≡ of_module_fault cause };
 
-    /// Running out of memory is reported as such, and not as a fault of the module.
+    /// The fault `Memory` if the module's fault is that memory ran out, and otherwise `Module` with the module's fault.
     fn from(fault: ModuleFault) -> ImageFault {
         match fault.cause {
             Cause::Memory => ImageFault::Memory,

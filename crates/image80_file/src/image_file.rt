@@ -14,9 +14,10 @@ use omf_core::segment_id::ABSOLUTE;
 use omf_module::{Content, Module, Parts, Public, read_file, write_file};
 use std::alloc::{AllocError, Global};
 
-/// Appends the object file of the image to `out`, which grows by its own allocator: one module of the image's name that
-/// has no segments, with one content record in segment 0 for each chunk, in order, and a start in segment 0. They are read
-/// as the same image, but for its regions, which an object file doesn't hold. (8080 Object Module Formats, absolute segment.)
+/// Appends the object file of the image to `out`, which grows by its own allocator: one module of the image's name
+/// that has no segments, with one content record in segment 0 for each chunk, in order, and a start in segment 0.
+/// [`read_image`] reads these bytes as the same image, but for its regions, which an object file doesn't hold. (8080
+/// Object Module Formats, absolute segment.)
 ///
 /// # Errors
 /// `AllocError` only if memory ran out; `out` is then unchanged.
@@ -30,7 +31,7 @@ pub fn write_image(alloc: Global, image: &Image, out: &mut Vec<u8>) -> Result<()
     write_file(alloc, &[module], out)
 }
 
-/// The module that an image is written as, with these publics, which stand in segment 0.
+/// The absolute module that an image is written as, with these publics, which must be in segment 0.
 ///
 /// # Errors
 /// `AllocError` only if memory ran out.
@@ -49,7 +50,8 @@ pub fn image_module(
     Module::from_sound_parts(alloc, parts)
 }
 
-/// The parts of that module.
+/// The parts of the absolute module that an image is written as: its name, these publics, a content for each chunk,
+/// the start in segment 0, and no segments, commons or externals.
 fn parts_of(alloc: Global, image: &Image, publics: Vec<Public>) -> Result<Parts, AllocError>
     ensures parts { IfOk result (λ parts. parts ≡ named_module image.now publics.items) }
     ensures name { OnOk result (IsTrue (is_name image.now.name)) }
@@ -68,7 +70,7 @@ fn parts_of(alloc: Global, image: &Image, publics: Vec<Public>) -> Result<Parts,
     })
 }
 
-/// The contents that chunks are written as.
+/// The contents that chunks are written as, one for each chunk, in order.
 fn contents_of(alloc: Global, chunks: &[Chunk]) -> Result<Vec<Content>, AllocError>
     ensures contents { IfOk result (λ contents. contents.items ≡ map chunk_content chunks.now) }
     ensures rules { OnOk result (AllByRecursion IsChunk chunks.now) }
@@ -80,7 +82,7 @@ fn contents_of(alloc: Global, chunks: &[Chunk]) -> Result<Vec<Content>, AllocErr
     Ok(contents)
 }
 
-/// The content that a chunk is written as.
+/// The content that a chunk is written as: its bytes in segment 0 at its address, without fixups.
 fn content_of(alloc: Global, chunk: &Chunk) -> Result<Content, AllocError>
     ensures content { IfOk result (λ content. content ≡ chunk_content chunk.now) }
     ensures rule { IsChunk chunk.now }
@@ -93,13 +95,13 @@ fn content_of(alloc: Global, chunk: &Chunk) -> Result<Content, AllocError>
     })
 }
 
-/// The image that an object file holds, with these regions. The file has one module, which has a start and no external
-/// names, and whose contents and start stand in segment 0 and have no references. Its publics, its commons and the
+/// The image that an object file holds, with these regions. The file must have one module, which has a start and no
+/// external names, and whose contents and start are in segment 0 and have no fixups. Its publics, its commons and the
 /// segments of its header aren't read.
 ///
 /// # Errors
-/// The first of: `Module` if the bytes are no object file, `NotOneModule`, `NotAbsolute`, `NoStart`; or `Memory`, only
-/// if memory ran out. Either hands the regions back.
+/// The regions that were passed in, and the first of: `Module` if the bytes are no object file, `NotOneModule`,
+/// `NotAbsolute`, `NoStart`; or `Memory`, only if memory ran out.
 pub fn read_image(
     alloc: Global,
     bytes: &[u8],
@@ -121,7 +123,8 @@ pub fn read_image(
     }
 }
 
-/// The absolute program that an object file holds.
+/// Reads an object file of one absolute module with a start as a program. The fault is the first of `Module`,
+/// `NotOneModule`, `NotAbsolute` and `NoStart` that holds, or `Memory`.
 fn read_program(alloc: Global, bytes: &[u8]) -> Result<AbsoluteProgram, ImageFault>
     ensures read { IfOk result (λ program. SpellsImage bytes.now program) }
     ensures fault { IfErr result (λ fault. fault ≢ ImageFault.Memory → FaultsImage bytes.now fault) }
@@ -133,7 +136,8 @@ fn read_program(alloc: Global, bytes: &[u8]) -> Result<AbsoluteProgram, ImageFau
     }
 }
 
-/// The absolute program that a module is.
+/// Converts a module to an absolute program. The fault is `NotAbsolute` if it has externals or fixups, or content or
+/// its start outside segment 0; else `NoStart` if it has no start; or `Memory`.
 fn program_of(alloc: Global, program: &Module) -> Result<AbsoluteProgram, ImageFault>
     ensures read { IfOk result (λ read. program_of program.now ≡ Ok read) }
     ensures fault { IfErr result (λ fault. fault ≢ ImageFault.Memory → program_of program.now ≡ Err fault) }
@@ -154,7 +158,7 @@ fn program_of(alloc: Global, program: &Module) -> Result<AbsoluteProgram, ImageF
     })
 }
 
-/// Whether nothing of the module waits for other modules or for a place.
+/// Whether the module has no externals and no fixups, and its contents and its start, if it has one, are in segment 0.
 fn is_absolute(program: &Module) -> bool
     ensures { result ≡ is_absolute program.now }
 {
@@ -163,14 +167,14 @@ fn is_absolute(program: &Module) -> bool
         && starts_absolute(program.start())
 }
 
-/// Whether all of the contents are absolute, and no part of them a reference.
+/// Whether every content is in segment 0 and has no fixups.
 fn are_absolute(contents: &[Content]) -> bool
     ensures { result ≡ list_all is_absolute_content contents.now }
 {
     contents.iter().all(|content| content.segment == ABSOLUTE && content.fixups.is_empty())
 }
 
-/// Whether the start, if there is one, is absolute.
+/// Whether the start, a segment and an offset, is in segment 0; also true if there is no start.
 fn starts_absolute(start: Option<(u8, u16)>) -> bool
     ensures { result ≡ is_absolute_start start }
 {
@@ -180,7 +184,7 @@ fn starts_absolute(start: Option<(u8, u16)>) -> bool
     }
 }
 
-/// The chunks that contents are.
+/// Converts each content to a chunk, in order. The contents must be absolute.
 fn chunks_of(alloc: Global, contents: &[Content]) -> Result<Vec<Chunk>, AllocError>
     requires { AllByRecursion (λ content. IsChunk (content_chunk content)) contents.now }
     ensures { IfOk result (λ chunks. chunks.items ≡ map content_chunk contents.now) }
@@ -192,7 +196,7 @@ fn chunks_of(alloc: Global, contents: &[Content]) -> Result<Vec<Chunk>, AllocErr
     Ok(chunks)
 }
 
-/// The chunk that a content is.
+/// Converts an absolute content to a chunk: its offset is the address, and its bytes are copied.
 fn chunk_of(alloc: Global, content: &Content) -> Result<Chunk, AllocError>
     requires { IsChunk (content_chunk content.now) }
     ensures { IfOk result (λ chunk. chunk ≡ content_chunk content.now) }

@@ -4,8 +4,8 @@ ghost use Rattle.image80_file.specs.ImageFile.{WrittenImageIsSpelled, NamedModul
 
 use omf_module::laws::{one_file_reading, written_file_is_spelled};
 
-/// What is written of an image spells that image, but for its regions, which an object file doesn't hold; and so does its module with
-/// publics.
+/// A law: the object file that is written for an image spells that image, but for its regions, which an object file
+/// doesn't hold; and so does the file of the image's module with publics.
 pub fn written_image_is_spelled()
     ensures spelled { WrittenImageIsSpelled }
     ensures named { NamedModuleIsRead }
@@ -13,7 +13,7 @@ pub fn written_image_is_spelled()
     written_file_is_spelled();
 }
 
-/// Bytes spell one image at most, or have one first fault, and never both.
+/// A law: bytes spell at most one image, or have one first fault, and never both.
 pub fn one_image_reading()
     ensures image { OneImage }
     ensures fault { OneImageFault }

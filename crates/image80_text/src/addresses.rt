@@ -5,7 +5,8 @@ ghost use Rattle.image80_text.specs.NameText.{address_at, address_behind, behind
 
 use text80::word_of_digits;
 
-/// The address of the line of an instruction: its first four digits, or those behind its number.
+/// The address of an instruction's line: the four upper-case hexadecimal digits that it begins with or, if lines are
+/// numbered, those behind its first blank. `None` if no such digits are there.
 pub(crate) fn instruction_address(line: &[u8], numbered: bool) -> Option<u16>
     ensures { result ≡ instruction_address numbered line.now }
 {
@@ -16,7 +17,8 @@ pub(crate) fn instruction_address(line: &[u8], numbered: bool) -> Option<u16>
     }
 }
 
-/// The address that follows a word at the beginning of a line.
+/// The address, four upper-case hexadecimal digits, that follows `word` at the beginning of a line. `None` if the
+/// line begins otherwise or no such digits follow.
 pub(crate) fn address_behind(line: &[u8], word: &[u8]) -> Option<u16>
     ensures { result ≡ address_behind word.now line.now }
 {
@@ -26,7 +28,7 @@ pub(crate) fn address_behind(line: &[u8], word: &[u8]) -> Option<u16>
     }
 }
 
-/// What stands behind the first blank of a line; nothing if it has none.
+/// The part of a line after its first blank, empty if it has none.
 fn behind_blank(line: &[u8]) -> &[u8]
     ensures { result.now ≡ behind_blank line.now }
 {
@@ -36,14 +38,14 @@ fn behind_blank(line: &[u8]) -> &[u8]
     }
 }
 
-/// The place of the first blank.
+/// The place of the first blank in a line, `None` if it has none.
 fn first_blank(line: &[u8]) -> Option<usize>
     ensures { result ≡ position is_blank line.now }
 {
     line.iter().position(|byte| *byte == b' ')
 }
 
-/// The address whose four digits a text begins with.
+/// The address whose four upper-case hexadecimal digits a text begins with, `None` if it begins otherwise.
 fn address_at(text: &[u8]) -> Option<u16>
     ensures { result ≡ address_at text.now }
 {

@@ -2,17 +2,19 @@
 
 ghost use Rattle.image80_text.specs.NameText.{NearestIsGreatest, NoPublicsNoNames, PrintedAddressIsNamed};
 
-/// Without publics a text stays as it is, character for character.
+/// A law: without publics, naming and labelling leave a text as it is, character for character.
 pub fn texts_without_names_are_as_before()
     ensures { NoPublicsNoNames }
 {}
 
-/// An address that is printed in four digits is the one that is named.
+/// A law: an address that is printed in four digits is read back as the same address, so that it is the one that is
+/// named.
 pub fn printed_addresses_are_named()
     ensures { PrintedAddressIsNamed }
 {}
 
-/// The public that names an address is the greatest at or below it in the same range of code, and of several there the first.
+/// A law: the public that names an address is the one with the highest address at or below it in the same range of
+/// code, and the first of several there.
 pub fn nearest_publics_are_greatest()
     ensures { NearestIsGreatest }
 {}

@@ -10,9 +10,9 @@ use image80::Range;
 use image80::lines::first_line;
 use std::alloc::{AllocError, Global};
 
-/// Lines of instructions, each with a line before it that has the name of the first public at its address, if there is one. The
-/// address is what a line begins with, in four digits; if the lines are numbered, what follows its first blank. Every other line
-/// stays as it is, and so does what follows the last line feed.
+/// The lines of a text, each line of an instruction preceded by a line with the name of the first public at its
+/// address, if there is one. The address is what the line begins with, in four digits, or what follows its first
+/// blank if lines are numbered. Every other line stays as it is, and so does what follows the last line feed.
 ///
 /// # Errors
 /// `AllocError` only if memory runs out.
@@ -35,7 +35,8 @@ pub fn label_lines(
     Ok(labelled)
 }
 
-/// Appends the line of an instruction, with the line of its name before it.
+/// Appends a line, given without its line feed; if it is that of an instruction with a public at its address, a line
+/// with the first public's name comes before it.
 fn append_labelled(
     publics: &PublicTable,
     numbered: bool,
@@ -50,8 +51,8 @@ fn append_labelled(
     text.extend_from_slice(line)
 }
 
-/// The lines of a text, each that begins with this word and an address in four digits with the name of that address behind it. Every
-/// other line stays as it is, and so does what follows the last line feed.
+/// The lines of a text, with the name of an address behind each line that begins with `word` and that address in four
+/// digits. Every other line stays as it is, and so does what follows the last line feed.
 ///
 /// The word ends with its blank, as in `PROC `; it must have no line feed.
 ///
@@ -77,7 +78,8 @@ pub fn name_lines(
     Ok(named)
 }
 
-/// Appends a line, with the name of the address that follows its first word, if it is this one.
+/// Appends a line, given without its line feed; if it begins with `word` and an address in four digits, the name of
+/// that address comes behind it.
 fn append_named(
     alloc: Global,
     publics: &PublicTable,
@@ -95,7 +97,7 @@ fn append_named(
     Ok(())
 }
 
-/// A line, which is given without its line feed, with the name of an address behind it and then its line feed.
+/// A line, given without its line feed, followed by a blank and the name of an address, if it has one, and a line feed.
 ///
 /// # Errors
 /// `AllocError` only if memory runs out.

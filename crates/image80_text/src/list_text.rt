@@ -9,9 +9,9 @@ use image80::{Image, Range};
 use std::alloc::{AllocError, Global};
 use text80::{append_digits, word_digits};
 
-/// The instructions of each range of code, by address, from the range's first byte on: a line has the address, the bytes
-/// as digits filled with spaces to six places, and the text. A byte that begins no instruction, or one whose instruction
-/// leaves the range, is a line of its own with the text `??`.
+/// The listing of an image's code: the instructions of each range, by address, from the range's first byte on. A line
+/// has the address, the bytes as digits padded with spaces to six places, and the text. A byte that begins no
+/// instruction, or one whose instruction leaves the range, is a line of its own with the text `??`.
 ///
 /// # Errors
 /// `AllocError` only if memory runs out.
@@ -24,7 +24,7 @@ pub fn listing(alloc: Global, image: &Image) -> Result<Vec<u8>, AllocError>
     Ok(text)
 }
 
-/// Appends the lines of each range.
+/// Appends the listing of each range of code, in order.
 fn append_ranges(
     alloc: Global,
     memory: &[u8],
@@ -40,7 +40,7 @@ fn append_ranges(
     Ok(())
 }
 
-/// Appends the lines of one range.
+/// Appends the listing of one range of code, from its first byte to its last.
 fn append_range(
     alloc: Global,
     memory: &[u8],
@@ -60,7 +60,8 @@ fn append_range(
     Ok(())
 }
 
-/// Appends the line at an address, with `left` bytes of its range left there, and gives the number of its bytes.
+/// Appends the line of the instruction at an address and returns its length; or, if none begins there or it is longer
+/// than the `left` bytes that its range has from there on, the line of one byte with the text `??`, and returns 1.
 fn append_line(
     alloc: Global,
     memory: &[u8],
@@ -92,7 +93,7 @@ fn append_line(
     }
 }
 
-/// The three bytes from an address on.
+/// The bytes at an address and at the two addresses after it, which wrap around at FFFF.
 fn bytes_at(memory: &[u8], at: u16) -> [u8; 3]
     requires { length memory.now ≡ 65536 }
     ensures { result ≡ bytes_from memory.now at }
@@ -104,7 +105,8 @@ fn bytes_at(memory: &[u8], at: u16) -> [u8; 3]
     ]
 }
 
-/// The instruction that the bytes begin with, and its length, if a given number of bytes are left.
+/// The instruction that the bytes begin with, and its length, 1 to 3. `None` if they begin with none, or it is longer
+/// than `left`.
 fn instruction_in(bytes: [u8; 3], left: usize) -> Option<(Instr, usize)>
     ensures value { result ≡ instruction_of bytes left }
     ensures length { IfSome result (λ found. (1 ≤ found.1) × (found.1 ≤ 3)) }
@@ -119,9 +121,8 @@ fn instruction_in(bytes: [u8; 3], left: usize) -> Option<(Instr, usize)>
     }
 }
 
-/// Appends the columns before the text of a line: the address, and the digits of the bytes filled with spaces to six places.
-///
-/// There must be three bytes at most.
+/// Appends the columns before the text of a line: the address, and the digits of at most three bytes padded with
+/// spaces to six places, each column with a space behind it.
 ///
 /// # Errors
 /// `AllocError` only if memory runs out.

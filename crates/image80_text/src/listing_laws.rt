@@ -4,8 +4,8 @@ ghost use Rattle.image80_text.specs.ListingLaws.{RangesAreListedLineByLine};
 
 use decode80::spelling_laws;
 
-/// The lines of a range of code follow one another: each has the bytes of the instruction at its address, or one byte that begins
-/// none there, the next begins behind them, and the last one ends with the range.
+/// A law: the listing of a range has a line for each instruction or single byte, the first at the range's first
+/// address, each next one at the address behind the one before it, and the last one ends with the range.
 pub fn ranges_are_listed_line_by_line()
     ensures { RangesAreListedLineByLine }
 {

@@ -8,9 +8,9 @@ use image80::Range;
 use omf_model::Public;
 use std::alloc::{AllocError, Global};
 
-/// Appends a blank and the name of an address of code, as in ` SCALE`, with the distance in hexadecimal if it is above its public, as
-/// in ` SCALE+22`: that of the greatest public at or below the address in the same range of code, and of several there of the first.
-/// Nothing is appended if there is none.
+/// Appends a blank and the name of an address of code, as in ` SCALE`, or in ` SCALE+22` with the hexadecimal
+/// distance if the address is above its public. The public is the highest at or below the address in the same range
+/// of code, and the first of several there. Nothing is appended if there is none.
 ///
 /// # Errors
 /// `AllocError` only if memory runs out.
@@ -29,7 +29,7 @@ pub fn append_name(
     }
 }
 
-/// Appends a blank and the name of an address so far above a public.
+/// Appends a blank, the public's name and, unless `distance` is 0, `+` and the distance in hexadecimal.
 fn append_above(
     alloc: Global,
     public: &Public,
@@ -43,7 +43,7 @@ fn append_above(
     append_distance(alloc, distance, text)
 }
 
-/// Appends how far an address is above its public; nothing if it isn't.
+/// Appends `+` and the distance in hexadecimal, as in `+22`; nothing if it is 0.
 fn append_distance(alloc: Global, distance: u16, text: &mut Vec<u8>) -> Result<(), AllocError>
     ensures { OnOk result (text.new.items ≡ text.old.items ++ distance_text distance) }
 {

@@ -10,7 +10,7 @@ use omf_model::Public;
 use std::alloc::{AllocError, Global};
 use std::marker::Model;
 
-/// How many addresses there are.
+/// The number of addresses of the 8080's memory.
 const ADDRESSES: usize = 65_536;
 
 /// The publics of an image, looked up by address: tables have the first public at each address, and the nearest one at or below it,
@@ -19,10 +19,11 @@ const ADDRESSES: usize = 65_536;
 /// Publics of other segments than the absolute one, whose offsets are no addresses, are passed over.
 #[derive(Drop)]
 pub struct PublicTable {
+    /// The publics, in their order.
     publics: Vec<Public>,
-    /// By address, the number of the first public there.
+    /// By address, the index in `publics` of the first public there, `None` if there is none.
     first: Vec<Option<usize>>,
-    /// By address, the number of the nearest public at or below it.
+    /// By address, the index in `publics` of the nearest public at or below it, `None` if there is none.
     nearest: Vec<Option<usize>>,
 }
 
@@ -44,7 +45,7 @@ impl PublicTable {
     ghost use Rattle.image80_text.specs.NameText.{nearest_from, nearest_of};
     ghost use Rattle.image80_text.specs.Tables.{nearest_within};
 
-    /// No publics. It takes no memory.
+    /// A table of no publics. It takes no memory.
     pub fn none(alloc: Global) -> PublicTable
         ensures { result ≡ [] }
     {
@@ -55,7 +56,7 @@ impl PublicTable {
         }
     }
 
-    /// Makes a table of these publics.
+    /// Makes a table of these publics, of which those outside the absolute segment are ignored.
     ///
     /// # Errors
     /// `AllocError` if memory runs out.
@@ -71,7 +72,7 @@ impl PublicTable {
         })
     }
 
-    /// Whether there are none.
+    /// Whether the table was made of no publics at all.
     pub fn is_empty(&self) -> bool
         ensures { result ≡ (length self.now == 0) }
     {
@@ -85,8 +86,8 @@ impl PublicTable {
         public_with(&self.publics, entry_at(&self.first, address))
     }
 
-    /// The public that names an address of code: of those in the same range of code, the greatest at or below the address, and of
-    /// several there the first; and how many bytes the address is above it, 0 to 65535. It takes no memory.
+    /// The public that names an address of code, the highest at or below it in the same range of code and the first
+    /// of several there, and how many bytes the address is above it, 0 to 65535. It takes no memory.
     ///
     /// Returns `None` if no range of code contains the address, or if no public is in that range at or below the address.
     pub fn nearest(&self, code: &[Range], address: u16) -> Option<(&Public, u16)>
@@ -100,7 +101,8 @@ impl PublicTable {
         }
     }
 
-    /// The nearest public at or below an address that is in a range; none of no range.
+    /// The nearest public that is at or below the address and not below the range's first address; `None` if there is
+    /// none, or no range.
     fn nearest_within(&self, range: Option<&Range>, address: u16) -> Option<&Public>
         ensures which { option_copied result ≡ nearest_within self.now (option_copied range.entry) address }
         ensures below { IfSome result (λ public. public.now.offset ≤ address) }
@@ -111,7 +113,7 @@ impl PublicTable {
         }
     }
 
-    /// The nearest public at or below an address.
+    /// The nearest public at or below an address, `None` if there is none.
     fn nearest_below(&self, address: u16) -> Option<&Public>
         ensures which { option_copied result ≡ nearest_from self.now address address }
         ensures below { IfSome result (λ public. public.now.offset ≤ address) }
@@ -120,14 +122,14 @@ impl PublicTable {
     }
 }
 
-/// The range of code that contains an address.
+/// The range of code that contains an address, `None` if none does.
 fn range_of(code: &[Range], address: u16) -> Option<&Range>
     ensures { option_copied result ≡ find (λ range. in_range range address) code.now }
 {
     code.iter().find(|range| range.contains(address))
 }
 
-/// The public, unless it is below an address.
+/// The public, or `None` if its address is below `first`.
 fn not_below(first: u16, public: Option<&Public>) -> Option<&Public>
     ensures { option_copied result ≡ not_below first (option_copied public.entry) }
 {
@@ -137,7 +139,7 @@ fn not_below(first: u16, public: Option<&Public>) -> Option<&Public>
     }
 }
 
-/// What a table has for an address.
+/// The table's entry for an address; `None` also if the table is too short to have one.
 fn entry_at(table: &[Option<usize>], address: u16) -> Option<usize>
     ensures { result ≡ entry_at table.now address }
 {
@@ -147,7 +149,7 @@ fn entry_at(table: &[Option<usize>], address: u16) -> Option<usize>
     }
 }
 
-/// The public with a number.
+/// The public with this index; `None` if there is no index or no such public.
 fn public_with(publics: &[Public], number: Option<usize>) -> Option<&Public>
     ensures { option_copied result ≡ public_with publics.now number }
 {
@@ -157,7 +159,7 @@ fn public_with(publics: &[Public], number: Option<usize>) -> Option<&Public>
     }
 }
 
-/// For each address the number of the first public there.
+/// Makes the table of the first public at each address, by its index. Publics outside the absolute segment are ignored.
 fn first_numbers(alloc: Global, publics: &[Public]) -> Result<Vec<Option<usize>>, AllocError>
     ensures first { IfOk result (λ table. AreFirst publics.now table.items) }
     ensures whole { IfOk result (λ table. length table.items ≡ 65536) }
@@ -169,14 +171,15 @@ fn first_numbers(alloc: Global, publics: &[Public]) -> Result<Vec<Option<usize>>
     Ok(table)
 }
 
-/// A table of a given number of addresses, of which none has a public.
+/// A table of `count` addresses, with a public at none of them.
 fn empty_table(alloc: Global, count: usize) -> Result<Vec<Option<usize>>, AllocError>
     ensures { IfOk result (λ table. table.items ≡ replicate count None) }
 {
     vec![in alloc; None; count]
 }
 
-/// Notes a public at its address, unless an earlier one is there.
+/// Enters the index of a public at the public's address, unless another one is entered there or the public is outside
+/// the absolute segment.
 fn note(table: &mut Vec<Option<usize>>, public: &Public, number: usize)
     requires { length table.old.items ≡ 65536 }
     ensures noted { table.new.items ≡ noted table.old.items public.now number }
@@ -188,7 +191,7 @@ fn note(table: &mut Vec<Option<usize>>, public: &Public, number: usize)
     }
 }
 
-/// For each address the number of the nearest public at or below it, from those of the first publics at each.
+/// Makes the table of the nearest public at or below each address from that of the first public at each.
 fn nearest_numbers(alloc: Global, first: &[Option<usize>]) -> Result<Vec<Option<usize>>, AllocError>
     ensures { IfOk result (λ table. table.items ≡ filled_from None first.now) }
 {

@@ -29,6 +29,7 @@ impl fmt::Display for ByteDigits {
 
     ghost output = { λ byte. Some (byte_text byte.0) };
 
+    /// Writes the byte as two upper-case hexadecimal digits.
     fn fmt<W: fmt::Write>(&self, f: &mut fmt::Formatter<W>) -> fmt::Result {
         let byte = self.0;
         write!(f, "{byte:02X}")
@@ -45,6 +46,7 @@ impl fmt::Display for WordDigits {
 
     ghost output = { λ word. Some (word_text word.0) };
 
+    /// Writes the word as four upper-case hexadecimal digits.
     fn fmt<W: fmt::Write>(&self, f: &mut fmt::Formatter<W>) -> fmt::Result {
         let word = self.0;
         let high = ByteDigits((word / 256) as u8);

@@ -17,13 +17,13 @@ pub enum SessionFault {
     /// A write failed, or took no byte.
     #[error("Write")]
     Write,
-    /// The image's bytes aren't those of an image.
+    /// The bytes of the image are no image.
     #[error("{0}")]
     Image(ImageFault),
-    /// The regions' text spells none.
+    /// The bytes of the regions are no regions text.
     #[error("{0}")]
     Regions(RegionsFault),
-    /// The first line of the inputs' text, counted from 1, that has another form.
+    /// The number, counted from 1, of the first line of the inputs that isn't a line of inputs.
     #[error("Inputs {0}")]
     Inputs(usize),
     /// The verifier refuses the image.
@@ -38,7 +38,7 @@ pub enum SessionFault {
 }
 
 impl SessionFault {
-    /// The fault's number, 1 to 8 in the order above.
+    /// The fault's number: 1 `Read`, 2 `Write`, 3 `Image`, 4 `Regions`, 5 `Inputs`, 6 `Refused`, 7 `Memory`, 8 `TooLong`.
     pub fn code(&self) -> u8
         ensures { result ≡ session_code self.now }
     {

@@ -38,18 +38,19 @@ impl From<AllocError> for InputsFault {
 
     ghost from_gives = { λ _ fault. fault ≡ Memory };
 
+    /// The fault `Memory`.
     fn from(_: AllocError) -> InputsFault {
         InputsFault::Memory
     }
 }
 
-/// Reads lines `pp hh..`: a port in two hexadecimal digits, one space, and the bytes that wait
-/// there, at least one, each in two digits. Digits are of either case. The lines of one port
-/// follow one another, and an empty text means no input.
+/// Reads the inputs of a run from lines `pp hh..`: a port in two hexadecimal digits, one space, and the bytes that
+/// wait there, at least one, each in two digits. Digits are of either case. The bytes of one port wait in the order
+/// of its lines, and an empty text means no input.
 ///
 /// # Errors
-/// `BadLine` with the number of the first line of another form, counted from 1; the last line too must end in LF. `Memory` if
-/// memory runs out.
+/// `BadLine` with the number of the first line of another form, counted from 1; the last line too must end in LF.
+/// `Memory` if memory runs out.
 pub fn read_inputs(alloc: Global, bytes: &[u8]) -> Result<Inputs, InputsFault>
     ensures lines { OnOk result (bad_line bytes.now ≡ None) }
     ensures pairs { IfOk result (λ inputs. inputs.pairs.items ≡ inputs_of bytes.now) }
@@ -73,14 +74,17 @@ pub fn read_inputs(alloc: Global, bytes: &[u8]) -> Result<Inputs, InputsFault>
     }
 }
 
-// What one line spells.
+/// A line of inputs: a port and the bytes that wait there.
 #[derive(Drop)]
 struct LineInput {
+    /// The port.
     port: u8,
+    /// The bytes, in the order in which they wait.
     bytes: Vec<u8>,
 }
 
 impl LineInput {
+    /// Appends the port and the byte of each of the line's bytes to the list.
     fn append_to(&self, pairs: &mut Vec<(u8, u8)>) -> Result<(), AllocError>
         ensures { OnOk result (pairs.new.items ≡ pairs.old.items ++ pairs_of self.now.port self.now.bytes.items) }
     {
@@ -91,7 +95,7 @@ impl LineInput {
     }
 }
 
-// What the line without its line feed spells, `None` if it isn't `pp hh..`.
+/// Reads a line of inputs, given without its line feed; `None` if it isn't `pp hh..`.
 fn read_line(alloc: Global, line: &[u8]) -> Result<Option<LineInput>, AllocError>
     ensures { IfOk result (λ input. option_map (λ i. pairs_of i.port i.bytes.items) input ≡ line_input line.now) }
 {

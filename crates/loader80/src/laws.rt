@@ -4,15 +4,16 @@
 ghost use Rattle.loader80.specs.FirstLineLaws.{BadLineIsTheFirst};
 ghost use Rattle.loader80.specs.SendsLaws.{WrittenAnswersAreSent, PrefixesAreSent};
 
-/// An answer to three texts that are within the limit is sent if its text was written whole; and if a prefix of it
-/// was written, that is a prefix of what is sent.
+/// A law: if three texts are within the limit and the whole text of their reply is appended to what was written, that
+/// is what a session on them writes and answers; and if only a prefix of it is, that is what a session writes whose
+/// write failed.
 pub fn what_is_said_is_sent()
     ensures whole { WrittenAnswersAreSent }
     ensures prefix { PrefixesAreSent }
 {}
 
-/// The line of inputs that is reported is the first that is no line of inputs: one of another form, or what stands after the last
-/// line feed.
+/// A law: the line of inputs that is reported is the first that isn't a line of inputs: one of another form, or what
+/// follows the last line feed.
 pub fn bad_line_is_the_first()
     ensures { BadLineIsTheFirst }
 {}

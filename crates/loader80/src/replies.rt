@@ -15,7 +15,7 @@ use machine80::{End, Inputs, ListPorts, PagedBus, Ports};
 use std::alloc::{AllocError, Global};
 use verify80::{Refusal, Vouched, vouch};
 
-/// How a session went.
+/// The result of a session whose image was run.
 #[derive(Clone, Copy, Debug, PartialEq, Eq)]
 pub struct Outcome {
     /// The number of bytes of stack that the program needs at most.
@@ -31,20 +31,26 @@ pub struct Outcome {
 /// Three texts: an image as an object file, regions and inputs.
 #[derive(Clone, Copy)]
 pub struct SessionTexts<'a> {
+    /// The object file of the image.
     pub image: &'a [u8],
+    /// The regions text.
     pub regions: &'a [u8],
+    /// The text of the inputs.
     pub inputs: &'a [u8],
 }
 
-/// What is answered for three texts, and what is written.
+/// The answer to three texts, and the text to write.
 #[derive(Drop)]
 pub struct Reply {
+    /// The outcome of the run, or why there is none.
     pub answer: Result<Outcome, SessionFault>,
+    /// The transcript of the run, the line of a refusal, or nothing for any other fault.
     pub text: String,
 }
 
-/// Reads the texts, checks the image and runs it for at most `steps` steps, keeping at most `outputs` outputs: the next one
-/// is refused. If memory for an output below that limit runs out, the answer is `Memory`.
+/// Reads the texts, checks the image and runs it for at most `steps` steps, keeping at most `outputs` outputs: the
+/// next one is refused. The reply has the outcome with the transcript; `Refused` with the refusal's line; or another
+/// fault without text. If memory for an output below that limit runs out, the fault is `Memory`.
 pub fn answer_texts(alloc: Global, texts: SessionTexts<'_>, steps: u64, outputs: usize) -> Reply
     ensures { Says outputs steps (texts_of texts.entry) result.answer (string_bytes result.text) }
 {
@@ -54,7 +60,7 @@ pub fn answer_texts(alloc: Global, texts: SessionTexts<'_>, steps: u64, outputs:
     }
 }
 
-/// Checks and runs the image that the texts spell.
+/// Checks an image and runs it with the inputs of the texts; image and regions must be those that the texts spell.
 fn answer_image(
     alloc: Global,
     image: Image,
@@ -76,7 +82,7 @@ fn answer_image(
     }
 }
 
-/// The image that the texts spell.
+/// Reads the regions and the image of the texts. The fault is `Regions`, `Image`, or `Memory` if memory runs out.
 fn load(alloc: Global, texts: SessionTexts<'_>) -> Result<Image, SessionFault>
     ensures image { IfOk result (SpellsProgram (texts_of texts.entry)) }
     ensures fault { IfErr result (λ fault. Faults (texts_of texts.entry) fault []) }
@@ -93,7 +99,7 @@ fn load(alloc: Global, texts: SessionTexts<'_>) -> Result<Image, SessionFault>
     }
 }
 
-/// A fault, and no text.
+/// A reply with this fault and no text.
 fn faulty(alloc: Global, fault: SessionFault) -> Reply
     ensures answer { result.answer ≡ Err fault }
     ensures text { string_bytes result.text ≡ [] }
@@ -104,7 +110,8 @@ fn faulty(alloc: Global, fault: SessionFault) -> Reply
     }
 }
 
-/// A refusal, and its line.
+/// A reply with the fault `Refused` and the refusal's line; with `Memory` and no text if the verifier or the line ran
+/// out of memory.
 fn refuse(alloc: Global, refusal: Refusal) -> Reply
     ensures { IsRefused refusal result.answer (string_bytes result.text) }
 {
@@ -120,7 +127,8 @@ fn refuse(alloc: Global, refusal: Refusal) -> Reply
     }
 }
 
-/// A vouched image is run, and its transcript is made.
+/// Runs a vouched image with these inputs, and replies with the outcome and the transcript; with `Memory` and no text
+/// if memory runs out, also for an output below the limit.
 fn transcribe(alloc: Global, vouched: &Vouched, inputs: Inputs, steps: u64, outputs: usize) -> Reply
     ensures { Transcribes vouched.now.image vouched.now.stack_bytes (lists_of inputs.pairs.items) outputs steps result.answer
         (string_bytes result.text) }

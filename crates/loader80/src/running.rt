@@ -12,12 +12,12 @@ use machine80_quick::laws::images_that_never_go_wrong_stay_right;
 use machine80_quick::quick_advance;
 use verify80::Vouched;
 
-/// How a run ended.
+/// How a run ended, or was stopped.
 #[derive(Clone, Copy, Debug, PartialEq, Eq)]
 pub struct Ended {
-    /// How it ended; `None` if the steps were used up.
+    /// How the run ended; `None` if the steps were used up.
     pub end: Option<End>,
-    /// The steps that it made, the ending one counted.
+    /// The number of steps that were made, the ending one counted.
     pub steps: u64,
     /// The processor after the last step; at an end, before the ending step.
     pub cpu: Cpu,
@@ -27,7 +27,7 @@ pub struct Ended {
 ///
 /// Each step is a [quick step](machine80_quick::quick_step), which leaves out the checks that the verifier has made needless.
 ///
-/// The bus holds the image's content, and the count of refused outputs is below the greatest `u64`. It is one higher
+/// The bus must hold the image's memory, and the count of refused outputs be below the greatest `u64`. It is one higher
 /// after [`End::OutputRefused`], and stays otherwise.
 ///
 /// # Example

@@ -10,7 +10,8 @@ use std::alloc::{AllocError, Global};
 use std::fmt::Write;
 use verify80::Refusal;
 
-/// The transcript of a run: a line for the bytes of stack, one for each output, and one for the end.
+/// The transcript of a run: `STACK n`, a line `OUT pp bb` for each output, and the line of its end by `end`, the
+/// program counter `at` and the number of steps.
 pub fn transcript_text(
     alloc: Global,
     stack_bytes: u64,
@@ -26,7 +27,8 @@ pub fn transcript_text(
     Ok(text)
 }
 
-/// The transcript of a run but for its last line: a line for the bytes of stack, and one for each output.
+/// The transcript of a run but for its last line: `STACK n` with the bytes of stack, and a line `OUT pp bb` for each
+/// output.
 ///
 /// # Errors
 /// `AllocError` only if memory runs out.
@@ -45,8 +47,9 @@ pub fn front_text(
     Ok(text)
 }
 
-/// The last line of a transcript: how the run ended, where the program counter is `at` and a given number of steps were made. Of the ends
-/// that a vouched image never has, it is empty.
+/// The last line of a transcript: how the run ended, such as `HALT 3012 AFTER 11`, or `STEPS AFTER 11` if the steps
+/// were used up. `at` is the program counter, and `steps` the number of steps that were made. The text is empty for
+/// an end that a vouched image never has.
 ///
 /// # Errors
 /// `AllocError` only if memory runs out.
@@ -63,7 +66,7 @@ pub fn ending_text(
     Ok(text)
 }
 
-// One output: port and byte.
+/// Appends the line of an output, a port and a byte, as `OUT 01 2A`.
 fn append_output(text: &mut String, output: (u8, u8)) -> Result<(), AllocError>
     ensures { OnOk result (string_bytes text.new ≡ string_bytes text.old ++ output_line output) }
 {
@@ -71,7 +74,8 @@ fn append_output(text: &mut String, output: (u8, u8)) -> Result<(), AllocError>
     writeln!(text, "OUT {} {}", ByteDigits(port), ByteDigits(byte))
 }
 
-// How the run ended at `at`.
+/// Appends the last line of a transcript: how the run ended, with the program counter `at` and the number of steps;
+/// nothing for an end that a vouched image never has.
 fn append_end(text: &mut String, end: Option<End>, at: u16, steps: u64) -> Result<(), AllocError>
     ensures { OnOk result (string_bytes text.new ≡ string_bytes text.old ++ end_line «end» at steps) }
 {
@@ -86,21 +90,22 @@ fn append_end(text: &mut String, end: Option<End>, at: u16, steps: u64) -> Resul
     }
 }
 
-// What a run ended by, its word, and the steps.
+/// Appends the line of an end: its name, a word in four hexadecimal digits, and `AFTER` with the number of steps.
 fn append_word(text: &mut String, name: &str, word: u16, steps: u64) -> Result<(), AllocError>
     ensures { OnOk result (string_bytes text.new ≡ string_bytes text.old ++ (name.now ++ (word_text word ++ after_steps steps))) }
 {
     writeln!(text, "{name}{} AFTER {steps}", WordDigits(word))
 }
 
-// What a run ended by, its byte, and the steps.
+/// Appends the line of an end: its name, a byte in two hexadecimal digits, and `AFTER` with the number of steps.
 fn append_byte(text: &mut String, name: &str, byte: u8, steps: u64) -> Result<(), AllocError>
     ensures { OnOk result (string_bytes text.new ≡ string_bytes text.old ++ (name.now ++ (byte_text byte ++ after_steps steps))) }
 {
     writeln!(text, "{name}{} AFTER {steps}", ByteDigits(byte))
 }
 
-/// The line for an image that is refused.
+/// The line for an image that is refused, with the refusal's number and name: `REFUSED n Name AT aaaa` if it has an
+/// address, `REFUSED n Name need has` for a stack that is too small, and otherwise `REFUSED n Name`.
 ///
 /// # Errors
 /// `AllocError` only if memory runs out.

@@ -25,7 +25,7 @@ pub fn report_text(alloc: Global, vouched: &Vouched) -> Result<Vec<u8>, AllocErr
     Ok(text)
 }
 
-/// Appends the lines of the bytes of stack.
+/// Appends `ACCEPTED` and the line of the bytes of stack that the image needs and has, as `STACK 6 OF 6`.
 fn append_stack(alloc: Global, text: &mut Vec<u8>, need: u64, has: u16) -> Result<(), AllocError>
     ensures { OnOk result (text.new.items ≡ text.old.items ++ stack_lines need has) }
 {
@@ -34,7 +34,7 @@ fn append_stack(alloc: Global, text: &mut Vec<u8>, need: u64, has: u16) -> Resul
     Ok(())
 }
 
-/// Appends a line for each procedure, in order.
+/// Appends a line for each procedure, in order, as `PROC 3040 TAKES 1 WANTS 1 BOUND 0 RETURNS`.
 ///
 /// # Errors
 /// `AllocError` only if memory runs out; the text may then have some of the lines.
@@ -47,7 +47,7 @@ pub fn append_rows(alloc: Global, text: &mut Vec<u8>, rows: &[ProcRow]) -> Resul
     Ok(())
 }
 
-/// Appends the line of a procedure.
+/// Appends the line of a procedure, as `PROC 3040 TAKES 1 WANTS 1 BOUND 0 RETURNS`.
 fn append_row(alloc: Global, text: &mut Vec<u8>, row: ProcRow) -> Result<(), AllocError>
     ensures { OnOk result (text.new.items ≡ text.old.items ++ row_line row) }
 {
@@ -58,7 +58,7 @@ fn append_row(alloc: Global, text: &mut Vec<u8>, row: ProcRow) -> Result<(), All
     Ok(())
 }
 
-/// Appends the counts of a procedure.
+/// Appends the counts of a procedure, as ` TAKES 1 WANTS 1 BOUND 0`.
 fn append_counts(alloc: Global, text: &mut Vec<u8>, row: ProcRow) -> Result<(), AllocError>
     ensures { OnOk result (text.new.items ≡ text.old.items ++ counts_text row) }
 {
@@ -68,7 +68,7 @@ fn append_counts(alloc: Global, text: &mut Vec<u8>, row: ProcRow) -> Result<(), 
     Ok(())
 }
 
-/// How a procedure ends, in words.
+/// The end of a procedure's line: ` RETURNS` or ` NEVER`, and the line feed.
 fn ends_of(returns: bool) -> &'static [u8]
     ensures { result.now ≡ ends_text returns }
 {

@@ -19,16 +19,17 @@ use machine80::{Cpu, Inputs, ListPorts, PagedBus};
 use machine80_quick::laws::images_that_never_go_wrong_stay_right;
 use std::alloc::{AllocError, Global};
 
-/// How often a run began the instruction at each address.
+/// How a run ended, and how often it began the instruction at each address.
 #[derive(Drop)]
 pub struct Counts {
-    /// How the run ended.
+    /// How the run ended, or was stopped.
     pub ended: Ended,
-    /// For each of the 65536 addresses, how many of its steps began there, the ending one counted.
+    /// For each of the 65536 addresses, how many of the run's steps began there, the ending one counted.
     pub steps: Vec<u64>,
 }
 
-/// Runs a vouched image from its start with these inputs, and counts the steps that begin at each address.
+/// Runs a vouched image from its start with these inputs and within these limits, and counts the steps that begin at
+/// each address.
 ///
 /// # Errors
 /// `AllocError` only if memory runs out, also for an output below the limit.
@@ -68,7 +69,8 @@ pub fn count_steps(
     Ok(Counts { ended, steps })
 }
 
-/// Counts the steps of a run from its first machine on.
+/// Makes at most `steps` steps of a run from its first state on, and counts in `counts`, by address, those that begin
+/// there. `AllocError` if memory runs out for an output below the limit.
 fn count_each(
     rules: &Rules<'_>,
     steps: u64,
@@ -105,7 +107,7 @@ fn count_each(
     })
 }
 
-/// Counts a step that begins at an address.
+/// Adds 1 to the count of an address, in a table of 65536 counts.
 fn count_at(counts: &mut Vec<u64>, address: u16)
     requires whole { length counts.old.items ≡ 65536 }
     requires countable { slice_index counts.old.items address < 2 ^ 64 - 1 }

@@ -22,6 +22,7 @@ impl From<AllocError> for TraceFault {
 
     ghost from_gives = { λ _ fault. fault ≡ Memory };
 
+    /// The fault `Memory`.
     fn from(_: AllocError) -> TraceFault {
         TraceFault::Memory
     }
@@ -32,6 +33,7 @@ impl From<Failed> for TraceFault {
 
     ghost from_gives = { λ _ fault. fault ≡ Write };
 
+    /// The fault `Write`.
     fn from(_: Failed) -> TraceFault {
         TraceFault::Write
     }

@@ -12,19 +12,19 @@ use loader80::{Ended, Vouched, run};
 use machine80::{Inputs, ListPorts, PagedBus, Ports};
 use std::alloc::{AllocError, Global};
 
-/// A run that has ended, or was stopped, with what it leaves.
+/// The state that a run leaves which has ended or was stopped.
 #[derive(Drop)]
 pub struct Finished {
-    /// How it ended.
+    /// How the run ended, or was stopped.
     pub ended: Ended,
-    /// The memory.
+    /// The memory after the run.
     pub bus: PagedBus,
-    /// The ports, with the outputs.
+    /// The ports after the run, with its outputs.
     pub ports: ListPorts,
 }
 
-/// Runs a vouched image from its start with these inputs, and gives what the run leaves: processor, memory and ports after the
-/// last step, or before the step that ends it.
+/// Runs a vouched image from its start with these inputs and within these limits, and returns processor, memory and
+/// ports after the last step, or before the step that ends the run.
 ///
 /// # Errors
 /// `AllocError` only if memory runs out, also for an output below the limit.
@@ -51,7 +51,7 @@ pub fn finish(
     Ok(Finished { ended, bus, ports })
 }
 
-/// Whether an output was refused below the limit, because memory ran out.
+/// Whether an output was refused while fewer than `limit` were kept, because memory ran out.
 pub(crate) fn was_out_of_memory(ports: &ListPorts, limit: usize) -> bool
     ensures { IsTrue result ↔ ((0 < ports.now.refused) × (length ports.now.outputs < limit)) }
 {

@@ -2,7 +2,8 @@
 
 ghost use Rattle.loader80_trace.specs.GoingOn.{RunsGoOn};
 
-/// A run of the machine that a run has reached is the rest of that run: nothing but the machine decides how it goes on.
+/// A law: a run that goes on from a state which another run has reached is the rest of that run. Nothing but the
+/// state decides how it goes on.
 pub fn runs_go_on()
     ensures { RunsGoOn }
 {}

@@ -8,24 +8,24 @@ use loader80::Ended;
 /// How long a run may last.
 #[derive(Clone, Copy, Debug, PartialEq, Eq)]
 pub struct Limits {
-    /// Steps at most.
+    /// The greatest number of steps.
     pub steps: u64,
-    /// Outputs at most; the next one is refused.
+    /// The greatest number of outputs; the next one is refused.
     pub outputs: usize,
 }
 
-/// Some instructions of a run.
+/// Consecutive instructions of a run.
 #[derive(Clone, Copy, Debug, PartialEq, Eq)]
 pub struct Span {
-    /// How many steps come before the first of them.
+    /// How many steps of the run come before the first instruction.
     pub from: u64,
-    /// How many there are at most.
+    /// The greatest number of instructions.
     pub count: u64,
 }
 
 impl Span {
-    /// The last instructions of a run that ended so, `count` of them at most: the last is the one that ended it, or the next one
-    /// if the steps were used up. `count` must be at least 1.
+    /// The last instructions of a run that ended so, `count` of them at most: the very last is the one that ended the
+    /// run, or the next one if the steps were used up. `count` must be at least 1.
     pub fn last_of(ended: &Ended, count: u64) -> Span
         requires { 0 < count }
         ensures count { result.count ≡ min count (last_number ended.now.end ended.now.steps + 1) }

@@ -14,7 +14,8 @@ use std::alloc::{AllocError, Global};
 use std::fmt::Write;
 use text80::{byte_digits, word_digits};
 
-/// Appends the line of an instruction, with the byte that it takes from a port or gives to one, and the registers before it.
+/// Appends the line of an instruction: its address, bytes and text, the byte that it takes from a port or gives to
+/// one, if it does, and the registers before it.
 pub(crate) fn append_line(
     alloc: Global,
     instr: Instr,
@@ -31,7 +32,7 @@ pub(crate) fn append_line(
     Ok(())
 }
 
-/// Appends the columns before an instruction's text.
+/// Appends the columns before an instruction's text: its address and its bytes.
 fn append_bytes(at: u16, instr: Instr, line: &mut Vec<u8>) -> Result<(), AllocError>
     ensures { OnOk result (line.new.items ≡ line.old.items ++ columns at (spelling instr)) }
 {
@@ -39,7 +40,7 @@ fn append_bytes(at: u16, instr: Instr, line: &mut Vec<u8>) -> Result<(), AllocEr
     append_columns(at, &bytes[..length], line)
 }
 
-/// Appends an instruction's text and its byte, filled with spaces to ten places.
+/// Appends an instruction's text and its port's byte, if it has one, padded with spaces to ten places.
 fn append_filled(
     alloc: Global,
     instr: Instr,
@@ -55,7 +56,7 @@ fn append_filled(
     Ok(())
 }
 
-/// Appends the byte of a port behind its number, if there is one.
+/// Appends the byte of a port, as `=2A`; nothing for `None`.
 fn append_shown(byte: Option<u8>, line: &mut Vec<u8>) -> Result<(), AllocError>
     ensures { OnOk result (line.new.items ≡ line.old.items ++ byte_shown byte) }
 {
@@ -65,7 +66,7 @@ fn append_shown(byte: Option<u8>, line: &mut Vec<u8>) -> Result<(), AllocError>
     }
 }
 
-/// Appends spaces up to ten places from `before` on.
+/// Appends spaces until ten bytes stand from the place `before` on; none if there are that many already.
 fn fill_from(before: usize, line: &mut Vec<u8>) -> Result<(), AllocError>
     requires { before ≤ length line.old.items }
     ensures { OnOk result (line.new.items ≡ line.old.items ++ drop (length line.old.items - before) (codes "          ")) }
@@ -75,7 +76,7 @@ fn fill_from(before: usize, line: &mut Vec<u8>) -> Result<(), AllocError>
     line.extend_from_slice(&spaces[shown..])
 }
 
-/// Appends a bar and the registers.
+/// Appends a bar and the registers, as ` | A=00 F=02 BC=0000 DE=0000 HL=0000 SP=4000`.
 fn append_registers(cpu: &Cpu, line: &mut Vec<u8>) -> Result<(), AllocError>
     ensures { OnOk result (line.new.items ≡ line.old.items ++ registers_text cpu.now) }
 {
@@ -88,7 +89,7 @@ fn append_registers(cpu: &Cpu, line: &mut Vec<u8>) -> Result<(), AllocError>
     Ok(())
 }
 
-/// Appends a name and the two digits of a byte.
+/// Appends a name and the two hexadecimal digits of a byte.
 fn append_byte(name: &[u8], byte: u8, line: &mut Vec<u8>) -> Result<(), AllocError>
     ensures { OnOk result (line.new.items ≡ line.old.items ++ (name.now ++ byte_text byte)) }
 {
@@ -96,7 +97,7 @@ fn append_byte(name: &[u8], byte: u8, line: &mut Vec<u8>) -> Result<(), AllocErr
     line.extend_from_slice(&byte_digits(byte))
 }
 
-/// Appends a name and the four digits of a word.
+/// Appends a name and the four hexadecimal digits of a word.
 fn append_word(name: &[u8], word: u16, line: &mut Vec<u8>) -> Result<(), AllocError>
     ensures { OnOk result (line.new.items ≡ line.old.items ++ (name.now ++ word_text word)) }
 {
@@ -104,16 +105,17 @@ fn append_word(name: &[u8], word: u16, line: &mut Vec<u8>) -> Result<(), AllocEr
     line.extend_from_slice(&word_digits(word))
 }
 
-/// What stands before an instruction.
+/// The options of a run's lines: whether they are numbered, and the names of addresses.
 #[derive(Clone, Copy)]
 pub struct LineForm<'a> {
-    /// Whether the line is the number of steps that were made before it.
+    /// Whether each line begins with the number of steps that were made before it.
     pub numbered: bool,
-    /// The publics by which addresses are named, each on a line of its own; it may have none.
+    /// The publics whose names stand on lines of their own before the instructions at their addresses; it may have none.
     pub publics: &'a PublicTable,
 }
 
-/// Appends what stands before an instruction: the line of its name, if its address has one, and its number, if lines are numbered.
+/// Appends what comes before an instruction's line: the line of the name of its address, if it has one, and its
+/// number, if lines are numbered.
 pub(crate) fn append_front(
     alloc: Global,
     publics: &PublicTable,
@@ -128,7 +130,7 @@ pub(crate) fn append_front(
     append_number(alloc, numbered, number, line)
 }
 
-/// Appends the number of a line, if lines are numbered.
+/// Appends the number of a line and a space if lines are numbered; otherwise nothing.
 fn append_number(
     alloc: Global,
     numbered: bool,

@@ -13,17 +13,18 @@ use machine80::{Cpu, End, ListPorts, PagedBus};
 use machine80_quick::quick_advance;
 use std::alloc::AllocError;
 
-/// What a run goes by.
+/// The regions and the limit of outputs by which a run makes its steps.
 #[derive(Drop)]
 pub(crate) struct Rules<'a> {
+    /// The regions of the image.
     pub regions: &'a Regions,
     /// The map of the regions.
     pub map: &'a RegionMap,
-    /// Outputs at most.
+    /// The greatest number of outputs.
     pub outputs: usize,
 }
 
-/// Makes one step of a run that stays right, and gives its end if it ends there.
+/// Makes one step of a run of verified code; returns how the run ends if it ends there, and `None` if it goes on.
 ///
 /// # Errors
 /// `AllocError` if memory runs out for an output below the limit.

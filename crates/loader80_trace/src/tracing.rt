@@ -25,18 +25,19 @@ use machine80_quick::laws::images_that_never_go_wrong_stay_right;
 use std::alloc::{AllocError, Global};
 use stream80::{Sink, write_all};
 
-/// Writes the lines of some instructions of a run, each as it comes: the run of a vouched image from its start with these inputs.
-/// A line has the instruction as a listing has it, the byte that it takes from a port or gives to one, and the registers before
-/// it; if lines are numbered, the number of steps that were made before it comes first. Before the line of an instruction whose
-/// address has a name there is a line for that. After the last step that the limits let it make, the next instruction has a line too.
+/// Runs a vouched image from its start with these inputs and within these limits, and writes the lines of the
+/// instructions in the span, each as it comes. A line has the instruction as a listing has it, the byte that it takes
+/// from a port or gives to one, and the registers before it; if lines are numbered, the number of steps that were
+/// made before it comes first. Before the line of an instruction whose address has a name there is a line for that.
+/// After the last step that the limits allow, the next instruction has a line too.
 ///
-/// The answer is how the run ended, if its last line is among these or before them, and `None` if the lines ran out first.
+/// Returns how the run ended if its last line is among these or before them, and `None` if the span ended first.
 ///
 /// The count of failures of the writer must be below the greatest `u64`.
 ///
 /// # Errors
-/// `Write` if a write fails or takes no byte, and `Memory` if memory runs out, also for an output below the limit. A front part
-/// of the lines has then been written.
+/// `Write` if a write fails or takes no byte, and `Memory` if memory runs out, also for an output below the limit. A
+/// prefix of the lines has then been written.
 pub fn write_lines<K: Sink>(
     alloc: Global,
     vouched: &Vouched,
@@ -89,16 +90,19 @@ pub fn write_lines<K: Sink>(
     )
 }
 
-/// Which lines are written.
+/// Which lines are written, and how.
 #[derive(Clone, Copy)]
 struct Lines<'a> {
+    /// The instructions that have a line.
     span: Span,
-    /// The run's steps at most.
+    /// The greatest number of steps of the run.
     steps: u64,
+    /// What the lines have besides the instruction.
     form: LineForm<'a>,
 }
 
-/// Writes the lines from a machine on to which the run has come.
+/// Runs on from the state that the run has reached before the first line, and writes the lines. Returns how the run
+/// ended, or `None` if the span ended first.
 fn write_each<K: Sink>(
     alloc: Global,
     rules: &Rules<'_>,
@@ -159,7 +163,8 @@ fn write_each<K: Sink>(
     Ok(None)
 }
 
-/// Makes a step of a run that stays right, and appends its line.
+/// Makes one step of a run of verified code and appends its line; returns how the run ends if it ends there. If
+/// memory runs out, `AllocError`.
 fn show_step(
     alloc: Global,
     rules: &Rules<'_>,
@@ -188,7 +193,8 @@ fn show_step(
     Ok(end)
 }
 
-/// The byte that an instruction took from a port or gave to one, by the accumulator before and after it.
+/// The byte that an instruction took from a port or gave to one: of IN, unless it ended the run, the accumulator
+/// after it; of OUT, the accumulator before it. `None` for any other.
 fn byte_seen(instr: Instr, before: u8, end: Option<End>, after: u8) -> Option<u8>
     ensures { result ≡ byte_seen instr before «end» after }
 {

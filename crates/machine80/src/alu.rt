@@ -8,7 +8,7 @@ ghost use Rattle.machine80.specs.Arithmetic.{sum_answer, difference_answer, byte
 use crate::flags::Flags;
 use decode80::{Operation, Rotation};
 
-/// A byte that was computed, and the flags after it.
+/// The result of an arithmetic, logical or rotating instruction: a byte, and the flags after it.
 #[derive(Clone, Copy, PartialEq, Eq, Debug)]
 pub struct Answer {
     /// The byte.
@@ -18,7 +18,7 @@ pub struct Answer {
 }
 
 impl Answer {
-    /// A byte with flags of its own: S, Z and P by the byte, AC and CY as given.
+    /// The result `value` with its flags: S, Z and P by the byte, AC and CY as given.
     #[inline]
     #[tactic(auto, unfolding(crate::specs::Arithmetic::byte_answer))]
     fn of_byte(value: u8, auxiliary: bool, carry: bool) -> Answer
@@ -31,11 +31,11 @@ impl Answer {
     }
 }
 
-/// ADD, ADC, SUB, SBB, ANA, XRA, ORA and CMP, and the same with an immediate byte: the operation on the accumulator `a`
-/// and the byte `value`. A comparison gives `a` back.
+/// ADD, ADC, SUB, SBB, ANA, XRA, ORA and CMP, and their immediate forms: the operation on the accumulator `a` and the
+/// byte `value`. A comparison returns `a` unchanged.
 ///
 /// Of `flags` only CY is read, by ADC and SBB; all five flags of the answer are new. CY after a subtraction is the
-/// borrow; AC is the carry out of bit 3 of the addition of the complement, so it is set if the low nibble does not
+/// borrow; AC is the carry out of bit 3 of the addition of the complement, so it is set if the low nibble doesn't
 /// borrow. After ANA, AC is bit 3 of the OR of the two operands.
 #[inline]
 #[tactic(auto, unfolding(crate::specs::Arithmetic::operation_answer, crate::specs::Flags::bit_of, crate::specs::Flags::has_bit))]
@@ -57,7 +57,7 @@ pub fn operate(operation: Operation, a: u8, value: u8, flags: Flags) -> Answer
     }
 }
 
-/// The adder: `a`, `value` and a carry.
+/// The adder: the sum of `a`, `value` and a carry modulo 256, with all five flags.
 #[inline]
 #[tactic(auto, unfolding(crate::specs::Arithmetic::sum_answer, crate::specs::Flags::bit_of))]
 fn sum(a: u8, value: u8, carry: bool) -> Answer
@@ -69,8 +69,8 @@ fn sum(a: u8, value: u8, carry: bool) -> Answer
     Answer::of_byte((sum % 256) as u8, nibbles > 15, sum > 255)
 }
 
-/// A subtraction by the adder: `a`, the complement of `value` and the complemented borrow; the carry that comes out
-/// is complemented too.
+/// A subtraction by the adder: the sum of `a`, the complement of `value` and the complemented borrow. CY is the
+/// complement of the sum's carry, the new borrow.
 #[inline]
 #[tactic(auto, using(crate::proofs::ArithmeticLemmas::difference_by_adder), unfolding(crate::specs::ArithmeticLaws::with_carry_turned))]
 fn difference(a: u8, value: u8, borrow: bool) -> Answer
@@ -83,7 +83,7 @@ fn difference(a: u8, value: u8, borrow: bool) -> Answer
     }
 }
 
-/// INR of a register or the byte in memory: `value` plus 1 modulo 256. CY stays.
+/// INR: `value` plus 1 modulo 256, and the flags by that result; CY stays as in `flags`.
 #[inline]
 #[tactic(auto, unfolding(crate::specs::Arithmetic::increment_answer))]
 pub fn increment(value: u8, flags: Flags) -> Answer
@@ -93,7 +93,7 @@ pub fn increment(value: u8, flags: Flags) -> Answer
     Answer::of_byte(more, more % 16 == 0, flags.carry)
 }
 
-/// DCR of a register or the byte in memory: `value` minus 1 modulo 256. CY stays.
+/// DCR: `value` minus 1 modulo 256, and the flags by that result; CY stays as in `flags`.
 #[inline]
 #[tactic(auto, unfolding(crate::specs::Arithmetic::decrement_answer))]
 pub fn decrement(value: u8, flags: Flags) -> Answer
@@ -157,7 +157,7 @@ pub fn add_pairs(hl: u16, pair: u16, flags: Flags) -> (u16, Flags)
     ((sum % 65536) as u16, flags.with_carry(sum > 65535))
 }
 
-/// CMA: every bit of the accumulator is complemented. No flag changes.
+/// CMA: the accumulator with every bit complemented.
 #[inline]
 #[tactic(auto, unfolding(crate::specs::Arithmetic::complement_of))]
 pub fn complement(a: u8) -> u8
@@ -166,7 +166,7 @@ pub fn complement(a: u8) -> u8
     !a
 }
 
-/// STC: CY is set, the other flags stay.
+/// STC: the flags with CY set.
 #[inline]
 #[tactic(auto, unfolding(crate::specs::Arithmetic::carry_set))]
 pub fn set_carry(flags: Flags) -> Flags
@@ -175,7 +175,7 @@ pub fn set_carry(flags: Flags) -> Flags
     flags.with_carry(true)
 }
 
-/// CMC: CY is complemented, the other flags stay.
+/// CMC: the flags with CY complemented.
 #[inline]
 #[tactic(auto, unfolding(crate::specs::Arithmetic::carry_turned))]
 pub fn complement_carry(flags: Flags) -> Flags

@@ -14,7 +14,7 @@ pub trait Bus {
         ensures byte { result ≡ slice_index (memory self.now) address }
         ensures whole { length (memory self.now) ≡ 65536 };
 
-    /// Writes one byte at an address, and leaves every other.
+    /// Writes one byte at an address, and leaves every other unchanged.
     fn store(&mut self, address: u16, byte: u8)
         ensures stored { memory self.new ≡ slice_set (memory self.old) address byte }
         ensures whole { length (memory self.new) ≡ 65536 };

@@ -11,16 +11,20 @@ use crate::registers::Registers;
 use decode80::{Pair, Register};
 use image80::Regions;
 
-/// The registers, the stack pointer and the program counter.
+/// The state of the processor: the registers with the flags, the stack pointer and the program counter.
 #[derive(Clone, Copy, Debug, PartialEq, Eq)]
 pub struct Cpu {
+    /// The seven registers and the flags.
     pub registers: Registers,
+    /// The stack pointer.
     pub sp: u16,
+    /// The program counter: the address of the next instruction.
     pub pc: u16,
 }
 
 impl Cpu {
-    /// The processor before the first step: all registers 0, all flags clear, the stack pointer at the stack's top.
+    /// The processor before the first step: the program counter at `start`, the stack pointer at the stack's top, all
+    /// registers 0, all flags clear.
     pub fn start(start: u16, regions: &Regions) -> Cpu
         ensures { result ≡ started start regions.now }
     {
@@ -76,7 +80,7 @@ impl Cpu {
         self.pc
     }
 
-    /// The word in a pair.
+    /// The word in a pair, the first register being the high byte.
     #[inline]
     pub fn pair(&self, pair: Pair) -> u16
         ensures { result ≡ pair_of self.now pair }
@@ -89,7 +93,7 @@ impl Cpu {
         }
     }
 
-    /// Writes a word to a pair.
+    /// Writes a word to a pair, its high byte to the first register.
     #[inline]
     pub fn assign_pair(&mut self, pair: Pair, word: u16)
         ensures { self.new ≡ with_pair self.old pair word }
@@ -103,7 +107,7 @@ impl Cpu {
         }
     }
 
-    /// Writes a result to the accumulator and the flags.
+    /// Writes a result's byte to the accumulator, and its flags to the flags.
     #[inline]
     pub fn put(&mut self, answer: Answer)
         ensures { self.new ≡ with_answer self.old answer }
@@ -112,7 +116,7 @@ impl Cpu {
         self.registers.flags = answer.flags;
     }
 
-    /// Writes a result to a register and the flags.
+    /// Writes a result's byte to a register, and its flags to the flags.
     #[inline]
     pub fn put_in(&mut self, register: Register, answer: Answer)
         ensures { self.new ≡ with_register_answer self.old register answer }
@@ -121,7 +125,7 @@ impl Cpu {
         self.registers.flags = answer.flags;
     }
 
-    /// Adds a word to HL.
+    /// Adds a word to HL modulo 65536, as DAD does: CY becomes the carry, and no other flag changes.
     #[inline(always)]
     pub fn add(&mut self, word: u16)
         ensures { self.new ≡ with_sum self.old (hl_of self.old.registers) word }

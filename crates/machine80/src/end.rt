@@ -3,14 +3,14 @@
 ghost use Rattle.std.specs.Prelude.{◌≡◌};
 ghost use Rattle.machine80.specs.End.{code_of};
 
-/// How a run ends. `Fetch`, `Stack` and `Direct` are wrong; a vouched image meets none of them.
+/// How a run ends. Only code that isn't verified ends by `Fetch`, `Stack` or `Direct`; a vouched image never does.
 #[derive(Clone, Copy, Debug, PartialEq, Eq)]
 pub enum End {
     /// A HLT was executed.
     Halt,
-    /// IN at a port where no byte waits.
+    /// IN at this port, where no byte waits.
     InputEnd(u8),
-    /// OUT at a port that refuses the byte.
+    /// OUT at this port, which refuses the byte.
     OutputRefused(u8),
     /// A register-indirect store (STAX, MOV M and its like) to this address, which isn't data.
     StoreOutside(u16),
@@ -25,7 +25,8 @@ pub enum End {
 }
 
 impl End {
-    /// The number of this end, 1 to 8 in the order above.
+    /// The number of this end: 1 `Halt`, 2 `InputEnd`, 3 `OutputRefused`, 4 `StoreOutside`, 5 `Fetch`, 6 `Stack`, 7
+    /// `Direct`, 8 `JumpOutside`.
     pub fn code(&self) -> u8
         ensures { result ≡ code_of self.now }
     {

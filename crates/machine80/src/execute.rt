@@ -22,7 +22,8 @@ use crate::stores::{store_byte, store_direct, store_word};
 use decode80::{Fetched, Instr, Operand, StackPair, ahead, behind};
 use image80::Regions;
 
-/// The byte that an operation on the accumulator takes.
+/// The second operand of an operation on the accumulator: the byte in a register, the byte that HL points to, or the
+/// immediate byte.
 #[inline]
 fn operand<B: Bus>(operand: Operand, registers: &Registers, bus: &B) -> u8
     ensures { result ≡ operand_of operand (B.memory bus.now) registers.now }
@@ -34,7 +35,8 @@ fn operand<B: Bus>(operand: Operand, registers: &Registers, bus: &B) -> u8
     }
 }
 
-/// The registers and the flags after an instruction that computes.
+/// Executes an operation on the accumulator, INR or DCR of a register, DAD, a rotation, DAA, CMA, STC or CMC, but for
+/// the program counter. No other instruction may be given.
 #[inline]
 fn compute<B: Bus>(instr: Instr, cpu: &mut Cpu, bus: &B)
     requires { Computes instr }
@@ -57,7 +59,8 @@ fn compute<B: Bus>(instr: Instr, cpu: &mut Cpu, bus: &B)
     }
 }
 
-/// The registers and the stack pointer after an instruction; the program counter stays.
+/// Executes an instruction that neither jumps nor stores nor touches the stack, but for the program counter and the
+/// ports. No other instruction may be given. IN, OUT, EI, DI, NOP and HLT change nothing here.
 #[inline]
 fn change<B: Bus>(instr: Instr, cpu: &mut Cpu, bus: &B)
     requires { IsPlain instr }
@@ -97,8 +100,9 @@ fn change<B: Bus>(instr: Instr, cpu: &mut Cpu, bus: &B)
     }
 }
 
-/// Executes an instruction that is neither a port's nor a halt, unless a byte that it touches is outside: then nothing
-/// changes.
+/// Executes a fetched instruction and sets the program counter, without the effects of IN, OUT and HLT and the test
+/// of a PCHL's targets, which are the caller's. Returns how the run ends if a byte that would be pushed, popped or
+/// stored is outside its region; then nothing has changed.
 #[inline]
 pub(crate) fn proceed<B: Bus>(
     found: Fetched,
@@ -125,7 +129,9 @@ pub(crate) fn proceed<B: Bus>(
     }
 }
 
-/// What an instruction does but for the program counter, and the address of the next one.
+/// Executes an instruction but for the program counter, and returns the address at which it goes on; `next` is the
+/// address after it. `Err` is how the run ends if a byte that it touches is outside its region; then nothing has
+/// changed.
 #[inline]
 fn go_on<B: Bus>(
     instr: Instr,
@@ -162,7 +168,8 @@ fn go_on<B: Bus>(
     }
 }
 
-/// A call pushes the address that it comes back to, and goes to another.
+/// Pushes the return address `back` and returns `address`, at which the call goes on. `Err` is `End::Stack` if a
+/// pushed byte would be outside the stack; then nothing has changed.
 #[inline]
 fn call<B: Bus>(
     address: u16,
@@ -182,7 +189,8 @@ fn call<B: Bus>(
     Ok(address)
 }
 
-/// What an instruction does that goes on after itself.
+/// Executes an instruction that goes on to the next one, but for the program counter. `Err` is how the run ends if a
+/// byte that it touches is outside its region; then nothing has changed.
 #[inline]
 fn go_straight<B: Bus>(
     instr: Instr,
@@ -220,7 +228,8 @@ fn go_straight<B: Bus>(
     }
 }
 
-/// INR M and DCR M: the byte that HL points to, and the flags.
+/// Stores the result of INR M or DCR M where HL points to, and sets the flags. `Err` is `End::StoreOutside` if that
+/// address isn't data; then nothing has changed.
 #[inline]
 fn store_answer<B: Bus>(
     answer: Answer,

@@ -1,4 +1,4 @@
-//! An instruction is fetched from a processor's memory, inside the code.
+//! Fetches an instruction from a processor's memory, inside the code.
 
 ghost use Rattle.std.specs.Prelude.{◌≡◌, ◌+◌, ◌&&◌, [], ◌∷◌, nat_le, slice_index};
 ghost use Rattle.decode80.specs.Fetch.{all_code};
@@ -10,7 +10,7 @@ use crate::bus::Bus;
 use decode80::{Fetched, Program};
 use image80::{Range, Regions};
 
-/// A memory whose code lies in regions.
+/// A memory as a program whose code is that of the regions, in any number of ranges.
 #[derive_where(Clone, Copy)]
 struct InRegions<'a, B> {
     bus: &'a B,
@@ -23,17 +23,20 @@ impl<'a, B: Bus> Program for InRegions<'a, B> {
     ghost held = { λ p address. slice_index (B.memory p.bus.now) address };
 
     #[inline]
+    /// Whether the address is in the regions' code.
     fn is_code(&self, address: u16) -> bool {
         self.regions.in_code(address)
     }
 
     #[inline]
+    /// The byte of the memory at the address.
     fn byte(&self, address: u16) -> u8 {
         self.bus.load(address)
     }
 }
 
-/// A memory whose code is one range, as of most programs: whether an instruction lies in it is one test.
+/// A memory as a program whose code is one range, as that of most programs: whether an instruction lies in the code
+/// is one test.
 #[derive_where(Clone, Copy)]
 struct InRange<'a, B> {
     bus: &'a B,
@@ -46,23 +49,26 @@ impl<'a, B: Bus> Program for InRange<'a, B> {
     ghost held = { λ p address. slice_index (B.memory p.bus.now) address };
 
     #[inline]
+    /// Whether the address is in the one range of code.
     fn is_code(&self, address: u16) -> bool {
         self.code.contains(address)
     }
 
     #[inline]
+    /// The byte of the memory at the address.
     fn byte(&self, address: u16) -> u8 {
         self.bus.load(address)
     }
 
     #[inline]
+    /// Whether `count` bytes from the address on are in the range and none of them is past FFFF.
     fn all_code(&self, address: u16, count: usize) -> bool {
         let first = usize::from(address);
         first + count <= 65536 && spans(self.code, first, first + count)
     }
 }
 
-/// Whether a range spans the addresses from `first` up to `end`.
+/// Whether a range contains all addresses from `first` up to, but without, `end`.
 #[inline]
 fn spans(range: Range, first: usize, end: usize) -> bool
     ensures { result ≡ (nat_le range.first first && nat_le end (range.first + range.length)) }
@@ -84,8 +90,8 @@ pub fn fetch<B: Bus>(address: u16, bus: &B, regions: &Regions) -> Option<Fetched
     }
 }
 
-/// Fetches for any number of ranges, which few programs have: it stands apart, so that [`fetch`] stays short enough to become
-/// a part of each step.
+/// Fetches as [`fetch`] does, from code of any number of ranges, which few programs have. It is a function of its own
+/// so that [`fetch`] stays short enough to be inlined into each step.
 #[inline(never)]
 #[tactic(auto, unfolding(crate::specs::Step::fetch))]
 fn fetch_in_regions<B: Bus>(address: u16, bus: &B, regions: &Regions) -> Option<Fetched>

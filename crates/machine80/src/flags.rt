@@ -50,7 +50,7 @@ impl Flags {
         }
     }
 
-    /// The flags of the result `byte`: S, Z and P by its bits, AC and CY as given.
+    /// The flags of the result `byte`: S, Z and P by the byte, AC and CY as given.
     #[inline]
     #[tactic(auto, unfolding(crate::specs::Flags::flags_of_result, crate::specs::Flags::has_even_ones))]
     pub fn of_result(byte: u8, auxiliary: bool, carry: bool) -> Flags
@@ -65,7 +65,7 @@ impl Flags {
         }
     }
 
-    /// Returns these flags with another CY.
+    /// Returns these flags with CY set to `carry`.
     #[inline]
     pub fn with_carry(self, carry: bool) -> Flags
         ensures { result ≡ record self { carry = carry } }
@@ -74,7 +74,8 @@ impl Flags {
     }
 }
 
-/// Whether `condition` holds of `flags`: NZ Z NC C PO PE P M test Z, CY, P and S.
+/// Whether the condition holds of the flags: NZ and Z test the zero flag, NC and C the carry, PO and PE the parity, P
+/// and M the sign.
 #[inline]
 #[tactic(auto, unfolding(crate::specs::Flags::holds))]
 pub fn condition_holds(condition: Condition, flags: Flags) -> bool

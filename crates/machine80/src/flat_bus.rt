@@ -11,6 +11,7 @@ use std::marker::Model;
 /// A memory of 65536 bytes in one piece.
 #[derive(Drop)]
 pub struct FlatBus {
+    /// The 65536 bytes, by address.
     bytes: Vec<u8>,
 }
 
@@ -25,7 +26,7 @@ impl Model for FlatBus {
 }
 
 impl FlatBus {
-    /// A memory that holds the image's content, and 0 if it has none.
+    /// The memory of an image: its bytes at their addresses, and 0 everywhere else.
     ///
     /// # Errors
     /// `AllocError` if there is no memory for it.
@@ -41,10 +42,12 @@ impl FlatBus {
 impl Bus for FlatBus {
     ghost memory = { λ b. b };
 
+    /// The byte at an address.
     fn load(&self, address: u16) -> u8 {
         self.bytes[usize::from(address)]
     }
 
+    /// Writes one byte at an address, and leaves every other unchanged.
     fn store(&mut self, address: u16, byte: u8) {
         self.bytes[usize::from(address)] = byte;
     }

@@ -1,4 +1,4 @@
-//! The bytes that an instruction may not touch: the end at the first of them.
+//! Checks of the bytes that an instruction touches: the end at the first that it may not.
 
 ghost use Rattle.std.specs.Prelude.{◌≡◌, [], ◌∷◌, None};
 ghost use Rattle.std.specs.Result.{result_err};
@@ -12,7 +12,8 @@ use crate::end::End;
 use decode80::{ahead, behind};
 use image80::Regions;
 
-/// The two bytes below the stack pointer have to be bytes of the stack.
+/// Checks that the two bytes below the stack pointer, which a push writes, are bytes of the stack; `Err` is
+/// `End::Stack` with the first that isn't, the higher one first.
 #[inline]
 pub(crate) fn guard_push(sp: u16, regions: &Regions) -> Result<(), End>
     ensures { result_err result ≡ ends_at (first_outside (in_range regions.now.stack) (pushed_bytes sp)) Stack None }
@@ -21,7 +22,8 @@ pub(crate) fn guard_push(sp: u16, regions: &Regions) -> Result<(), End>
     guard_stack(behind(sp, 2), regions)
 }
 
-/// The two bytes at the stack pointer have to be bytes of the stack.
+/// Checks that the byte at the stack pointer and the one above it, which a pop reads, are bytes of the stack; `Err`
+/// is `End::Stack` with the first that isn't.
 #[inline]
 pub(crate) fn guard_pop(sp: u16, regions: &Regions) -> Result<(), End>
     ensures { result_err result ≡ ends_at (first_outside (in_range regions.now.stack) (popped_bytes sp)) Stack None }
@@ -30,7 +32,8 @@ pub(crate) fn guard_pop(sp: u16, regions: &Regions) -> Result<(), End>
     guard_stack(ahead(sp, 1), regions)
 }
 
-/// A byte that is pushed or popped has to be a byte of the stack.
+/// Checks that a byte that is pushed or popped is a byte of the stack; `Err` is `End::Stack` with its address if it
+/// isn't.
 #[inline]
 fn guard_stack(address: u16, regions: &Regions) -> Result<(), End>
     ensures { result_err result ≡ ends_at (first_outside (in_range regions.now.stack) (address ∷ [])) Stack None }
@@ -42,7 +45,7 @@ fn guard_stack(address: u16, regions: &Regions) -> Result<(), End>
     }
 }
 
-/// A byte that is stored directly has to be data.
+/// Checks that a byte that STA or SHLD stores to is data; `Err` is `End::Direct` with its address if it isn't.
 #[inline]
 pub(crate) fn guard_direct(address: u16, regions: &Regions) -> Result<(), End>
     ensures { result_err result ≡ ends_at (first_outside (in_data regions.now) (address ∷ [])) Direct None }
@@ -54,7 +57,8 @@ pub(crate) fn guard_direct(address: u16, regions: &Regions) -> Result<(), End>
     }
 }
 
-/// A byte of a register-indirect store has to be data.
+/// Checks that a byte that is stored to through a register pair is data; `Err` is `End::StoreOutside` with its
+/// address if it isn't.
 #[inline]
 pub(crate) fn guard_store(address: u16, regions: &Regions) -> Result<(), End>
     ensures { result_err result ≡ ends_at (first_outside (in_data regions.now) (address ∷ [])) StoreOutside None }

@@ -16,10 +16,13 @@ use std::marker::Model;
 pub struct ListPorts {
     /// Port and byte, in order.
     pairs: Vec<(u8, u8)>,
-    /// For each port, the place in `pairs` from which on none of its bytes has been taken.
+    /// For each port, the index in `pairs` from which on none of its bytes has been taken.
     places: [usize; 256],
+    /// Port and byte of each output, in order.
     outputs: Vec<(u8, u8)>,
+    /// The number of outputs that are kept at most.
     limit: usize,
+    /// How many outputs were refused.
     refused: u64,
 }
 
@@ -67,14 +70,14 @@ impl ListPorts {
     }
 }
 
-/// The place of the first of some pairs, for each port.
+/// The index 0 for each port: no byte has been taken yet.
 fn first_places() -> [usize; 256]
     ensures { result ≡ replicate 256 0 }
 {
     [0; 256]
 }
 
-/// The first byte of a port from a place on, with its place.
+/// The index and the byte of the first pair of the port at the index `from` or behind it; `None` if there is none.
 fn first_of(pairs: &[(u8, u8)], from: usize, port: u8) -> Option<(usize, u8)>
     ensures { FirstOf pairs.now from port result }
 {
@@ -92,6 +95,7 @@ fn first_of(pairs: &[(u8, u8)], from: usize, port: u8) -> Option<(usize, u8)>
 impl Ports for ListPorts {
     ghost lists = { λ p. p };
 
+    /// Takes the next byte that waits at a port; `None` if none waits.
     fn take(&mut self, port: u8) -> Option<u8> {
         match first_of(self.pairs.as_slice(), self.places[port as usize], port) {
             Some((at, byte)) => {
@@ -105,6 +109,7 @@ impl Ports for ListPorts {
         }
     }
 
+    /// Keeps an output; or counts it as refused if the limit is reached or memory runs out.
     fn give(&mut self, port: u8, byte: u8) -> Result<(), PortRefused> {
         if self.outputs.len() < self.limit && self.outputs.push((port, byte)).is_ok() {
             return Ok(());
@@ -113,6 +118,7 @@ impl Ports for ListPorts {
         Err(PortRefused)
     }
 
+    /// How many outputs were refused.
     fn refusals(&self) -> u64 {
         self.refused
     }

@@ -8,10 +8,11 @@ use image80::Image;
 use std::alloc::{AllocError, Global};
 use std::marker::Model;
 
-/// A memory of 65536 bytes in 256 pages of 256 bytes. All of them are made at once, so that a store takes no memory. They stand
-/// one after another, so that a load needs no look at its page.
+/// A memory of 65536 bytes in 256 pages of 256 bytes. All pages are made at once, so that a store takes no memory,
+/// and are adjacent, so that a load needn't find its page first.
 #[derive(Drop)]
 pub struct PagedBus {
+    /// The 256 pages, by address.
     pages: Vec<[u8; 256]>,
 }
 
@@ -27,7 +28,7 @@ impl Model for PagedBus {
 }
 
 impl PagedBus {
-    /// A memory that holds the image's content, and 0 if it has none.
+    /// The memory of an image: its bytes at their addresses, and 0 everywhere else.
     ///
     /// # Errors
     /// `AllocError` if there is no memory for it.
@@ -38,7 +39,7 @@ impl PagedBus {
         PagedBus::of_bytes(alloc, &bytes)
     }
 
-    /// A memory that holds these 65536 bytes, by address.
+    /// Makes a memory of these bytes by address, which must be 65536.
     ///
     /// # Errors
     /// `AllocError` if there is no memory for it.
@@ -54,7 +55,7 @@ impl PagedBus {
     }
 }
 
-/// The page with this number, from 0, of bytes by address.
+/// The page with this number: the 256 bytes from `number` times 256 on.
 fn page_of(bytes: &[u8], number: usize) -> [u8; 256]
     requires { number * 256 + 256 ≤ length bytes.now }
     ensures page { result ≡ take 256 (drop (number * 256) bytes.now) }
@@ -69,10 +70,12 @@ fn page_of(bytes: &[u8], number: usize) -> [u8; 256]
 impl Bus for PagedBus {
     ghost memory = { λ b. b };
 
+    /// The byte at an address.
     fn load(&self, address: u16) -> u8 {
         self.pages.as_slice().as_flattened()[usize::from(address)]
     }
 
+    /// Writes one byte at an address, and leaves every other unchanged.
     fn store(&mut self, address: u16, byte: u8) {
         self.pages[usize::from(address / 256)][usize::from(address % 256)] = byte;
     }

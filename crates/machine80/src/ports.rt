@@ -13,10 +13,10 @@ pub struct PortRefused;
 /// outputs that were refused, the greatest number of outputs that is ever kept, if there is one, and the number that there is
 /// room for at least: while there are fewer, none is refused.
 pub trait Ports {
-    /// What is seen of them.
+    /// The lists and counts by which contracts see the ports.
     ghost lists: { Self → PortLists };
 
-    /// The next byte of a port, which is taken away, or `None` if none waits.
+    /// Takes the next input byte of a port, and returns it; `None` if none waits.
     fn take(&mut self, port: u8) -> Option<u8>
         ensures byte { result ≡ next_input (lists self.old).inputs port }
         ensures taken { lists self.new ≡ record (lists self.old) { inputs = without_next (lists self.old).inputs port } }

@@ -36,7 +36,7 @@ impl Registers {
         }
     }
 
-    /// Writes a byte to a register, and leaves the others.
+    /// Writes a byte to a register, and leaves the others unchanged.
     #[inline]
     pub fn assign(&mut self, register: Register, byte: u8)
         ensures { self.new ≡ with_register self.old register byte }
@@ -60,7 +60,7 @@ impl Registers {
         u16::from_be_bytes([self.h, self.l])
     }
 
-    /// The word in a pair that STAX and LDAX name.
+    /// The word in BC or DE, an address for STAX and LDAX.
     #[inline]
     pub fn index_pair(&self, pair: IndexPair) -> u16
         ensures { result ≡ index_pair_of self.now pair }
@@ -71,7 +71,7 @@ impl Registers {
         }
     }
 
-    /// The high byte of a pair that PUSH names.
+    /// The high byte of a pair that PUSH names; of PSW, A.
     #[inline]
     pub fn high(&self, pair: StackPair) -> u8
         ensures { result ≡ high_of self.now pair }
@@ -84,7 +84,7 @@ impl Registers {
         }
     }
 
-    /// The low byte of a pair that PUSH names.
+    /// The low byte of a pair that PUSH names; of PSW, the flags byte.
     #[inline]
     pub fn low(&self, pair: StackPair) -> u8
         ensures { result ≡ low_of self.now pair }
@@ -97,7 +97,7 @@ impl Registers {
         }
     }
 
-    /// Writes a high and a low byte to a pair that POP names.
+    /// Writes a high and a low byte to a pair that POP names; to PSW, A and the flags from their byte.
     #[inline]
     pub fn assign_stack_pair(&mut self, pair: StackPair, high: u8, low: u8)
         ensures { self.new ≡ with_stack_pair self.old pair high low }

@@ -17,7 +17,8 @@ use crate::words::{load_word, push, push_word};
 use decode80::{StackPair, ahead, behind};
 use image80::Regions;
 
-/// A call pushes the address that it comes back to.
+/// Pushes a return address. `Err` is `End::Stack` with the first of the two bytes that is outside the stack; then
+/// nothing has changed.
 #[inline]
 pub(crate) fn push_place<B: Bus>(
     place: u16,
@@ -37,7 +38,8 @@ pub(crate) fn push_place<B: Bus>(
     Ok(())
 }
 
-/// A return pops the address that it goes to.
+/// Pops a return address and returns it. `Err` is `End::Stack` with the first of the two bytes that is outside the
+/// stack; then nothing has changed.
 #[inline]
 pub(crate) fn pop_place<B: Bus>(cpu: &mut Cpu, bus: &B, regions: &Regions) -> Result<u16, End>
     ensures end { result_err result ≡ ends_at (first_outside (in_range regions.now.stack) (popped_bytes cpu.old.sp)) Stack None }
@@ -51,7 +53,8 @@ pub(crate) fn pop_place<B: Bus>(cpu: &mut Cpu, bus: &B, regions: &Regions) -> Re
     Ok(place)
 }
 
-/// PUSH: a pair is pushed.
+/// Pushes a pair, as PUSH does. `Err` is `End::Stack` with the first of the two bytes that is outside the stack; then
+/// nothing has changed.
 #[inline]
 pub(crate) fn push_pair<B: Bus>(
     pair: StackPair,
@@ -76,7 +79,8 @@ pub(crate) fn push_pair<B: Bus>(
     Ok(())
 }
 
-/// POP: a pair is popped.
+/// Pops a pair, as POP does. `Err` is `End::Stack` with the first of the two bytes that is outside the stack; then
+/// nothing has changed.
 #[inline]
 pub(crate) fn pop_pair<B: Bus>(
     pair: StackPair,
@@ -100,7 +104,8 @@ pub(crate) fn pop_pair<B: Bus>(
     Ok(())
 }
 
-/// XTHL: HL and the word at the stack pointer change places.
+/// Exchanges HL with the word at the stack pointer, as XTHL does. `Err` is `End::Stack` with the first of the two
+/// bytes that is outside the stack; then nothing has changed.
 #[inline]
 pub(crate) fn exchange<B: Bus>(cpu: &mut Cpu, bus: &mut B, regions: &Regions) -> Result<(), End>
     ensures end { result_err result ≡ ends_at (first_outside (in_range regions.now.stack) (popped_bytes cpu.old.sp)) Stack None }

@@ -16,12 +16,12 @@ use crate::ports::Ports;
 use decode80::{Fetched, Instr};
 use image80::Regions;
 
-/// Makes one step: the instruction at the program counter is fetched, guarded and executed (Intel 8080 Microcomputer Systems
-/// User's Manual, chapter 4; docs/MACHINE.md). The answer is `None`, or how the run ends: [`End::Fetch`] if no instruction is
-/// fetched; else [`End::Stack`], [`End::Direct`] or [`End::StoreOutside`] at the first byte that it would touch outside its
-/// region; else [`End::Halt`] at HLT, [`End::InputEnd`] at IN if no byte waits, [`End::OutputRefused`] at OUT if the ports
-/// refuse the byte, [`End::JumpOutside`] at a PCHL if HL is none of the targets that are declared for its address. (If none
-/// are declared, it goes where HL says.)
+/// Makes one step: the instruction at the program counter is fetched, guarded and executed (Intel 8080 Microcomputer
+/// Systems User's Manual, chapter 4; docs/MACHINE.md). Returns `None` if the run goes on, or how it ends:
+/// [`End::Fetch`] if no instruction can be fetched; else [`End::Stack`], [`End::Direct`] or [`End::StoreOutside`] at
+/// the first byte that it would touch outside its region; else [`End::Halt`] at HLT, [`End::InputEnd`] at IN if no
+/// byte waits, [`End::OutputRefused`] at OUT if the ports refuse the byte, [`End::JumpOutside`] at a PCHL if targets
+/// are declared for its address and HL is none of them.
 ///
 /// If the run ends, nothing has changed but the count of refused outputs, which is one higher after
 /// [`End::OutputRefused`]. The count must be below the greatest `u64`.
@@ -45,7 +45,8 @@ pub fn step<B: Bus, P: Ports>(
     execute(found, cpu, bus, ports, regions)
 }
 
-/// Guards an instruction and executes it.
+/// Executes a fetched instruction with its checks, and returns how the run ends, if it does; then nothing has changed
+/// but the count of refused outputs.
 #[inline]
 fn execute<B: Bus, P: Ports>(
     found: Fetched,
@@ -85,7 +86,8 @@ fn execute<B: Bus, P: Ports>(
     }
 }
 
-/// PCHL goes to HL, unless targets are declared for its address and HL is none of them: then nothing changes.
+/// Executes PCHL: the program counter becomes HL. If targets are declared for its address and HL is none of them,
+/// returns `End::JumpOutside` with HL, and nothing has changed.
 fn jump_by_pair(cpu: &mut Cpu, regions: &Regions) -> Option<End>
     ensures end { result ≡ jump_end (targets_at regions.now cpu.old.pc) (hl_of cpu.old.registers) }
     ensures kept { OnSome result (cpu.new ≡ cpu.old) }
@@ -101,7 +103,7 @@ fn jump_by_pair(cpu: &mut Cpu, regions: &Regions) -> Option<End>
     None
 }
 
-/// Whether the address is one of the targets, which ascend.
+/// Whether the address is one of the targets, which must ascend.
 fn is_target(targets: &[u16], to: u16) -> bool
     requires { AllPairs (λ a b. a < b) targets.now }
     ensures { result ≡ list_any (λ target. target == to) targets.now }

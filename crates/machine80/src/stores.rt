@@ -14,7 +14,7 @@ use crate::guard::{guard_direct, guard_store};
 use decode80::ahead;
 use image80::Regions;
 
-/// STA: a byte is stored at the instruction's own address.
+/// Stores a byte at the address that STA names. `Err` is `End::Direct` if that isn't data; then nothing has changed.
 #[inline]
 pub(crate) fn store_direct<B: Bus>(
     address: u16,
@@ -31,7 +31,8 @@ pub(crate) fn store_direct<B: Bus>(
     Ok(())
 }
 
-/// SHLD: two bytes are stored at the instruction's own address and at the one after it.
+/// Stores a low byte at the address that SHLD names and a high byte at the next one. `Err` is `End::Direct` with the
+/// first of them that isn't data; then nothing has changed.
 #[inline]
 pub(crate) fn store_word<B: Bus>(
     address: u16,
@@ -52,7 +53,8 @@ pub(crate) fn store_word<B: Bus>(
     Ok(())
 }
 
-/// MOV M, MVI M, STAX, INR M and DCR M: a byte is stored where a pair points to.
+/// Stores a byte where a register pair points to, as MOV M, MVI M, STAX, INR M and DCR M do. `Err` is
+/// `End::StoreOutside` if that isn't data; then nothing has changed.
 #[inline]
 pub(crate) fn store_byte<B: Bus>(
     address: u16,

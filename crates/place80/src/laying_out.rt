@@ -17,14 +17,14 @@ use omf_model::has_common_id;
 use omf_module::{Common, Module, Segment};
 use std::alloc::{AllocError, Global};
 
-/// Where CODE stands without an option.
+/// The base of CODE if no option gives one.
 const DEFAULT_BASE: u32 = 0x3000;
 
-/// The places of the program's segments.
+/// Places the program's segments.
 ///
-/// A segment with a given base stands there. Any other stands at the end of the one before it, CODE at 3000h, at the next
-/// multiple of 256 if it is paged. A given size of STACK or MEMORY replaces its length. Empty segments take their place
-/// like others and overlap nothing. (ISIS-II User's Guide, LOCATE.)
+/// A segment with a given base stands there. Any other stands at the end of the one before it, CODE at 3000h; a paged
+/// one at the next multiple of 256. A given size of STACK or MEMORY replaces its length. Empty segments take their
+/// place like others and overlap nothing. (ISIS-II User's Guide, LOCATE.)
 ///
 /// # Errors
 /// The first that holds of `OutsideMemory` and `Overlap`; `Memory` only if memory ran out.
@@ -58,7 +58,8 @@ fn common_ids(alloc: Global, commons: &[Common]) -> Result<Vec<u8>, AllocError>
     Ok(ids)
 }
 
-/// The ids of the segments in the order of their places.
+/// The ids of a program's segments in the order in which they are placed: CODE, STACK, the named commons by id, the
+/// unnamed common, DATA, MEMORY.
 fn order(alloc: Global, commons: &[Common]) -> Result<Vec<u8>, AllocError>
     ensures order { IfOk result (λ ids. ids.items ≡ order_of commons.now) }
     ensures few { IfOk result (λ ids. length ids.items ≤ 254) }
@@ -70,7 +71,7 @@ fn order(alloc: Global, commons: &[Common]) -> Result<Vec<u8>, AllocError>
     Ok(ids)
 }
 
-/// All segments at their places.
+/// Places all segments of a program by the options, without checking that they fit in memory and don't overlap.
 pub(crate) fn place_all(
     alloc: Global,
     program: &Module,
@@ -90,7 +91,8 @@ pub(crate) fn place_all(
     Ok(segments)
 }
 
-/// The segment of this id after one that ends at `before`.
+/// Places the segment with this id: at the base that the options give, or else at `before`, the end of the segment
+/// before it, or the next multiple of 256 if it is paged. A segment that the program doesn't have is empty.
 fn place_after(program: &Module, options: &Options, before: u32, id: u8) -> Placed
     requires { before ≤ 4000000000 }
     ensures place { result ≡ placed_after options.now program.now before id }
@@ -113,7 +115,7 @@ fn place_after(program: &Module, options: &Options, before: u32, id: u8) -> Plac
     }
 }
 
-/// The place itself, or the next multiple of 256 for a paged segment.
+/// The address itself, or for a paged segment the next multiple of 256 if it isn't one.
 fn round_up(paged: bool, place: u32) -> u32
     requires { place ≤ 4000000000 }
     ensures rounded { result ≡ rounded paged place }

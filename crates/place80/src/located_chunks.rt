@@ -1,4 +1,4 @@
-//! The chunks of an image: contents at their places, with their references applied.
+//! The chunks of an image: contents at their places, with their fixups applied.
 
 ghost use Rattle.std.specs.Prelude.{◌≡◌, ◌≤◌, map, IfOk};
 ghost use Rattle.std.specs.List.{AllByRecursion, list_any};
@@ -13,7 +13,7 @@ use omf_model::{Patch, apply_patches};
 use omf_module::{Content, Field, Fixup, Target};
 use std::alloc::{AllocError, Global};
 
-/// Whether a reference of the contents takes the high byte of a word that isn't a multiple of 256.
+/// Whether a fixup of the contents takes the high byte of a word that isn't a multiple of 256.
 pub(crate) fn any_loses_its_low_byte(segments: &[Placed], contents: &[Content]) -> bool
     ensures { result ≡ list_any (λ c. list_any (loses_with (word_among segments.now)) c.fixups) contents.now }
 {
@@ -22,6 +22,7 @@ pub(crate) fn any_loses_its_low_byte(segments: &[Placed], contents: &[Content]) 
         .any(|content| content_loses_a_low_byte(segments, content))
 }
 
+/// Whether a fixup of the content takes the high byte of a word that isn't a multiple of 256.
 fn content_loses_a_low_byte(segments: &[Placed], content: &Content) -> bool
     ensures { result ≡ list_any (loses_with (word_among segments.now)) content.now.fixups }
 {
@@ -31,7 +32,7 @@ fn content_loses_a_low_byte(segments: &[Placed], content: &Content) -> bool
         .any(|fixup| loses_its_low_byte(segments, *fixup))
 }
 
-/// Whether the reference takes the high byte of a word that isn't a multiple of 256.
+/// Whether the fixup takes the high byte of a word that isn't a multiple of 256.
 fn loses_its_low_byte(segments: &[Placed], fixup: Fixup) -> bool
     ensures { result ≡ loses_with (word_among segments.now) fixup }
 {
@@ -41,7 +42,8 @@ fn loses_its_low_byte(segments: &[Placed], fixup: Fixup) -> bool
     }
 }
 
-/// The word that a fixup adds. No external is left once a program is located.
+/// The word that a fixup to this target adds: the address of offset 0 in the target's segment. It is 0 for an
+/// external, which a program that is located doesn't have.
 fn target_word(segments: &[Placed], target: Target) -> u16
     ensures { result ≡ word_among segments.now target }
 {
@@ -51,7 +53,7 @@ fn target_word(segments: &[Placed], target: Target) -> u16
     }
 }
 
-/// The chunks of all contents, in order.
+/// Makes a chunk of each content, in order: its bytes at their address, with its fixups applied.
 pub(crate) fn located_chunks(
     alloc: Global,
     segments: &[Placed],
@@ -67,7 +69,7 @@ pub(crate) fn located_chunks(
     Ok(chunks)
 }
 
-/// The chunk of a content.
+/// Makes the chunk of a content: its bytes at their address, with its fixups applied.
 fn located_chunk(alloc: Global, segments: &[Placed], content: &Content) -> Result<Chunk, AllocError>
     requires { CanBePlaced segments.now content.now }
     ensures { IfOk result (λ chunk. chunk ≡ chunk_among segments.now content.now) }
@@ -81,7 +83,7 @@ fn located_chunk(alloc: Global, segments: &[Placed], content: &Content) -> Resul
     })
 }
 
-/// The references of a content, whose first byte has the offset `first`, as words that are added to its bytes.
+/// Converts the fixups of a content, whose first byte has the offset `first`, to patches of its bytes.
 fn patches_of(
     alloc: Global,
     segments: &[Placed],

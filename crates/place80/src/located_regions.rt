@@ -22,7 +22,7 @@ pub(crate) fn located_regions(alloc: Global, segments: &[Placed]) -> Result<Regi
     Ok(Regions::from_disjoint(alloc, code, stack, data_ranges))
 }
 
-/// The ranges of CODE, without an empty one.
+/// The range of CODE, in a list that is empty if CODE has no bytes.
 pub(crate) fn code_ranges(alloc: Global, segments: &[Placed]) -> Result<Vec<Range>, AllocError>
     requires { AllByRecursion (λ p. p.length < 65536) segments.now }
     ensures { IfOk result (λ ranges. ranges.items ≡ located_code segments.now) }
@@ -50,7 +50,7 @@ pub(crate) fn data_ranges(alloc: Global, segments: &[Placed]) -> Result<Vec<Rang
     Ok(ranges)
 }
 
-/// Whether segments of this id are data.
+/// Whether a segment with this id belongs to data: any but CODE and STACK.
 fn is_data(id: u8) -> bool
     ensures { result ≡ is_data id }
 {
@@ -67,7 +67,7 @@ fn push_filled(ranges: &mut Vec<Range>, range: Range) -> Result<(), AllocError>
     Ok(())
 }
 
-/// The range of STACK.
+/// The range of STACK, which may be empty.
 pub(crate) fn stack_range(segments: &[Placed]) -> Range
     requires { AllByRecursion (λ p. p.length < 65536) segments.now }
     ensures { result ≡ located_stack segments.now }

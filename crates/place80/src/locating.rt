@@ -24,11 +24,12 @@ use omf_model::relocation_laws::{
 use omf_module::Module;
 use std::alloc::{AllocError, Global};
 
-/// The program's image at its places.
+/// Locates a program: makes its image, with the segments placed by the options.
 ///
-/// The image's memory is at each address the byte that the module defines under those places: that of the last content over it,
-/// with its fixups applied, and 0 if none covers it. There is one chunk for each content, in order. Code is CODE,
-/// data are DATA, MEMORY and all commons, and the stack is STACK. No fixup lost the low byte of its word.
+/// The image's memory has at each address the byte that the module defines under those places: that of the last
+/// content over it, with its fixups applied, and 0 if none covers it. There is one chunk for each content, in order.
+/// Code is CODE, data are DATA, MEMORY and all commons, and the stack is STACK. No fixup lost the low byte of its
+/// word.
 ///
 /// # Example
 /// ```
@@ -38,8 +39,8 @@ use std::alloc::{AllocError, Global};
 /// ```
 ///
 /// # Errors
-/// The first that holds of `Unresolved`, `NoStart`, `OutsideMemory`, `Overlap`, `HighNotPaged` and `StartNotCode`; `Memory`
-/// only if memory ran out, and never of a module without externals that is no main program.
+/// The first that holds of `Unresolved`, `NoStart`, `OutsideMemory`, `Overlap`, `HighNotPaged` and `StartNotCode`;
+/// `Memory` only if memory ran out, and never of a module without externals that is no main program.
 pub fn locate(alloc: Global, program: &Module, options: &Options) -> Result<Image, PlaceFault>
     ensures name { IfOk result (λ image. image.name ≡ program.now.name) }
     ensures chunks { IfOk result (λ image. image.chunks ≡ located_chunks options.now program.now) }
@@ -71,7 +72,7 @@ pub fn locate(alloc: Global, program: &Module, options: &Options) -> Result<Imag
     Ok(image_of(alloc, program, &segments, start)?)
 }
 
-/// The image of a program with its segments at these places, which starts at this address.
+/// Makes the image of a program with its segments at these places and its start at this address.
 fn image_of(
     alloc: Global,
     program: &Module,
@@ -96,7 +97,7 @@ fn image_of(
     })
 }
 
-/// The fault of an external without a public.
+/// The fault `Unresolved` with a copy of the external's name, or `Memory` if there is no memory for the copy.
 fn unresolved_fault(alloc: Global, name: &Name) -> PlaceFault
     ensures { (result ≡ Memory) ⊎ (result ≡ Unresolved name.now) }
 {

@@ -2,23 +2,24 @@
 
 use omf_core::segment_id::{CODE, DATA, MEMORY, STACK, UNNAMED_COMMON};
 
-/// The options of LOCATE: bases of segments, and sizes in place of those of STACK and MEMORY, all in bytes.
-/// (ISIS-II User's Guide, LOCATE: the controls CODE, STACK, DATA, MEMORY and STACKSIZE; the others are this project's.)
+/// The options of LOCATE: bases of segments, and sizes in place of the lengths of STACK and MEMORY. `None` leaves the
+/// default. (ISIS-II User's Guide, LOCATE: the controls CODE, STACK, DATA, MEMORY and STACKSIZE; the others are this
+/// project's.)
 #[derive(Clone, Copy, Debug, Default, PartialEq, Eq)]
 pub struct Options {
-    /// The base of CODE; 3000h if there is none.
+    /// The base of CODE; by default 3000h.
     pub code: Option<u16>,
-    /// The base of STACK, its lowest address.
+    /// The base of STACK, its lowest address; by default STACK follows the segment before it.
     pub stack: Option<u16>,
-    /// The base of the unnamed common.
+    /// The base of the unnamed common; by default it follows the segment before it.
     pub common: Option<u16>,
-    /// The base of DATA.
+    /// The base of DATA; by default DATA follows the segment before it.
     pub data_base: Option<u16>,
-    /// The base of MEMORY.
+    /// The base of MEMORY; by default MEMORY follows the segment before it.
     pub memory: Option<u16>,
-    /// The length of STACK, in place of its own.
+    /// The length of STACK in bytes; by default the module's.
     pub stack_size: Option<u16>,
-    /// The length of MEMORY, in place of its own.
+    /// The length of MEMORY in bytes; by default the module's.
     pub memory_size: Option<u16>,
 }
 
@@ -26,7 +27,7 @@ impl Options {
     ghost use Rattle.std.specs.Prelude.{◌≡◌};
     ghost use Rattle.place80.specs.Layout.{given_base, given_length};
 
-    /// The base that is given for the segment of this id.
+    /// The base that the options give for the segment with this id, `None` if they give none.
     pub(crate) fn base(&self, id: u8) -> Option<u16>
         ensures { result ≡ given_base self.now id }
     {
@@ -40,7 +41,7 @@ impl Options {
         }
     }
 
-    /// The length that is given for the segment of this id.
+    /// The length that the options give for the segment with this id, `None` if they give none.
     pub(crate) fn length(&self, id: u8) -> Option<u16>
         ensures { result ≡ given_length self.now id }
     {

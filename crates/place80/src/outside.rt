@@ -8,7 +8,8 @@ use crate::placed_segments::Placed;
 use omf_core::segment_id::MEMORY;
 use omf_module::{Content, Module};
 
-/// The first segment that is outside memory.
+/// The first segment that passes the end of memory, or MEMORY if its length doesn't hold its contents; `None` if
+/// there is none.
 pub(crate) fn first_outside(program: &Module, segments: &[Placed]) -> Option<Placed>
     ensures { result ≡ first_outside program.now segments.now }
 {
@@ -20,7 +21,7 @@ pub(crate) fn first_outside(program: &Module, segments: &[Placed]) -> Option<Pla
     None
 }
 
-/// Whether the segment passes the end of memory, or is MEMORY and no longer holds its content.
+/// Whether the segment passes the end of memory, or is MEMORY with a length that doesn't hold its contents.
 fn is_outside(contents: &[Content], placed: Placed) -> bool
     ensures { result ≡ is_outside contents.now placed }
 {
@@ -34,14 +35,14 @@ fn ends_outside(placed: Placed) -> bool
     65536 < u64::from(placed.base) + u64::from(placed.length)
 }
 
-/// Whether there is content of MEMORY that the length doesn't hold.
+/// Whether a content of MEMORY ends past this length of the segment.
 fn any_passes(contents: &[Content], size: u32) -> bool
     ensures { result ≡ list_any (passes_memory size) contents.now }
 {
     contents.iter().any(|content| passes_memory(size, content))
 }
 
-/// Whether a content is one of MEMORY that the segment's length doesn't hold.
+/// Whether a content is in MEMORY and ends past this length of the segment.
 fn passes_memory(size: u32, content: &Content) -> bool
     ensures { result ≡ passes_memory size content.now }
 {

@@ -8,10 +8,11 @@ use omf_core::segment_id::ABSOLUTE;
 use omf_model::relocation_laws::sound_modules_keep_rules;
 use omf_module::{Content, Module};
 
-/// Two places that share an address.
+/// Two placed segments that share an address; an absolute content or a restart counts as a segment with the id 0.
 pub(crate) type Pair = (Placed, Placed);
 
-/// The first two segments that share an address, or else the first absolute content that shares one, with the first segment that it meets.
+/// The first two segments that share an address, or else the first absolute content that shares one, and the first
+/// segment that it meets. `None` if there are none.
 #[tactic(auto, using(crate::proofs::PairLemmas::found_first, crate::proofs::PairLemmas::found_among_others))]
 pub(crate) fn first_overlap(program: &Module, segments: &[Placed]) -> Option<Pair>
     ensures { result ≡ first_sharing (all_pairs program.now segments.now) }
@@ -22,7 +23,7 @@ pub(crate) fn first_overlap(program: &Module, segments: &[Placed]) -> Option<Pai
     }
 }
 
-/// The first two segments that share an address.
+/// The first two segments that share an address, `None` if there are none.
 fn first_of_segments(segments: &[Placed]) -> Option<Pair>
     ensures { result ≡ first_sharing (pairs segments.now) }
 {
@@ -34,7 +35,7 @@ fn first_of_segments(segments: &[Placed]) -> Option<Pair>
     None
 }
 
-/// The place with the first of others that shares an address with it.
+/// The segment and the first of the others that shares an address with it, `None` if none does.
 pub(crate) fn first_beside(place: Placed, others: &[Placed]) -> Option<Pair>
     ensures { result ≡ first_sharing (beside_each place others.now) }
 {
@@ -46,7 +47,7 @@ pub(crate) fn first_beside(place: Placed, others: &[Placed]) -> Option<Pair>
     None
 }
 
-/// Whether an address is one of both.
+/// Whether an address lies in both segments. An empty one shares none.
 fn overlaps(place: Placed, other: Placed) -> bool
     ensures { result ≡ overlaps place other }
 {
@@ -56,7 +57,8 @@ fn overlaps(place: Placed, other: Placed) -> bool
         && u64::from(other.base) < u64::from(place.base) + u64::from(place.length)
 }
 
-/// The first absolute content that shares an address with a segment, and the first such segment.
+/// The first absolute content that shares an address with a segment, and the first segment that it meets; `None` if
+/// there is none.
 pub(crate) fn first_of_contents(program: &Module, segments: &[Placed]) -> Option<Pair>
     ensures { result ≡ first_sharing (with_each segments.now (absolute_places program.now.contents)) }
 {
@@ -70,7 +72,8 @@ pub(crate) fn first_of_contents(program: &Module, segments: &[Placed]) -> Option
     None
 }
 
-/// The content with the first segment, if it is absolute.
+/// The content and the first segment that shares an address with it; `None` if there is none, or the content isn't
+/// absolute.
 fn first_of_content(content: &Content, segments: &[Placed]) -> Option<Pair>
     requires { length content.now.bytes ≤ 65531 }
     ensures { result ≡ (if content.now.segment == 0 then first_sharing (beside_each (absolute_place content.now) segments.now) else None) }
@@ -82,7 +85,7 @@ fn first_of_content(content: &Content, segments: &[Placed]) -> Option<Pair>
     }
 }
 
-/// The place of an absolute content.
+/// The addresses of an absolute content, as those of a segment with the id 0.
 fn absolute_place(content: &Content) -> Placed
     requires { length content.now.bytes ≤ 65531 }
     ensures { result ≡ absolute_place content.now }

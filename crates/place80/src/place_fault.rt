@@ -12,20 +12,20 @@ pub enum PlaceFault {
     /// The first external, for which LINK found no public.
     #[error("Unresolved {0}")]
     Unresolved(Name),
-    /// The module is no main program.
+    /// The module has no start: it is no main program.
     #[error("NoStart")]
     NoStart,
     /// The first segment, by its id, that passes the end of memory, or MEMORY if its length no longer holds its content.
     #[error("OutsideMemory {0:02X}")]
     OutsideMemory(u8),
-    /// The first two segments that share an address, by their ids, or else the first absolute content, named 0, and
-    /// the first segment with which it does.
+    /// The ids of the first two segments that share an address; or else 0 for the first absolute content that shares
+    /// one, and the id of the first segment that it meets. `locate_with_restart` counts its jump as absolute content.
     #[error("Overlap {0:02X} {1:02X}")]
     Overlap(u8, u8),
-    /// A reference takes the high byte of a place that isn't a multiple of 256.
+    /// A fixup takes the high byte of an address that isn't a multiple of 256.
     #[error("HighNotPaged")]
     HighNotPaged,
-    /// The program starts outside CODE.
+    /// The program's start isn't an address of CODE.
     #[error("StartNotCode")]
     StartNotCode,
     /// Out of memory.
@@ -59,6 +59,7 @@ impl From<AllocError> for PlaceFault {
 
     ghost from_gives = { λ _ fault. fault ≡ Memory };
 
+    /// The fault `Memory`.
     fn from(_error: AllocError) -> PlaceFault {
         PlaceFault::Memory
     }
@@ -70,6 +71,7 @@ impl<T: Drop> From<AllocFailed<T>> for PlaceFault {
 
     ghost from_gives = { λ _ fault. fault ≡ Memory };
 
+    /// The fault `Memory`.
     fn from(_error: AllocFailed<T>) -> PlaceFault {
         PlaceFault::Memory
     }

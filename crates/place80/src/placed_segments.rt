@@ -7,20 +7,23 @@ ghost use Rattle.place80.specs.Layout.{placed_in};
 /// segment without bytes may stand at 65536.
 #[derive(Clone, Copy, Debug, PartialEq, Eq)]
 pub struct Placed {
-    /// 1 CODE, 2 DATA, 3 STACK, 4 MEMORY, 6 to 254 named commons, 255 the unnamed common.
+    /// The segment's id: 1 CODE, 2 DATA, 3 STACK, 4 MEMORY, 6 to 254 named commons, 255 the unnamed common; 0 for an
+    /// absolute content.
     pub id: u8,
+    /// The segment's first address.
     pub base: u32,
+    /// The number of its bytes.
     pub length: u32,
 }
 
-/// The places of a program's segments, in their order: CODE, STACK, the named commons by id, the unnamed common, DATA,
-/// MEMORY.
+/// The placed segments of a program, in the order CODE, STACK, the named commons by id, the unnamed common, DATA, MEMORY.
 #[derive(Debug, Drop)]
 pub struct Layout {
+    /// The placed segments: CODE, STACK, the named commons by id, the unnamed common, DATA, MEMORY.
     pub segments: Vec<Placed>,
 }
 
-/// The segment of this id, and one of no bytes at 0 if there is none.
+/// The placed segment with this id, or an empty one at 0 if there is none.
 pub(crate) fn placed_in(segments: &[Placed], id: u8) -> Placed
     ensures { result ≡ placed_in segments.now id }
 {
@@ -31,7 +34,7 @@ pub(crate) fn placed_in(segments: &[Placed], id: u8) -> Placed
     })
 }
 
-/// The segment of this id.
+/// The placed segment with this id, `None` if there is none.
 fn find_placed(segments: &[Placed], id: u8) -> Option<Placed>
     ensures { result ≡ find (λ p. p.id == id) segments.now }
 {

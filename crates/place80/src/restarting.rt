@@ -20,13 +20,13 @@ use omf_core::segment_id::ABSOLUTE;
 use omf_module::Module;
 use std::alloc::{AllocError, Global};
 
-/// The program's image at its places, as `locate` makes it, with a JMP to its start at address 0, where the processor begins:
-/// the control RESTART0 of LOCATE. Its memory is that of `locate` but for these three bytes, and they are code, too. It starts at 0,
-/// as the board does.
+/// Locates a program as `locate` does, with a JMP to its start at address 0, where the processor begins: the control
+/// RESTART0 of LOCATE. The image's memory is that of `locate` but for these three bytes, which are code, too. The
+/// image starts at 0, as the board does.
 ///
 /// # Errors
-/// The faults of `locate`; and then `Overlap` of 0 and the first segment that has one of the addresses 0 to 2, or of 0 and 0 if an
-/// absolute content has one. `Memory` only if memory ran out.
+/// The faults of `locate`; and then `Overlap` of 0 and the first segment that has one of the addresses 0 to 2, or of
+/// 0 and 0 if an absolute content has one. `Memory` only if memory ran out.
 pub fn locate_with_restart(
     alloc: Global,
     program: &Module,
@@ -40,7 +40,7 @@ pub fn locate_with_restart(
     ensures fault { IfErr result (λ fault. (fault ≡ Memory) ⊎ (restart_fault options.now program.now ≡ Some fault)) }
 {
     let image = locate(alloc, program, options)?;
-    // It has no other fault, since it can be located.
+    // The layout has no fault but `Memory`, since the program can be located.
     let Ok(layout) = layout(alloc, program, options) else {
         return Err(PlaceFault::Memory);
     };
@@ -50,7 +50,8 @@ pub fn locate_with_restart(
     }
 }
 
-/// The restart, which counts as absolute content, with the first segment, or else the first absolute content with the restart.
+/// The restart, as absolute content at 0 to 2, and the first segment that shares an address with it; or else the
+/// first absolute content that does, and the restart. `None` if there is none.
 #[tactic(auto, using(crate::proofs::PairLemmas::found_first, crate::proofs::PairLemmas::found_among_others))]
 pub(crate) fn first_over_restart(program: &Module, segments: &[Placed]) -> Option<Pair>
     ensures { result ≡ first_sharing (restart_pairs program.now segments.now) }
@@ -66,7 +67,8 @@ pub(crate) fn first_over_restart(program: &Module, segments: &[Placed]) -> Optio
     }
 }
 
-/// The image with the restart, whose segments are these.
+/// Adds the restart to a located image whose segments are these: a chunk with a JMP to the image's start, code at 0
+/// to 2, and 0 as the start.
 fn with_restart(alloc: Global, image: Image, segments: &[Placed]) -> Result<Image, AllocError>
     requires fit { Fit segments.now }
     requires apart { find (overlaps restart_place) segments.now ≡ None }
@@ -91,7 +93,7 @@ fn with_restart(alloc: Global, image: Image, segments: &[Placed]) -> Result<Imag
     })
 }
 
-/// The chunk of the restart: a JMP to the start.
+/// The chunk of the restart: a JMP to the start, at address 0.
 fn chunk_of_restart(alloc: Global, start: u16) -> Result<Chunk, AllocError>
     ensures { IfOk result (λ chunk. chunk ≡ restart_chunk start) }
 {
@@ -102,7 +104,7 @@ fn chunk_of_restart(alloc: Global, start: u16) -> Result<Chunk, AllocError>
     })
 }
 
-/// The regions of the segments, with the restart among the code.
+/// The regions of the segments, with the restart's addresses 0 to 2 as code, too.
 fn regions_with_restart(alloc: Global, segments: &[Placed]) -> Result<Regions, AllocError>
     requires fit { Fit segments.now }
     requires apart { find (overlaps restart_place) segments.now ≡ None }

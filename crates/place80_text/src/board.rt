@@ -29,8 +29,10 @@ pub struct Board<'a> {
 #[derive(Clone, Copy, Debug, PartialEq, Eq, Error)]
 #[error("OutsideRanges {segment:02X}")]
 pub struct Unmapped {
-    /// 0 absolute content or a restart, 1 CODE, 2 DATA, 3 STACK, 4 MEMORY, 6 to 254 named commons, 255 the unnamed common.
+    /// The segment's id: 0 absolute content or a restart, 1 CODE, 2 DATA, 3 STACK, 4 MEMORY, 6 to 254 named commons,
+    /// 255 the unnamed common.
     pub segment: u8,
+    /// The address without memory, which may be past FFFF.
     pub address: u64,
 }
 
@@ -51,7 +53,7 @@ pub fn first_unmapped(
         .or(first_of_restart(restart, board))
 }
 
-/// The first address of the segments at which the board has no memory for them.
+/// The first address of the segments at which the board has no memory for them, `None` if each has memory.
 fn first_of_segments(segments: &[Placed], board: Board<'_>) -> Option<Unmapped>
     ensures { result ≡ first_unmapped board.entry.rom.now board.entry.ram.now segments.now }
 {
@@ -64,7 +66,7 @@ fn first_of_segments(segments: &[Placed], board: Board<'_>) -> Option<Unmapped>
     None
 }
 
-/// The first address of the absolute contents at which the board has no memory for them.
+/// The first address of the absolute contents at which the board has no memory for them, `None` if each has memory.
 fn first_of_contents(contents: &[Content], board: Board<'_>) -> Option<Unmapped>
     ensures { result ≡ first_unmapped board.entry.rom.now board.entry.ram.now (absolute_places contents.now) }
 {
@@ -76,7 +78,8 @@ fn first_of_contents(contents: &[Content], board: Board<'_>) -> Option<Unmapped>
     None
 }
 
-/// The first such address of a content, if it is absolute.
+/// The first address of an absolute content at which the board has no memory for it; `None` if each has memory, or
+/// the content isn't absolute.
 fn first_of_content(content: &Content, board: Board<'_>) -> Option<Unmapped>
     ensures { let own = content.now in result ≡ (if own.segment == 0 then
         unmapped_from board.entry.rom.now board.entry.ram.now 0 own.offset (length own.bytes) else None) }
@@ -89,7 +92,8 @@ fn first_of_content(content: &Content, board: Board<'_>) -> Option<Unmapped>
     }
 }
 
-/// The first such address of the jump at address 0, if there is one.
+/// The first of the addresses 0 to 2, which a restart's jump takes, at which the board has no memory; `None` if each
+/// has memory, or there is no restart.
 fn first_of_restart(restart: bool, board: Board<'_>) -> Option<Unmapped>
     ensures { result ≡ first_unmapped board.entry.rom.now board.entry.ram.now (restart_places restart) }
 {
@@ -100,7 +104,8 @@ fn first_of_restart(restart: bool, board: Board<'_>) -> Option<Unmapped>
     }
 }
 
-/// The first of `count` addresses from `first` on at which the board has no memory for a segment.
+/// The first of `count` addresses from `first` on at which the board has no memory for a segment with this id, `None`
+/// if each has memory.
 fn unmapped_from(board: Board<'_>, segment: u8, first: u64, count: u64) -> Option<Unmapped>
     requires { first + count ≤ u64.MAX }
     ensures { result ≡ unmapped_from board.entry.rom.now board.entry.ram.now segment first count }
@@ -113,7 +118,8 @@ fn unmapped_from(board: Board<'_>, segment: u8, first: u64, count: u64) -> Optio
     None
 }
 
-/// Whether the board has memory at an address for a segment.
+/// Whether the board has memory at an address for a segment with this id: ROM or RAM for CODE and absolute content,
+/// RAM for any other.
 fn is_mapped(board: Board<'_>, segment: u8, address: u64) -> bool
     ensures { result ≡ is_mapped board.entry.rom.now board.entry.ram.now segment address }
 {
@@ -121,14 +127,14 @@ fn is_mapped(board: Board<'_>, segment: u8, address: u64) -> bool
         || ((segment == CODE || segment == ABSOLUTE) && is_in(board.rom, address))
 }
 
-/// Whether the address is one of a range's.
+/// Whether the address lies in one of the ranges.
 fn is_in(ranges: &[Range], address: u64) -> bool
     ensures { result ≡ in_ranges ranges.now address }
 {
     ranges.iter().any(|range| contains(*range, address))
 }
 
-/// Whether the address is one of the range's.
+/// Whether the address lies in the range, which may go past FFFF.
 fn contains(range: Range, address: u64) -> bool
     ensures { result ≡ in_range range address }
 {
@@ -136,11 +142,11 @@ fn contains(range: Range, address: u64) -> bool
     first <= address && address < first + u64::from(range.length)
 }
 
-/// Appends the words for an address without memory: the line of its segment, unless it is of absolute content or a restart, and below it
-/// of which ranges the address isn't one, as `2100 is in no --ram-range`.
+/// Appends the lines for an address without memory: that of its segment, unless it belongs to absolute content or a
+/// restart, and one that says which ranges lack the address, as `2100 is in no --ram-range`.
 ///
 /// # Errors
-/// `AllocError` only if memory runs out; the text may then have some of the words.
+/// `AllocError` only if memory runs out; the text may then have a part of these lines.
 pub fn append_unmapped(
     text: &mut Vec<u8>,
     commons: &[Common],
@@ -155,7 +161,7 @@ pub fn append_unmapped(
     text.extend_from_slice(lack_words(found.segment))
 }
 
-/// Appends the line of the segment of this id.
+/// Appends the line of the segment with this id; nothing if there is none.
 fn append_own(
     text: &mut Vec<u8>,
     commons: &[Common],
@@ -173,7 +179,8 @@ fn append_own(
     Ok(())
 }
 
-/// Of which ranges an address of a segment isn't one, in words.
+/// The end of the line for an address without memory: ` is in no --ram-range`, or for CODE and absolute content ` is
+/// in no --rom-range or --ram-range`.
 fn lack_words(id: u8) -> &'static [u8]
     ensures { result.now ≡ lack_words id }
 {

@@ -25,14 +25,15 @@ pub fn map_text(alloc: Global, program: &Module, options: &Options) -> Result<Ve
     ensures fault { IfErr result (λ fault. (fault ≡ Memory) ⊎ (locate_fault options.now program.now ≡ Some fault)) }
 {
     locate(alloc, program, options)?;
-    // It has no other fault, since it can be located.
+    // The layout has no fault but `Memory`, since the program can be located.
     let Ok(layout) = layout(alloc, program, options) else {
         return Err(PlaceFault::Memory);
     };
     Ok(text_of(alloc, program, &layout.segments)?)
 }
 
-/// The lines of a program's segments, and those of its public names.
+/// The map of a program with its segments at these places: a line for each segment, and then one for each public
+/// name, by address.
 fn text_of(alloc: Global, program: &Module, segments: &[Placed]) -> Result<Vec<u8>, AllocError>
     requires { AllByRecursion (λ p. p.length < 65536) segments.now }
     ensures { IfOk result (λ text. IsMap segments.now program.now text.items) }

@@ -9,7 +9,7 @@ use place80::{Placed, place_of};
 use std::alloc::{AllocError, Global};
 use text80::word_digits;
 
-/// Appends a line for each public name, by address.
+/// Appends a line for each public, sorted by address; those at one address stay in their order.
 pub(crate) fn append_publics(
     alloc: Global,
     text: &mut Vec<u8>,
@@ -22,7 +22,7 @@ pub(crate) fn append_publics(
     append_lines(text, &listed, segments)
 }
 
-/// The public names by address, those of one address in their order.
+/// References to the publics, sorted by address; those at one address stay in their order.
 fn by_address<'a>(
     alloc: Global,
     publics: &'a [Public],
@@ -35,7 +35,7 @@ fn by_address<'a>(
     Ok(listed)
 }
 
-/// A reference to each of the public names, in order.
+/// A reference to each of the publics, in their order.
 fn references_to<'a>(alloc: Global, publics: &'a [Public]) -> Result<Vec<&'a Public>, AllocError>
     ensures { IfOk result (λ listed. map (λ p. p.now) listed.items ≡ publics.now) }
 {
@@ -46,7 +46,7 @@ fn references_to<'a>(alloc: Global, publics: &'a [Public]) -> Result<Vec<&'a Pub
     Ok(listed)
 }
 
-/// Appends a line for each of the public names.
+/// Appends a line for each of the publics, in the order of the list.
 fn append_lines(
     text: &mut Vec<u8>,
     listed: &[&Public],
@@ -60,7 +60,7 @@ fn append_lines(
     Ok(())
 }
 
-/// Appends the line of a public name.
+/// Appends the line of a public: its address and its name, as `3040 LIMIT`.
 fn append_line(text: &mut Vec<u8>, public: &Public, segments: &[Placed]) -> Result<(), AllocError>
     ensures { OnOk result (text.new.items ≡ text.old.items ++ public_line segments.now public.now) }
 {

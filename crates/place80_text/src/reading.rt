@@ -10,8 +10,8 @@ use omf_model::copy_publics;
 use omf_module::{Module, ModuleFault, Public, read_file};
 use std::alloc::{AllocError, Global};
 
-/// The publics that the object file of an image has, in the order of their records; those of its modules in order, if it has more
-/// than one.
+/// The publics in the object file of an image, in the order of their records; if it has several modules, those of
+/// each module in turn.
 ///
 /// # Errors
 /// The file's first fault if the bytes are no object file; or `Memory`, only if memory runs out.
@@ -23,7 +23,7 @@ pub fn read_publics(alloc: Global, bytes: &[u8]) -> Result<Vec<Public>, ModuleFa
     Ok(publics_of(alloc, &modules)?)
 }
 
-/// The publics of modules.
+/// A copy of the publics of all modules, in order.
 fn publics_of(alloc: Global, modules: &[Module]) -> Result<Vec<Public>, AllocError>
     ensures { IfOk result (λ publics. publics.items ≡ flat_map (λ m. m.publics) modules.now) }
 {
@@ -32,7 +32,7 @@ fn publics_of(alloc: Global, modules: &[Module]) -> Result<Vec<Public>, AllocErr
     Ok(publics)
 }
 
-/// Appends the publics of modules.
+/// Appends a copy of the publics of each module, in order.
 fn append_publics(
     alloc: Global,
     modules: &[Module],

@@ -11,7 +11,7 @@ use place80::Placed;
 use std::alloc::AllocError;
 use text80::word_digits;
 
-/// Appends a line for each segment.
+/// Appends the line of each segment, in order.
 pub(crate) fn append_segments(
     text: &mut Vec<u8>,
     commons: &[Common],
@@ -26,7 +26,8 @@ pub(crate) fn append_segments(
     Ok(())
 }
 
-/// Appends the line of a segment. An empty one at the end of memory is shown at 0000, as regions have it.
+/// Appends the line of a segment: its name, its first address, its length and, for a named common, the common's name,
+/// as `CODE 3000 009B`. An empty segment at the end of memory is shown at 0000, as regions have it.
 pub(crate) fn append_segment(
     text: &mut Vec<u8>,
     commons: &[Common],

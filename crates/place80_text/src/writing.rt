@@ -14,11 +14,12 @@ use omf_module::{Public, write_file};
 use place80::{Placed, place_of};
 use std::alloc::{AllocError, Global};
 
-/// Appends the object file of the image to `out`, as `image80_file::write_image` does, but with a public of segment 0 for each public
-/// of its module, in order: the same name, at the address that it has if the module's segments are placed as these are. So Intel's
-/// LOCATE keeps them without PURGE. (ISIS-II User's Guide, LOCATE; 8080 Object Module Formats, public declarations record.)
+/// Appends the object file of the image to `out`, as `image80_file::write_image` does, but with a public of segment 0
+/// for each of these publics, in order: the same name, at the address that it has with the segments placed so.
+/// Intel's LOCATE keeps publics in this form unless the control PURGE is given. (ISIS-II User's Guide, LOCATE; 8080
+/// Object Module Formats, public declarations record.)
 ///
-/// The file is read as the same image as without them.
+/// The file is read as the same image as one without publics.
 ///
 /// # Errors
 /// `AllocError` only if memory runs out; `out` is then unchanged.
@@ -42,7 +43,7 @@ pub fn write_image_with_publics(
     write_file(alloc, &[named], out)
 }
 
-/// The publics at their addresses.
+/// Converts each public to one of segment 0 at its address, in order.
 fn placed_publics(
     alloc: Global,
     publics: &[Public],
@@ -57,7 +58,7 @@ fn placed_publics(
     Ok(placed)
 }
 
-/// A public at its address.
+/// Converts a public to one of segment 0 with the same name, at its address by the placed segments.
 fn placed_public(alloc: Global, public: &Public, segments: &[Placed]) -> Result<Public, AllocError>
     ensures { IfOk result (λ placed. placed ≡ absolute_public segments.now public.now) }
 {

@@ -14,29 +14,32 @@ use text80::{append_digits, word_digits};
 /// Consecutive addresses at which the bytes of an image and of a dump differ.
 #[derive(Clone, Copy, Debug, PartialEq, Eq)]
 pub struct Difference {
+    /// The first of the addresses.
     pub first: u16,
-    /// At least 1, and 65536 for all of memory.
+    /// The number of the addresses, 1 to 65536.
     pub length: u32,
 }
 
-/// Where an image and a dump differ: the ranges of addresses, and the text of them.
+/// Where an image and a dump differ: the ranges of addresses, and a text with a line for each.
 #[derive(Debug, Drop)]
 pub struct Comparison {
+    /// The ranges of addresses at which the bytes differ, ascending and not adjacent.
     pub ranges: Vec<Difference>,
+    /// A line such as `DIFFERS 0123 0002 3E05 3E07` for each range, and a last one such as `SAME 2046 OF 2048`.
     pub text: Vec<u8>,
 }
 
-/// The bytes of a line that it shows at most.
+/// The number of bytes that a line shows at most, of the image and of the dump each.
 const SHOWN: usize = 8;
 
-/// Compares the image's memory with a dump whose first byte stands at the address `first`; if no chunk covers an address,
-/// the image has `fill` there. An address is in one of the ranges exactly if the bytes differ; they ascend, and no two of them
-/// touch. The text has a line for each, such as `DIFFERS 0123 0002 3E05 3E07` with up to eight bytes of the image and of the
-/// dump, and then one such as `SAME 2046 OF 2048`.
+/// Compares the image's memory with a dump whose first byte has the address `first`; at an address that no chunk
+/// covers, the image has `fill`. An address is in one of the ranges exactly if the bytes differ; the ranges ascend,
+/// and no two of them touch. The text has a line for each, such as `DIFFERS 0123 0002 3E05 3E07` with up to eight
+/// bytes of the image and of the dump, and then one such as `SAME 2046 OF 2048`.
 ///
 /// # Errors
-/// `EmptyFile` exactly where the dump has no bytes, `PastMemory` exactly where it goes past FFFF; `Memory` only if memory ran
-/// out.
+/// `EmptyFile` exactly if the dump has no bytes, `PastMemory` exactly if it goes past FFFF; `Memory` only if memory
+/// ran out.
 pub fn compare(
     alloc: Global,
     image: &Image,
@@ -64,7 +67,8 @@ pub fn compare(
     }
 }
 
-/// Compares them if the dump lies in memory.
+/// Compares the image's memory, with `fill` at the addresses that no chunk covers, with a dump from `first` on that
+/// ends in memory. The only fault is `Memory`.
 fn compare_in_memory(
     alloc: Global,
     image: &Image,
@@ -82,7 +86,7 @@ fn compare_in_memory(
     Ok(compare_bytes(alloc, first, &bytes, dump)?)
 }
 
-/// Compares the image's bytes over a dump's addresses with the dump.
+/// Compares an image's bytes from `first` on with a dump of the same length, and makes the ranges and the text.
 fn compare_bytes(
     alloc: Global,
     first: u16,
@@ -99,7 +103,7 @@ fn compare_bytes(
     Ok(Comparison { ranges, text })
 }
 
-/// The ranges of addresses at which the bytes differ.
+/// The ranges of addresses, from `first` on, at which two lists of bytes of the same length differ.
 fn differences(
     alloc: Global,
     first: u16,
@@ -112,7 +116,7 @@ fn differences(
     ensures within { IfOk result (λ ranges. AllByRecursion (LieWithin first (length dump.now)) ranges.items) }
 {
     let mut ranges = Vec::new(alloc);
-    // A given number of bytes up to this one differ, without one between them that doesn't.
+    // The number of differing bytes right before this one, without a gap.
     let mut run: u32 = 0;
     for at in 0..dump.len() {
         if bytes[at] == dump[at] {
@@ -126,7 +130,7 @@ fn differences(
     Ok(ranges)
 }
 
-/// Appends the range of `run` addresses that ends before `end`, if there are any.
+/// Appends the range of the `run` addresses right before `end`; nothing if `run` is 0.
 fn push_run(ranges: &mut Vec<Difference>, end: u32, run: u32) -> Result<(), AllocError>
     requires run { run ≤ «end» }
     requires in_memory { «end» ≤ 65536 }
@@ -141,7 +145,7 @@ fn push_run(ranges: &mut Vec<Difference>, end: u32, run: u32) -> Result<(), Allo
     Ok(())
 }
 
-/// The text of a comparison with these ranges.
+/// The text of a comparison: a `DIFFERS` line for each of these ranges, and the `SAME` line.
 fn text_of(
     alloc: Global,
     first: u16,
@@ -162,7 +166,8 @@ fn text_of(
     Ok(text)
 }
 
-/// Appends the line of a range.
+/// Appends the `DIFFERS` line of a range, with its first bytes in the image and in the dump, whose addresses begin at
+/// `first`.
 fn append_difference(
     text: &mut Vec<u8>,
     first: u16,
@@ -184,7 +189,7 @@ fn append_difference(
     Ok(())
 }
 
-/// Appends the beginning of the line of a range.
+/// Appends the beginning of a range's line: `DIFFERS`, its first address and its length.
 fn append_range(text: &mut Vec<u8>, range: Difference) -> Result<(), AllocError>
     requires { range.length ≤ 65536 }
     ensures { OnOk result (text.new.items ≡ text.old.items ++ range_text range) }
@@ -195,7 +200,7 @@ fn append_range(text: &mut Vec<u8>, range: Difference) -> Result<(), AllocError>
     append_length(text, range.length)
 }
 
-/// Appends a length.
+/// Appends a length in four hexadecimal digits, or as `10000` if it is 65536.
 fn append_length(text: &mut Vec<u8>, length: u32) -> Result<(), AllocError>
     requires { length ≤ 65536 }
     ensures { OnOk result (text.new.items ≡ text.old.items ++ length_text length) }
@@ -207,7 +212,7 @@ fn append_length(text: &mut Vec<u8>, length: u32) -> Result<(), AllocError>
     }
 }
 
-/// Appends the first of the range's bytes.
+/// Appends the digits of a range's bytes, of the first eight at most; the first of `bytes` has the address `first`.
 fn append_shown(
     text: &mut Vec<u8>,
     first: u16,
@@ -222,7 +227,7 @@ fn append_shown(
     append_digits(&bytes[begin..begin + count], text)
 }
 
-/// How many bytes are the same.
+/// The number of places at which two lists of the same length have the same byte.
 fn count_same(bytes: &[u8], dump: &[u8]) -> usize
     requires { length bytes.now ≡ length dump.now }
     ensures { result ≡ same_count bytes.now dump.now }
@@ -236,7 +241,7 @@ fn count_same(bytes: &[u8], dump: &[u8]) -> usize
     same
 }
 
-/// Appends the last line.
+/// Appends the last line, as `SAME 2046 OF 2048`: the number of equal bytes, and of all.
 fn append_same(
     alloc: Global,
     text: &mut Vec<u8>,

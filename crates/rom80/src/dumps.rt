@@ -16,6 +16,7 @@ use std::marker::Model;
 /// Dumps of read-only memories, each at its address, no two of which have an address in common: the chunks of an image.
 #[derive(Debug, Drop)]
 pub struct Dumps {
+    /// The chunks of the dumps, in the order in which these were added.
     chunks: Vec<Chunk>,
 }
 
@@ -29,7 +30,7 @@ impl Model for Dumps {
 }
 
 impl Dumps {
-    /// No dump.
+    /// A list of no dumps.
     pub fn new(alloc: Global) -> Dumps
         ensures { result ≡ [] }
     {
@@ -38,12 +39,14 @@ impl Dumps {
         }
     }
 
-    /// Adds a dump whose first byte stands at the address `first`: its bytes are the memory's there, and every other byte is as
-    /// before. It is kept in a chunk of its first 65531 bytes and, if there are more, another one of the others.
+    /// Adds a dump whose first byte has the address `first`: the memory then has its bytes there, and every other
+    /// byte is as before. A dump is kept in a chunk of its first 65531 bytes and, if it is longer, a second one of
+    /// the rest.
     ///
     /// # Errors
-    /// `EmptyFile` exactly where there are no bytes, `PastMemory` if they go past FFFF, and otherwise `DumpsOverlap` exactly
-    /// where an address is one of an earlier dump and of this one; `Memory` only if memory ran out. Nothing is added then.
+    /// `EmptyFile` exactly if there are no bytes, `PastMemory` if they go past FFFF, and otherwise `DumpsOverlap`
+    /// exactly if an address belongs to an earlier dump and to this one; `Memory` only if memory ran out. Nothing is
+    /// added then.
     pub fn add(&mut self, alloc: Global, first: u16, bytes: &[u8]) -> Result<(), RomFault>
         ensures added { OnOk result (self.new ≡ self.old ++ chunks_of first bytes.now) }
         ensures memory { OnOk result ((address : ℕ) → byte_at self.new address ≡ byte_among first bytes.now (byte_at self.old address) address) }
@@ -71,7 +74,8 @@ impl Dumps {
         }
     }
 
-    /// Appends the chunks of bytes.
+    /// Appends the chunks of a dump from `first` on, which must end in memory and isn't checked against the others.
+    /// When memory runs out, nothing is appended.
     fn append(&mut self, alloc: Global, first: u16, bytes: &[u8]) -> Result<(), AllocError>
         requires { first + length bytes.now ≤ 65536 }
         ensures added { OnOk result (self.new ≡ self.old ++ chunks_of first bytes.now) }
@@ -81,8 +85,8 @@ impl Dumps {
         self.chunks.append(&mut more)
     }
 
-    /// The image of this name whose memory has the dumps' bytes, and 0 everywhere else. It starts at `start`. Its regions have
-    /// no address: whoever runs the image owes it others.
+    /// The image of this name whose memory has the dumps' bytes, and 0 everywhere else, and which starts at `start`.
+    /// Its regions are empty: whoever runs the image must give it others.
     pub fn into_image(self, alloc: Global, name: Name, start: u16) -> Image
         ensures chunks { result.chunks ≡ self }
         ensures name { result.name ≡ name }
@@ -98,7 +102,7 @@ impl Dumps {
     }
 }
 
-/// Whether an address that one of the chunks covers is one of `count` from `first` on.
+/// Whether one of the chunks covers one of the `count` addresses from `first` on.
 fn share_an_address(chunks: &[Chunk], first: usize, count: usize) -> bool
     requires { first + count ≤ 65536 }
     ensures { result ≡ true ↔ ShareAnAddress chunks.now first count }
@@ -111,7 +115,7 @@ fn share_an_address(chunks: &[Chunk], first: usize, count: usize) -> bool
     false
 }
 
-/// Whether the chunk covers one of `count` addresses from `first` on.
+/// Whether the chunk covers one of the `count` addresses from `first` on.
 fn meets(chunk: &Chunk, first: usize, count: usize) -> bool
     requires { first + count ≤ 65536 }
     ensures { result ≡ true ↔ ((address : ℕ) × (covers chunk.now address ≡ true) × (is_among first count address ≡ true)) }

@@ -15,7 +15,7 @@ use text80::word_digits;
 /// the chunks.
 ///
 /// # Errors
-/// `PastMemory` exactly where the range goes past FFFF; `Memory` only if memory ran out.
+/// `PastMemory` exactly if the range goes past FFFF; `Memory` only if memory ran out.
 pub fn bytes_over(
     alloc: Global,
     image: &Image,

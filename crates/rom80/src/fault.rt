@@ -3,7 +3,7 @@
 use std::alloc::{AllocError, AllocFailed};
 use thiserror::Error;
 
-/// Why bytes aren't taken out of an image, or put into one.
+/// Why bytes can't be taken out of an image, put into one or compared with it.
 #[derive(Clone, Copy, Debug, PartialEq, Eq, Error)]
 pub enum RomFault {
     /// The bytes go past FFFF, the last address.
@@ -12,10 +12,10 @@ pub enum RomFault {
     /// Out of memory.
     #[error("Memory")]
     Memory,
-    /// A file of bytes has none.
+    /// A dump has no bytes.
     #[error("EmptyFile")]
     EmptyFile,
-    /// An address is one of two dumps.
+    /// An address belongs to two dumps.
     #[error("DumpsOverlap")]
     DumpsOverlap,
 }
@@ -26,6 +26,7 @@ impl From<AllocError> for RomFault {
 
     ghost from_gives = { λ _ fault. fault ≡ Memory };
 
+    /// The fault `Memory`.
     fn from(_error: AllocError) -> RomFault {
         RomFault::Memory
     }
@@ -37,6 +38,7 @@ impl<T: Drop> From<AllocFailed<T>> for RomFault {
 
     ghost from_gives = { λ _ fault. fault ≡ Memory };
 
+    /// The fault `Memory`.
     fn from(_error: AllocFailed<T>) -> RomFault {
         RomFault::Memory
     }

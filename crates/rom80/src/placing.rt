@@ -10,7 +10,7 @@ use std::alloc::{AllocError, Global};
 /// The bytes that one content record carries at most.
 const CONTENT: usize = 65531;
 
-/// Regions that have no address, for an image whose regions don't matter.
+/// Regions without any address, for an image whose regions don't matter.
 pub fn no_regions(alloc: Global) -> Regions
     ensures { Arranges [] (record { first = 0; length = 0 }) [] result }
 {
@@ -21,7 +21,8 @@ pub fn no_regions(alloc: Global) -> Regions
     Regions::from_disjoint(alloc, Vec::new(alloc), stack, Vec::new(alloc))
 }
 
-/// The chunks of bytes from an address on.
+/// Makes the chunks of bytes whose first has the address `first`: one of the first 65531 bytes and, if there are
+/// more, one of the rest. There are none of no bytes. The bytes must end in memory.
 pub(crate) fn chunks_of(alloc: Global, first: u16, bytes: &[u8]) -> Result<Vec<Chunk>, AllocError>
     requires { first + length bytes.now ≤ 65536 }
     ensures { IfOk result (λ chunks. chunks.items ≡ chunks_of first bytes.now) }

@@ -6,7 +6,8 @@ ghost use Rattle.rom80.specs.Ranges.{byte_ranges, joined};
 use image80::{Chunk, Image, Range};
 use std::alloc::{AllocError, Global};
 
-/// The range of each of the image's chunks, from the beginning of the chunks on that lead up to it, each from where the one before it ends.
+/// A range for each of the image's chunks, in order: the chunk's addresses, joined to the range before it if that
+/// ends where the chunk begins and the two have at most 65535 addresses together.
 ///
 /// # Errors
 /// `AllocError` only if memory ran out.
@@ -25,7 +26,8 @@ pub fn byte_ranges(alloc: Global, image: &Image) -> Result<Vec<Range>, AllocErro
     Ok(ranges)
 }
 
-/// The range of a chunk, from the beginning of the one before it on if the chunk goes on there and one range has them all.
+/// The range of a chunk, joined to the range `before` if that ends where the chunk begins and the two have at most
+/// 65535 addresses together.
 fn joined(before: Range, chunk: &Chunk) -> Range
     ensures { result ≡ joined before chunk.now }
 {

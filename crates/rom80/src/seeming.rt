@@ -1,4 +1,4 @@
-//! What a file seems to be that was to be a dump.
+//! What a file that is given as a dump seems to be.
 
 ghost use Rattle.std.specs.Prelude.{◌≡◌, ◌==◌};
 ghost use Rattle.std.specs.Char.{is_ascii_hexdigit};
@@ -10,10 +10,10 @@ use omf_core::{RecordKind, next_record};
 /// The type of the record with which an object file begins.
 const MODULE_HEADER: u8 = RecordKind::ModuleHeader as u8;
 
-/// What CP/M fills the last part of a text with.
+/// The byte with which CP/M fills a text up to the end of its last record.
 const CONTROL_Z: u8 = 0x1A;
 
-/// A file that stands for bytes, and doesn't have them as they are.
+/// A kind of file that encodes bytes instead of holding them as they are, so that it is no dump.
 #[derive(Clone, Copy, Debug, PartialEq, Eq)]
 pub enum DumpKind {
     /// Lines of Intel's hexadecimal format.
@@ -29,8 +29,8 @@ pub enum DumpKind {
 }
 
 impl DumpKind {
-    /// What the file with these bytes seems to be: an object file by its first record, or a text by all of its lines. `None` if it
-    /// seems to be a dump. The bytes of a dump may spell such a file too.
+    /// The kind of file that the bytes seem to be: an object file by the first record, or a text by all of its lines.
+    /// `None` if they seem to be a dump, although the bytes of a dump may happen to spell such a file.
     pub fn of(bytes: &[u8]) -> Option<DumpKind>
         ensures { result ≡ dump_kind bytes.now }
     {
@@ -49,7 +49,7 @@ impl DumpKind {
         }
     }
 
-    /// Whether a line is one of this kind.
+    /// Whether a line, without its line end, is a line of this kind of text; never for an object file.
     fn is_line(self, line: &[u8]) -> bool
         ensures { result ≡ is_line_of self line.now }
     {
@@ -63,7 +63,7 @@ impl DumpKind {
     }
 }
 
-/// Whether a whole record comes first that is a module's header.
+/// Whether the bytes begin with a whole record that is a module header.
 fn begins_with_header(bytes: &[u8]) -> bool
     ensures { result ≡ begins_with_header bytes.now }
 {
@@ -73,14 +73,15 @@ fn begins_with_header(bytes: &[u8]) -> bool
     }
 }
 
-/// Whether the bytes are a text of lines of a kind, one at least.
+/// Whether the bytes are a text of at least one line of this kind and of nothing else but the CONTROL-Z that CP/M
+/// fills up with.
 fn is_text_of(kind: DumpKind, bytes: &[u8]) -> bool
     ensures { result ≡ is_text_of kind bytes.now }
 {
     are_lines(kind, bytes) && has_line(kind, bytes)
 }
 
-/// Whether each part of a text is a line of a kind or fills the text up.
+/// Whether each part of the bytes between line feeds is a line of this kind or has only CONTROL-Z.
 fn are_lines(kind: DumpKind, bytes: &[u8]) -> bool
     ensures { result ≡ list_all (may_be_part_of kind) (slice_split (λ byte. byte == 10) bytes.now) }
 {
@@ -89,7 +90,7 @@ fn are_lines(kind: DumpKind, bytes: &[u8]) -> bool
         .all(|part| may_be_part_of(kind, part))
 }
 
-/// Whether a part of a text is a line of a kind.
+/// Whether some part of the bytes between line feeds is a line of this kind.
 fn has_line(kind: DumpKind, bytes: &[u8]) -> bool
     ensures { result ≡ list_any (is_part_of kind) (slice_split (λ byte. byte == 10) bytes.now) }
 {
@@ -98,28 +99,29 @@ fn has_line(kind: DumpKind, bytes: &[u8]) -> bool
         .any(|part| is_part_of(kind, part))
 }
 
-/// Whether a part of a text is a line of a kind or fills the text up.
+/// Whether a part between line feeds is a line of this kind or has only CONTROL-Z.
 fn may_be_part_of(kind: DumpKind, part: &[u8]) -> bool
     ensures { result ≡ may_be_part_of kind part.now }
 {
     is_part_of(kind, part) || fills_up(part)
 }
 
-/// Whether bytes only fill up a text.
+/// Whether a part between line feeds has nothing but CONTROL-Z, with which CP/M fills up a text; also true if it is
+/// empty.
 fn fills_up(part: &[u8]) -> bool
     ensures { result ≡ list_all (λ byte. byte == 0x1A) part.now }
 {
     part.iter().all(|byte| *byte == CONTROL_Z)
 }
 
-/// Whether a part of a text is a line of a kind.
+/// Whether a part between line feeds, without a carriage return at its end, is a line of this kind.
 fn is_part_of(kind: DumpKind, part: &[u8]) -> bool
     ensures { result ≡ is_part_of kind part.now }
 {
     kind.is_line(without_return(part))
 }
 
-/// The line without a carriage return at its end.
+/// The line without the carriage return at its end, if it has one.
 fn without_return(part: &[u8]) -> &[u8]
     ensures { result.now ≡ without_return part.now }
 {
@@ -130,21 +132,21 @@ fn without_return(part: &[u8]) -> &[u8]
     }
 }
 
-/// Whether a line is a record of Intel's hexadecimal format.
+/// Whether a line is like a record of Intel's hexadecimal format: a colon and at least five pairs of hexadecimal digits.
 fn is_hex_line(line: &[u8]) -> bool
     ensures { result ≡ is_hex_line line.now }
 {
     !line.is_empty() && line[0] == b':' && are_digit_pairs(&line[1..], 10)
 }
 
-/// Whether a line is an S-record.
+/// Whether a line is like an S-record: `S`, a decimal digit and at least four pairs of hexadecimal digits.
 fn is_s_record(line: &[u8]) -> bool
     ensures { result ≡ is_s_record line.now }
 {
     line.len() >= 2 && line[0] == b'S' && line[1].is_ascii_digit() && are_digit_pairs(&line[2..], 8)
 }
 
-/// Whether a line is one of `xxd`.
+/// Whether a line begins like one of `xxd`: eight hexadecimal digits, a colon, a space and two hexadecimal digits.
 fn is_dump_line(line: &[u8]) -> bool
     ensures { result ≡ is_dump_line line.now }
 {
@@ -155,21 +157,21 @@ fn is_dump_line(line: &[u8]) -> bool
         && are_digit_pairs(&line[10..12], 2)
 }
 
-/// Whether bytes are hexadecimal digits, an even number of them, at least `least`.
+/// Whether the bytes are all hexadecimal digits of either case, an even number of them and at least `least`.
 fn are_digit_pairs(bytes: &[u8], least: usize) -> bool
     ensures { result ≡ are_digit_pairs least bytes.now }
 {
     least <= bytes.len() && bytes.len() % 2 == 0 && are_digits(bytes)
 }
 
-/// Whether all bytes are hexadecimal digits.
+/// Whether all bytes are hexadecimal digits of either case.
 fn are_digits(bytes: &[u8]) -> bool
     ensures { result ≡ list_all is_ascii_hexdigit bytes.now }
 {
     bytes.iter().all(|byte| is_digit(*byte))
 }
 
-/// Whether a byte is a hexadecimal digit.
+/// Whether a byte is a hexadecimal digit of either case.
 fn is_digit(byte: u8) -> bool
     ensures { result ≡ is_ascii_hexdigit byte }
 {

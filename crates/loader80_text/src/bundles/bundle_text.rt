@@ -1,4 +1,4 @@
-//! A bundle parted into its three texts.
+//! A bundle split into its three texts.
 ghost use Rattle.std.specs.Prelude.{◌≡◌, None, Some, IfOk};
 ghost use Rattle.std.specs.Option.{option_map};
 ghost use Rattle.loader80_text.specs.BundleText.{bundle_texts, sides_of, texts_of};
@@ -11,14 +11,17 @@ use std::alloc::{AllocError, Global};
 /// The three texts of a bundle: the bytes of the image, the regions and the inputs.
 #[derive(Drop)]
 pub struct BundleTexts<'a> {
+    /// The object file of the image, as bytes.
     pub image: Vec<u8>,
+    /// The regions text.
     pub regions: &'a [u8],
+    /// The text of the inputs.
     pub inputs: &'a [u8],
 }
 
-/// Parts a bundle: the image in hexadecimal digits of either case on the first line, then the
-/// regions up to the first line that is exactly `INPUTS`, then the inputs. `None` if it can't
-/// be parted so.
+/// Splits a bundle into its three texts: the image in hexadecimal digits of either case on the first line, then the
+/// regions up to the first line that is exactly `INPUTS`, then the inputs. `None` if the first line is something else
+/// or no line is `INPUTS`.
 pub fn part_bundle(alloc: Global, bundle: &[u8]) -> Result<Option<BundleTexts<'_>>, AllocError>
     ensures { IfOk result (λ texts. option_map texts_of texts ≡ bundle_texts bundle.now) }
 {
@@ -38,10 +41,10 @@ pub fn part_bundle(alloc: Global, bundle: &[u8]) -> Result<Option<BundleTexts<'_
     }))
 }
 
-// The line between the regions and the inputs, without its line feed.
+/// The line between the regions and the inputs, without its line feed.
 const INPUTS: &[u8] = b"INPUTS";
 
-// What stands before and after the first line that is `INPUTS`, if there is such a line.
+/// The text before the first line that is exactly `INPUTS`, and the text after it; `None` if there is no such line.
 fn sides(text: &[u8]) -> Option<(&[u8], &[u8])>
     ensures { option_map (λ (before, after). record { before = before.now; after = after.now }) result
         ≡ sides_of (parts text.now) }

@@ -14,17 +14,18 @@ use loader80::{Outcome, SessionFault, SessionTexts, TEXT_LIMIT, answer_texts};
 use std::alloc::Global;
 use stream80::{Failed, ReadAllFault, Sink, Source, read_all, write_all};
 
-/// The greatest number of bytes of a bundle whose three parts can be within their limits.
+/// The greatest number of bytes of a bundle whose three texts can be within their limits.
 pub const BUNDLE_LIMIT: usize = 4_194_312;
 
-/// Reads a bundle whole and does with its three parts as a session does (docs/FORMATS.md: bundles).
+/// Reads a bundle whole, checks and runs its image, and writes the transcript or the refusal's line, as
+/// `loader80::session` does with three texts (docs/FORMATS.md: bundles).
 ///
 /// A bundle has [`BUNDLE_LIMIT`] bytes at most; one byte more is taken of a longer one. The counts of failures of the reader and
 /// of the writer must be below the greatest `u64`.
 ///
 /// # Errors
 /// `Read(1)` if a read fails; `TooLong(1)` if the bundle has more bytes than the limit; `BadBundle` if it has no three
-/// parts; else those of a session on the three parts. After every fault but `Refused` and `Write` nothing was written.
+/// texts; else those of a session on the three texts. After every fault but `Refused` and `Write` nothing was written.
 pub fn bundle<S: Source, K: Sink>(
     alloc: Global,
     input: &mut S,
@@ -51,7 +52,8 @@ pub fn bundle<S: Source, K: Sink>(
     answer_bundle(alloc, &bytes, out, steps, outputs)
 }
 
-/// Does with the three parts of a bundle, whose bytes these are, as a session does.
+/// Does with the three texts in a bundle's bytes what a session does. The fault is `BadBundle` if the bytes have no
+/// three texts, else that of the session.
 fn answer_bundle<K: Sink>(
     alloc: Global,
     bytes: &[u8],
@@ -86,7 +88,7 @@ fn answer_bundle<K: Sink>(
     }
 }
 
-/// The answer of a session as that of a bundle.
+/// Converts the answer of a session to that of a bundle.
 fn of_session(answer: Result<Outcome, SessionFault>) -> Result<Outcome, BundleFault>
     ensures { result ≡ of_session answer }
 {
@@ -96,7 +98,8 @@ fn of_session(answer: Result<Outcome, SessionFault>) -> Result<Outcome, BundleFa
     }
 }
 
-/// The number of the first text that is too long.
+/// The number, 1 to 3, of the first of image, regions and inputs that has more bytes than a session reads; `None` if
+/// none has.
 fn first_too_long(texts: SessionTexts<'_>) -> Option<u8>
     ensures within { IfNone result (AreWithin (texts_of texts.entry)) }
     ensures first { IfSome result (IsTooLong (texts_of texts.entry)) }

@@ -9,10 +9,10 @@ use thiserror::Error;
 /// Why a bundle has no outcome.
 #[derive(Clone, Copy, Debug, PartialEq, Eq, Error)]
 pub enum BundleFault {
-    /// A fault of the session on the bundle's three parts.
+    /// A fault of the session on the bundle's three texts.
     #[error("{0}")]
     Session(SessionFault),
-    /// The bundle has no three parts.
+    /// The bytes can't be split into an image, regions and inputs.
     #[error("BadBundle")]
     BadBundle,
 }

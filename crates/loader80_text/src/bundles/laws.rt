@@ -2,7 +2,7 @@
 
 ghost use Rattle.loader80_text.specs.InputsLineLaws.{PartedAtTheFirst};
 
-/// A bundle's regions end and its inputs begin at the first line `INPUTS`.
+/// A law: a bundle's regions end, and its inputs begin, at the first line that is `INPUTS`.
 pub fn inputs_begin_at_the_first_inputs_line()
     ensures { PartedAtTheFirst }
 {}

@@ -20,6 +20,7 @@ impl From<AllocError> for WordFault {
 
     ghost from_gives = { λ _ fault. fault ≡ Memory };
 
+    /// The fault `Memory`.
     fn from(_: AllocError) -> WordFault {
         WordFault::Memory
     }
@@ -28,7 +29,7 @@ impl From<AllocError> for WordFault {
 /// Why inputs have no text.
 #[derive(Clone, Copy, Debug, PartialEq, Eq, Error)]
 pub enum LengthFault {
-    /// The text would have more bytes than a loader reads.
+    /// The text would have more bytes than `loader80::TEXT_LIMIT`.
     #[error("TooLong")]
     TooLong,
     /// Out of memory for the text.
@@ -42,6 +43,7 @@ impl From<AllocError> for LengthFault {
 
     ghost from_gives = { λ _ fault. fault ≡ Memory };
 
+    /// The fault `Memory`.
     fn from(_: AllocError) -> LengthFault {
         LengthFault::Memory
     }

@@ -8,7 +8,8 @@ use crate::inputs::repeated::Repeated;
 use loader80::digits::bytes_of_digits;
 use std::alloc::{AllocError, Global};
 
-/// What an item of a port's word names; `None` if it is neither `hh` nor `n*hh`.
+/// Reads an item of a word for a port: a byte `hh`, or `n*hh` for a byte that waits `n` times. `None` if it has
+/// another form.
 pub(crate) fn read_item(
     alloc: Global,
     port: u8,
@@ -31,7 +32,8 @@ pub(crate) fn read_item(
     Ok(Some(Repeated { port, count, byte }))
 }
 
-/// How many times an item's byte waits, from what stands before it.
+/// How many times an item's byte waits, from the text before its digits: once if that is empty, and the count before
+/// a star. `None` if the text has another form.
 fn times(before: &[u8]) -> Option<u64>
     ensures times { result ≡ times before.now }
     ensures some { IfSome result (λ count. 0 < count) }
@@ -47,7 +49,7 @@ fn times(before: &[u8]) -> Option<u64>
     }
 }
 
-/// The count that decimal digits write; `None` for every other text, for 0, and for what 64 bits don't hold.
+/// The count that decimal digits spell; `None` for every other text, for 0, and for a number that 64 bits don't hold.
 fn count_of_digits(digits: &[u8]) -> Option<u64>
     ensures count { result ≡ count_spelled digits.now }
     ensures some { IfSome result (λ count. 0 < count) }
@@ -58,7 +60,8 @@ fn count_of_digits(digits: &[u8]) -> Option<u64>
     }
 }
 
-/// Reads the count that a text spells.
+/// The count that a text of decimal digits spells; `None` for every other text, for 0, and for a number that 64 bits
+/// don't hold.
 fn count_of_text(text: &str) -> Option<u64>
     ensures count { result ≡ count_spelled text.now }
     ensures some { IfSome result (λ count. 0 < count) }

@@ -11,7 +11,7 @@ use crate::inputs::repeated::Repeated;
 use loader80::digits::bytes_of_digits;
 use std::alloc::{AllocError, Global};
 
-/// What a word names; `None` if it has another form.
+/// Reads a word `pp=item,item..`: a byte, with its port and count, for each item. `None` if the word has another form.
 pub(crate) fn read_word(alloc: Global, word: &[u8]) -> Result<Option<Vec<Repeated>>, AllocError>
     ensures read { IfOk result (λ read. option_map (λ inputs. inputs.items) read ≡ word_of word.now) }
     ensures repeated { IfOk result (λ read. IfSome read (λ inputs. All IsRepeated inputs.items)) }
@@ -28,7 +28,7 @@ pub(crate) fn read_word(alloc: Global, word: &[u8]) -> Result<Option<Vec<Repeate
     read_items(alloc, port[0], &word[3..])
 }
 
-/// What the items of a port name; `None` if one has another form.
+/// Reads the items of a port, separated by commas; `None` if one has another form.
 fn read_items(alloc: Global, port: u8, items: &[u8]) -> Result<Option<Vec<Repeated>>, AllocError>
     ensures read { IfOk result (λ read. option_map (λ inputs. inputs.items) read ≡ items_of port items.now) }
     ensures repeated { IfOk result (λ read. IfSome read (λ inputs. All IsRepeated inputs.items)) }
@@ -49,7 +49,7 @@ fn read_items(alloc: Global, port: u8, items: &[u8]) -> Result<Option<Vec<Repeat
     Ok(Some(inputs))
 }
 
-/// The first item before a comma, and what follows the comma; `None` if there is no comma.
+/// The text before the first comma, and the text after it; `None` if there is no comma.
 fn first_item(items: &[u8]) -> Option<(&[u8], &[u8])>
     ensures found { IfSome result (λ (item, rest).
         slice_split (λ character. character == 44) items.now ≡ item.now ∷ slice_split (λ character. character == 44) rest.now) }
@@ -62,7 +62,7 @@ fn first_item(items: &[u8]) -> Option<(&[u8], &[u8])>
     }
 }
 
-/// The place of the first comma.
+/// The place of the first comma, `None` if there is none.
 fn comma(items: &[u8]) -> Option<usize>
     ensures { result ≡ position (λ character. character == 44) items.now }
 {

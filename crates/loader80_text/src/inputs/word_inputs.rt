@@ -13,9 +13,10 @@ use std::alloc::{AllocError, Global};
 use std::marker::Model;
 use stream80::TEXT_LIMIT;
 
-/// The bytes that words name, in the order of the words.
+/// The input bytes that words name, in the order of the words.
 #[derive(Drop)]
 pub struct WordInputs {
+    /// The items of all words, in order.
     inputs: Vec<Repeated>,
 }
 
@@ -32,7 +33,7 @@ impl Model for WordInputs {
 }
 
 impl WordInputs {
-    /// No bytes.
+    /// Inputs without any byte.
     pub fn new(alloc: Global) -> WordInputs
         ensures { result ≡ [] }
     {
@@ -41,9 +42,9 @@ impl WordInputs {
         }
     }
 
-    /// Appends what a word `pp=item,item..` names: a port in two hexadecimal digits, and the bytes that wait there. An item is a
-    /// byte in two hexadecimal digits, or how many times it waits, in decimal, a star and the byte: `02=3*2A,00`. A count is at
-    /// least 1, and 64 bits hold it.
+    /// Appends the bytes that a word `pp=item,item..` names: a port in two hexadecimal digits, and the bytes that
+    /// wait there. An item is a byte in two hexadecimal digits, or how many times it waits, in decimal, a star and
+    /// the byte: `02=3*2A,00`. A count is at least 1 and fits in 64 bits.
     ///
     /// # Errors
     /// `BadInput` if the word has another form; `Memory` if memory runs out. The inputs are then unchanged.
@@ -60,10 +61,11 @@ impl WordInputs {
         Ok(())
     }
 
-    /// The text that spells the bytes, a line for each item.
+    /// The text of the inputs, a line `pp hh..` for each item, as [`read_inputs`](loader80::read_inputs) reads it.
     ///
     /// # Errors
-    /// `TooLong` exactly if the text has more bytes than a loader reads, before memory is taken; `Memory` if memory runs out.
+    /// `TooLong` exactly if the text would have more than `loader80::TEXT_LIMIT` bytes, before memory is taken;
+    /// `Memory` if memory runs out.
     pub fn text(&self, alloc: Global) -> Result<String, LengthFault>
         ensures text { IfOk result (λ text. string_bytes text ≡ text_of self.now) }
         ensures spells { IfOk result (λ text. SpellsInputs self.now (string_bytes text)) }
@@ -77,7 +79,7 @@ impl WordInputs {
     }
 }
 
-/// Whether the text of the inputs has no more bytes than a loader reads.
+/// Whether the text of the inputs has at most `loader80::TEXT_LIMIT` bytes.
 fn fits(inputs: &[Repeated]) -> bool
     ensures { result ≡ nat_le (length (text_of inputs.now)) text_limit }
 {
@@ -91,7 +93,7 @@ fn fits(inputs: &[Repeated]) -> bool
     true
 }
 
-/// The lines of inputs that fit.
+/// The lines of the inputs. Their text must have at most `loader80::TEXT_LIMIT` bytes.
 fn lines_of(alloc: Global, inputs: &[Repeated]) -> Result<String, AllocError>
     requires { length (text_of inputs.now) ≤ text_limit }
     ensures { IfOk result (λ text. string_bytes text ≡ text_of inputs.now) }
@@ -103,7 +105,7 @@ fn lines_of(alloc: Global, inputs: &[Repeated]) -> Result<String, AllocError>
     Ok(text)
 }
 
-/// Appends the line of an item, whose count a text may have.
+/// Appends the line of an item: its port, a space, and its byte as often as its count says, which must be below 2^32.
 fn append_line(alloc: Global, text: &mut String, input: Repeated) -> Result<(), AllocError>
     requires { input.count < 2 ^ 32 }
     ensures { OnOk result (string_bytes text.new ≡ string_bytes text.old ++ line_of input) }

@@ -14,9 +14,9 @@ use std::alloc::{AllocError, Global};
 use std::fmt::Write;
 use verify80::{Reached, find_reached};
 
-/// The code of a vouched image by address: a line for each instruction that walks reach, as a listing has it, and the bytes of
-/// code that are in none of them as data, eight a line at most. Adjacent ranges of code count as one; instructions that overlap
-/// have a line each.
+/// The lines of a vouched image's code, by address: one for each instruction that walks reach, as a listing has it,
+/// and the bytes of code that are in no such instruction as data, eight a line at most. Adjacent ranges of code count
+/// as one; instructions that overlap have a line each.
 ///
 /// # Errors
 /// `AllocError` only if memory runs out.
@@ -27,8 +27,8 @@ pub fn list_reached(alloc: Global, vouched: &Vouched) -> Result<Vec<u8>, AllocEr
     lines_of(alloc, vouched.image(), &reached, false, &[])
 }
 
-/// Makes the lines of a listing, each instruction with how often it was begun by the counts of a run, or `-` if it wasn't; and a
-/// last line with the number of instructions that were begun, and that of all.
+/// The lines of [`list_reached`], each instruction with how often a run began it by `counts`, or `-` if it didn't;
+/// and a last line `REACHED n OF m`: how many of the instructions were begun.
 ///
 /// # Errors
 /// `AllocError` only if memory runs out.
@@ -42,7 +42,7 @@ pub fn cover(alloc: Global, vouched: &Vouched, counts: &[u64]) -> Result<Vec<u8>
     Ok(lines)
 }
 
-/// The lines of an image's code.
+/// The lines of an image's code, by the instructions that walks reach; with counts if `shown`.
 fn lines_of(
     alloc: Global,
     image: &Image,
@@ -65,7 +65,7 @@ fn lines_of(
     Ok(lines)
 }
 
-/// Appends the lines of all addresses.
+/// Appends the lines that begin at all addresses, in order, with their counts if `shown`.
 fn append_lines(
     alloc: Global,
     layout: &Layout<'_>,
@@ -86,7 +86,7 @@ fn append_lines(
     Ok(())
 }
 
-/// The count of an address, if counts are shown.
+/// The count of an address if `shown`, otherwise 0.
 fn count_shown(shown: bool, counts: &[u64], at: usize) -> u64
     requires whole { shown ≡ true → length counts.now ≡ 65536 }
     requires inside { at < 65536 }
@@ -98,7 +98,9 @@ fn count_shown(shown: bool, counts: &[u64], at: usize) -> u64
     0
 }
 
-/// Appends the line that begins at an address, if one does; `before` bytes of data stand right before it.
+/// Appends the line that begins at an address: that of a reached instruction, or that of up to eight bytes of data if
+/// the address is the first of a run of data or a multiple of eight bytes behind it. Nothing is appended if no line
+/// begins there. `before` is the number of bytes of data right before the address.
 fn append_line(
     alloc: Global,
     layout: &Layout<'_>,
@@ -122,7 +124,7 @@ fn append_line(
     Ok(())
 }
 
-/// Appends the sums.
+/// Appends the last line, `REACHED n OF m`: how many of the reached instructions a run began, and how many there are.
 fn append_sums(
     alloc: Global,
     reached: &Reached,
@@ -140,7 +142,7 @@ fn append_sums(
     Ok(())
 }
 
-/// How many instructions there are.
+/// How many instructions walks reach.
 fn count_all(reached: &Reached) -> u64
     ensures { result ≡ tally (is_instruction reached.now) 0 65536 }
 {
@@ -151,7 +153,7 @@ fn count_all(reached: &Reached) -> u64
     count
 }
 
-/// How many of the reached instructions were begun.
+/// How many of the instructions that walks reach have a count above 0.
 fn count_begun(reached: &Reached, counts: &[u64]) -> u64
     requires { length counts.now ≡ 65536 }
     ensures { result ≡ tally (is_begun counts.now reached.now) 0 65536 }
@@ -163,7 +165,7 @@ fn count_begun(reached: &Reached, counts: &[u64]) -> u64
     count
 }
 
-/// Whether there is an instruction at an address, and it was begun.
+/// Whether walks reach an instruction at the address, and its count is above 0.
 fn is_begun(reached: &Reached, counts: &[u64], at: usize) -> bool
     requires whole { length counts.now ≡ 65536 }
     requires inside { at < 65536 }
@@ -172,7 +174,7 @@ fn is_begun(reached: &Reached, counts: &[u64], at: usize) -> bool
     reached.at(at as u16).is_some() && counts[at] > 0
 }
 
-/// 1 if a test passed, and else 0.
+/// 1 for true, 0 for false.
 fn one_if(passed: bool) -> u64
     ensures value { result ≡ (if passed then 1 else 0) }
     ensures few { result ≤ 1 }

@@ -17,7 +17,7 @@ use std::alloc::{AllocError, Global};
 use std::fmt::Write;
 use text80::{byte_digits, word_digits};
 
-/// Appends the line of an instruction, with its count if counts are shown.
+/// Appends the line of an instruction at an address, with its count behind the text if `shown`.
 pub(crate) fn append_instruction(
     alloc: Global,
     shown: bool,
@@ -39,7 +39,7 @@ pub(crate) fn append_instruction(
     Ok(())
 }
 
-/// Appends the columns before an instruction's text.
+/// Appends the columns before an instruction's text: its address and its bytes.
 fn append_bytes(at: u16, instr: Instr, lines: &mut Vec<u8>) -> Result<(), AllocError>
     ensures { OnOk result (lines.new.items ≡ lines.old.items ++ columns at (spelling instr)) }
 {
@@ -47,7 +47,7 @@ fn append_bytes(at: u16, instr: Instr, lines: &mut Vec<u8>) -> Result<(), AllocE
     append_columns(at, &bytes[..length], lines)
 }
 
-/// Appends an instruction's text, filled with spaces to ten places.
+/// Appends an instruction's text, padded with spaces to ten places.
 fn append_filled(alloc: Global, instr: Instr, lines: &mut Vec<u8>) -> Result<(), AllocError>
     ensures { OnOk result (lines.new.items ≡ lines.old.items ++ filled (text instr)) }
 {
@@ -57,7 +57,7 @@ fn append_filled(alloc: Global, instr: Instr, lines: &mut Vec<u8>) -> Result<(),
     Ok(())
 }
 
-/// Appends spaces up to ten places from `before` on.
+/// Appends spaces until ten bytes stand from the place `before` on; none if there are that many already.
 fn fill_from(before: usize, lines: &mut Vec<u8>) -> Result<(), AllocError>
     requires { before ≤ length lines.old.items }
     ensures { OnOk result (lines.new.items ≡ lines.old.items ++ drop (length lines.old.items - before) (codes "          ")) }
@@ -67,7 +67,7 @@ fn fill_from(before: usize, lines: &mut Vec<u8>) -> Result<(), AllocError>
     lines.extend_from_slice(&spaces[shown..])
 }
 
-/// Appends a bar, and how often an instruction was begun.
+/// Appends a bar and the count of an instruction, or `-` if it is 0.
 fn append_count(alloc: Global, count: u64, lines: &mut Vec<u8>) -> Result<(), AllocError>
     ensures { OnOk result (lines.new.items ≡ lines.old.items ++ (codes " | " ++ count_text count)) }
 {
@@ -82,7 +82,7 @@ fn append_count(alloc: Global, count: u64, lines: &mut Vec<u8>) -> Result<(), Al
     Ok(())
 }
 
-/// Appends the line of the data from an address on.
+/// Appends the line of the data from an address on, eight bytes at most: the address, the digits and `DATA`.
 pub(crate) fn append_data(
     layout: &Layout<'_>,
     at: u16,
@@ -98,7 +98,7 @@ pub(crate) fn append_data(
     Ok(())
 }
 
-/// Appends the digits of the data from an address on, of eight bytes at most.
+/// Appends the digits of the bytes of data from an address on, up to the next byte that is none, eight at most.
 fn append_data_bytes(layout: &Layout<'_>, at: u16, lines: &mut Vec<u8>) -> Result<(), AllocError>
     ensures { OnOk result (lines.new.items ≡ lines.old.items
         ++ flat_map byte_text (data_from (is_data layout.now.regions.now layout.now.reached.now) layout.now.memory.now 8 at)) }

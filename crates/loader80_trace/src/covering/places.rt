@@ -12,8 +12,11 @@ use verify80::Reached;
 /// An image's code, with the instructions that walks reach.
 #[derive(Drop)]
 pub(crate) struct Layout<'a> {
+    /// The image's regions.
     pub regions: &'a Regions,
+    /// The image's memory.
     pub memory: &'a FlatBus,
+    /// The instructions that walks reach.
     pub reached: &'a Reached,
 }
 
@@ -26,7 +29,7 @@ pub(crate) fn is_data(layout: &Layout<'_>, at: usize) -> bool
     at < 65536 && layout.regions.in_code(at as u16) && !is_covered(layout.reached, at as u16)
 }
 
-/// How many bytes of data stand right before the next address, if `before` of them stand right before this one.
+/// How many bytes of data stand right before the address after `at`, if `before` of them stand right before `at`.
 pub(crate) fn data_behind(layout: &Layout<'_>, at: usize, before: usize) -> usize
     requires before { before ≡ data_before (is_data layout.now.regions.now layout.now.reached.now) at }
     requires few { before ≤ at }
@@ -40,7 +43,7 @@ pub(crate) fn data_behind(layout: &Layout<'_>, at: usize, before: usize) -> usiz
     0
 }
 
-/// Whether an address is in an instruction: one that begins there, or one or two addresses before it.
+/// Whether an address is in an instruction that walks reach: one that begins there, or one or two addresses before it.
 #[tactic(auto, unfolding(crate::specs::Cover::is_covered))]
 fn is_covered(reached: &Reached, at: u16) -> bool
     ensures { result ≡ is_covered reached.now at }

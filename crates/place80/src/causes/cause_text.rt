@@ -30,7 +30,7 @@ use std::alloc::{AllocError, Global};
 ///   `  METER uses the high byte of 4012 at CODE 0012`;
 /// - `StartNotCode`: the address of the start, as `  START 4000`, and CODE.
 ///
-/// Of other faults there are none. Numbers are four hexadecimal digits.
+/// There are no lines for other faults. Numbers are four hexadecimal digits.
 ///
 /// # Errors
 /// `AllocError` only if memory runs out; the text may then have some of the lines.
@@ -61,7 +61,8 @@ pub fn append_cause(
     }
 }
 
-/// Appends the lines of an unresolved name.
+/// Appends the lines for `Unresolved`: that of the first fixup that refers to the name, and that of the first public
+/// whose name differs in case alone, each if there is one.
 fn append_unresolved(text: &mut Vec<u8>, program: &Module, name: &Name) -> Result<(), AllocError>
     ensures { OnOk result (text.new.items ≡ text.old.items ++ unresolved_text program.now name.now) }
 {
@@ -69,7 +70,7 @@ fn append_unresolved(text: &mut Vec<u8>, program: &Module, name: &Name) -> Resul
     append_alike(text, alike(program, name))
 }
 
-/// Appends the line of the first segment that is outside memory.
+/// Appends the line for `OutsideMemory`: that of the first segment that is outside memory.
 fn append_outside(
     text: &mut Vec<u8>,
     program: &Module,
@@ -83,7 +84,7 @@ fn append_outside(
     }
 }
 
-/// Appends the lines of the first two segments that share an address.
+/// Appends the lines for `Overlap`: those of the first two segments, absolute contents or restart that share an address.
 fn append_overlap(
     text: &mut Vec<u8>,
     program: &Module,
@@ -94,7 +95,8 @@ fn append_overlap(
     append_pair(text, program.commons(), first_pair(program, segments))
 }
 
-/// The first two parts of a program that share an address, those of the program before those with a restart.
+/// The first two segments or absolute contents of a program that share an address, or else the restart and the first
+/// of them that shares an address with it. `None` if there is no such pair.
 #[tactic(auto, using(crate::proofs::PairLemmas::found_first, crate::proofs::PairLemmas::found_among_others))]
 fn first_pair(program: &Module, segments: &[Placed]) -> Option<Pair>
     ensures { result ≡ first_overlap program.now segments.now }
@@ -105,7 +107,8 @@ fn first_pair(program: &Module, segments: &[Placed]) -> Option<Pair>
     }
 }
 
-/// Appends the line of the first high byte.
+/// Appends the line for `HighNotPaged`: that of the first fixup that takes the high byte of an address that isn't a
+/// multiple of 256.
 fn append_high_byte(
     text: &mut Vec<u8>,
     program: &Module,
@@ -116,7 +119,7 @@ fn append_high_byte(
     append_high(text, program, first_high(segments, program))
 }
 
-/// Appends the lines of the start and of CODE.
+/// Appends the lines for `StartNotCode`: that of the address of the program's start, and that of CODE.
 fn append_start_of(
     text: &mut Vec<u8>,
     program: &Module,

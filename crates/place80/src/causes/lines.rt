@@ -14,7 +14,7 @@ use omf_text::{append_common, append_place};
 use std::alloc::AllocError;
 use text80::word_digits;
 
-/// Appends the line of a fixup that refers to an unresolved name, if there is one.
+/// Appends the line of a fixup that refers to an unresolved name, as `  CODE 0012 refers to it`; nothing for `None`.
 pub(crate) fn append_use(
     text: &mut Vec<u8>,
     commons: &[Common],
@@ -30,7 +30,8 @@ pub(crate) fn append_use(
     text.extend_from_slice(b" refers to it\n".as_slice())
 }
 
-/// Appends the line of a public whose name differs in case alone, if there is one.
+/// Appends the line of a public whose name differs in case alone, as `  the public GetKey differs in case alone`;
+/// nothing for `None`.
 pub(crate) fn append_alike(text: &mut Vec<u8>, public: Option<&Public>) -> Result<(), AllocError>
     ensures { OnOk result (text.new.items ≡ text.old.items ++ option_map_or alike_line (option_copied public.entry) []) }
 {
@@ -43,7 +44,8 @@ pub(crate) fn append_alike(text: &mut Vec<u8>, public: Option<&Public>) -> Resul
     Ok(())
 }
 
-/// Appends the line of a segment: its first address and its length.
+/// Appends the line of a placed segment: its name, its first address, its length and, for a named common, the
+/// common's name, as `  STACK FFF0 0020`.
 pub(crate) fn append_placed(
     text: &mut Vec<u8>,
     commons: &[Common],
@@ -62,7 +64,7 @@ pub(crate) fn append_placed(
     Ok(())
 }
 
-/// Appends the lines of two segments, if there are two.
+/// Appends the lines of two placed segments that share an address; nothing for `None`.
 pub(crate) fn append_pair(
     text: &mut Vec<u8>,
     commons: &[Common],
@@ -77,7 +79,7 @@ pub(crate) fn append_pair(
     append_placed(text, commons, second)
 }
 
-/// Appends the line of a high byte, if there is one.
+/// Appends the line of a fixup of a high byte, as `  METER uses the high byte of 4012 at CODE 0012`; nothing for `None`.
 pub(crate) fn append_high(
     text: &mut Vec<u8>,
     program: &Module,
@@ -98,7 +100,7 @@ pub(crate) fn append_high(
     Ok(())
 }
 
-/// Appends the address of a start, and the line of CODE, if there is a start.
+/// Appends the line of the address of a start, as `  START 4000`, and the line of CODE; nothing for `None`.
 pub(crate) fn append_start(
     text: &mut Vec<u8>,
     commons: &[Common],
@@ -117,7 +119,8 @@ pub(crate) fn append_start(
     Ok(())
 }
 
-/// Appends an address up to 10000, or a length.
+/// Appends a number in four hexadecimal digits, or in five if it is 10000, the greatest first address of a segment in
+/// these lines.
 fn append_number(text: &mut Vec<u8>, number: u32) -> Result<(), AllocError>
     ensures { OnOk result (text.new.items ≡ text.old.items ++ number_text number) }
 {

@@ -10,7 +10,7 @@ use crate::causes::uses::Use;
 use omf_core::Name;
 use omf_model::{Content, Module, Public, Target};
 
-/// The first fixup that refers to the name, with no word.
+/// The first fixup of the program that refers to the external with this name, with 0 as its word; `None` if none does.
 pub(crate) fn first_use_of(program: &Module, name: &Name) -> Option<Use>
     ensures { result ≡ first_use_of program.now name.now }
 {
@@ -22,7 +22,7 @@ pub(crate) fn first_use_of(program: &Module, name: &Name) -> Option<Use>
     None
 }
 
-/// The first fixup of a content that refers to a name.
+/// The first fixup of a content that refers to the external with this name, with 0 as its word; `None` if none does.
 fn first_in(externals: &[Name], name: &Name, content: &Content) -> Option<Use>
     ensures { result ≡ first_use_in no_word (λ f. refers_to externals.now name.now f.target) content.now }
 {
@@ -48,7 +48,7 @@ fn refers_to(externals: &[Name], name: &Name, target: Target) -> bool
     }
 }
 
-/// The name of the external with this index; it has no bytes if there is none.
+/// The bytes of the name of the external with this index; none if there is no such external.
 fn name_at(externals: &[Name], index: u16) -> &[u8]
     ensures { result.now ≡ name_at externals.now index }
 {
@@ -58,7 +58,7 @@ fn name_at(externals: &[Name], index: u16) -> &[u8]
     }
 }
 
-/// The first public whose name differs from a given one in case alone.
+/// The first public of the program whose name differs from the given one in case alone, `None` if there is none.
 pub(crate) fn alike<'a>(program: &'a Module, name: &Name) -> Option<&'a Public>
     ensures { option_copied result ≡ alike program.now name.now }
 {
@@ -70,14 +70,14 @@ pub(crate) fn alike<'a>(program: &'a Module, name: &Name) -> Option<&'a Public>
     None
 }
 
-/// Whether two names differ, and are the same in lower case.
+/// Whether two names differ, but in the case of their letters alone.
 fn differs_in_case(other: &[u8], name: &[u8]) -> bool
     ensures { result ≡ differs_in_case other.now name.now }
 {
     is_same_in_lower_case(other, name) && other != name
 }
 
-/// Whether two names are the same in lower case.
+/// Whether two names are equal when the case of ASCII letters is ignored.
 fn is_same_in_lower_case(other: &[u8], name: &[u8]) -> bool
     ensures { result ≡ same_name (map to_ascii_lowercase other.now) (map to_ascii_lowercase name.now) }
 {

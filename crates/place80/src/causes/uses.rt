@@ -8,15 +8,19 @@ ghost use Rattle.place80.specs.Uses.{use_of, first_use_in, first_high};
 use crate::{Placed, place_of};
 use omf_model::{Content, Field, Fixup, Module, Target};
 
-/// A fixup: the segment and the offset where it is, and the word that it adds.
+/// A fixup as a line shows it: where it is in the module, and the word that it adds.
 #[derive(Clone, Copy, PartialEq, Eq, Debug)]
 pub(crate) struct Use {
+    /// The id of the segment whose content has the fixup.
     pub segment: u8,
+    /// The offset in that segment.
     pub offset: u16,
+    /// The word that the fixup adds; 0 in the line of an unresolved name, which doesn't show it.
     pub word: u16,
 }
 
-/// The first fixup that takes the high byte of a word which isn't a multiple of 256.
+/// The first fixup of the program that takes the high byte of a word that isn't a multiple of 256, `None` if there is
+/// none.
 pub(crate) fn first_high(segments: &[Placed], program: &Module) -> Option<Use>
     ensures { result ≡ first_high segments.now program.now }
 {
@@ -28,7 +32,7 @@ pub(crate) fn first_high(segments: &[Placed], program: &Module) -> Option<Use>
     None
 }
 
-/// The first such fixup of a content.
+/// The first fixup of a content that takes the high byte of a word that isn't a multiple of 256, `None` if there is none.
 fn first_in(segments: &[Placed], content: &Content) -> Option<Use>
     ensures { result ≡ first_use_in (word_among segments.now) (loses_with (word_among segments.now)) content.now }
 {
@@ -40,7 +44,7 @@ fn first_in(segments: &[Placed], content: &Content) -> Option<Use>
     None
 }
 
-/// The fixup, if it is one.
+/// The fixup's place and word if it takes the high byte of a word that isn't a multiple of 256, otherwise `None`.
 fn high_of(segments: &[Placed], content: &Content, fixup: Fixup) -> Option<Use>
     ensures { result ≡ use_of (word_among segments.now) (loses_with (word_among segments.now)) content.now fixup }
 {
@@ -55,7 +59,8 @@ fn high_of(segments: &[Placed], content: &Content, fixup: Fixup) -> Option<Use>
     }
 }
 
-/// The word that a fixup adds. No external is left once a program's segments are placed.
+/// The word that a fixup to this target adds: the address of offset 0 in the target's segment. It is 0 for an
+/// external, which a program that is placed doesn't have.
 fn target_word(segments: &[Placed], target: Target) -> u16
     ensures { result ≡ word_among segments.now target }
 {
