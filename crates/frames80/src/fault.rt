@@ -33,7 +33,7 @@ pub enum FrameFault {
 }
 
 impl FrameFault {
-    /// The number of this fault, as above; the verifier refuses a program with the same number.
+    /// The number of this fault, 4 to 18, with which the verifier refuses a program.
     pub fn code(&self) -> u8
         ensures { result ≡ frame_fault_code self.now }
     {
@@ -51,10 +51,11 @@ impl From<AllocError> for FrameFault {
     }
 }
 
-/// Why there is no frame after a call.
+/// Why a caller has no frame after a call.
 #[derive(Clone, Copy, PartialEq, Eq, Debug, Error)]
 pub enum CallFault {
-    /// The caller has fewer words above its bottom word than the callee takes; in the main program, fewer words.
+    /// The caller has fewer words above its bottom word than the callee may take; in the main
+    /// program, fewer words.
     #[error("ShortArguments")]
     ShortArguments = 14,
     /// Out of memory.
@@ -63,7 +64,7 @@ pub enum CallFault {
 }
 
 impl CallFault {
-    /// The number of this fault.
+    /// The number of this fault, 14 or 18, with which the verifier refuses a program.
     pub fn code(&self) -> u8
         ensures { result ≡ call_fault_code self.now }
     {
@@ -87,7 +88,7 @@ impl From<AllocError> for CallFault {
 pub struct HeightsDiffer;
 
 impl HeightsDiffer {
-    /// The number of this fault, 12.
+    /// The number of this fault, 12, with which the verifier refuses a program.
     pub fn code(&self) -> u8
         ensures { result ≡ 12 }
     {
