@@ -6,7 +6,7 @@ use thiserror::Error;
 /// Why there is no explanation.
 #[derive(Clone, Copy, PartialEq, Eq, Debug, Error)]
 pub enum Unexplained {
-    /// More points were found than the limit allows, and none of them shows the refusal.
+    /// More was found than the limit allows, and nothing of it shows the refusal.
     #[error("more points than the limit allows")]
     Limit,
     /// Every walk was followed to its end, and none of them shows the refusal; or the refusal is one that no way shows.
