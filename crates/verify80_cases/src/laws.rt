@@ -4,8 +4,9 @@ ghost use Rattle.verify80_cases.specs.Changes.{StepsLeaveTheRest};
 
 use machine80::laws::instructions_keep_to_facts;
 
-/// What stands before a PCHL is read as if each instruction may change some pairs, A or the carry flag. The machine's step leaves
-/// the others as they are, but that A may be doubled, if its double is a byte.
+/// A law of the machine's step: what the straight-line code before a PCHL is read to keep, it
+/// keeps. An instruction leaves the pairs, A and the carry flag as they are that it isn't said to
+/// change, but A may be doubled, if its double is a byte.
 pub fn steps_leave_the_rest()
     ensures { StepsLeaveTheRest }
 {
