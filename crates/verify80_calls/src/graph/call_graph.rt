@@ -10,7 +10,7 @@ use std::alloc::{AllocError, Global};
 use std::marker::Model;
 use verify80::{ImageCode, ProcRow, Vouched};
 
-/// A procedure with its bound and its calls.
+/// A procedure of a program, with its bound and its calls.
 #[derive(Debug, Drop)]
 pub struct Node {
     /// The procedure.
@@ -62,7 +62,7 @@ impl CallGraph {
     }
 }
 
-/// The main program.
+/// The node of the main program. `AllocError` if memory runs out.
 fn main_node(alloc: Global, vouched: &Vouched, code: &ImageCode) -> Result<Node, AllocError>
     requires { code.now ≡ vouched.now.image }
     ensures heading { IfOk result (λ node. heading_of node ≡ main_heading vouched.now) }
@@ -76,7 +76,7 @@ fn main_node(alloc: Global, vouched: &Vouched, code: &ImageCode) -> Result<Node,
     })
 }
 
-/// The procedure of a row.
+/// The node of the procedure of a report's row. `AllocError` if memory runs out.
 fn row_node(
     alloc: Global,
     vouched: &Vouched,
@@ -96,7 +96,7 @@ fn row_node(
     })
 }
 
-/// Appends the procedure of each of these rows.
+/// Appends the node of the procedure of each row. `AllocError` if memory runs out.
 fn append_nodes(
     alloc: Global,
     vouched: &Vouched,
