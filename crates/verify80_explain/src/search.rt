@@ -43,6 +43,7 @@ pub(crate) struct CallingPoint {
 /// A point that returns.
 #[derive(Clone, Copy)]
 struct Exit {
+    /// The number of the point.
     point: usize,
     /// How many words the procedure has taken there.
     taken: u32,
@@ -234,7 +235,6 @@ impl Search {
         &mut self,
         alloc: Global,
         program: &C,
-        /// The number of the point.
         point: usize,
         target: u16,
         next: u16,
