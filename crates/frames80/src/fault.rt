@@ -46,6 +46,7 @@ impl From<AllocError> for FrameFault {
 
     ghost from_gives = { λ _ fault. fault ≡ Memory };
 
+    /// Running out of memory is the fault `Memory`.
     fn from(_: AllocError) -> FrameFault {
         FrameFault::Memory
     }
@@ -77,6 +78,7 @@ impl From<AllocError> for CallFault {
 
     ghost from_gives = { λ _ fault. fault ≡ Memory };
 
+    /// Running out of memory is the fault `Memory`.
     fn from(_: AllocError) -> CallFault {
         CallFault::Memory
     }

@@ -149,6 +149,7 @@ impl PartialEq for Frame {
 
     ghost laws = { partial_equiv_from_equiv frame_equivalence };
 
+    /// Whether all fields of both frames are equal.
     #[tactic(auto, using(crate::proofs::Reversed::pointwise_reverse))]
     fn eq(&self, other: &Frame) -> bool {
         self.taken == other.taken
@@ -172,6 +173,7 @@ impl Hash for Frame {
 
     ghost respects_eq = { frame_alike };
 
+    /// Feeds all fields to the hasher.
     fn hash<H: Hasher>(&self, state: &mut H) {
         state.write_u32(self.taken);
         self.words.hash(state);

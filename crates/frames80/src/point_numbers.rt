@@ -13,7 +13,9 @@ const ADDRESSES: usize = 65_536;
 /// The first point that was numbered at an address: its procedure and its number.
 #[derive(Clone, Copy)]
 struct FirstPoint {
+    /// The procedure that the point belongs to.
     procedure: Procedure,
+    /// The number of the point.
     number: u32,
 }
 
@@ -23,7 +25,9 @@ struct FirstPoint {
 /// the points of further procedures there.
 #[derive(Drop)]
 pub struct PointNumbers {
+    /// The first point that was numbered at each address.
     first: Vec<Option<FirstPoint>>,
+    /// The numbers of the other points, by `place_number`.
     further: BTreeMap<u64, u32>,
 }
 

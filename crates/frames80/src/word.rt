@@ -36,6 +36,7 @@ impl PartialEq for Word {
 
     ghost laws = { partial_equiv_from_equiv word_equivalence };
 
+    /// Whether both are the same variant.
     fn eq(&self, other: &Word) -> bool {
         *self as u8 == *other as u8
     }
@@ -54,6 +55,7 @@ impl Hash for Word {
 
     ghost respects_eq = { word_alike };
 
+    /// Feeds the variant's number, 0 or 1, to the hasher.
     fn hash<H: Hasher>(&self, state: &mut H) {
         state.write_u8(*self as u8);
     }

@@ -21,6 +21,7 @@ impl From<AllocError> for MeetFault {
 
     ghost from_gives = { λ _ fault. fault ≡ Memory };
 
+    /// Running out of memory is the fault `Memory`.
     fn from(_: AllocError) -> MeetFault {
         MeetFault::Memory
     }

@@ -112,10 +112,12 @@ impl<'a> Program for ImageCode<'a> {
 
     ghost held = { λ image address. slice_index (memory_of image.chunks) address };
 
+    /// Whether an address is in CODE.
     fn is_code(&self, address: u16) -> bool {
         self.map.is_code(address)
     }
 
+    /// The byte of the image's memory at an address.
     fn byte(&self, address: u16) -> u8 {
         self.memory[usize::from(address)]
     }
@@ -124,6 +126,7 @@ impl<'a> Program for ImageCode<'a> {
 impl<'a> Code for ImageCode<'a> {
     ghost code = { code_of };
 
+    /// The instruction at an address and the address after it, or why none may be executed there.
     #[tactic(auto, unfolding(crate::specs::Looking::look_at))]
     fn look(&self, at: u16) -> Result<Fetched, LookFault> {
         match fetch(at, self) {
@@ -133,6 +136,7 @@ impl<'a> Code for ImageCode<'a> {
         }
     }
 
+    /// The targets that the regions declare for a PCHL at this address; empty if none are declared.
     fn targets(&self, at: u16) -> &[u16] {
         let image = self.image;
         match image.regions.targets(at) {
@@ -141,16 +145,19 @@ impl<'a> Code for ImageCode<'a> {
         }
     }
 
+    /// The address where the main program starts.
     fn start(&self) -> u16 {
         let image = self.image;
         image.start
     }
 
+    /// The address just above the stack, modulo 65536.
     fn top(&self) -> u16 {
         let image = self.image;
         image.regions.top()
     }
 
+    /// The number of bytes that the stack has.
     fn stack(&self) -> u16 {
         let image = self.image;
         image.regions.stack().length

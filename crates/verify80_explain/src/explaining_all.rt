@@ -40,6 +40,7 @@ pub struct ShownRefusals {
 /// A point whose instruction may not be executed, by its number in a search.
 #[derive(Clone, Copy)]
 struct FaultyPoint {
+    /// The refusal of its instruction.
     refusal: Refusal,
     /// The number of the point in the search.
     number: usize,

@@ -18,12 +18,14 @@ pub enum Unexplained {
 }
 
 impl From<AllocError> for Unexplained {
+    /// Running out of memory is the fault `Memory`.
     fn from(_: AllocError) -> Unexplained {
         Unexplained::Memory
     }
 }
 
 impl<T: Drop> From<AllocFailed<T>> for Unexplained {
+    /// Running out of memory is the fault `Memory`; the value that couldn't be placed is dropped.
     fn from(_: AllocFailed<T>) -> Unexplained {
         Unexplained::Memory
     }

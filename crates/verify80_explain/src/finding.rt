@@ -12,7 +12,9 @@ use verify80_flow::Procedure;
 /// Two points of a search, by their numbers.
 #[derive(Clone, Copy)]
 pub(crate) struct Pair {
+    /// The number of the first point.
     pub(crate) one: usize,
+    /// The number of the second point.
     pub(crate) other: usize,
 }
 

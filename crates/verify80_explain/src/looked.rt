@@ -25,7 +25,9 @@ pub(crate) enum Looked {
 /// A call: the address that is called, and that of the instruction after the call.
 #[derive(Clone, Copy)]
 pub(crate) struct Called {
+    /// The address that is called.
     pub(crate) target: u16,
+    /// The address after the call.
     pub(crate) next: u16,
 }
 

@@ -18,6 +18,7 @@ use verify80_flow::Procedure;
 /// A call, by which a procedure is reached from a first call on.
 #[derive(Clone, Copy)]
 struct Reach {
+    /// The call.
     call: CallingPoint,
     /// The index of the call by which the caller is reached; for the first call its own.
     from: usize,

@@ -24,8 +24,11 @@ struct StoredPoint {
 /// frames that they and what leads to them have.
 #[derive(Drop)]
 pub(crate) struct Points {
+    /// The frames, by number.
     frames: Frames,
+    /// The points, in order of first sight.
     stored: Vec<StoredPoint>,
+    /// The index in `stored` of the point at each address of each procedure.
     numbers: PointNumbers,
 }
 

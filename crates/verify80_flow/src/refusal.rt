@@ -167,6 +167,8 @@ impl Refusal {
 }
 
 impl fmt::Display for Refusal {
+    /// Writes the name, and after it the address, as `Sphl AT 3000`, or the two numbers of
+    /// `StackTooSmall`.
     fn fmt<W: fmt::Write>(&self, f: &mut fmt::Formatter<W>) -> fmt::Result {
         let name = self.name();
         if let Refusal::StackTooSmall(need, has) = self {
@@ -181,6 +183,7 @@ impl fmt::Display for Refusal {
 
 /// Shown as `Display` does, by its name and numbers.
 impl fmt::Debug for Refusal {
+    /// Writes what `Display` writes.
     fn fmt<W: fmt::Write>(&self, f: &mut fmt::Formatter<W>) -> fmt::Result {
         fmt::Display::fmt(self, f)
     }
@@ -193,6 +196,7 @@ impl From<AllocError> for Refusal {
 
     ghost from_gives = { λ _ refusal. refusal ≡ Memory };
 
+    /// Running out of memory is the refusal `Memory`.
     fn from(_: AllocError) -> Refusal {
         Refusal::Memory
     }

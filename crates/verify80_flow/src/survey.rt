@@ -17,7 +17,9 @@ use verify80_bounds::{CallSite, Depth};
 /// The depths of a program's frames, and its calls.
 #[derive(Drop)]
 pub(crate) struct CallGraph {
+    /// The depth of each point's frame.
     pub(crate) depths: Vec<Depth>,
+    /// The calls at the points.
     pub(crate) calls: Vec<CallSite>,
 }
 

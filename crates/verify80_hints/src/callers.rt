@@ -10,8 +10,11 @@ const NONE: usize = usize::MAX;
 /// A point at a call and its address, and the link before it of the same callee.
 #[derive(Clone, Copy)]
 struct Link {
+    /// The number of the point.
     point: usize,
+    /// The address of the call.
     at: u16,
+    /// The index of the next older link of the same callee, or `NONE`.
     before: usize,
 }
 
@@ -22,6 +25,7 @@ struct Link {
 pub struct Callers {
     /// For each entry the index of its newest link, or `NONE`.
     newest: Vec<usize>,
+    /// The links of all entries.
     links: Vec<Link>,
     /// The points that have a link.
     linked: Marks,

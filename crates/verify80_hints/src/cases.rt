@@ -8,8 +8,11 @@ const EMPTY: u32 = 0;
 /// A list of PCHLs: the newest one, the list of those before it, and the newest list that has one PCHL more.
 #[derive(Clone, Copy)]
 struct CaseList {
+    /// The address of the newest PCHL.
     pchl: u16,
+    /// The number of the list of the others.
     before: u32,
+    /// The number of the newest list with one PCHL more than this one, or `EMPTY`.
     longer: u32,
 }
 
@@ -17,6 +20,7 @@ struct CaseList {
 /// to all of its targets before the next one.
 #[derive(Drop)]
 pub(crate) struct Cases {
+    /// The lists; number `EMPTY` has no PCHL.
     lists: Vec<CaseList>,
     /// For each address the number of its list.
     by_target: Vec<u32>,

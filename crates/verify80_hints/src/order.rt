@@ -19,8 +19,11 @@ enum Ways {
 /// An address on the path of the search, its ways on, and how many of them have been tried.
 #[derive(Clone, Copy)]
 struct Step {
+    /// The address.
     at: u16,
+    /// Where its instruction leads.
     ways: Ways,
+    /// How many of these ways have been tried.
     tried: usize,
 }
 

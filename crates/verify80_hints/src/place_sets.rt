@@ -13,6 +13,7 @@ const NONE: u32 = u32::MAX;
 /// are in use.
 #[derive(Drop)]
 pub(crate) struct PlaceSets {
+    /// The allocator that the sets grow by.
     alloc: Global,
     /// For each block, by group of points, the number of the group's words in `words`, or `NONE`.
     rows: Vec<Vec<u32>>,

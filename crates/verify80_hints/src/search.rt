@@ -38,10 +38,13 @@ struct Exit {
 #[derive(Drop)]
 pub(crate) struct Search<'a, C> {
     program: &'a C,
+    /// The number of each point.
     numbers: PointNumbers,
+    /// The points, by number.
     points: Vec<Point>,
     /// The rank of each address, in postorder.
     ranks: Vec<u32>,
+    /// The steps, by number.
     steps: Vec<Step>,
     /// For each point the ways that lead to it, but for those from PCHLs.
     leading: Lists,
