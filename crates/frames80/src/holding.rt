@@ -66,8 +66,8 @@ impl Holding {
         }
     }
 
-    /// `ReturnFromMain` for the main program, `ReturnNotOwn` for an entry whose only word isn't its
-    /// return address or that has other words or none; else `None`.
+    /// `ReturnFromMain` for the main program; `ReturnNotOwn` for an entry, unless its words are its
+    /// return address alone; else `None`.
     fn return_fault(self, role: Role) -> Option<FrameFault>
         ensures { (words : List Word) → holding_of words ≡ self → result ≡ return_fault role words }
     {

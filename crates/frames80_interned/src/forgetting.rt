@@ -36,8 +36,9 @@ struct Lessened {
     rest: u32,
 }
 
-/// The number of a stack as high as stack `number`, in which words that aren't asked for become
-/// `Any`. Words are left alone from where no return address that isn't asked for can lie beneath.
+/// The number of a stack as high as stack `number`, in which words that aren't asked for may be
+/// `Any`. It goes down from the top, and leaves the rest as it is once all return addresses there
+/// may be asked for.
 ///
 /// # Errors
 /// `AllocError` if memory runs out.
@@ -54,8 +55,8 @@ pub(crate) fn forget_words(
     push_all(stacks, top.rest, top.words)
 }
 
-/// Goes down stack `number`, and makes words that aren't asked for `Any`, until no return address
-/// that isn't asked for can lie beneath.
+/// The upper words of stack `number`, with `Any` for those that aren't asked for, down to where all
+/// return addresses beneath may be asked for; and the number of the stack that is left.
 ///
 /// # Errors
 /// `AllocError` if memory runs out.
@@ -72,8 +73,8 @@ fn forget_tops(stacks: &Stacks, number: u32, heights: &[u32]) -> Result<Lessened
     Ok(Lessened { words, rest })
 }
 
-/// The top word of a stack and whether it is asked for. `None` if nothing is to be forgotten: the
-/// stack is empty, or has no more return addresses than words of it are asked for.
+/// The top word of a stack and whether it is asked for. `None` if nothing more is to be forgotten:
+/// the stack is empty, or has no more return addresses than words that are asked for.
 fn top_to_forget(stacks: &Stacks, number: u32, heights: &[u32]) -> Option<(Link, bool)>
     requires { number < length stacks.now }
     ensures { IfSome result (λ top. IsLink stacks.now number top.0) }

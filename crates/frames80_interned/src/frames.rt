@@ -94,8 +94,8 @@ impl Frames {
     }
 
     /// The number of the frame after a change of `frame`, which must have at most 1,000,000 words
-    /// taken and is kept unchanged. The change must be admitted: a pop of no words takes one from
-    /// beneath.
+    /// taken and is kept unchanged. Whether the change is admitted must be checked before: here a
+    /// pop of no words takes one from beneath.
     ///
     /// # Errors
     /// `AllocError` if memory runs out.

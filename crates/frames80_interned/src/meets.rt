@@ -16,7 +16,8 @@ use crate::stacks::{STRIDE, Stacks};
 use frames80::Word;
 use std::alloc::AllocError;
 
-/// The words that two stacks give above the point from which they are merged already.
+/// Two stacks as far as they were gone through together: the merged words, and the merged stack
+/// beneath.
 #[derive(Drop)]
 struct Meeting {
     /// What is known of the words of both stacks at each place gone through, top first.

@@ -52,7 +52,7 @@ impl Reached {
 
 /// The instruction at each address that the walks of an image's procedures reach, from its start on.
 ///
-/// A walk goes on behind a call only if the procedure that is called returns, and after a PCHL at its declared targets. So each
+/// A walk goes on after a call only if the procedure that is called returns, and after a PCHL at its declared targets. So each
 /// step of each run of the image is at one of these addresses; that a run reaches each of them isn't said.
 ///
 /// # Example

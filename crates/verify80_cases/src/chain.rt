@@ -35,9 +35,9 @@ pub(crate) fn passed_at(code: &ImageCode<'_>, reached: &[bool], at: u16) -> Opti
     })
 }
 
-/// The address where the straight-line code that leads to `at` begins: each of its instructions is
-/// reached and goes on to the next, and no other reached instruction does. `at` itself if there is
-/// no such code.
+/// The address where the instructions begin that lead to `at` one after another: each is reached
+/// and may go on to the next one, and no other reached instruction does. `at` itself if there are
+/// none.
 pub(crate) fn first_before(code: &ImageCode<'_>, reached: &[bool], at: u16) -> u16 {
     let mut first = at;
     // Behind a given number of instructions the addresses come again.

@@ -4,9 +4,9 @@ ghost use Rattle.verify80_cases.specs.Changes.{StepsLeaveTheRest};
 
 use machine80::laws::instructions_keep_to_facts;
 
-/// A law of the machine's step: what the straight-line code before a PCHL is read to keep, it
-/// keeps. An instruction leaves the pairs, A and the carry flag as they are that it isn't said to
-/// change, but A may be doubled, if its double is a byte.
+/// A law of the machine's step: the pairs, A and the carry flag stay as they are unless the
+/// instruction is one that may change them, as the search for tables reads it; only A may be
+/// doubled, if its double is a byte.
 pub fn steps_leave_the_rest()
     ensures { StepsLeaveTheRest }
 {

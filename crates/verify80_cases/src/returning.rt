@@ -125,8 +125,8 @@ impl Holders {
     }
 }
 
-/// Whether HL has the procedure's return address at an address, as far as the straight-line code
-/// before it shows that.
+/// Whether HL has the procedure's return address at an address, as far as the instructions show
+/// that lead to it one after another.
 pub(crate) fn has_return_address(
     code: &ImageCode<'_>,
     reached: &[bool],

@@ -114,7 +114,8 @@ impl Search {
     }
 
     /// The remark on the PCHL at `at`, for which `found` was suggested: where its table may not
-    /// end, that it returns, or that no table is seen. `None` if the table is sure to end.
+    /// end, that it returns, or that no table is seen. `None` if something shows where its table
+    /// ends.
     pub fn note(&self, code: &ImageCode<'_>, at: u16, found: &Option<SuggestedCase>) -> Option<Note>
         ensures { IsNote at found.now result }
     {

@@ -28,7 +28,7 @@ pub struct Suggestions {
 /// the code begins at the word. A table is one of JMPs if the PCHL goes to the address to which the
 /// pair was added, and these are its targets. A comparison with a number of entries ends it too.
 ///
-/// What is reached follows each branch, goes on behind each CALL whether it returns or not, and goes to the suggested targets: more than
+/// What is reached follows each branch, goes on after each CALL whether it returns or not, and goes to the suggested targets: more than
 /// the verifier's walks do. Nothing rests on it, for a run that jumps elsewhere ends there.
 ///
 /// # Errors

@@ -134,7 +134,7 @@ pub(crate) fn address_of(kind: TableKind, first: u16, number: usize) -> usize
     }
 }
 
-/// How many bytes an entry of such a table has.
+/// How many bytes an entry of a table of this kind has.
 pub(crate) fn stride(kind: TableKind) -> usize
     ensures { result ≡ stride kind }
 {

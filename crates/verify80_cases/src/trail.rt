@@ -31,9 +31,9 @@ use crate::changes::may_change;
 use crate::table::{Table, TableKind};
 use decode80::{Instr, Pair, Register};
 
-/// What the straight-line code before an address shows of a table: how far its word is loaded, and
-/// which comparison bounds its index. A table is known by the address of the LXI that loads the
-/// table's address.
+/// What the instructions that lead to an address one after another show of a table: how far its
+/// word is loaded, and which comparison bounds its index. A table is known by the address of the
+/// LXI that loads the table's address.
 #[derive(Clone, Copy)]
 pub(crate) struct Trail {
     /// The address of the LXI whose word is in BC.

@@ -123,8 +123,7 @@ fn measure_whole<C: Code>(alloc: Global, program: &C) -> Result<Analysis, Refusa
 }
 
 /// Fills an empty table for a program, however many visits that takes, and reports on it. Any
-/// refusal but `Memory` holds, but `ReturnNotOwn` for certain only if the table's frames forget
-/// nothing.
+/// refusal but `Memory` holds; only `ReturnNotOwn` may not, if the table's frames forget.
 fn fill_whole_and_report<C: Code>(
     alloc: Global,
     program: &C,
@@ -139,8 +138,8 @@ fn fill_whole_and_report<C: Code>(
 }
 
 /// Fills an empty table for a program and reports on it; `None` if the table's visits are spent
-/// before. Any refusal but `Memory` holds, but `ReturnNotOwn` for certain only if the table's
-/// frames forget nothing.
+/// before. Any refusal but `Memory` holds; only `ReturnNotOwn` may not, if the table's frames
+/// forget.
 fn fill_and_report<C: Code>(
     alloc: Global,
     program: &C,
@@ -156,8 +155,8 @@ fn fill_and_report<C: Code>(
     Ok(Some(report_on(alloc, program, table)?))
 }
 
-/// Reports on a program whose table is filled. Any refusal but `Memory` holds, but `ReturnNotOwn`
-/// for certain only if the table's frames forget nothing.
+/// Reports on a program whose table is filled. Any refusal but `Memory` holds; only `ReturnNotOwn`
+/// may not, if the table's frames forget.
 fn report_on<C: Code>(alloc: Global, program: &C, table: &Table) -> Result<Analysis, Refusal>
     requires { IsFilled (C.code program.now) table.now.known }
     ensures found { IfOk result (IsAnalysis (C.code program.now)) }

@@ -137,7 +137,7 @@ impl Refusal {
         matches!(self, Refusal::ReturnNotOwn(_))
     }
 
-    /// The refusal for an address where no instruction may be executed, and why.
+    /// The refusal for an address where no instruction may be executed, for this reason.
     pub(crate) fn of_look(fault: LookFault, at: u16) -> Refusal
         ensures { result ≡ look_refusal fault at }
     {

@@ -236,7 +236,8 @@ impl Table {
         self.flow(Procedure::Entry(target), target, frame)
     }
 
-    /// The instruction's place and effect at the point with index `point`. Nothing changes.
+    /// The point with index `point` as a site, and the effect of its instruction, if the
+    /// instruction may be executed there with the point's frame.
     ///
     /// # Errors
     /// A refusal that holds.

@@ -1,6 +1,6 @@
 //! The order in which points are visited: reverse postorder of the code, over all of its procedures.
 //!
-//! A point is best visited when what leads to it has been: then a frame that reaches it late changes nothing behind it a
+//! A point is best visited when what leads to it has been: then a frame that reaches it late changes nothing after it a
 //! second time. What the verifier answers doesn't rest on this order, only how soon.
 
 use decode80::Fetched;

@@ -3,7 +3,7 @@
 //! The search goes forth over the points that walks reach, with the counts that they have there, and back from the returns: a
 //! return asks for its word, and what is asked for at a point is asked for where it comes from, at each point that leads there.
 //! That is done for 64 places of a frame at once. If the bottom word is asked for at the start of a procedure, the procedure
-//! returns with its return address, and walks go on behind its calls. If another word reaches a place that is asked for, a walk
+//! returns with its return address, and walks go on after its calls. If another word reaches a place that is asked for, a walk
 //! leads from there to a return with that word, and the search ends.
 
 mod back;
@@ -73,8 +73,8 @@ pub(crate) struct Search<'a, C> {
 }
 
 /// The steps of a walk to a return whose word isn't the return address, or of two walks to one
-/// point with different counts, and of the walks that these need. Empty if no such walk is found,
-/// or if the first kind takes 2,000,000 steps or more and the second isn't found.
+/// point with different counts, and of the walks that these need. Empty if no such walks are found,
+/// or if the first kind alone is found and takes 2,000,000 steps or more.
 ///
 /// # Errors
 /// `AllocError` if memory runs out.

@@ -37,7 +37,7 @@ pub struct Advice {
 /// The image is gone through from its start, as [`verify80_cases::find_reachable`] does, with all its bytes as code that lie in the ranges of
 /// `rom`, or with all its bytes if there are no such ranges, and with the cases that its tables suggest. CODE is exactly the bytes
 /// of the instructions that are reached. STACK ends at the word of the first LXI SP, 0000 for the end of memory: it is sixteen
-/// bytes, or more if the image is refused for nothing but that, but only such as are free below that address, neither the image's
+/// bytes, or more if the image is refused for nothing but that, but only as many as are free right below that address, neither the image's
 /// nor named by an instruction. DATA is what STA, LDA, SHLD and LHLD name, but for CODE, STACK and the image's bytes; or, if `ram`
 /// has ranges, exactly these but for CODE and STACK. The cases are those of the tables.
 ///

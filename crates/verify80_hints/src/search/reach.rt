@@ -83,8 +83,8 @@ impl<'a, C: Code> Search<'a, C> {
         }
     }
 
-    /// Reaches the point at `at` from a point, and asks at that for what is asked for at `at`
-    /// already. `AllocError` if memory runs out.
+    /// Takes a way on from a point to address `at`, and asks at the point for what is asked for at
+    /// `at` already. `AllocError` if memory runs out.
     fn go(
         &mut self,
         way: Way,
