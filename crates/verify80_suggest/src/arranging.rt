@@ -111,8 +111,9 @@ fn find_data(
     Ok(marks)
 }
 
-/// Whether an address is to be data: in `ram`, or without such ranges named by an instruction and
-/// without a byte of the image; and neither in a reached instruction nor in the stack.
+/// Whether an address is to be data: in a range of `ram`, or, if that has no ranges, named by an
+/// instruction and without a byte of the image; and neither in a reached instruction nor in the
+/// stack.
 fn is_data(survey: &Survey, ram: &[Range], stack: Range, address: u16) -> bool
     requires { AreMarkTables survey.now }
     ensures { result ≡ is_data survey.now ram.now stack address }

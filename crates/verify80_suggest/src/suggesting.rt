@@ -82,8 +82,8 @@ pub fn base_regions(alloc: Global, image: &Image, rom: &[Range]) -> Result<Regio
     Ok(Regions::from_disjoint(alloc, code, NO_STACK, Vec::new(alloc)))
 }
 
-/// How many bytes of stack are wanted: as many as the program needs if the image is refused for
-/// nothing but its stack, and sixteen at least. `AllocError` if memory runs out.
+/// How many bytes of stack are wanted: as many as the program needs, and sixteen at least. Sixteen
+/// too if the image is refused for something else than its stack. `AllocError` if memory runs out.
 fn wanted_stack(alloc: Global, image: &Image) -> Result<u64, AllocError>
     ensures { IfOk result (λ wanted. IsWanted image.now wanted) }
 {

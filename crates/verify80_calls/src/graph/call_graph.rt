@@ -39,7 +39,8 @@ impl Model for CallGraph {
 }
 
 impl CallGraph {
-    /// The procedures of a program that is accepted: the main program, and that of each row, with its bound and exactly its calls.
+    /// The graph of a program that is accepted: the main program, and the procedure of each row of
+    /// its report, each with its bound and exactly its calls.
     ///
     /// # Errors
     /// `AllocError` if memory runs out.
@@ -54,7 +55,7 @@ impl CallGraph {
         Ok(CallGraph { nodes })
     }
 
-    /// The procedures.
+    /// The procedures, the main program first.
     pub fn nodes(&self) -> &[Node]
         ensures { result.now ≡ self.now }
     {
