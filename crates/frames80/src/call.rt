@@ -8,9 +8,10 @@ use crate::frame::Frame;
 use crate::role::Role;
 use std::alloc::Global;
 
-/// The caller's frame after a call of a procedure that takes up to `wants` words from beneath its return address on any of
-/// its walks, and `taken` of them where it returns: the top `taken` words are gone, and BC, DE and HL may hold anything. The
-/// frame has up to 1,000,000 words, and as many taken.
+/// The caller's frame after a call of a procedure that takes up to `wants` words from beneath its
+/// return address on any of its walks, and `taken` of them where it returns: the top `taken` words
+/// are gone, and BC, DE and HL may hold anything. `frame` must have at most 1,000,000 words and at
+/// most 1,000,000 taken, and `taken` must be at most `wants`.
 ///
 /// # Errors
 /// `ShortArguments` exactly where the caller has fewer than `wants` words above its bottom word; in the main program, if
@@ -38,7 +39,8 @@ pub fn after(
     Ok(Frame::of_words(frame.taken, words))
 }
 
-/// How many words a callee may take.
+/// How many words of a caller's frame a callee may take: all of them in the main program, and those
+/// above the bottom word in an entry.
 fn room(frame: &Frame, role: Role) -> usize
     ensures value { result ≡ room role frame.now.words }
     ensures within { result ≤ length frame.now.words }

@@ -11,7 +11,7 @@ use decode80::Fetched;
 pub enum LookFault {
     /// A byte of the instruction is outside CODE or past FFFF.
     Outside,
-    /// The byte is one of the twelve unused ones.
+    /// The opcode is one of the twelve that the verifier takes as unused.
     Unused,
     /// An EI whose next byte isn't a HLT in CODE.
     EnablesInterrupts,
@@ -21,7 +21,8 @@ pub enum LookFault {
     DirectStore,
 }
 
-/// A program as the verifier sees it.
+/// A program as the verifier sees it: the instruction at each address, the targets that are
+/// declared for each PCHL, the start address and the stack.
 pub trait Code {
     /// The instruction at each address, the targets declared for it, the start, and the stack's top and length.
     ghost code: { Self → CodeSeen };
@@ -30,7 +31,7 @@ pub trait Code {
     fn look(&self, at: u16) -> Result<Fetched, LookFault>
         ensures { result ≡ (code self.now).look at };
 
-    /// The targets that are declared for a PCHL at an address; none if it isn't declared.
+    /// The targets that are declared for a PCHL at this address; empty if none are declared.
     fn targets(&self, at: u16) -> &[u16]
         ensures { result.now ≡ (code self.now).targets at };
 
@@ -47,7 +48,7 @@ pub trait Code {
         ensures { result ≡ (code self.now).stack };
 }
 
-/// The role of a procedure.
+/// The role of a procedure of `program`: the main program, with the stack's top, or an entry.
 pub fn role_of<C: Code>(program: &C, procedure: Procedure) -> Role
     ensures { result ≡ role_of (C.code program.now) procedure }
 {

@@ -25,7 +25,7 @@ pub enum Change {
     Exchange,
     /// A register of the pair is written: it holds no return address any more.
     Forget(FramePair),
-    /// LXI SP with this word.
+    /// LXI SP with this word: no words are left.
     SetStack(u16),
 }
 
@@ -50,12 +50,13 @@ pub enum Effect {
     Return,
     /// A conditional return.
     ReturnIf,
-    /// Is refused in every frame.
+    /// Refused with this fault, whatever the frame is: SPHL, INX SP and DCX SP.
     Refuse(FrameFault),
 }
 
 impl Effect {
-    /// The change that the effect makes before it goes on: none, unless it is one.
+    /// The change that the effect makes to the frame: that of a `Change`, and `Keep` for every
+    /// other effect.
     pub fn change(self) -> Change
         ensures { result ≡ change_of self }
     {

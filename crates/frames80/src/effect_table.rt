@@ -55,7 +55,8 @@ pub fn effect_of(instr: Instr) -> Effect
     }
 }
 
-/// The change by an instruction that writes a register.
+/// The change of a frame if an instruction writes register `to`: the register's pair holds no
+/// return address any more. Nothing changes for A, which is in no pair.
 fn change_of_write(to: Register) -> Change
     ensures { result ≡ written to }
 {
@@ -67,7 +68,8 @@ fn change_of_write(to: Register) -> Change
     }
 }
 
-/// The effect of an instruction that loads or counts a pair; of SP it is the one given.
+/// The effect of LXI, INX or DCX of `pair`: a register pair holds no return address any more, and
+/// for SP the effect is `of_sp`.
 fn effect_of_load(pair: Pair, of_sp: Effect) -> Effect
     ensures { result ≡ loaded pair of_sp }
 {
@@ -79,7 +81,7 @@ fn effect_of_load(pair: Pair, of_sp: Effect) -> Effect
     }
 }
 
-/// The pair of a frame that is pushed and popped; PSW is none.
+/// The pair of a frame that PUSH or POP of `pair` uses; `None` for PSW, which no frame tracks.
 fn in_frame(pair: StackPair) -> Option<FramePair>
     ensures { result ≡ in_frame pair }
 {

@@ -33,7 +33,7 @@ pub enum FrameFault {
 }
 
 impl FrameFault {
-    /// The number of this fault, as above; the verifier refuses a program with the same number.
+    /// The number of this fault, 4 to 18, with which the verifier refuses a program.
     pub fn code(&self) -> u8
         ensures { result ≡ frame_fault_code self.now }
     {
@@ -46,15 +46,17 @@ impl From<AllocError> for FrameFault {
 
     ghost from_gives = { λ _ fault. fault ≡ Memory };
 
+    /// Running out of memory is the fault `Memory`.
     fn from(_: AllocError) -> FrameFault {
         FrameFault::Memory
     }
 }
 
-/// Why there is no frame after a call.
+/// Why a caller has no frame after a call.
 #[derive(Clone, Copy, PartialEq, Eq, Debug, Error)]
 pub enum CallFault {
-    /// The caller has fewer words above its bottom word than the callee takes; in the main program, fewer words.
+    /// The caller has fewer words above its bottom word than the callee may take; in the main
+    /// program, fewer words.
     #[error("ShortArguments")]
     ShortArguments = 14,
     /// Out of memory.
@@ -63,7 +65,7 @@ pub enum CallFault {
 }
 
 impl CallFault {
-    /// The number of this fault.
+    /// The number of this fault, 14 or 18, with which the verifier refuses a program.
     pub fn code(&self) -> u8
         ensures { result ≡ call_fault_code self.now }
     {
@@ -76,6 +78,7 @@ impl From<AllocError> for CallFault {
 
     ghost from_gives = { λ _ fault. fault ≡ Memory };
 
+    /// Running out of memory is the fault `Memory`.
     fn from(_: AllocError) -> CallFault {
         CallFault::Memory
     }
@@ -87,7 +90,7 @@ impl From<AllocError> for CallFault {
 pub struct HeightsDiffer;
 
 impl HeightsDiffer {
-    /// The number of this fault, 12.
+    /// The number of this fault, 12, with which the verifier refuses a program.
     pub fn code(&self) -> u8
         ensures { result ≡ 12 }
     {

@@ -9,23 +9,25 @@ use std::alloc::{AllocError, Global};
 use std::hash::{Hash, Hasher};
 use std::marker::Model;
 
-/// What is known of a procedure's stack and register pairs at a point of it.
+/// What is known of a procedure's stack and register pairs at one of its points.
 ///
-/// Of the stack a frame has the words that the procedure itself has left there, its return address among them, and how many
-/// words it has taken from beneath that. A contract sees the words top first; the field has them from bottom to top.
+/// A frame lists the words that the procedure itself has on the stack, its return address among
+/// them until that is popped, and counts the words that it has popped from beneath them. A contract
+/// sees the words top first; the field has them from bottom to top.
 ///
 /// Two frames are equal if all their fields are.
 #[derive(Debug, Drop)]
 pub struct Frame {
     /// How many words beneath the procedure's own it has popped.
     pub taken: u32,
-    /// The words that the procedure has pushed, from bottom to top.
+    /// The procedure's own words on the stack, from bottom to top. An entry starts with its return
+    /// address there.
     pub words: Vec<Word>,
-    /// What B and C hold.
+    /// What is known of the word in B and C.
     pub bc: Word,
-    /// What D and E hold.
+    /// What is known of the word in D and E.
     pub de: Word,
-    /// What H and L hold.
+    /// What is known of the word in H and L.
     pub hl: Word,
 }
 
@@ -63,7 +65,8 @@ impl Frame {
         Ok(Frame::of_words(0, Vec::new(alloc)))
     }
 
-    /// A frame of these words, from bottom to top, whose pairs may hold anything.
+    /// A frame with these own words, from bottom to top, and `taken` words popped from beneath
+    /// them. Its pairs may hold anything.
     pub(crate) fn of_words(taken: u32, words: Vec<Word>) -> Frame
         ensures { result ≡ of_words taken (reverse words.items) }
     {
@@ -87,7 +90,7 @@ impl Frame {
         Ok(Frame { words, ..*self })
     }
 
-    /// What a pair holds.
+    /// What is known of the word in a register pair.
     pub fn pair(&self, pair: FramePair) -> Word
         ensures { result ≡ pair_in self.now.pairs pair }
     {
@@ -98,7 +101,8 @@ impl Frame {
         }
     }
 
-    /// What the words are to a pop and to a return.
+    /// What the checks of pops and returns need to know of the frame's words: whether there are
+    /// none, the return address alone, or others.
     pub fn holding(&self) -> Holding
         ensures { result ≡ holding_of self.now.words }
     {
@@ -109,7 +113,7 @@ impl Frame {
         }
     }
 
-    /// Writes a word to a pair.
+    /// Sets what is known of the word in a register pair.
     pub(crate) fn set_pair(&mut self, pair: FramePair, word: Word)
         ensures { self.new ≡ record self.old { pairs = with_pair self.old.pairs pair word } }
     {
@@ -120,7 +124,8 @@ impl Frame {
         }
     }
 
-    /// Pops the top. If the procedure has no word of its own left, it takes one from beneath, which may be any word.
+    /// Removes the top word and returns it. If the procedure has no word of its own left, it pops
+    /// one from beneath: `taken` is one more, and the result is `Any`.
     pub(crate) fn pop(&mut self) -> Word
         requires { self.old.taken ≤ 1000000 }
         ensures word { result ≡ top_word self.old.words }
@@ -144,6 +149,7 @@ impl PartialEq for Frame {
 
     ghost laws = { partial_equiv_from_equiv frame_equivalence };
 
+    /// Whether all fields of both frames are equal.
     #[tactic(auto, using(crate::proofs::Reversed::pointwise_reverse))]
     fn eq(&self, other: &Frame) -> bool {
         self.taken == other.taken
@@ -167,6 +173,7 @@ impl Hash for Frame {
 
     ghost respects_eq = { frame_alike };
 
+    /// Feeds all fields to the hasher.
     fn hash<H: Hasher>(&self, state: &mut H) {
         state.write_u32(self.taken);
         self.words.hash(state);

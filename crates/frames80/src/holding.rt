@@ -9,19 +9,21 @@ use crate::effect::{Change, Effect};
 use crate::fault::FrameFault::{self, PopsBelow, ReturnFromMain, ReturnNotOwn, SetsStack};
 use crate::role::Role;
 
-/// What a frame's words are to a pop and to a return.
+/// What the checks of pops and returns need to know of a frame's own words.
 #[derive(Clone, Copy, Debug, PartialEq, Eq)]
 pub enum Holding {
-    /// There are none.
+    /// The procedure has no words of its own on the stack.
     Nothing,
-    /// The words are the return address alone.
+    /// Its only word is the return address.
     ReturnAddress,
-    /// The words are any others.
+    /// It has several words, or one that isn't known to be the return address.
     Others,
 }
 
 impl Holding {
-    /// Why an effect that isn't refused in every frame is refused with such words.
+    /// Why an effect is refused if the frame's words are of this kind, or `None` if it is admitted.
+    /// For `Effect::Refuse`, which is refused with every frame, the answer is `None` too: callers
+    /// check that themselves.
     pub fn fault_of(self, role: Role, effect: Effect) -> Option<FrameFault>
         ensures { (words : List Word) → holding_of words ≡ self → result ≡ fault_of role effect words }
     {
@@ -38,7 +40,7 @@ impl Holding {
         }
     }
 
-    /// Why a change is refused.
+    /// Why a change is refused if the frame's words are of this kind, or `None` if it is admitted.
     fn change_fault(self, role: Role, change: Change) -> Option<FrameFault>
         ensures { (words : List Word) → holding_of words ≡ self → result ≡ change_fault role change words }
     {
@@ -53,7 +55,7 @@ impl Holding {
         }
     }
 
-    /// Why a pop is refused.
+    /// `PopsBelow` if the main program pops with no words on its stack; else `None`.
     fn pop_fault(self, role: Role) -> Option<FrameFault>
         ensures { (words : List Word) → holding_of words ≡ self → result ≡ pop_fault role words }
     {
@@ -64,7 +66,8 @@ impl Holding {
         }
     }
 
-    /// Why a return is refused.
+    /// `ReturnFromMain` for the main program; `ReturnNotOwn` for an entry, unless its words are its
+    /// return address alone; else `None`.
     fn return_fault(self, role: Role) -> Option<FrameFault>
         ensures { (words : List Word) → holding_of words ≡ self → result ≡ return_fault role words }
     {
@@ -76,7 +79,7 @@ impl Holding {
     }
 }
 
-/// Why a load of the stack pointer is refused.
+/// `None` if the main program loads SP with the stack's top; else `SetsStack`.
 fn load_fault(role: Role, address: u16) -> Option<FrameFault>
     ensures { result ≡ load_fault role address }
 {

@@ -3,7 +3,9 @@
 ghost use Rattle.frames80.specs.Places.{ChangesByPlaces, ReturnsByPlaces, MeetsByPlaces, CountsAlone, CoveredGoesAlong, ReturnRefused};
 ghost use Rattle.frames80.specs.FrameEquality.{EqualityIsExact};
 
-/// Each place of a frame after a change, a call or a meeting is one place from before, or a constant.
+/// A law of all frames. After a change or a call each word and pair comes from one word or pair of
+/// the frame before, or is any word. After a meeting each is the return address exactly where both
+/// frames have it.
 pub fn places_move()
     // Each effect takes each place from one place, or it is any word.
     ensures change { ChangesByPlaces }
@@ -13,20 +15,22 @@ pub fn places_move()
     ensures meet { MeetsByPlaces }
 {}
 
-/// Whether an instruction other than a return is refused, and the counts after it, depend on the counts before it alone.
+/// A law of all frames: the counts of words and of words taken alone decide whether an instruction
+/// other than a return is refused, and what the counts are after it.
 pub fn counts_decide()
     ensures counts { CountsAlone }
     // A return also needs the one word to be the return address.
     ensures refused { ReturnRefused }
 {}
 
-/// A frame that another covers (the same counts, and the return address at least where the other has it) is not refused if
-/// the other isn't, and is covered after each change, call and meeting.
+/// A law of all frames: one that another covers (the same counts, and the return address at least
+/// where the other has it) is not refused if the other isn't, and is covered by it after each
+/// change, call and meeting.
 pub fn covered_goes_along()
     ensures { CoveredGoesAlong }
 {}
 
-/// `==` of frames is equality of all their parts.
+/// A law of all frames: `==` holds exactly where all their parts are equal.
 pub fn equality_is_exact()
     ensures { EqualityIsExact }
 {}

@@ -8,16 +8,16 @@
 //! | [`Procedure`] | the main program, or one that a call reaches |
 //! | [`table`], [`slot`], [`SLOTS`] | a table with a place for each procedure |
 //! | [`Role`] | the main program, or a procedure that is called |
-//! | [`next`], [`Moves`] | what becomes of a frame at an instruction, and where the procedure goes on |
+//! | [`next`], [`Moves`] | the frame after an instruction, and where the procedure goes on |
 //! | [`effect_of`], [`Effect`], [`Change`] | the kinds of effect, and the table of instructions |
-//! | [`Holding`] | what a frame's words are to a pop and to a return, and what is refused with them |
+//! | [`Holding`] | what the checks of pops and returns need to know of a frame's words, and their faults |
 //! | [`after`] | the caller's frame when its callee has returned |
 //! | [`meet`] | two frames at one point |
-//! | [`depth`], [`depth_by`] | how many bytes of the stack a frame takes, and one with these counts |
+//! | [`depth`], [`depth_by`] | by how many bytes the stack has grown, from a frame or from its counts |
 //! | [`places_move`], [`counts_decide`], [`covered_goes_along`], [`equality_is_exact`] | what holds of all frames, as contracts |
 //! | [`Code`], [`LookFault`] | the program: the instruction at each address, the start and the stack |
 //! | [`MOST_POINTS`], [`MOST_WORDS`] | how far a program is followed |
-//! | [`role_of`] | what a procedure of it is to its frames |
+//! | [`role_of`] | the role of one of its procedures: the main program or an entry |
 //! | [`PointNumbers`] | a number for each address of each procedure |
 //! | [`numbers_are_of_addresses`] | a number is kept only of an address of memory, as a contract |
 #![tactic(auto)]

@@ -3,5 +3,6 @@
 /// The most points of a program that are followed: one with more is refused.
 pub const MOST_POINTS: usize = 262_144;
 
-/// The most words that a procedure may have left or taken at a point from which it is followed.
+/// How many own words, and how many words taken, a frame may have at most; a program is followed no
+/// further from a point whose frame has more.
 pub const MOST_WORDS: u32 = 1_000_000;

@@ -8,8 +8,8 @@ use crate::fault::HeightsDiffer;
 use crate::frame::Frame;
 use crate::word::Word;
 
-/// The frame becomes what is known of it and of another: a word or a pair is the return address only if it is in both. Answers
-/// whether the frame changed. It takes no memory.
+/// Changes `frame` to what is known of a frame that is either of the two: a word or a pair is the
+/// return address only if it is in both. Answers whether `frame` changed. The call takes no memory.
 ///
 /// # Errors
 /// `HeightsDiffer` exactly where the frames differ in the words taken or in the number of words; the frame is then
@@ -30,7 +30,8 @@ pub fn meet(frame: &mut Frame, other: &Frame) -> Result<bool, HeightsDiffer>
     Ok(words | bc | de | hl)
 }
 
-/// Each word meets the one at its place; answers whether one changed.
+/// Sets each word to what is known of it and of the word of `others` at the same index; answers
+/// whether any of them changed.
 fn meet_words(words: &mut Vec<Word>, others: &Vec<Word>) -> bool
     requires { vec_len words.old ≡ vec_len others.now }
     ensures met { words.new.items ≡ words_met words.old.items others.now.items }
@@ -43,7 +44,7 @@ fn meet_words(words: &mut Vec<Word>, others: &Vec<Word>) -> bool
     changed
 }
 
-/// A word meets another; answers whether it changed.
+/// Sets `word` to the return address only if both words are; answers whether it changed.
 fn meet_word(word: &mut Word, other: Word) -> bool
     ensures met { word.new ≡ met word.old other }
     ensures changed { (result ≡ false) ↔ (word.new ≡ word.old) }

@@ -15,7 +15,7 @@ use decode80::Instr;
 use std::alloc::{AllocError, Global};
 use std::mem;
 
-/// Where a procedure goes on after an instruction, with its frame there.
+/// Where a procedure goes on after an instruction, with its frame there, or with that at the call.
 #[derive(Debug, Drop)]
 pub enum Moves {
     /// Nowhere: HLT.
@@ -28,24 +28,27 @@ pub enum Moves {
     Either(Frame, u16),
     /// To each target that is declared for the instruction's address: PCHL.
     Case(Frame),
-    /// Calls an address.
+    /// Calls an address, with the caller's frame at the call.
     Call(Frame, u16),
-    /// Calls an address or goes on to the next instruction.
+    /// Calls an address or goes on to the next instruction, with the caller's frame at the call.
     MaybeCall(Frame, u16),
-    /// Returns, with this many words taken from beneath its own.
+    /// Returns, with this many words popped from beneath its own.
     Return(u32),
-    /// Returns, with this many words taken, or goes on to the next instruction.
+    /// Returns, with this many words popped from beneath its own, or goes on to the next
+    /// instruction.
     MaybeReturn(Frame, u32),
 }
 
-/// What becomes of a frame at an instruction. The frame has up to 1,000,000 words, and as many taken.
+/// The frame after an instruction, and where the procedure goes on with it. `frame` must have at
+/// most 1,000,000 words and at most 1,000,000 taken.
 ///
 /// # Errors
-/// Each exactly where it says, and no two of them hold at once: `Sphl` at SPHL, `StackByByte` at INX SP and DCX SP; `SetsStack`
-/// at LXI SP, but for the main program with the stack's top; `PopsBelow` at a POP or XTHL of the main program with no words;
-/// `ReturnFromMain` at a return of the main program; `ReturnNotOwn` at a return of an entry whose words are not its return
-/// address alone. A conditional return is refused like any other. `Memory` comes only if none of these holds and memory runs
-/// out.
+/// Each fault comes exactly in its own case, and no two cases overlap: `Sphl` at SPHL,
+/// `StackByByte` at INX SP and DCX SP; `SetsStack` at LXI SP, but for the main program with the
+/// stack's top; `PopsBelow` at a POP or XTHL of the main program with no words; `ReturnFromMain` at
+/// a return of the main program; `ReturnNotOwn` at a return of an entry whose words are not its
+/// return address alone. A conditional return is refused like any other. `Memory` comes only if
+/// none of these holds and memory runs out.
 pub fn next(alloc: Global, frame: &Frame, instr: Instr, role: Role) -> Result<Moves, FrameFault>
     requires taken { frame.now.taken ≤ 1000000 }
     requires words { length frame.now.words ≤ 1000000 }
@@ -71,7 +74,9 @@ pub fn next(alloc: Global, frame: &Frame, instr: Instr, role: Role) -> Result<Mo
     })
 }
 
-/// The frame after a change.
+/// A copy of `frame` with a change applied to it. Whether the change is admitted must be checked
+/// before: here a pop of no words takes one from beneath, and `SetStack` drops all words.
+/// `AllocError` if memory runs out.
 fn change_frame(alloc: Global, frame: &Frame, change: Change) -> Result<Frame, AllocError>
     requires { frame.now.taken ≤ 1000000 }
     ensures { IfOk result (λ after. after ≡ changed change frame.now) }

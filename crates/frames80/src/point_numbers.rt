@@ -10,24 +10,28 @@ use std::collections::BTreeMap;
 /// How many addresses there are.
 const ADDRESSES: usize = 65_536;
 
-/// The point that came first at an address: its procedure and its number.
+/// The first point that was numbered at an address: its procedure and its number.
 #[derive(Clone, Copy)]
 struct FirstPoint {
+    /// The procedure that the point belongs to.
     procedure: Procedure,
+    /// The number of the point.
     number: u32,
 }
 
 /// The number of each point, by its procedure and address.
 ///
-/// Most code is of one procedure. So a table has the first point of each address, and a map the points of further procedures
-/// there.
+/// Most code belongs to one procedure. So a table has the first point of each address, and a map
+/// the points of further procedures there.
 #[derive(Drop)]
 pub struct PointNumbers {
+    /// The first point that was numbered at each address.
     first: Vec<Option<FirstPoint>>,
+    /// The numbers of the other points, by `place_number`.
     further: BTreeMap<u64, u32>,
 }
 
-/// A number for each address of each procedure: no two have the same.
+/// The key of an address of a procedure in the map of further points: no two points have the same.
 fn place_number(procedure: Procedure, at: u16) -> u64
     ensures { result ≡ place_number procedure at }
 {
@@ -38,7 +42,7 @@ fn place_number(procedure: Procedure, at: u16) -> u64
     65536 * procedure + u64::from(at)
 }
 
-/// The first point at an address.
+/// The first point that was numbered at an address, or `None` if there is none.
 fn first_at(first: &[Option<FirstPoint>], at: u16) -> Option<FirstPoint>
     ensures { result ≡ slice_index_or first.now at None }
 {
@@ -48,7 +52,8 @@ fn first_at(first: &[Option<FirstPoint>], at: u16) -> Option<FirstPoint>
     }
 }
 
-/// Whether no other procedure has the first point at an address.
+/// Whether the table's entry for an address may have a point of `procedure`: it is empty, or has
+/// one of this procedure already.
 fn is_free(first: Option<FirstPoint>, procedure: Procedure) -> bool
     ensures { result ≡ is_free first procedure }
 {
@@ -59,7 +64,7 @@ fn is_free(first: Option<FirstPoint>, procedure: Procedure) -> bool
 }
 
 impl FirstPoint {
-    /// Whether the point is one of a procedure.
+    /// Whether the point belongs to this procedure.
     fn is_of(&self, procedure: Procedure) -> bool
         ensures { result ≡ same_procedure self.now.procedure procedure }
     {
@@ -68,7 +73,7 @@ impl FirstPoint {
 }
 
 impl PointNumbers {
-    /// No numbers.
+    /// An empty table: no point has a number.
     ///
     /// # Errors
     /// `AllocError` if memory runs out.
@@ -81,7 +86,7 @@ impl PointNumbers {
         })
     }
 
-    /// The number that is kept of an address of a procedure.
+    /// The number of the point at an address of a procedure, or `None` if it has none.
     pub fn get(&self, procedure: Procedure, at: u16) -> Option<u32>
         ensures { result ≡ number_at self.now procedure at }
     {
@@ -91,10 +96,10 @@ impl PointNumbers {
         }
     }
 
-    /// Keeps a number of an address of a procedure.
+    /// Gives a number to the point at an address of a procedure, in place of any that it had.
     ///
     /// # Errors
-    /// `AllocError` if memory runs out: what is kept is unchanged.
+    /// `AllocError` if memory runs out: the numbers are then unchanged.
     pub fn put(&mut self, procedure: Procedure, at: u16, number: u32) -> Result<(), AllocError>
         ensures put { OnOk result (Puts self.old self.new procedure at number) }
         ensures err { OnErr result (SameNumbers self.old self.new) }
@@ -109,7 +114,7 @@ impl PointNumbers {
     }
 }
 
-/// A number is kept only of an address of memory.
+/// A law of `PointNumbers`: only addresses of memory, 0 to FFFF, have numbers.
 pub fn numbers_are_of_addresses()
     ensures { NumbersAreOfAddresses }
 {}

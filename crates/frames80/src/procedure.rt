@@ -15,7 +15,8 @@ pub enum Procedure {
 /// How many procedures a table has places for: the main program, and one at each address.
 pub const SLOTS: usize = 65_537;
 
-/// Where a table has a procedure.
+/// The index of a procedure in a table of `SLOTS` entries: 0 for the main program, else one more
+/// than the entry's address.
 pub fn slot(procedure: Procedure) -> usize
     ensures is { result ≡ slot_of procedure }
     ensures within { result < 65537 }

@@ -4,7 +4,7 @@ ghost use Rattle.std.specs.Prelude.{◌≡◌, All, IfOk, length};
 
 use std::alloc::{AllocError, Global};
 
-/// A table with the same value at each place.
+/// A table of `places` elements that are all `value`.
 ///
 /// # Errors
 /// `AllocError` only if memory runs out.

@@ -11,14 +11,14 @@ use std::hash::{Hash, Hasher};
 pub enum Word {
     /// The procedure's own return address, both bytes of it.
     Own = 1,
-    /// Any word.
+    /// Any word; nothing relies on its not being the return address.
     Any = 0,
 }
 
 impl Word {
     ghost use Rattle.frames80.specs.Word.{met};
 
-    /// What is known if it is one of the two words: the return address only if both are.
+    /// What is known of a word that is one of the two: `Own` only if both are `Own`.
     pub fn meet(self, other: Word) -> Word
         ensures { result ≡ met self other }
     {
@@ -36,6 +36,7 @@ impl PartialEq for Word {
 
     ghost laws = { partial_equiv_from_equiv word_equivalence };
 
+    /// Whether both are the same variant.
     fn eq(&self, other: &Word) -> bool {
         *self as u8 == *other as u8
     }
@@ -54,6 +55,7 @@ impl Hash for Word {
 
     ghost respects_eq = { word_alike };
 
+    /// Feeds the variant's number, 0 or 1, to the hasher.
     fn hash<H: Hasher>(&self, state: &mut H) {
         state.write_u8(*self as u8);
     }

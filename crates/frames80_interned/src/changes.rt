@@ -11,7 +11,7 @@ use crate::stacks::{EMPTY, Stacks};
 use frames80::{Change, FramePair, Word};
 use std::alloc::AllocError;
 
-/// The frame after a change.
+/// The frame after a change; words that it pushes are added to `stacks`.
 ///
 /// # Errors
 /// `AllocError` if memory runs out.
@@ -53,7 +53,7 @@ pub(crate) fn change_frame(
     }
 }
 
-/// The frame with a word on top.
+/// The frame with `word` pushed on its words.
 ///
 /// # Errors
 /// `AllocError` if memory runs out.
@@ -66,8 +66,8 @@ fn push_word(stacks: &mut Stacks, kept: Kept, word: Word) -> Result<Kept, AllocE
     Ok(Kept { words, ..kept })
 }
 
-/// The frame without its top, and the top. If the procedure has no word of its own left, it takes one from beneath, which may
-/// be any word.
+/// The frame without its top word, and that word. If the procedure has no word of its own left, the
+/// frame has one more word taken from beneath, and the word is `Any`.
 fn pop_word(stacks: &Stacks, kept: Kept) -> (Kept, Word)
     requires there { kept.words < length stacks.now }
     requires taken { kept.taken ≤ 1000000 }

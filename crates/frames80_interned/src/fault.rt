@@ -5,7 +5,7 @@ ghost use Rattle.std.specs.Prelude.{◌≡◌};
 use std::alloc::AllocError;
 use thiserror::Error;
 
-/// Why two frames have none in common.
+/// Why two frames of one point can't be merged.
 #[derive(Clone, Copy, PartialEq, Eq, Debug, Error)]
 pub enum MeetFault {
     /// The frames differ in the words taken or in the number of words.
@@ -21,6 +21,7 @@ impl From<AllocError> for MeetFault {
 
     ghost from_gives = { λ _ fault. fault ≡ Memory };
 
+    /// Running out of memory is the fault `Memory`.
     fn from(_: AllocError) -> MeetFault {
         MeetFault::Memory
     }

@@ -11,24 +11,34 @@ use crate::stacks::Stacks;
 use frames80::Word;
 use std::alloc::AllocError;
 
-/// What is asked for of a frame: words, by how many there are from the bottom up to each, ascending; and pairs.
+/// Which words and pairs of a frame must keep that they are the return address; all others may be
+/// forgotten.
 #[derive(Clone, Copy)]
 pub struct Asked<'a> {
+    /// The words that are asked for, each by how many words there are from the bottom up to it (1
+    /// is the bottom word), ascending.
     pub heights: &'a [u32],
+    /// Whether BC is asked for.
     pub bc: bool,
+    /// Whether DE is asked for.
     pub de: bool,
+    /// Whether HL is asked for.
     pub hl: bool,
 }
 
-/// The upper words of a stack, of which some are forgotten, top first, and the number of the stack beneath them.
+/// A stack as the words that were gone through, some of them forgotten, and the untouched rest
+/// beneath.
 #[derive(Drop)]
 struct Lessened {
+    /// The words that were gone through, top first.
     words: Vec<Word>,
+    /// The number of the stack beneath them.
     rest: u32,
 }
 
-/// The number of the stack with the same words, of which those that aren't asked for may be any word. A word is left alone if no
-/// return address that isn't asked for can lie beneath it.
+/// The number of a stack as high as stack `number`, in which words that aren't asked for may be
+/// `Any`. It goes down from the top, and leaves the rest as it is once all return addresses there
+/// may be asked for.
 ///
 /// # Errors
 /// `AllocError` if memory runs out.
@@ -45,7 +55,8 @@ pub(crate) fn forget_words(
     push_all(stacks, top.rest, top.words)
 }
 
-/// Goes down the stack until what lies beneath is asked for.
+/// The upper words of stack `number`, with `Any` for those that aren't asked for, down to where all
+/// return addresses beneath may be asked for; and the number of the stack that is left.
 ///
 /// # Errors
 /// `AllocError` if memory runs out.
@@ -62,8 +73,8 @@ fn forget_tops(stacks: &Stacks, number: u32, heights: &[u32]) -> Result<Lessened
     Ok(Lessened { words, rest })
 }
 
-/// The word on top of a stack and whether it is asked for; `None` if the stack has no more return addresses than words that are
-/// asked for.
+/// The top word of a stack and whether it is asked for. `None` if nothing more is to be forgotten:
+/// the stack is empty, or has no more return addresses than words that are asked for.
 fn top_to_forget(stacks: &Stacks, number: u32, heights: &[u32]) -> Option<(Link, bool)>
     requires { number < length stacks.now }
     ensures { IfSome result (λ top. IsLink stacks.now number top.0) }
@@ -79,7 +90,7 @@ fn top_to_forget(stacks: &Stacks, number: u32, heights: &[u32]) -> Option<(Link,
     Some((link, is_asked))
 }
 
-/// A word, forgotten unless it is asked for.
+/// The word itself if it is asked for, else `Any`.
 pub(crate) fn forget_word(word: Word, is_asked: bool) -> Word
     ensures { result ≡ Own → word ≡ Own }
 {

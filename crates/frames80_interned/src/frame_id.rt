@@ -21,14 +21,14 @@ impl Model for FrameId {
 impl FrameId {
     ghost use Rattle.std.specs.Prelude.{◌≡◌};
 
-    /// The frame with this number.
+    /// The id of the frame with this number.
     pub(crate) fn new(number: u32) -> FrameId
         ensures { result ≡ number }
     {
         FrameId { number }
     }
 
-    /// Where the frame stands.
+    /// The index of the frame in the list of distinct frames.
     pub(crate) fn index(self) -> usize
         ensures { result ≡ self }
     {

@@ -20,11 +20,13 @@ use indexmap::IndexSet;
 use std::alloc::{AllocError, Global};
 use std::marker::Model;
 
-/// Frames by number: each distinct frame is kept once, in order of first sight. A contract sees the list of frames; a frame keeps
-/// its number. Words that frames have in common, from the bottom up, are kept once. If there are 4,294,967,295 frames, or as
-/// many words, a call that would add one answers as if memory runs out.
+/// Frames by number: each distinct frame is kept once, in order of first sight. A contract sees the
+/// list of frames, and a frame keeps its number. Words that frames have in common, from the bottom
+/// up, are kept once. If there are 4,294,967,295 frames, or as many words, a call that would add
+/// one answers as if memory ran out.
 #[derive(Drop)]
 pub struct Frames {
+    /// The words of all frames, as stacks by number.
     stacks: Stacks,
     /// Each distinct frame once, in order of first sight.
     kept: IndexSet<Kept>,
@@ -43,7 +45,7 @@ impl Model for Frames {
 }
 
 impl Frames {
-    /// No frames. It takes no memory; the frames grow by `alloc`.
+    /// An empty list of frames. The call takes no memory; later ones take it from `alloc`.
     pub fn new(alloc: Global) -> Frames
         ensures { result ≡ [] }
     {
@@ -76,7 +78,8 @@ impl Frames {
         keep(&mut self.kept, Kept::of_words(0, EMPTY))
     }
 
-    /// Why an effect is refused with a frame, or `None` if it is admitted. It takes no memory.
+    /// Why an effect is refused with a frame, or `None` if it is admitted. The call takes no
+    /// memory.
     pub fn fault_of(&self, frame: FrameId, role: Role, effect: Effect) -> Option<FrameFault>
         requires { frame < length self.now }
         ensures refused { IfSome result (λ fault. moves_of role effect (frame_at self.now frame) ≡ Err fault) }
@@ -90,7 +93,9 @@ impl Frames {
         holding_of(&self.stacks, kept.words).fault_of(role, effect)
     }
 
-    /// The number of a frame after a change. The frame has up to 1,000,000 words taken.
+    /// The number of the frame after a change of `frame`, which must have at most 1,000,000 words
+    /// taken and is kept unchanged. Whether the change is admitted must be checked before: here a
+    /// pop of no words takes one from beneath.
     ///
     /// # Errors
     /// `AllocError` if memory runs out.
@@ -105,8 +110,8 @@ impl Frames {
         keep(&mut self.kept, changed)
     }
 
-    /// The number of a caller's frame after a call of a procedure that takes a given number of words: they are gone, and BC, DE and HL may
-    /// hold anything.
+    /// The number of a caller's frame after a call of a procedure that takes `taken` words: the top
+    /// `taken` words are gone, and BC, DE and HL may hold anything.
     ///
     /// # Errors
     /// `ShortArguments` exactly where the caller has fewer words above its bottom word; in the main program, if it has fewer
@@ -127,8 +132,8 @@ impl Frames {
         Ok(keep(&mut self.kept, Kept::of_words(kept.taken, words))?)
     }
 
-    /// The number of the frame that is known of two frames: a word or a pair is the return address only if it is in both. It is that
-    /// of the first if the first doesn't change.
+    /// The number of the frame with what is known of both frames: a word or a pair is the return
+    /// address only if it is in both. The result is `one` itself if that frame wouldn't change.
     ///
     /// # Errors
     /// `HeightsDiffer` exactly where the frames differ in the words taken or in the number of words; `Memory` only if they
@@ -153,8 +158,8 @@ impl Frames {
         Ok(keep(&mut self.kept, met)?)
     }
 
-    /// The number of a frame of which what isn't asked for may be forgotten: it has the same counts, and the return address only
-    /// if the frame has it.
+    /// The number of a frame like `frame`, in which words and pairs that aren't asked for may have
+    /// become `Any`: it has the same counts, and the return address only where `frame` has it.
     ///
     /// # Errors
     /// `AllocError` if memory runs out.
@@ -175,7 +180,8 @@ impl Frames {
         keep(&mut self.kept, lesser)
     }
 
-    /// How many words beneath the procedure's own a frame has taken. It takes no memory.
+    /// How many words a frame has popped from beneath the procedure's own. The call takes no
+    /// memory.
     pub fn taken(&self, frame: FrameId) -> u32
         requires { frame < length self.now }
         ensures { result ≡ (frame_at self.now frame).taken }
@@ -183,7 +189,7 @@ impl Frames {
         kept_at(&self.kept, frame).taken
     }
 
-    /// How many words a frame has. It takes no memory.
+    /// How many own words a frame has. The call takes no memory.
     pub fn words(&self, frame: FrameId) -> u32
         requires { frame < length self.now }
         ensures { result ≡ length (frame_at self.now frame).words }
@@ -192,7 +198,8 @@ impl Frames {
         self.stacks.height(kept.words)
     }
 
-    /// How many words a callee may take: those above the bottom word, and in the main program all. It takes no memory.
+    /// How many words of a caller's frame a callee may take: those above the bottom word, and in
+    /// the main program all. The call takes no memory.
     pub fn room(&self, frame: FrameId, role: Role) -> u32
         requires { frame < length self.now }
         ensures { result ≡ room role (frame_at self.now frame).words }
@@ -201,8 +208,9 @@ impl Frames {
         self.stacks.room(kept.words, role)
     }
 
-    /// By how many bytes the stack has grown since the procedure's start: `2 * (words - 1 - taken)` in an entry, which starts
-    /// with its return address on it, and `2 * words` in the main program. It takes no memory.
+    /// By how many bytes the stack has grown since the procedure's start: `2 * (words - 1 - taken)`
+    /// in an entry, which starts with its return address on it, and `2 * words` in the main
+    /// program. The call takes no memory.
     pub fn depth(&self, frame: FrameId, role: Role) -> i64
         requires { frame < length self.now }
         ensures { result ≡ depth_of role (frame_at self.now frame) }

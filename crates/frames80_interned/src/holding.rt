@@ -7,7 +7,8 @@ ghost use Rattle.frames80_interned.specs.Stacks.{words_at};
 use crate::stacks::Stacks;
 use frames80::{Holding, Word};
 
-/// What the words of this stack are to a pop and to a return.
+/// What the checks of pops and returns need to know of the words of stack `words`: whether there
+/// are none, the return address alone, or others.
 pub(crate) fn holding_of(stacks: &Stacks, words: u32) -> Holding
     requires { words < length stacks.now }
     ensures { result ≡ holding_of (words_at stacks.now words) }

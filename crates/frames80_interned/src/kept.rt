@@ -12,19 +12,24 @@ use frames80::{FramePair, Word};
 use indexmap::IndexSet;
 use std::alloc::AllocError;
 
-/// A frame whose words are those of a stack that has a number.
+/// A frame as it is kept: its words are a stack, by number.
 #[derive(Clone, Copy, PartialEq, Eq, Hash)]
 pub(crate) struct Kept {
+    /// How many words it has popped from beneath the procedure's own.
     pub(crate) taken: u32,
-    /// The number of the stack.
+    /// The number of the stack of its words.
     pub(crate) words: u32,
+    /// What is known of the word in BC.
     pub(crate) bc: Word,
+    /// What is known of the word in DE.
     pub(crate) de: Word,
+    /// What is known of the word in HL.
     pub(crate) hl: Word,
 }
 
 impl Kept {
-    /// A frame whose pairs may hold anything.
+    /// A frame with the words of stack `words` and `taken` words popped from beneath, whose pairs
+    /// may hold anything.
     pub(crate) fn of_words(taken: u32, words: u32) -> Kept
         ensures frame { (stacks : List (List Word)) → frame_of stacks result ≡ of_words taken (words_at stacks words) }
         ensures words { result.words ≡ words }
@@ -38,7 +43,7 @@ impl Kept {
         }
     }
 
-    /// What a pair holds.
+    /// What is known of the word in a register pair.
     pub(crate) fn pair(self, pair: FramePair) -> Word
         ensures { result ≡ pair_in (pairs_of self) pair }
     {
@@ -49,7 +54,7 @@ impl Kept {
         }
     }
 
-    /// The frame with this word in a pair.
+    /// The frame with `word` in a register pair, and else unchanged.
     pub(crate) fn holding(self, pair: FramePair, word: Word) -> Kept
         ensures frame { (stacks : List (List Word)) → frame_of stacks result ≡ holding pair word (frame_of stacks self) }
         ensures words { result.words ≡ self.words }
@@ -62,7 +67,7 @@ impl Kept {
     }
 }
 
-/// The frame that has a number.
+/// The frame with this number.
 pub(crate) fn kept_at(frames: &IndexSet<Kept>, id: FrameId) -> Kept
     requires { id < length frames.now.keys }
     ensures { slice_get frames.now.keys id ≡ Some result }
@@ -70,7 +75,7 @@ pub(crate) fn kept_at(frames: &IndexSet<Kept>, id: FrameId) -> Kept
     frames[id.index()]
 }
 
-/// The number of a frame, which is added if it wasn't there before.
+/// The number of a frame; a frame that isn't kept yet is added to `frames`.
 ///
 /// # Errors
 /// `AllocError` if memory runs out, and if there are 4,294,967,295 frames already.

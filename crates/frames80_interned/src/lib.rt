@@ -6,10 +6,10 @@
 //!
 //! | Item | What it is |
 //! |---|---|
-//! | [`Frames`] | the frames by number, and what becomes of them |
+//! | [`Frames`] | the frames by number, and their changes, calls and meetings |
 //! | [`FrameId`] | the number of a frame |
-//! | [`Asked`] | which of a frame's words and pairs are asked for |
-//! | [`MeetFault`] | why two frames have none in common |
+//! | [`Asked`] | which of a frame's words and pairs may still matter to a return |
+//! | [`MeetFault`] | why two frames can't be merged |
 #![tactic(auto)]
 
 mod changes;

@@ -2,14 +2,15 @@
 
 use frames80::Word;
 
-/// A word on top of a stack that has a number.
+/// The top word of a stack, with the number of the stack beneath it.
 #[derive(Clone, Copy, PartialEq, Eq, Hash)]
 pub(crate) struct Link {
     /// The number of the stack beneath the word.
     pub(crate) below: u32,
+    /// The word itself.
     pub(crate) word: Word,
-    /// How many words there are, this one among them.
+    /// How many words the stack has, this one included.
     pub(crate) height: u32,
-    /// The number of a stack further beneath, from which the way down goes on: so it takes few steps to go down by many words.
+    /// The number of a stack further down, a skip pointer: so few steps lead down by many words.
     pub(crate) skip: u32,
 }

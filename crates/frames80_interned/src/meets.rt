@@ -16,26 +16,28 @@ use crate::stacks::{STRIDE, Stacks};
 use frames80::Word;
 use std::alloc::AllocError;
 
-/// The words that two stacks have above a stack that lies in both.
+/// Two stacks as far as they were gone through together: the merged words, and the merged stack
+/// beneath.
 #[derive(Drop)]
 struct Meeting {
-    /// What is known of the words of both stacks at each place, top first.
+    /// What is known of the words of both stacks at each place gone through, top first.
     words: Vec<Word>,
-    /// The number of the stack in both.
+    /// The number of the merged stack beneath these words.
     rest: u32,
-    /// Whether a word that is known of both stacks isn't that of the first.
+    /// Whether the merged stack differs from the first of the two.
     changed: bool,
 }
 
-/// What two stacks have on top.
+/// The tops of two stacks, or their merged stack.
 enum Top {
-    /// A word each.
+    /// The top word of each stack.
     Words(Link, Link),
-    /// The number of the stack of what is known of both stacks.
+    /// The number of the stack that the two merge into, if that is known without going down.
     Met(u32),
 }
 
-/// The frame that is known of two frames: a word or a pair is the return address only if it is in both.
+/// The frame with what is known of both frames: a word or a pair is the return address only if it
+/// is in both. The result is `one` itself if that frame wouldn't change.
 ///
 /// # Errors
 /// `HeightsDiffer` exactly where the frames differ in the words taken or in the number of words; `Memory` only if they don't
@@ -64,10 +66,12 @@ pub(crate) fn meet_frames(stacks: &mut Stacks, one: Kept, other: Kept) -> Result
     })
 }
 
-/// The number of the stack of what is known of the words of two stacks at each place. It is that of the first stack if that doesn't change.
+/// The number of the stack that two equally high stacks merge into: each word is the return address
+/// only if it is in both. The result is `one` if that stack wouldn't change.
 ///
-/// Deep stacks that meet again and again take few steps, since every 16 words the pair is kept: those that aren't kept yet
-/// meet first, from the bottom up.
+/// Deep stacks that meet again and again take few steps, since a pair of stacks whose height is a
+/// multiple of 16 is kept with the stack that it merges into. Pairs that aren't kept yet are merged
+/// first, from the bottom up.
 ///
 /// # Errors
 /// `AllocError` if memory runs out.
@@ -90,7 +94,7 @@ fn meet_words(stacks: &mut Stacks, one: u32, other: u32) -> Result<u32, AllocErr
     meet_to_kept(stacks, pair)
 }
 
-/// The pair beneath a pair of stacks, without `depth` words on top of each.
+/// A pair of stacks without the top `depth` words of each.
 fn beneath(stacks: &Stacks, pair: Pair, depth: u32) -> Pair
     requires one { pair.one < length stacks.now }
     requires other { pair.other < length stacks.now }
@@ -103,8 +107,9 @@ fn beneath(stacks: &Stacks, pair: Pair, depth: u32) -> Pair
     }
 }
 
-/// How far down two stacks the pairs end that are neither the same nor kept; of pairs that may be kept each other one is `STRIDE` words
-/// further. What is answered elsewhere doesn't rest on it, only how soon.
+/// How many words down from the top of two stacks the first pair lies that is equal or kept, of
+/// those whose height is a multiple of `STRIDE`; their whole height if there is none, and 0 if the
+/// two are equal. Only speed depends on the answer.
 fn depth_to_met(stacks: &Stacks, pair: Pair) -> u32
     requires one { pair.one < length stacks.now }
     requires other { pair.other < length stacks.now }
@@ -124,7 +129,8 @@ fn depth_to_met(stacks: &Stacks, pair: Pair) -> u32
     depth
 }
 
-/// Meets the pair beneath a pair of stacks, and keeps what is known of both stacks.
+/// Merges a pair of stacks without the top `depth` words of each, and keeps the result for that
+/// pair.
 ///
 /// # Errors
 /// `AllocError` if memory runs out.
@@ -139,7 +145,8 @@ fn meet_beneath(stacks: &mut Stacks, pair: Pair, depth: u32) -> Result<(), Alloc
     stacks.keep_met(lower, number)
 }
 
-/// Meets two stacks from the top down to a pair that is kept.
+/// The number of the stack that two equally high stacks merge into, going from the top down to a
+/// pair that is equal or kept. The result is `pair.one` if that stack wouldn't change.
 ///
 /// # Errors
 /// `AllocError` if memory runs out.
@@ -161,7 +168,8 @@ fn meet_to_kept(stacks: &mut Stacks, pair: Pair) -> Result<u32, AllocError>
     }
 }
 
-/// Goes down both stacks until they are the same from there on, or a pair that is kept.
+/// Goes down two equally high stacks until they are equal or a kept pair, and gathers what is known
+/// of both words at each place.
 ///
 /// # Errors
 /// `AllocError` if memory runs out.
@@ -197,7 +205,8 @@ fn meet_tops(stacks: &Stacks, pair: Pair) -> Result<Meeting, AllocError>
     }
 }
 
-/// The words on top of two stacks, or what is known of both stacks if they are the same, have no words, or are kept.
+/// The top words of two equally high stacks; or the number of the stack that they merge into, if
+/// they are equal, have no words, or are a kept pair.
 fn tops(stacks: &Stacks, pair: Pair) -> Top
     requires one { pair.one < length stacks.now }
     requires other { pair.other < length stacks.now }
@@ -218,7 +227,7 @@ fn tops(stacks: &Stacks, pair: Pair) -> Top
     }
 }
 
-/// The number of the stack with these words, top first, on top of it.
+/// The number of the stack with these words, top first, on stack `below`.
 ///
 /// # Errors
 /// `AllocError` if memory runs out.

@@ -3,22 +3,23 @@
 use frames80::Word;
 use std::alloc::{AllocError, Global};
 
-/// For each link, in the order of their numbers, how many return addresses its stack has. What is answered doesn't rest on it, only
-/// how soon.
+/// How many return addresses each stack has, by the stack's number. Only speed depends on these
+/// counts.
 #[derive(Drop)]
 pub(crate) struct Owns {
+    /// The counts of the stacks from number 1 on; stack 0 has no words.
     counts: Vec<u32>,
 }
 
 impl Owns {
-    /// No links. It takes no memory.
+    /// No counts. The call takes no memory.
     pub(crate) fn new(alloc: Global) -> Owns {
         Owns {
             counts: Vec::new(alloc),
         }
     }
 
-    /// How many return addresses the stack with this number has.
+    /// How many return addresses the stack with this number has; 0 if it isn't counted.
     pub(crate) fn get(&self, number: u32) -> u32 {
         match self.counts.get((number as usize).wrapping_sub(1)) {
             Some(count) => *count,
@@ -26,7 +27,8 @@ impl Owns {
         }
     }
 
-    /// Notes the stack of the newest number, which has a word on top of the stack of another.
+    /// Counts the return addresses of stack `number`, which has `word` on stack `below`. A stack
+    /// that is counted already is left alone.
     ///
     /// # Errors
     /// `AllocError` if memory runs out.

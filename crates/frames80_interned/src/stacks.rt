@@ -15,10 +15,10 @@ use std::marker::Model;
 /// The number of the stack with no words.
 pub(crate) const EMPTY: u32 = 0;
 
-/// Of two stacks that meet the pairs are kept whose height is a multiple of this number.
+/// The result of a merge of two stacks is kept only if their height is a multiple of this number.
 pub(crate) const STRIDE: u32 = 16;
 
-/// How many pairs of stacks are kept at most.
+/// How many pairs of stacks are kept, with the stack that each merges into, at most.
 const KEPT_PAIRS: usize = 131_072;
 
 /// Stacks of words by number. A contract sees the words of each number, top first. `EMPTY` has no words, and number n + 1 has
@@ -27,8 +27,9 @@ const KEPT_PAIRS: usize = 131_072;
 pub(crate) struct Stacks {
     /// Each distinct link once, in order of first sight.
     links: IndexSet<Link>,
+    /// How many return addresses each stack has.
     owns: Owns,
-    /// For some pairs of stacks the stack that is known of both.
+    /// For some pairs of stacks the number of the stack that they merge into.
     met: IndexMap<Pair, u32>,
 }
 
@@ -46,7 +47,7 @@ impl Model for Stacks {
 }
 
 impl Stacks {
-    /// The stack with no words. It takes no memory; the stacks grow by `alloc`.
+    /// The stack with no words alone. The call takes no memory; later ones take it from `alloc`.
     pub(crate) fn new(alloc: Global) -> Stacks
         ensures { result ≡ [] ∷ [] }
     {
@@ -57,7 +58,7 @@ impl Stacks {
         }
     }
 
-    /// What the stacks grow by.
+    /// The allocator that the stacks grow by.
     pub(crate) fn alloc(&self) -> Global {
         *self.links.allocator()
     }
@@ -86,12 +87,13 @@ impl Stacks {
         }
     }
 
-    /// How many of its words are the return address.
+    /// How many words of a stack are the return address. Only speed may depend on it.
     pub(crate) fn owns(&self, number: u32) -> u32 {
         self.owns.get(number)
     }
 
-    /// How many of its words a callee may take.
+    /// How many words of a caller's stack a callee may take: those above the bottom word, and in
+    /// the main program all.
     pub(crate) fn room(&self, number: u32, role: Role) -> u32
         requires { number < length self.now }
         ensures { result ≡ room role (words_at self.now number) }
@@ -103,7 +105,7 @@ impl Stacks {
         }
     }
 
-    /// The number of the stack without its top. If it has no words, that is its own.
+    /// The number of a stack without its top word; the stack's own number if it has no words.
     pub(crate) fn below(&self, number: u32) -> u32
         requires { number < length self.now }
         ensures { IsStack self.now result (drop 1 (words_at self.now number)) }
@@ -114,8 +116,8 @@ impl Stacks {
         }
     }
 
-    /// The number of the stack without its top `count` words. If it has fewer, that is a stack with none. It takes a number of
-    /// steps that goes by the logarithm of `count`.
+    /// The number of a stack without its top `count` words; that of a stack with no words if it has
+    /// fewer. The number of steps grows with the logarithm of `count`.
     pub(crate) fn beneath(&self, number: u32, count: u32) -> u32
         requires { number < length self.now }
         ensures { IsStack self.now result (drop count (words_at self.now number)) }
@@ -132,7 +134,7 @@ impl Stacks {
         beneath
     }
 
-    /// The word on top of a stack, if the stack has more than `left` words.
+    /// The top word of a stack that has more than `left` words; else `None`.
     fn top_above(&self, number: u32, left: u32) -> Option<Link>
         requires { number < length self.now }
         ensures link { IfSome result (λ link. IsLink self.now number link) }
@@ -143,9 +145,10 @@ impl Stacks {
         if link.height > left { Some(link) } else { None }
     }
 
-    /// The stack to which the way down goes on from a word on top of a stack: beneath where that stack's own way goes on twice, if
-    /// both of its steps are of one length, and else the stack itself. So each step is of 1, 3, 7, 15 .. words, and two of one length
-    /// follow one another only at the top.
+    /// The number of the stack to which the skip pointer of a new word on stack `below` leads. If
+    /// the skip from the top of `below` and the one after that pass over equally many words, it
+    /// leads as far as both together; else to `below` itself. So skips pass over 1, 3, 7, 15 ..
+    /// words, and two of one length follow one another only at the top.
     fn skip_over(&self, below: u32) -> u32
         requires { below < length self.now }
         ensures there { result < length self.now }
@@ -164,14 +167,14 @@ impl Stacks {
         }
     }
 
-    /// By how many words the way down goes on at once from a word on top of a stack.
+    /// Over how many words the skip pointer of a link leads.
     fn stride(&self, link: Link) -> u32
         requires { link.skip < length self.now }
     {
         link.height.saturating_sub(self.height(link.skip))
     }
 
-    /// The number of the stack with a word on top of it.
+    /// The number of the stack with `word` on stack `below`; a stack that isn't there yet is added.
     ///
     /// # Errors
     /// `AllocError` if memory runs out, and if there are 4,294,967,295 links already.
@@ -197,7 +200,7 @@ impl Stacks {
         Ok(number)
     }
 
-    /// The number of the stack of what is known of a pair of stacks, if it is kept.
+    /// The number of the stack that a pair of stacks merges into, or `None` if it isn't kept.
     pub(crate) fn meet_of(&self, pair: Pair) -> Option<u32>
         requires { pair.one < length self.now }
         ensures { IfSome result (λ number. IsMet self.now pair number) }
@@ -208,7 +211,8 @@ impl Stacks {
         self.met.get(&pair).copied()
     }
 
-    /// Keeps the number of the stack of what is known of a pair of stacks. If as many are kept as may be, all others are dropped.
+    /// Keeps `number` as the stack that a pair of stacks merges into. If `KEPT_PAIRS` are kept
+    /// already, these are dropped first.
     ///
     /// # Errors
     /// `AllocError` if memory runs out: the stacks stay as they are.
@@ -223,7 +227,7 @@ impl Stacks {
         Ok(())
     }
 
-    /// Drops the pairs that are kept, if they are as many as may be.
+    /// Drops all kept pairs if there are `KEPT_PAIRS` of them.
     fn make_room(&mut self)
         ensures { self.new ≡ self.old }
     {

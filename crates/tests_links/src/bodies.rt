@@ -24,12 +24,12 @@ static RECORDS: [u8; 78] = [
     0x20, 0x06, 0x00, 0x03, 0x00, 0x00, 0x03, 0x00, 0xD4, // the word at 0003, to external 0
 ];
 
-/// A name with its length before it.
+/// The name that these bytes spell, its length first.
 fn name(bytes: &[u8]) -> Result<NameBytes, FieldFault> {
     Cursor::new(bytes).name()
 }
 
-/// Header, content and end of a main program `A` with one byte of code.
+/// Writes the header, the content and the end of a main program `A` with one byte of code.
 fn put_program(alloc: Global, out: &mut Vec<u8>) -> Result<(), Fail> {
     let segment = SegmentEntry {
         id: 1,
@@ -45,7 +45,8 @@ fn put_program(alloc: Global, out: &mut Vec<u8>) -> Result<(), Fail> {
     Ok(put_end(alloc, Some(start), out)?)
 }
 
-/// BUF is common 6, P stands at 0002 in CODE, and E is elsewhere.
+/// Writes a common, a public and an external name: BUF is common 6, P is at 0002 in CODE, E is
+/// external.
 fn put_names(alloc: Global, out: &mut Vec<u8>) -> Result<(), Fail> {
     let (id, offset, unread) = (6, 2, 0);
     let name_of_common = name(b"\x03BUF")?;
@@ -65,8 +66,9 @@ fn put_names(alloc: Global, out: &mut Vec<u8>) -> Result<(), Fail> {
     Ok(put_externals(alloc, &[ExternalEntry { name, unread }], out)?)
 }
 
-/// The low byte at 0001, the high byte at 0002 to common 6, and the word at 0003 to external 0.
-fn put_references(alloc: Global, out: &mut Vec<u8>) -> Result<(), PutFault> {
+/// Writes three records of fixups: the low byte at 0001 in its own segment, the high byte at 0002
+/// to common 6, and the word at 0003 to external 0.
+fn put_fixups(alloc: Global, out: &mut Vec<u8>) -> Result<(), PutFault> {
     let reference = IndexEntry {
         index: 0,
         offset: 3,
@@ -77,11 +79,11 @@ fn put_references(alloc: Global, out: &mut Vec<u8>) -> Result<(), PutFault> {
 }
 
 #[test]
-fn each_kind_is_written(rt: HostRuntime) -> Result<(), Fail> {
+fn each_kind_of_record_is_written(rt: HostRuntime) -> Result<(), Fail> {
     let mut out = Vec::new(rt.alloc());
     put_program(rt.alloc(), &mut out)?;
     put_names(rt.alloc(), &mut out)?;
-    put_references(rt.alloc(), &mut out)?;
+    put_fixups(rt.alloc(), &mut out)?;
     assert!(rt; out.as_slice() == RECORDS.as_slice());
     Ok(())
 }

@@ -7,8 +7,8 @@ use omf_module::read_file;
 use place80::{Image, Options};
 use std::test::Fail;
 
-/// CALL 3004, HLT, RET.
-fn holds(image: &Image) -> bool {
+/// Whether the image has CALL 3004, HLT, RET from 3000 on.
+fn has_call_halt_and_return(image: &Image) -> bool {
     image.byte(0x3000) == 0xCD
         && image.byte(0x3001) == 0x04
         && image.byte(0x3002) == 0x30
@@ -23,6 +23,6 @@ fn a_call_goes_to_its_subroutine(rt: HostRuntime) -> Result<(), Fail> {
     let built = build(rt.alloc(), &name, &roots, &[], &Options::default())?;
     assert_eq!(rt; built.image.start, 0x3000);
     assert_eq!(rt; built.image.byte(0x3000), 0xCD);
-    assert!(rt; holds(&built.image) && built.taken.is_empty());
+    assert!(rt; has_call_halt_and_return(&built.image) && built.taken.is_empty());
     Ok(())
 }

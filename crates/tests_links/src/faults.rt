@@ -7,7 +7,7 @@ use omf_module::{Cause, ModuleFault, PartsFault};
 use std::test::Fail;
 
 #[test]
-fn faults_as_printed(rt: HostRuntime) -> Result<(), Fail> {
+fn faults_are_printed_by_name(rt: HostRuntime) -> Result<(), Fail> {
     let memory = ModuleFault {
         at: 0,
         cause: Cause::Memory,
@@ -32,7 +32,7 @@ fn faults_as_printed(rt: HostRuntime) -> Result<(), Fail> {
 }
 
 #[test]
-fn codes(rt: HostRuntime) {
+fn library_faults_have_their_numbers(rt: HostRuntime) {
     let codes = [
         LibraryFault::NotLibrary.code(),
         LibraryFault::CountDiffers(2, 1).code(),

@@ -1,4 +1,4 @@
-//! Files that come in pieces: the answers don't depend on the cuts. If memory runs out at a piece, the same piece again is
+//! Files that come in pieces: the answers don't depend on where they are cut. If memory runs out at a piece, the same piece again is
 //! answered as with ample memory, so each of these tests passes whichever allocation is refused.
 
 use omf_core::{Feed, FeedFault, RecordFault};
@@ -12,10 +12,10 @@ static HALT: [u8; 32] = [
     0x0E, 0x01, 0x00, 0xF1, // end of file
 ];
 
-/// An end of file with a wrong sum.
+/// An end of file with a wrong checksum.
 static BAD_END: [u8; 4] = [0x0E, 0x01, 0x00, 0xF0];
 
-/// What is answered of a piece, or of the same piece again if memory ran out.
+/// What the feed answers for a piece; if memory runs out, for the same piece once more.
 fn answer(feed: &mut Feed, piece: &[u8]) -> Result<usize, FeedFault> {
     match feed.piece(piece) {
         Err(FeedFault::Memory) => feed.piece(piece),
@@ -23,7 +23,8 @@ fn answer(feed: &mut Feed, piece: &[u8]) -> Result<usize, FeedFault> {
     }
 }
 
-/// What is answered of the last byte, if each byte is a piece.
+/// What the feed answers for the last of these bytes if each is a piece of its own, or the first
+/// fault.
 fn answer_by_bytes(feed: &mut Feed, bytes: &[u8]) -> Result<usize, FeedFault> {
     let mut count = 0;
     for byte in bytes {
@@ -33,7 +34,7 @@ fn answer_by_bytes(feed: &mut Feed, bytes: &[u8]) -> Result<usize, FeedFault> {
 }
 
 #[test]
-fn records_are_counted_as_they_are_whole(rt: HostRuntime) {
+fn records_count_once_they_are_whole(rt: HostRuntime) {
     let mut feed = Feed::new(rt.alloc());
     assert_eq!(rt; answer(&mut feed, &[]), Ok(0));
     assert_eq!(rt; answer(&mut feed, &HALT[..12]), Ok(1));
@@ -43,7 +44,7 @@ fn records_are_counted_as_they_are_whole(rt: HostRuntime) {
 }
 
 #[test]
-fn a_wrong_sum_is_kept(rt: HostRuntime) {
+fn a_bad_checksum_is_answered_from_then_on(rt: HostRuntime) {
     let mut feed = Feed::new(rt.alloc());
     let bad = Err(FeedFault::Record(RecordFault::BadSum(28)));
     assert_eq!(rt; answer(&mut feed, &HALT[..28]), Ok(3));
@@ -53,7 +54,7 @@ fn a_wrong_sum_is_kept(rt: HostRuntime) {
 }
 
 #[test]
-fn each_byte_is_a_piece(rt: HostRuntime) {
+fn a_file_comes_byte_by_byte(rt: HostRuntime) {
     let mut feed = Feed::new(rt.alloc());
     assert_eq!(rt; answer_by_bytes(&mut feed, &HALT[..31]), Ok(3));
     assert_eq!(rt; answer_by_bytes(&mut feed, &HALT[31..]), Ok(4));

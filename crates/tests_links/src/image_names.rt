@@ -11,7 +11,7 @@ use std::test::Fail;
 #[rattlefmt::skip]
 static CODE: [Range; 2] = [Range { first: 0, length: 0xF0 }, Range { first: 0xF0, length: 0x100 }];
 
-/// A public of an image.
+/// A public with this name at an offset of a segment.
 fn public(alloc: Global, name: &[u8], segment: u8, offset: u16) -> Result<Public, Fail> {
     Ok(Public {
         name: Name::new(alloc, name)?,
@@ -20,7 +20,8 @@ fn public(alloc: Global, name: &[u8], segment: u8, offset: u16) -> Result<Public
     })
 }
 
-/// Two publics at 00F7, one below them in another range, and an offset in CODE that is no address.
+/// A table of two publics at 00F7, one below them in another range, and one whose offset in CODE is
+/// no address.
 fn publics(alloc: Global) -> Result<PublicTable, Fail> {
     let mut made = Vec::new(alloc);
     made.push(public(alloc, b"BEGIN", 0, 0x10)?)?;
@@ -30,7 +31,7 @@ fn publics(alloc: Global) -> Result<PublicTable, Fail> {
     Ok(PublicTable::new(alloc, made)?)
 }
 
-/// Whether the nearest name to an address is this one, so far below it.
+/// Whether the nearest public at or below an address has this name and is `below` bytes below it.
 fn is_nearest(publics: &PublicTable, address: u16, name: &[u8], below: u16) -> bool {
     match publics.nearest(&CODE, address) {
         Some((found, distance)) => found.name.bytes() == name && distance == below,
@@ -38,7 +39,7 @@ fn is_nearest(publics: &PublicTable, address: u16, name: &[u8], below: u16) -> b
     }
 }
 
-/// Whether this is the name at an address.
+/// Whether the public at an address has this name.
 fn is_name_at(publics: &PublicTable, address: u16, name: &[u8]) -> bool {
     match publics.at(address) {
         Some(found) => found.name.bytes() == name,
@@ -47,7 +48,7 @@ fn is_name_at(publics: &PublicTable, address: u16, name: &[u8]) -> bool {
 }
 
 #[test]
-fn names_of_addresses(rt: HostRuntime) -> Result<(), Fail> {
+fn addresses_have_the_nearest_name_below(rt: HostRuntime) -> Result<(), Fail> {
     let known = publics(rt.alloc())?;
     assert!(rt; is_name_at(&known, 0xF7, b"SCALE"));
     assert!(rt; known.at(0x118).is_none());
@@ -59,7 +60,7 @@ fn names_of_addresses(rt: HostRuntime) -> Result<(), Fail> {
 }
 
 #[test]
-fn no_names(rt: HostRuntime) -> Result<(), Fail> {
+fn an_empty_table_has_no_names(rt: HostRuntime) -> Result<(), Fail> {
     let none = PublicTable::none(rt.alloc());
     assert!(rt; none.is_empty());
     assert!(rt; none.at(0xFFFF).is_none());

@@ -31,8 +31,8 @@ pub fn library_bytes(alloc: Global, library: &Library) -> Result<Vec<u8>, Fail> 
     Ok(out)
 }
 
-/// The file that is written for the modules of one that is read.
-fn written_again(alloc: Global, bytes: &[u8]) -> Result<Vec<u8>, Fail> {
+/// The file that is written for the library that these bytes are read as.
+fn rewrite_library(alloc: Global, bytes: &[u8]) -> Result<Vec<u8>, Fail> {
     let library = read_library(alloc, bytes)?;
     library_bytes(alloc, &library)
 }
@@ -40,7 +40,7 @@ fn written_again(alloc: Global, bytes: &[u8]) -> Result<Vec<u8>, Fail> {
 #[test]
 fn libraries_are_read_and_written(rt: HostRuntime) -> Result<(), Fail> {
     for bytes in [ONE.as_slice(), NONE.as_slice()] {
-        let out = written_again(rt.alloc(), bytes)?;
+        let out = rewrite_library(rt.alloc(), bytes)?;
         assert!(rt; out.as_slice() == bytes);
     }
     Ok(())
@@ -52,7 +52,7 @@ fn no_bytes_are_no_library(rt: HostRuntime) {
     assert_eq!(rt; fault, Some(LibraryFault::NotLibrary));
 }
 
-/// A library of three modules.
+/// A library of three modules: A declares P, B declares Q and P, C declares R, Q and P.
 #[rattlefmt::skip]
 static MANY: [u8; 103] = [
     0x2C, 0x03, 0x00, 0x03, 0x00, 0xCE, // library header
@@ -71,7 +71,7 @@ static MANY: [u8; 103] = [
     0x0E, 0x01, 0x00, 0xF1, // end of file
 ];
 
-/// Names and the places of the modules that declare them first.
+/// Names, and the index of the first module that declares each.
 static PROVIDED: [(&[u8], Option<usize>); 4] = [
     (b"P", Some(0)),
     (b"Q", Some(1)),
@@ -79,8 +79,8 @@ static PROVIDED: [(&[u8], Option<usize>); 4] = [
     (b"S", None),
 ];
 
-/// Whether the first providers are as they should be, as they are looked for in a library.
-fn are_found(alloc: Global, library: &Library) -> Result<bool, NameFault> {
+/// Whether a library finds the first provider of each name.
+fn library_has_first_providers(alloc: Global, library: &Library) -> Result<bool, NameFault> {
     let mut all = true;
     for (name, place) in &PROVIDED {
         let name = Name::new(alloc, name)?;
@@ -89,8 +89,8 @@ fn are_found(alloc: Global, library: &Library) -> Result<bool, NameFault> {
     Ok(all)
 }
 
-/// Whether a table of providers has each name at its first place.
-fn are_first(providers: &Providers<'_>) -> bool {
+/// Whether a table of providers has the first provider of each name.
+fn has_first_providers(providers: &Providers<'_>) -> bool {
     let mut all = true;
     for (name, place) in &PROVIDED {
         all = all && providers.first(name) == *place;
@@ -98,20 +98,20 @@ fn are_first(providers: &Providers<'_>) -> bool {
     all
 }
 
-/// Whether the table of a library's modules has each name at its first place.
-fn are_listed(alloc: Global, library: &Library) -> Result<bool, AllocError> {
+/// Whether the table of a library's modules has the first provider of each name.
+fn table_has_first_providers(alloc: Global, library: &Library) -> Result<bool, AllocError> {
     let mut list = Vec::new(alloc);
     for module in &library.modules {
         list.push(module)?;
     }
     let providers = Providers::of(alloc, &list)?;
-    Ok(are_first(&providers))
+    Ok(has_first_providers(&providers))
 }
 
 #[test]
-fn first_providers(rt: HostRuntime) -> Result<(), Fail> {
+fn the_first_providers_of_names_are_found(rt: HostRuntime) -> Result<(), Fail> {
     let library = read_library(rt.alloc(), &MANY)?;
-    assert_eq!(rt; are_found(rt.alloc(), &library), Ok(true));
-    assert_eq!(rt; are_listed(rt.alloc(), &library), Ok(true));
+    assert_eq!(rt; library_has_first_providers(rt.alloc(), &library), Ok(true));
+    assert_eq!(rt; table_has_first_providers(rt.alloc(), &library), Ok(true));
     Ok(())
 }

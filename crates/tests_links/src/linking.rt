@@ -21,20 +21,22 @@ pub(crate) static CALLER_AND_CALLEE: [u8; 97] = [
     0x0E, 0x01, 0x00, 0xF1, // end of file
 ];
 
-/// The linked main program: its call of SUB, which begins after these four bytes.
+/// The linked code of the main program; the called module begins after these four bytes.
 static CODE: [u8; 4] = [0xCD, 0x04, 0x00, 0x76];
 
+/// The fixup that is left of the call: its address, in the same segment.
 #[rattlefmt::skip]
 static FIXUPS: [Fixup; 1] = [
     Fixup { offset: 1, field: Field::Both, target: Target::Segment(1) },
 ];
 
+/// The linked segment: CODE of five bytes.
 const FIVE: Segment = Segment {
     length: 5,
     paged: false,
 };
 
-/// Whether the call is resolved.
+/// Whether the linked module has the resolved call, with its fixup, and five bytes of CODE.
 fn is_resolved(source: &Module) -> bool {
     let Some(first) = source.contents().first() else {
         return false;

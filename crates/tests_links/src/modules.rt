@@ -18,14 +18,15 @@ static HALT: [u8; 32] = [
     0x0E, 0x01, 0x00, 0xF1, // end of file
 ];
 
-/// CODE of one byte, and of four.
+/// CODE of one byte.
 #[rattlefmt::skip]
 const ONE: (u8, Segment) = (1, Segment { length: 1, paged: false });
 
+/// CODE of four bytes.
 #[rattlefmt::skip]
 const FOUR: (u8, Segment) = (1, Segment { length: 4, paged: false });
 
-/// The parts of a main program `A` with these segments, these bytes of code and these references in them.
+/// The parts of a main program `A` with these segments, this code and these fixups.
 fn parts(
     alloc: Global,
     segments: &[(u8, Segment)],
@@ -49,7 +50,7 @@ fn parts(
     })
 }
 
-/// The file that is written for modules.
+/// The file that is written for modules; a fault if there are none.
 fn file_of(alloc: Global, modules: &[Module]) -> Result<Vec<u8>, Fail> {
     if modules.is_empty() {
         return Err("no module".into());
@@ -59,7 +60,7 @@ fn file_of(alloc: Global, modules: &[Module]) -> Result<Vec<u8>, Fail> {
     Ok(out)
 }
 
-/// The file of the module of these parts.
+/// The file that is written for the module that is made of these parts.
 fn file_of_parts(alloc: Global, parts: Parts) -> Result<Vec<u8>, Fail> {
     match Module::from_parts(alloc, parts) {
         Ok(module) => file_of(alloc, slice::from_ref(&module)),
@@ -81,18 +82,18 @@ fn a_file_is_read_and_written(rt: HostRuntime) -> Result<(), Fail> {
     Ok(())
 }
 
-/// The bytes that are written for a copy of the module.
-fn copied(alloc: Global, source: &Module) -> Result<Vec<u8>, AllocError> {
+/// The bytes that are written for a copy of a module.
+fn write_copy(alloc: Global, source: &Module) -> Result<Vec<u8>, AllocError> {
     let copy = source.copy(alloc)?;
     let mut out = Vec::new(alloc);
     write_module(alloc, &copy, &mut out)?;
     Ok(out)
 }
 
-/// Whether a module has the program's segment, and its copy is written as the program.
+/// Whether a module has the program's segment, and its copy is written as the program's module.
 fn is_the_program(alloc: Global, source: &Module) -> Result<bool, AllocError> {
     let has_segment = source.segment(1) == Some(ONE.1);
-    Ok(has_segment && copied(alloc, source)?.as_slice() == &HALT[..28])
+    Ok(has_segment && write_copy(alloc, source)?.as_slice() == &HALT[..28])
 }
 
 #[test]
@@ -104,7 +105,8 @@ fn a_module_is_read_and_copied(rt: HostRuntime) -> Result<(), Fail> {
     Ok(())
 }
 
-/// A segment listed twice, a byte that two references share, a reference outside the content, an unknown external.
+/// Segments and fixups that break a rule: a segment listed twice, a byte that two fixups share, a
+/// fixup past the end of the content, an unknown external.
 #[rattlefmt::skip]
 static BROKEN: [(&[(u8, Segment)], &[Fixup]); 4] = [
     (&[FOUR, FOUR], &[]),
@@ -116,8 +118,8 @@ static BROKEN: [(&[(u8, Segment)], &[Fixup]); 4] = [
     (&[FOUR], &[Fixup { offset: 0, field: Field::Both, target: Target::External(0) }]),
 ];
 
-/// How many segments are handed back with the refusal of parts, and why.
-fn refused(alloc: Global, parts: Parts) -> Option<(usize, PartsFault)> {
+/// Why parts are refused, and how many segments come back with them; `None` if a module is made.
+fn refusal_of(alloc: Global, parts: Parts) -> Option<(usize, PartsFault)> {
     match Module::from_parts(alloc, parts) {
         Ok(_) => None,
         Err((back, fault)) => Some((back.segments.len(), fault)),
@@ -125,9 +127,9 @@ fn refused(alloc: Global, parts: Parts) -> Option<(usize, PartsFault)> {
 }
 
 #[test]
-fn parts_that_break_a_rule(rt: HostRuntime) -> Result<(), Fail> {
+fn parts_that_break_a_rule_are_refused(rt: HostRuntime) -> Result<(), Fail> {
     for (segments, fixups) in &BROKEN {
-        let answer = refused(rt.alloc(), parts(rt.alloc(), segments, &[0; 4], fixups)?);
+        let answer = refusal_of(rt.alloc(), parts(rt.alloc(), segments, &[0; 4], fixups)?);
         assert_eq!(rt; answer, Some((segments.len(), PartsFault::Rule)));
     }
     Ok(())

@@ -14,12 +14,12 @@ mod locating;
 const REGIONS: &[u8] =
     b"REGIONS 1\nDATA 3002 0001\nSTACK FF00 0100\nCODE 3000 0000\nCODE 3000 0002\nDATA 0000 0001\n";
 
-/// The text that is written for them.
+/// The text that is written for these regions.
 static IN_ORDER: &[u8] =
     b"REGIONS 1\nCODE 3000 0002\nSTACK FF00 0100\nDATA 0000 0001\nDATA 3002 0001\n";
 
-/// Whether regions have the parts that the texts above declare.
-fn has_its_parts(regions: &Regions) -> bool {
+/// Whether regions have the code, the data and the stack that `REGIONS` declares.
+fn has_declared_parts(regions: &Regions) -> bool {
     regions.code().len() == 1
         && regions.data_ranges().len() == 2
         && regions.stack().first == 0xFF00
@@ -35,7 +35,7 @@ fn text_of(alloc: Global, regions: &Regions) -> Result<Vec<u8>, AllocError> {
     Ok(out)
 }
 
-/// Which addresses are code and data.
+/// Addresses, and whether each is code and data in the regions of `REGIONS`.
 static MAP: [(u16, bool, bool); 8] = [
     (0x0000, false, true),
     (0x0001, false, false),
@@ -47,8 +47,8 @@ static MAP: [(u16, bool, bool); 8] = [
     (0xFFFF, false, false),
 ];
 
-/// Whether the map of regions has code and data just there.
-fn are_mapped(alloc: Global, regions: &Regions) -> Result<bool, AllocError> {
+/// Whether the map of regions agrees with `MAP`.
+fn has_listed_map(alloc: Global, regions: &Regions) -> Result<bool, AllocError> {
     let map = RegionMap::new(alloc, regions)?;
     let mut all = true;
     for (address, code, data) in &MAP {
@@ -58,11 +58,11 @@ fn are_mapped(alloc: Global, regions: &Regions) -> Result<bool, AllocError> {
 }
 
 #[test]
-fn lines_in_any_order(rt: HostRuntime) -> Result<(), Fail> {
+fn lines_in_any_order_are_read(rt: HostRuntime) -> Result<(), Fail> {
     let regions = read_regions(rt.alloc(), REGIONS)?;
     let text = text_of(rt.alloc(), &regions)?;
-    assert!(rt; has_its_parts(&regions) && text.as_slice() == IN_ORDER);
-    assert_eq!(rt; are_mapped(rt.alloc(), &regions), Ok(true));
+    assert!(rt; has_declared_parts(&regions) && text.as_slice() == IN_ORDER);
+    assert_eq!(rt; has_listed_map(rt.alloc(), &regions), Ok(true));
     Ok(())
 }
 
@@ -70,30 +70,30 @@ fn lines_in_any_order(rt: HostRuntime) -> Result<(), Fail> {
 const CASES: &[u8] =
     b"REGIONS 2\nCASE 3001 3001 3000 3001\nSTACK FF00 0100\nCASE 3000 0000\nCODE 3000 0002\n";
 
-/// The text that is written for its regions.
+/// The text of version 2 that is written for the regions of `CASES`.
 static CASES_IN_ORDER: &[u8] =
     b"REGIONS 2\nCODE 3000 0002\nSTACK FF00 0100\nCASE 3000 0000\nCASE 3001 3000 3001\n";
 
-/// The text of version 2 of the regions without cases.
+/// The text of version 2 of the regions of `REGIONS`.
 static MIGRATED: &[u8] =
     b"REGIONS 2\nCODE 3000 0002\nSTACK FF00 0100\nDATA 0000 0001\nDATA 3002 0001\n";
 
-/// Whether regions have the cases that the text of version 2 declares.
-fn has_its_cases(regions: &Regions) -> bool {
+/// Whether regions have the cases that `CASES` declares.
+fn has_declared_cases(regions: &Regions) -> bool {
     let declared = matches!(regions.targets(0x3001), Some([0x3000, 0x3001]));
     declared && regions.cases().len() == 2 && regions.targets(0x3002).is_none()
 }
 
 #[test]
-fn cases_in_any_order(rt: HostRuntime) -> Result<(), Fail> {
+fn cases_in_any_order_are_read(rt: HostRuntime) -> Result<(), Fail> {
     let regions = read_regions(rt.alloc(), CASES)?;
     let text = text_of(rt.alloc(), &regions)?;
-    assert!(rt; has_its_cases(&regions) && text.as_slice() == CASES_IN_ORDER);
+    assert!(rt; has_declared_cases(&regions) && text.as_slice() == CASES_IN_ORDER);
     Ok(())
 }
 
 #[test]
-fn a_text_is_migrated(rt: HostRuntime) -> Result<(), Fail> {
+fn a_text_is_migrated_to_version_2(rt: HostRuntime) -> Result<(), Fail> {
     let mut out = Vec::new(rt.alloc());
     let refused = migrate_regions(rt.alloc(), b"REGIONS 2\n", &mut out);
     assert_eq!(rt; refused, Err(RegionsFault::NoStack));
@@ -116,6 +116,7 @@ static THREE: [u8; 50] = [
     0x0E, 0x01, 0x00, 0xF1, // end of file
 ];
 
+/// The image of `THREE`, with the regions of `REGIONS`.
 fn image(alloc: Global) -> Result<Image, Fail> {
     let regions = read_regions(alloc, REGIONS)?;
     match read_image(alloc, &THREE, regions) {
@@ -124,7 +125,8 @@ fn image(alloc: Global) -> Result<Image, Fail> {
     }
 }
 
-/// The bytes at some addresses: of two contents that overlap the later one counts, and what none covers is 0.
+/// Addresses of the image and the bytes there: of two contents that overlap the later one counts,
+/// and what none covers is 0.
 static BYTES: [(u16, u8); 7] = [
     (0x2FFF, 0x00),
     (0x3000, 0x11),
@@ -135,8 +137,8 @@ static BYTES: [(u16, u8); 7] = [
     (0xFFFF, 0x00),
 ];
 
-/// Whether the image and its memory have these bytes.
-fn holds(alloc: Global, image: &Image) -> Result<bool, AllocError> {
+/// Whether the image and its memory have the bytes of `BYTES`.
+fn has_listed_bytes(alloc: Global, image: &Image) -> Result<bool, AllocError> {
     let memory = image.memory(alloc)?;
     let mut all = true;
     for (address, byte) in &BYTES {
@@ -158,6 +160,6 @@ fn an_image_is_read_and_written(rt: HostRuntime) -> Result<(), Fail> {
     let image = image(rt.alloc())?;
     let file = file_of(rt.alloc(), &image)?;
     assert!(rt; image.start == 0x3000 && file.as_slice() == THREE.as_slice());
-    assert_eq!(rt; holds(rt.alloc(), &image), Ok(true));
+    assert_eq!(rt; has_listed_bytes(rt.alloc(), &image), Ok(true));
     Ok(())
 }

@@ -1,5 +1,5 @@
-//! Worked values of the format, computed by hand, and each call once where it answers. Files of bad records and names that are
-//! none are rows of the program's tests.
+//! Worked values of the format, computed by hand, and each call once where it answers. Files of bad records, and bytes that are no
+//! names, are rows of the program's tests.
 
 use omf_body::put_content;
 use omf_core::{
@@ -11,13 +11,13 @@ use std::test::Fail;
 /// An end of file.
 static END: [u8; 4] = [0x0E, 0x01, 0x00, 0xF1];
 
-/// The type of the record at a place, the length of its body and the place after it.
-fn found(bytes: &[u8], at: usize) -> Result<(u8, usize, usize), RecordFault> {
+/// The type of the record at a place, the length of its body, and the place after it.
+fn read_at(bytes: &[u8], at: usize) -> Result<(u8, usize, usize), RecordFault> {
     let (record, after) = next_record(bytes, at)?;
     Ok((record.kind, record.body.len(), after))
 }
 
-/// Bytes, a place, and what is there.
+/// Bytes, a place in them, and what is read there.
 #[rattlefmt::skip]
 static PLACES: [(&[u8], usize, Result<(u8, usize, usize), RecordFault>); 6] = [
     (&[0x0E, 0x01, 0x00, 0xF1], 0, Ok((0x0E, 0, 4))),
@@ -29,9 +29,9 @@ static PLACES: [(&[u8], usize, Result<(u8, usize, usize), RecordFault>); 6] = [
 ];
 
 #[test]
-fn what_is_at_a_place(rt: HostRuntime) {
+fn records_are_read_at_their_places(rt: HostRuntime) {
     for (bytes, at, wanted) in &PLACES {
-        assert!(rt; found(bytes, *at) == *wanted);
+        assert!(rt; read_at(bytes, *at) == *wanted);
     }
 }
 
@@ -44,33 +44,37 @@ fn an_end_of_file_is_written(rt: HostRuntime) -> Result<(), Fail> {
     Ok(())
 }
 
-/// What is answered of a record and of a content whose body has one byte more than there is room for.
-fn too_long(alloc: Global, bytes: &[u8], out: &mut Vec<u8>) -> Result<[Option<PutFault>; 2], Fail> {
+/// The faults of a record and of a content whose bodies are one byte too long.
+fn refuse_long_bodies(
+    alloc: Global,
+    bytes: &[u8],
+    out: &mut Vec<u8>,
+) -> Result<[Option<PutFault>; 2], Fail> {
     let content = bytes.get(..65532).ok_or("short")?;
     let refused = put_record(alloc, 0x06, bytes, out).err();
     Ok([refused, put_content(alloc, 1, 0, content, out).err()])
 }
 
-/// Writes the longest body.
-fn put_longest(alloc: Global, bytes: &[u8], out: &mut Vec<u8>) -> Result<(), Fail> {
+/// Writes a record with the longest body, 65,534 bytes.
+fn put_longest_body(alloc: Global, bytes: &[u8], out: &mut Vec<u8>) -> Result<(), Fail> {
     let body = bytes.get(1..).ok_or("short")?;
     Ok(put_record(alloc, 0x06, body, out)?)
 }
 
 #[test]
-fn the_longest_body(rt: HostRuntime) -> Result<(), Fail> {
+fn a_body_has_65534_bytes_at_most(rt: HostRuntime) -> Result<(), Fail> {
     let bytes = vec![in rt.alloc(); 0x55u8; 65535]?;
     let mut out = vec![in rt.alloc(); 0x11u8]?;
-    let refused = too_long(rt.alloc(), &bytes, &mut out)?;
+    let refused = refuse_long_bodies(rt.alloc(), &bytes, &mut out)?;
     assert_eq!(rt; refused, [Some(PutFault::TooLong); 2]);
     assert!(rt; out.as_slice() == [0x11].as_slice());
-    put_longest(rt.alloc(), &bytes, &mut out)?;
-    assert!(rt; found(&out, 1) == Ok((0x06, 65534, 1 + 65538)));
+    put_longest_body(rt.alloc(), &bytes, &mut out)?;
+    assert!(rt; read_at(&out, 1) == Ok((0x06, 65534, 1 + 65538)));
     Ok(())
 }
 
 #[test]
-fn a_name(rt: HostRuntime) -> Result<(), Fail> {
+fn a_name_is_made_copied_and_shown(rt: HostRuntime) -> Result<(), Fail> {
     let name = Name::new(rt.alloc(), b"A")?;
     let copy = name.copy(rt.alloc())?;
     let text = name.to_string(rt.alloc())?;
@@ -79,6 +83,6 @@ fn a_name(rt: HostRuntime) -> Result<(), Fail> {
 }
 
 #[test]
-fn a_name_in_a_body(rt: HostRuntime) {
+fn a_name_is_split_from_a_body(rt: HostRuntime) {
     assert!(rt; split_name(b"\x01A\x00", 0) == Some((b"A".as_slice(), 2)));
 }

@@ -17,7 +17,8 @@ static ROOT: [u8; 27] = [
     0x0E, 0x01, 0x00, 0xF1, // end of file
 ];
 
-/// A library of modules A and B, which need each other, and C.
+/// A library of three modules: the first two declare A and B and need each other, the third
+/// declares C.
 #[rattlefmt::skip]
 static RING: [u8; 102] = [
     0x2C, 0x03, 0x00, 0x03, 0x00, 0xCE, // library header
@@ -45,15 +46,16 @@ const TAKEN: [Chosen; 2] = [
     Chosen { library: 0, module: 1 },
 ];
 
-fn taken(alloc: Global) -> Result<Vec<Chosen>, Fail> {
+/// The modules that are taken from the library for the root.
+fn select_modules(alloc: Global) -> Result<Vec<Chosen>, Fail> {
     let roots = read_file(alloc, &ROOT)?;
     let library = read_library(alloc, &RING)?;
     Ok(select(alloc, &roots, slice::from_ref(&library))?)
 }
 
 #[test]
-fn what_is_needed_is_taken(rt: HostRuntime) -> Result<(), Fail> {
-    let taken = taken(rt.alloc())?;
+fn modules_that_are_needed_are_taken(rt: HostRuntime) -> Result<(), Fail> {
+    let taken = select_modules(rt.alloc())?;
     assert!(rt; taken.as_slice() == TAKEN.as_slice());
     Ok(())
 }

@@ -11,21 +11,25 @@ use omf_module::{Module, read_file, read_module, write_file, write_module};
 use std::alloc::{AllocError, Global};
 use std::test::Fail;
 
-/// Header and end of a module `A`.
+/// The header of a module `A` without segments.
 static HEADER: [u8; 8] = [0x02, 0x05, 0x00, 0x01, 0x41, 0x00, 0x00, 0xB7];
 
+/// The end of a module that is no main program.
 static END: [u8; 8] = [0x04, 0x05, 0x00, 0x00, 0x00, 0x00, 0x00, 0xF7];
 
+/// The end of a file.
 static END_OF_FILE: [u8; 4] = [0x0E, 0x01, 0x00, 0xF1];
 
-/// A byte at 3000; P at 0000; E is elsewhere.
+/// A content of one byte, 76, at 3000.
 static CONTENT: [u8; 8] = [0x06, 0x05, 0x00, 0x00, 0x00, 0x30, 0x76, 0x4F];
 
+/// Public P at 0000 of segment 0.
 static PUBLIC: [u8; 10] = [0x16, 0x07, 0x00, 0x00, 0x00, 0x00, 0x01, 0x50, 0x00, 0x92];
 
+/// External name E.
 static EXTERNAL: [u8; 7] = [0x18, 0x04, 0x00, 0x01, 0x45, 0x00, 0x9E];
 
-/// Some bytes, these ones so often, and others.
+/// The bytes `before`, then `bytes` `count` times, then `after`.
 fn repeated(
     alloc: Global,
     before: &[u8],
@@ -41,7 +45,7 @@ fn repeated(
     Ok(all)
 }
 
-/// Whether a module is read whole, and its copy is written as it stands in its file.
+/// Whether a file is one module, whose copy is written as the same bytes.
 fn is_copied(alloc: Global, file: &[u8]) -> Result<bool, Fail> {
     let (module, after) = read_module(alloc, file, 0)?;
     let copy = module.copy(alloc)?;
@@ -61,13 +65,13 @@ fn modules_of_many_records_are_copied(rt: HostRuntime) -> Result<(), Fail> {
     Ok(())
 }
 
-/// A name with its length before it.
+/// The name that these bytes spell, its length first.
 fn name(bytes: &[u8]) -> Result<NameBytes, FieldFault> {
     Cursor::new(bytes).name()
 }
 
-/// A module with a content of a given number of bytes, and a relocation of each of them.
-fn relocated(alloc: Global, count: u16) -> Result<Vec<u8>, Fail> {
+/// A module with a content of `count` zeros, and a relocation of each of them.
+fn relocated_module(alloc: Global, count: u16) -> Result<Vec<u8>, Fail> {
     let code = SegmentEntry {
         id: 1,
         length: count,
@@ -87,14 +91,14 @@ fn relocated(alloc: Global, count: u16) -> Result<Vec<u8>, Fail> {
 #[test]
 fn modules_of_many_relocations_are_copied(rt: HostRuntime) -> Result<(), Fail> {
     for count in [257, 1001, 65_531] {
-        let file = relocated(rt.alloc(), count)?;
+        let file = relocated_module(rt.alloc(), count)?;
         assert!(rt; is_copied(rt.alloc(), &file)?, "{count} relocations");
     }
     Ok(())
 }
 
-/// Whether the modules of a file are written as they stand there.
-fn is_written_again(alloc: Global, file: &[u8]) -> Result<bool, Fail> {
+/// Whether a file has modules, and they are written as the same bytes.
+fn is_written_as_read(alloc: Global, file: &[u8]) -> Result<bool, Fail> {
     let modules = read_file(alloc, file)?;
     if modules.is_empty() {
         return Ok(false);
@@ -109,21 +113,21 @@ fn files_of_many_modules_are_written(rt: HostRuntime) -> Result<(), Fail> {
     let module = repeated(rt.alloc(), &HEADER, &CONTENT, 1, &END)?;
     for count in [2, 257, 1001, 65_537] {
         let file = repeated(rt.alloc(), &[], &module, count, &END_OF_FILE)?;
-        assert!(rt; is_written_again(rt.alloc(), &file)?, "{count} modules");
+        assert!(rt; is_written_as_read(rt.alloc(), &file)?, "{count} modules");
     }
     Ok(())
 }
 
-/// The modules of a file of a given number of them that declare nothing, and one that declares P.
-fn with_p_last(alloc: Global, count: usize) -> Result<Vec<Module>, Fail> {
+/// `count` modules that declare nothing, and one more that declares P.
+fn modules_with_p_last(alloc: Global, count: usize) -> Result<Vec<Module>, Fail> {
     let module = repeated(alloc, &HEADER, &[], 0, &END)?;
     let last = repeated(alloc, &HEADER, &PUBLIC, 1, &END)?;
     let modules = repeated(alloc, &[], &module, count, &last)?;
     Ok(read_file(alloc, &repeated(alloc, &modules, &END_OF_FILE, 1, &[])?)?)
 }
 
-/// Where P is declared first, as the table of these modules has it.
-fn first_with_p(alloc: Global, modules: &[Module]) -> Result<Option<usize>, AllocError> {
+/// The index of the first of these modules that declares P, as a table of providers has it.
+fn first_provider_of_p(alloc: Global, modules: &[Module]) -> Result<Option<usize>, AllocError> {
     let mut list = Vec::new(alloc);
     for module in modules {
         list.push(module)?;
@@ -136,8 +140,8 @@ fn first_with_p(alloc: Global, modules: &[Module]) -> Result<Option<usize>, Allo
 fn the_last_of_many_modules_is_found(rt: HostRuntime) -> Result<(), Fail> {
     let p = Name::new(rt.alloc(), b"P")?;
     for count in [257, 1001, 65_537] {
-        let modules = with_p_last(rt.alloc(), count)?;
-        assert_eq!(rt; first_with_p(rt.alloc(), &modules), Ok(Some(count)));
+        let modules = modules_with_p_last(rt.alloc(), count)?;
+        assert_eq!(rt; first_provider_of_p(rt.alloc(), &modules), Ok(Some(count)));
         let library = Library { modules };
         assert_eq!(rt; library.provider(&p), Some(count));
     }
@@ -145,7 +149,7 @@ fn the_last_of_many_modules_is_found(rt: HostRuntime) -> Result<(), Fail> {
 }
 
 #[test]
-fn a_piece_of_many_records(rt: HostRuntime) -> Result<(), Fail> {
+fn a_feed_counts_the_records_of_a_long_piece(rt: HostRuntime) -> Result<(), Fail> {
     for count in [257, 1001, 65_537] {
         let piece = repeated(rt.alloc(), &[], &CONTENT, count, &[])?;
         let mut feed = Feed::new(rt.alloc());
@@ -154,8 +158,8 @@ fn a_piece_of_many_records(rt: HostRuntime) -> Result<(), Fail> {
     Ok(())
 }
 
-/// Writes a record of a given number of publics.
-fn publics_put(alloc: Global, count: usize, out: &mut Vec<u8>) -> Result<(), Fail> {
+/// Writes a record of `count` publics.
+fn put_many_publics(alloc: Global, count: usize, out: &mut Vec<u8>) -> Result<(), Fail> {
     let mut entries = Vec::new(alloc);
     for _ in 0..count {
         let name = name(b"\x01P")?;
@@ -169,8 +173,8 @@ fn publics_put(alloc: Global, count: usize, out: &mut Vec<u8>) -> Result<(), Fai
     Ok(put_publics(alloc, 1, &entries, out)?)
 }
 
-/// Writes a record of a given number of external names.
-fn externals_put(alloc: Global, count: usize, out: &mut Vec<u8>) -> Result<(), Fail> {
+/// Writes a record of `count` external names.
+fn put_many_externals(alloc: Global, count: usize, out: &mut Vec<u8>) -> Result<(), Fail> {
     let mut entries = Vec::new(alloc);
     for _ in 0..count {
         let name = name(b"\x01E")?;
@@ -179,24 +183,24 @@ fn externals_put(alloc: Global, count: usize, out: &mut Vec<u8>) -> Result<(), F
     Ok(put_externals(alloc, &entries, out)?)
 }
 
-/// The length of the body of the record at the beginning.
-fn length_of_body(bytes: &[u8]) -> Result<usize, RecordFault> {
+/// The length of the body of the first record.
+fn first_body_length(bytes: &[u8]) -> Result<usize, RecordFault> {
     let (record, _) = next_record(bytes, 0)?;
     Ok(record.body.len())
 }
 
 /// A public takes five bytes of a body, after one, and an external name three; a body has 65,534 at most.
 #[test]
-fn records_of_many_names(rt: HostRuntime) -> Result<(), Fail> {
+fn records_of_many_names_are_written(rt: HostRuntime) -> Result<(), Fail> {
     for count in [257, 1001, 13_106] {
         let mut out = Vec::new(rt.alloc());
-        publics_put(rt.alloc(), count, &mut out)?;
-        assert_eq!(rt; length_of_body(&out), Ok(1 + 5 * count));
+        put_many_publics(rt.alloc(), count, &mut out)?;
+        assert_eq!(rt; first_body_length(&out), Ok(1 + 5 * count));
     }
     for count in [257, 1001, 21_844] {
         let mut out = Vec::new(rt.alloc());
-        externals_put(rt.alloc(), count, &mut out)?;
-        assert_eq!(rt; length_of_body(&out), Ok(3 * count));
+        put_many_externals(rt.alloc(), count, &mut out)?;
+        assert_eq!(rt; first_body_length(&out), Ok(3 * count));
     }
     Ok(())
 }

@@ -4,7 +4,7 @@ use image80::{read_regions, write_regions, write_regions2};
 use std::alloc::Global;
 use std::test::Fail;
 
-/// A text of regions with a given number of bytes of data, each a range of its own, from 0000 on.
+/// A text of regions with `count` ranges of data of one byte each, from 0000 on.
 fn data_text(alloc: Global, count: u32) -> Result<String, Fail> {
     let mut text = format!(in alloc; "REGIONS 1\nSTACK FF00 0100\n")?;
     for first in 0..count {
@@ -13,8 +13,8 @@ fn data_text(alloc: Global, count: u32) -> Result<String, Fail> {
     Ok(text)
 }
 
-/// Whether the regions of a text are written as they stand there.
-fn is_written_again(alloc: Global, text: &[u8]) -> Result<bool, Fail> {
+/// Whether the regions of a text are written as the same text.
+fn is_written_as_read(alloc: Global, text: &[u8]) -> Result<bool, Fail> {
     let regions = read_regions(alloc, text)?;
     let mut out = Vec::new(alloc);
     write_regions(alloc, &regions, &mut out)?;
@@ -26,14 +26,14 @@ fn regions_of_many_ranges_are_written(rt: HostRuntime) -> Result<(), Fail> {
     for count in [257, 1001, 65_280] {
         let text = data_text(rt.alloc(), count)?;
         assert!(rt;
-            is_written_again(rt.alloc(), text.as_bytes())?,
+            is_written_as_read(rt.alloc(), text.as_bytes())?,
             "{count} ranges"
         );
     }
     Ok(())
 }
 
-/// A text of regions in which each of a given number of addresses, from 0000 on, has one declared target, 0000.
+/// A text of regions in which the addresses below `count` have one declared target each, 0000.
 fn case_text(alloc: Global, count: u32) -> Result<String, Fail> {
     let mut text = format!(in alloc; "REGIONS 2\nSTACK FF00 0100\n")?;
     for at in 0..count {
@@ -42,7 +42,7 @@ fn case_text(alloc: Global, count: u32) -> Result<String, Fail> {
     Ok(text)
 }
 
-/// A text of regions in which 0000 has a given number of declared targets, from 0000 on.
+/// A text of regions in which 0000 has `count` declared targets, from 0000 on.
 fn target_text(alloc: Global, count: u32) -> Result<String, Fail> {
     let mut text = format!(in alloc; "REGIONS 2\nSTACK FF00 0100\nCASE 0000")?;
     for target in 0..count {
@@ -52,7 +52,7 @@ fn target_text(alloc: Global, count: u32) -> Result<String, Fail> {
     Ok(text)
 }
 
-/// Whether the regions of a text are written in version 2 as they stand there.
+/// Whether the regions of a text of version 2 are written as the same text.
 fn is_written_in_version_2(alloc: Global, text: &[u8]) -> Result<bool, Fail> {
     let regions = read_regions(alloc, text)?;
     let mut out = Vec::new(alloc);

@@ -7,24 +7,32 @@ use omf_core::Name;
 use std::alloc::Global;
 use std::test::Fail;
 
-/// A program at 3000, and how its run goes.
+/// A program at 3000 that is accepted, and how its run goes.
 struct Accepted {
     /// The program's bytes; if there are fewer, 00 follows.
     code: [u8; 10],
-    /// How many of them are code.
+    /// How many of these bytes are code, in hexadecimal digits.
     length: &'static [u8],
+    /// The text of the run's inputs.
     inputs: &'static [u8],
+    /// How many outputs are taken at most.
     outputs: usize,
+    /// How many steps the run may make.
     steps: u64,
+    /// The program's stack bound.
     stack_bytes: u64,
+    /// How the run ends; `None` if its steps are spent.
     end: Option<End>,
+    /// How many steps the run makes.
     made: u64,
-    /// Where the run ended.
+    /// The program counter when the run ends.
     at: u16,
+    /// The outputs: ports and bytes.
     put_out: &'static [(u8, u8)],
 }
 
-/// One that halts, with a stack of no bytes and neither inputs nor outputs.
+/// A program that enables interrupts and halts, with a stack of no bytes and neither inputs nor
+/// outputs.
 const PLAIN: Accepted = Accepted {
     code: [0xFB, 0x76, 0, 0, 0, 0, 0, 0, 0, 0],
     length: b"0002",
@@ -38,6 +46,7 @@ const PLAIN: Accepted = Accepted {
     put_out: &[],
 };
 
+/// Programs, each with its instructions above it.
 #[rattlefmt::skip]
 static PROGRAMS: [Accepted; 9] = [
     // EI, HLT
@@ -59,7 +68,7 @@ static PROGRAMS: [Accepted; 9] = [
     Accepted { code: [0x3E, 0x9A, 0x27, 0xD3, 0x01, 0x76, 0, 0, 0, 0], length: b"0006", made: 4, at: 0x3005, put_out: &[(0x01, 0x00)], ..PLAIN },
 ];
 
-/// The program's image: code at 3000, a stack of 16 bytes at 3100.
+/// The program's image: its bytes at 3000, and a stack of 16 bytes at 3100.
 fn image(alloc: Global, program: &Accepted) -> Result<Image, Fail> {
     let mut text = Vec::new(alloc);
     text.extend_from_slice(b"REGIONS 1\nCODE 3000 ".as_slice())?;
@@ -81,8 +90,8 @@ fn image(alloc: Global, program: &Accepted) -> Result<Image, Fail> {
     })
 }
 
-/// Whether a program is accepted with its stack bytes, and runs as it is said.
-fn goes_as_said(alloc: Global, program: &Accepted) -> Result<bool, Fail> {
+/// Whether a program is accepted with its stack bytes, and runs as it is listed.
+fn runs_as_listed(alloc: Global, program: &Accepted) -> Result<bool, Fail> {
     let vouched = match vouch(alloc, image(alloc, program)?) {
         Ok(vouched) => vouched,
         Err((_image, refusal)) => return Err(refusal.into()),
@@ -102,7 +111,7 @@ fn goes_as_said(alloc: Global, program: &Accepted) -> Result<bool, Fail> {
 #[test]
 fn accepted_programs_run_as_worked_out(rt: HostRuntime) -> Result<(), Fail> {
     for program in &PROGRAMS {
-        assert!(rt; goes_as_said(rt.alloc(), program)?, "at {}", program.at);
+        assert!(rt; runs_as_listed(rt.alloc(), program)?, "at {}", program.at);
     }
     Ok(())
 }

@@ -9,8 +9,8 @@ use loader80_text::{BundleFault, bundle};
 use std::alloc::{AllocError, Global};
 use std::test::Fail;
 
-/// The fault of a session on these sources, if it has one.
-fn fault_of<A: Source, B: Source, C: Source>(
+/// The fault of a session on these sources, or `None` if it succeeds.
+fn session_fault<A: Source, B: Source, C: Source>(
     alloc: Global,
     image: &mut A,
     regions: &mut B,
@@ -25,8 +25,9 @@ fn fault_of<A: Source, B: Source, C: Source>(
     session(alloc, image, regions, inputs, out, 1_000_000, 65_536).err()
 }
 
-/// The fault of a session whose writer has room for a given number of bytes, and what is written of the transcript.
-fn cut_off(
+/// The fault of a session whose writer has room for `room` bytes, and the bytes that are written.
+/// Once the room is used up a write fails if `fails` is set, and else takes no byte.
+fn write_until_full(
     alloc: Global,
     room: usize,
     fails: bool,
@@ -38,16 +39,16 @@ fn cut_off(
     let mut regions = ByteSource::new(REGIONS, usize::MAX);
     let mut inputs = ByteSource::new(INPUTS, usize::MAX);
     let mut out = ByteSink::new(taken, room, fails);
-    let fault = fault_of(alloc, &mut image, &mut regions, &mut inputs, &mut out);
+    let fault = session_fault(alloc, &mut image, &mut regions, &mut inputs, &mut out);
     Ok((fault, out.taken))
 }
 
-/// A write fails, or takes no byte, after each beginning of the transcript: just that is written.
+/// A write fails, or takes no byte, after each prefix of the transcript: that prefix is written.
 #[test]
-fn a_write_fails_after_each_byte(rt: HostRuntime) -> Result<(), Fail> {
+fn a_failed_write_leaves_the_bytes_before_it(rt: HostRuntime) -> Result<(), Fail> {
     for place in 0..TRANSCRIPT.len() {
         for fails in [true, false] {
-            let (fault, written) = cut_off(rt.alloc(), place, fails)?;
+            let (fault, written) = write_until_full(rt.alloc(), place, fails)?;
             assert_eq!(rt; fault, Some(SessionFault::Write));
             assert_eq!(rt; Some(written.as_slice()), TRANSCRIPT.get(..place));
         }
@@ -55,34 +56,36 @@ fn a_write_fails_after_each_byte(rt: HostRuntime) -> Result<(), Fail> {
     Ok(())
 }
 
-/// How many reads of a text succeed, if it is that whose reads fail, or another one.
+/// After how many reads of a text one fails: `reads`, or never if `fails` isn't set.
 fn reads_of(fails: bool, reads: usize) -> usize {
     if fails { reads } else { usize::MAX }
 }
 
-/// The fault if the reads of the text of this number fail after a given number, and how many bytes are written.
-fn fault_after(alloc: Global, number: u8, reads: usize) -> (Option<SessionFault>, usize) {
+/// The fault of a session if a read of text `number` (1 the image, 2 the regions, 3 the inputs)
+/// fails after `reads` reads, and how many bytes are written.
+fn fault_after_reads(alloc: Global, number: u8, reads: usize) -> (Option<SessionFault>, usize) {
     let mut image = ByteSource::new(&IMAGE, reads_of(number == 1, reads));
     let mut regions = ByteSource::new(REGIONS, reads_of(number == 2, reads));
     let mut inputs = ByteSource::new(INPUTS, reads_of(number == 3, reads));
     let mut out = ByteSink::new(Vec::new(alloc), usize::MAX, true);
-    let fault = fault_of(alloc, &mut image, &mut regions, &mut inputs, &mut out);
+    let fault = session_fault(alloc, &mut image, &mut regions, &mut inputs, &mut out);
     (fault, out.taken.len())
 }
 
-/// The first read fails, a later one, and the one that would find the end of the inputs.
+/// The first read of a text fails, a later one, or the one that would find the end of the inputs.
 #[test]
-fn a_read_fails_early_or_late(rt: HostRuntime) -> Result<(), Fail> {
+fn a_failed_read_names_its_text(rt: HostRuntime) -> Result<(), Fail> {
     for number in 1..=3u8 {
         for reads in [0, 1, INPUTS.len()] {
             let expected = (Some(SessionFault::Read(number)), 0);
-            assert_eq!(rt; fault_after(rt.alloc(), number, reads), expected);
+            assert_eq!(rt; fault_after_reads(rt.alloc(), number, reads), expected);
         }
     }
     Ok(())
 }
 
-/// The fault if the text of this number never ends, and how many bytes are written.
+/// The fault of a session if text `number` (1 the image, 2 the regions, 3 the inputs) never ends,
+/// and how many bytes are written.
 fn fault_without_end(alloc: Global, number: u8) -> (Option<SessionFault>, usize) {
     let mut image = ByteSource::new(&IMAGE, usize::MAX);
     let mut regions = ByteSource::new(REGIONS, usize::MAX);
@@ -90,15 +93,15 @@ fn fault_without_end(alloc: Global, number: u8) -> (Option<SessionFault>, usize)
     let mut endless = EndlessSource::new();
     let mut out = ByteSink::new(Vec::new(alloc), usize::MAX, true);
     let fault = match number {
-        1 => fault_of(alloc, &mut endless, &mut regions, &mut inputs, &mut out),
-        2 => fault_of(alloc, &mut image, &mut endless, &mut inputs, &mut out),
-        _ => fault_of(alloc, &mut image, &mut regions, &mut endless, &mut out),
+        1 => session_fault(alloc, &mut endless, &mut regions, &mut inputs, &mut out),
+        2 => session_fault(alloc, &mut image, &mut endless, &mut inputs, &mut out),
+        _ => session_fault(alloc, &mut image, &mut regions, &mut endless, &mut out),
     };
     (fault, out.taken.len())
 }
 
 #[test]
-fn a_text_never_ends(rt: HostRuntime) -> Result<(), Fail> {
+fn a_text_without_end_is_too_long(rt: HostRuntime) -> Result<(), Fail> {
     for number in 1..=3u8 {
         let expected = (Some(SessionFault::TooLong(number)), 0);
         assert_eq!(rt; fault_without_end(rt.alloc(), number), expected);
@@ -107,7 +110,7 @@ fn a_text_never_ends(rt: HostRuntime) -> Result<(), Fail> {
 }
 
 #[test]
-fn a_bundle_never_ends(rt: HostRuntime) -> Result<(), Fail> {
+fn a_bundle_without_end_is_too_long(rt: HostRuntime) -> Result<(), Fail> {
     let mut out = ByteSink::new(Vec::new(rt.alloc()), usize::MAX, true);
     let answer = bundle(
         rt.alloc(),
@@ -124,9 +127,9 @@ fn a_bundle_never_ends(rt: HostRuntime) -> Result<(), Fail> {
     Ok(())
 }
 
-/// The first read of a bundle fails, or a later one.
+/// The first read of a bundle fails, or the second.
 #[test]
-fn a_read_of_a_bundle_fails(rt: HostRuntime) -> Result<(), Fail> {
+fn a_failed_read_of_a_bundle_is_answered(rt: HostRuntime) -> Result<(), Fail> {
     for reads in [0, 1] {
         let mut source = ByteSource::new(REGIONS, reads);
         let mut out = ByteSink::new(Vec::new(rt.alloc()), usize::MAX, true);

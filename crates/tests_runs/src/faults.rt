@@ -6,7 +6,7 @@ use loader80_text::BundleFault;
 use std::test::Fail;
 
 #[test]
-fn faults_as_shown(rt: HostRuntime) -> Result<(), Fail> {
+fn faults_are_shown_by_name(rt: HostRuntime) -> Result<(), Fail> {
     let text = format!(in rt.alloc();
         "{} {} {} {} {} {} {} {}",
         SessionFault::Read(2),

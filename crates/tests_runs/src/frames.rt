@@ -20,6 +20,7 @@ const MAIN: Role = Role::Main { top: 0x3200 };
 /// A frame: words taken, own words from bottom to top, and BC, DE and HL.
 type Parts = (u32, &'static [Word], [Word; 3]);
 
+/// The frame with these parts. `AllocError` if memory runs out.
 fn frame_of(alloc: Global, parts: &Parts) -> Result<Frame, AllocError> {
     let (taken, words, [bc, de, hl]) = *parts;
     let words = Vec::from_slice(alloc, words)?;
@@ -32,7 +33,8 @@ fn frame_of(alloc: Global, parts: &Parts) -> Result<Frame, AllocError> {
     })
 }
 
-/// The frame is as small as each call wants it.
+/// Asserts the bounds that calls require of a frame: at most 1,000,000 words, and at most as many
+/// taken.
 fn assert_small(rt: &impl Abort, frame: &Frame)
     ensures taken { frame.now.taken ≤ 1000000 }
     ensures words { length frame.now.words ≤ 1000000 }
@@ -41,8 +43,8 @@ fn assert_small(rt: &impl Abort, frame: &Frame)
     assert!(rt; frame.words.len() <= 1_000_000);
 }
 
-/// What becomes of a frame at the instruction that these bytes begin with.
-fn moved(
+/// The moves of `next` for a frame at the instruction that these bytes begin with, or its fault.
+fn moves_after(
     rt: &impl Abort,
     alloc: Global,
     role: Role,

@@ -10,6 +10,7 @@ mod programs;
 
 use programs::{PROGRAMS, Program};
 
+/// Inputs without a byte.
 fn no_inputs(alloc: Global) -> Inputs {
     Inputs {
         pairs: Vec::new(alloc),
@@ -25,8 +26,9 @@ fn write_program<B: Bus>(program: &Program, bus: &mut B) {
     }
 }
 
-/// How a program goes, for at most ten steps: its end, its steps, and the processor then.
-fn run_of<B: Bus>(
+/// Executes a program for at most ten steps: its end, the steps that were made, and the processor
+/// then.
+fn run_ten_steps<B: Bus>(
     program: &Program,
     bus: &mut B,
     ports: &mut ListPorts,
@@ -44,33 +46,37 @@ fn run_of<B: Bus>(
     (end, steps, cpu)
 }
 
-/// Whether a program goes as it is said, in a memory that holds 00 everywhere.
-fn goes_as_said<B: Bus>(alloc: Global, program: &Program, bus: &mut B) -> Result<bool, Fail> {
+/// Whether a program runs as it is listed, in a memory that holds 00 everywhere else.
+fn runs_as_listed<B: Bus>(alloc: Global, program: &Program, bus: &mut B) -> Result<bool, Fail> {
     let regions = read_regions(alloc, program.regions)?;
     write_program(program, bus);
     let mut ports = ListPorts::new(alloc, no_inputs(alloc), 0);
-    let (end, steps, cpu) = run_of(program, bus, &mut ports, &regions);
+    let (end, steps, cpu) = run_ten_steps(program, bus, &mut ports, &regions);
     Ok((end, steps, cpu.pc(), cpu.sp()) == program.ends)
 }
 
-/// Whether a program does in either memory what is said of it.
-fn goes_in_either(alloc: Global, program: &Program) -> Result<bool, Fail> {
+/// Whether a program runs as it is listed in a memory in one piece, and in one in pages.
+fn runs_as_listed_in_each_memory(alloc: Global, program: &Program) -> Result<bool, Fail> {
     let mut memory = empty_memory(alloc)?;
     let mut pages = empty_pages(alloc)?;
-    Ok(goes_as_said(alloc, program, &mut memory)? && goes_as_said(alloc, program, &mut pages)?)
+    Ok(runs_as_listed(alloc, program, &mut memory)? && runs_as_listed(alloc, program, &mut pages)?)
 }
 
 #[test]
-fn programs_go_as_worked_out(rt: HostRuntime) -> Result<(), Fail> {
+fn programs_run_as_listed(rt: HostRuntime) -> Result<(), Fail> {
     for program in &PROGRAMS {
-        assert!(rt; goes_in_either(rt.alloc(), program)?, "{}", program.title);
+        assert!(rt;
+            runs_as_listed_in_each_memory(rt.alloc(), program)?,
+            "{}",
+            program.title
+        );
     }
     Ok(())
 }
 
 /// Of two outputs one is kept, and the other is refused and counted.
 #[test]
-fn an_output_past_the_limit(rt: HostRuntime) -> Result<(), Fail> {
+fn an_output_past_the_limit_is_refused(rt: HostRuntime) -> Result<(), Fail> {
     let mut ports = ListPorts::new(rt.alloc(), no_inputs(rt.alloc()), 1);
     if ports.give(0xFF, 0x41).is_err() {
         return Err("no memory for an output".into());
@@ -82,8 +88,8 @@ fn an_output_past_the_limit(rt: HostRuntime) -> Result<(), Fail> {
     Ok(())
 }
 
-/// A million bytes, turn by turn for two ports.
-fn a_million(alloc: Global) -> Result<ListPorts, AllocError> {
+/// A million input bytes, in turn for ports 00 and 01.
+fn a_million_inputs(alloc: Global) -> Result<ListPorts, AllocError> {
     let mut pairs = Vec::with_capacity(alloc, 1_000_000)?;
     for number in 0..1_000_000u32 {
         pairs.push(((number % 2) as u8, (number / 2 % 256) as u8))?;
@@ -91,7 +97,7 @@ fn a_million(alloc: Global) -> Result<ListPorts, AllocError> {
     Ok(ListPorts::new(alloc, Inputs { pairs }, 0))
 }
 
-/// Whether a port gives its half of a million bytes in their order, and then none.
+/// Whether a port gives its half of the million bytes in order, and then none.
 fn gives_its_half(ports: &mut ListPorts, port: u8) -> bool {
     for number in 0..500_000u32 {
         if ports.take(port) != Some((number % 256) as u8) {
@@ -101,10 +107,10 @@ fn gives_its_half(ports: &mut ListPorts, port: u8) -> bool {
     ports.take(port).is_none()
 }
 
-/// Each port is emptied alone, in its order, in a time that grows with the number of its bytes.
+/// Each port is emptied alone and in order, in a time that grows with the number of its bytes.
 #[test]
-fn a_million_inputs_of_two_ports(rt: HostRuntime) -> Result<(), Fail> {
-    let mut ports = a_million(rt.alloc())?;
+fn each_port_gives_its_half_of_a_million_inputs(rt: HostRuntime) -> Result<(), Fail> {
+    let mut ports = a_million_inputs(rt.alloc())?;
     assert!(rt; gives_its_half(&mut ports, 0x01));
     assert!(rt; gives_its_half(&mut ports, 0x00));
     assert!(rt; ports.take(0x02).is_none());

@@ -28,7 +28,7 @@ pub fn empty_memory(alloc: Global) -> Result<FlatBus, Fail> {
     FlatBus::new(alloc, &image).map_err(Fail::from)
 }
 
-/// Makes the empty image's memory in pages.
+/// A memory in pages that holds 00 everywhere.
 pub fn empty_pages(alloc: Global) -> Result<PagedBus, Fail> {
     let image = empty_image(alloc)?;
     PagedBus::new(alloc, &image).map_err(Fail::from)

@@ -4,16 +4,19 @@ ghost use Rattle.std.specs.Prelude.{◌≡◌};
 
 use loader80::{Failed, Sink, Source};
 
-/// Bytes that are given one a read, until a read fails.
+/// A source that gives one byte a read, until its reads fail.
 #[derive(Drop)]
 pub struct ByteSource<'a> {
+    /// The bytes that are left.
     left: &'a [u8],
+    /// How many more reads succeed.
     reads: usize,
+    /// How many reads have failed.
     failures: u64,
 }
 
 impl<'a> ByteSource<'a> {
-    /// A source whose reads fail after a given number.
+    /// A source of these bytes of which all reads fail after the first `reads`.
     pub fn new(left: &'a [u8], reads: usize) -> Self
         ensures { ⟦<ByteSource<'a> as Source>⟧.failed result ≡ 0 }
     {
@@ -32,10 +35,12 @@ impl<'a> Source for ByteSource<'a> {
 
     ghost failed = { λ s. s.failures };
 
+    /// How many reads have failed.
     fn failures(&self) -> u64 {
         self.failures
     }
 
+    /// Gives one byte, or none at the end; fails once `reads` reads have succeeded.
     fn read(&mut self, buffer: &mut [u8]) -> Result<usize, Failed> {
         if self.reads == 0 {
             self.failures += 1;
@@ -51,13 +56,15 @@ impl<'a> Source for ByteSource<'a> {
     }
 }
 
-/// Line feeds without an end.
+/// A source of line feeds that never ends.
 #[derive(Drop)]
 pub struct EndlessSource {
+    /// How many reads have failed: none.
     failures: u64,
 }
 
 impl EndlessSource {
+    /// A source of line feeds that never ends.
     pub fn new() -> Self
         ensures { ⟦<EndlessSource as Source>⟧.failed result ≡ 0 }
     {
@@ -72,10 +79,12 @@ impl Source for EndlessSource {
 
     ghost failed = { λ s. s.failures };
 
+    /// How many reads have failed: none.
     fn failures(&self) -> u64 {
         self.failures
     }
 
+    /// Fills the buffer with line feeds.
     fn read(&mut self, buffer: &mut [u8]) -> Result<usize, Failed> {
         buffer.fill(b'\n');
         Ok(buffer.len())
@@ -85,14 +94,19 @@ impl Source for EndlessSource {
 /// A sink that takes one byte a write, until there is no room: then a write fails, or takes no byte.
 #[derive(Drop)]
 pub struct ByteSink {
+    /// The bytes that were taken.
     pub taken: Vec<u8>,
+    /// How many bytes are taken at most.
     room: usize,
+    /// Whether a write without room fails; else it takes no byte.
     fails: bool,
+    /// How many writes have found no room.
     failures: u64,
 }
 
 impl ByteSink {
-    /// A sink with room for a given number of bytes, which it keeps in this vector.
+    /// A sink with room for `room` bytes, which it appends to `taken`. Without room a write fails
+    /// if `fails` is set, and else takes no byte.
     pub fn new(taken: Vec<u8>, room: usize, fails: bool) -> Self
         ensures { ⟦<ByteSink as Sink>⟧.failed result ≡ 0 }
     {
@@ -112,10 +126,12 @@ impl Sink for ByteSink {
 
     ghost failed = { λ s. s.failures };
 
+    /// How many writes have found no room.
     fn failures(&self) -> u64 {
         self.failures
     }
 
+    /// Takes the first byte if there is room; else fails or takes none.
     fn write(&mut self, bytes: &[u8]) -> Result<usize, Failed> {
         if self.taken.len() < self.room && self.taken.push(bytes[0]).is_ok() {
             return Ok(1);

@@ -1,6 +1,6 @@
 //! A main program that pushes an argument for a procedure, which outputs it: an image, regions, and the transcript of its run.
 
-/// The image.
+/// The file of the program's image.
 #[rattlefmt::skip]
 pub static IMAGE: [u8; 45] = [
     0x02, 0x05, 0x00, 0x01, 0x41, 0x00, 0x00, 0xB7, // module header
@@ -14,8 +14,8 @@ pub static IMAGE: [u8; 45] = [
 /// The program's regions.
 pub const REGIONS: &[u8] = b"REGIONS 1\nCODE 3000 0012\nSTACK 3100 0100\n";
 
-/// Two bytes at a port that it doesn't read.
+/// Two input bytes for port 02, which the program doesn't read.
 pub const INPUTS: &[u8] = b"02 41FF\n";
 
-/// What its run prints.
+/// The transcript of its run.
 pub const TRANSCRIPT: &[u8] = b"STACK 4\nOUT 01 05\nHALT 300A AFTER 11\n";

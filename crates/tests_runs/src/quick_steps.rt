@@ -1,5 +1,5 @@
-//! A quick step is the step: both are made from the same states, and must leave the same. The quick steps go over a memory in
-//! pages.
+//! A quick step does what the step does: both are made from the same states, and must end in the
+//! same. The quick steps go over a memory in pages.
 
 use crate::memory::{empty_memory, empty_pages};
 use decode80::length_of;
@@ -13,10 +13,10 @@ use std::test::Fail;
 /// Code up to FFFF, and room for all data and stack that the states point to.
 const REGIONS: &[u8] = b"REGIONS 1\nCODE F000 1000\nDATA 0000 8000\nSTACK 8000 1000\n";
 
-/// A, B, C, D, E, H and L.
+/// Values of registers A, B, C, D, E, H and L.
 type Set = (u8, u8, u8, u8, u8, u8, u8);
 
-/// The pairs point to data, but for the last one's BC, DE and HL.
+/// Register values before a step. The pairs point to data, but for BC, DE and HL of the last set.
 static SETS: [Set; 4] = [
     (0x00, 0x20, 0x01, 0x7F, 0xFF, 0x12, 0x34),
     (0x9A, 0x00, 0xFF, 0x10, 0x00, 0x7F, 0xFE),
@@ -24,23 +24,26 @@ static SETS: [Set; 4] = [
     (0x01, 0xFF, 0xFF, 0x80, 0x00, 0xF0, 0x10),
 ];
 
-/// The flags: none, each alone, CY with AC, all.
+/// Flag bytes before a step: no flag, each alone, CY with AC, all.
 static FLAGS: [u8; 8] = [0x00, 0x01, 0x04, 0x10, 0x40, 0x80, 0x11, 0xD5];
 
 /// Two memories with the same bytes, one for each kind of step.
 #[derive(Drop)]
-struct Pair {
+struct Memories {
+    /// The memory in one piece, for the step.
     slow: FlatBus,
+    /// The memory in pages, for the quick step.
     quick: PagedBus,
 }
 
-fn new_pair(alloc: Global) -> Result<Pair, Fail> {
+/// Two memories that hold 00 everywhere.
+fn make_memories(alloc: Global) -> Result<Memories, Fail> {
     let slow = empty_memory(alloc)?;
     let quick = empty_pages(alloc)?;
-    Ok(Pair { slow, quick })
+    Ok(Memories { slow, quick })
 }
 
-/// One input byte at port 34, or none.
+/// One input byte at port 34 if `kind` is even, else none.
 fn inputs(alloc: Global, kind: usize) -> Result<Inputs, AllocError> {
     let mut pairs = Vec::new(alloc);
     if kind % 2 == 0 {
@@ -49,7 +52,8 @@ fn inputs(alloc: Global, kind: usize) -> Result<Inputs, AllocError> {
     Ok(Inputs { pairs })
 }
 
-fn same_memory(left: &FlatBus, right: &PagedBus) -> bool {
+/// Whether both memories have the same byte at each address.
+fn have_same_bytes(left: &FlatBus, right: &PagedBus) -> bool {
     for address in 0..=u16::MAX {
         if left.load(address) != right.load(address) {
             return false;
@@ -58,8 +62,8 @@ fn same_memory(left: &FlatBus, right: &PagedBus) -> bool {
     true
 }
 
-/// The state before a step: the instruction ends at FFFF if it is at the end of memory.
-fn state(set: Set, flags: u8, pc: u16) -> Cpu {
+/// The state before a step: these registers and flags, and this program counter.
+fn state_before(set: Set, flags: u8, pc: u16) -> Cpu {
     let (a, b, c, d, e, h, l) = set;
     Cpu {
         registers: Registers {
@@ -77,18 +81,18 @@ fn state(set: Set, flags: u8, pc: u16) -> Cpu {
     }
 }
 
-/// Writes an instruction with the operand 1234 to an address.
-fn put<B: Bus>(bus: &mut B, opcode: u8, pc: u16) {
+/// Writes an opcode to an address, and the operand 1234 after it.
+fn put_instruction<B: Bus>(bus: &mut B, opcode: u8, pc: u16) {
     bus.store(pc, opcode);
     bus.store(pc.wrapping_add(1), 0x34);
     bus.store(pc.wrapping_add(2), 0x12);
 }
 
-/// Whether both steps from a state reach the same end, registers, outputs and inputs, if ports of this kind have an input
-/// byte or none, and room for one output or for none.
+/// Whether both steps from a state reach the same end, registers, outputs and inputs. There is an
+/// input byte at port 34 if `kind` is even, and room for one output if half of it is odd.
 fn steps_agree(
     alloc: Global,
-    pair: &mut Pair,
+    memories: &mut Memories,
     regions: &Regions,
     map: &RegionMap,
     before: Cpu,
@@ -98,8 +102,14 @@ fn steps_agree(
     let (mut cpu, mut quick) = (before, before);
     let mut ports = ListPorts::new(alloc, left, kind / 2 % 2);
     let mut quick_ports = ListPorts::new(alloc, right, kind / 2 % 2);
-    let end = step(&mut cpu, &mut pair.slow, &mut ports, regions);
-    let quick_end = quick_step(&mut quick, &mut pair.quick, &mut quick_ports, regions, map);
+    let end = step(&mut cpu, &mut memories.slow, &mut ports, regions);
+    let quick_end = quick_step(
+        &mut quick,
+        &mut memories.quick,
+        &mut quick_ports,
+        regions,
+        map,
+    );
     Ok(
         end == quick_end
             && cpu == quick
@@ -108,10 +118,10 @@ fn steps_agree(
     )
 }
 
-/// Whether both steps of an instruction agree, from each state, and leave the same memory.
-fn all_agree(
+/// Whether both steps of an opcode at `pc` agree in each state, and leave the same memory.
+fn steps_agree_in_each_state(
     alloc: Global,
-    pair: &mut Pair,
+    memories: &mut Memories,
     regions: &Regions,
     map: &RegionMap,
     opcode: u8,
@@ -119,29 +129,36 @@ fn all_agree(
 ) -> Result<bool, AllocError> {
     for set in &SETS {
         for (kind, flags) in FLAGS.iter().enumerate() {
-            put(&mut pair.slow, opcode, pc);
-            put(&mut pair.quick, opcode, pc);
-            if !steps_agree(alloc, pair, regions, map, state(*set, *flags, pc), kind)? {
+            put_instruction(&mut memories.slow, opcode, pc);
+            put_instruction(&mut memories.quick, opcode, pc);
+            if !steps_agree(
+                alloc,
+                memories,
+                regions,
+                map,
+                state_before(*set, *flags, pc),
+                kind,
+            )? {
                 return Ok(false);
             }
         }
     }
-    Ok(same_memory(&pair.slow, &pair.quick))
+    Ok(have_same_bytes(&memories.slow, &memories.quick))
 }
 
-/// Goes through every first byte, unused ones too, with settings of each flag, from each set of registers, in the midst of the
-/// code and at the end of memory.
-fn go_through_bytes(
+/// Asserts that both steps agree for every first byte, unused ones too, in the midst of the code
+/// and at the end of memory.
+fn compare_each_first_byte(
     rt: &impl Abort,
     alloc: Global,
-    pair: &mut Pair,
+    memories: &mut Memories,
     regions: &Regions,
     map: &RegionMap,
 ) -> Result<(), Fail> {
     for opcode in 0..=255u8 {
         let length = length_of(opcode).unwrap_or(1);
         for pc in [0xF100, (65536 - length) as u16] {
-            let agree = all_agree(alloc, pair, regions, map, opcode, pc)?;
+            let agree = steps_agree_in_each_state(alloc, memories, regions, map, opcode, pc)?;
             assert!(rt; agree, "{opcode} at {pc}");
         }
     }
@@ -149,9 +166,9 @@ fn go_through_bytes(
 }
 
 #[test]
-fn every_first_byte_agrees(rt: HostRuntime) -> Result<(), Fail> {
+fn quick_steps_agree_for_every_first_byte(rt: HostRuntime) -> Result<(), Fail> {
     let regions = read_regions(rt.alloc(), REGIONS)?;
     let map = RegionMap::new(rt.alloc(), &regions)?;
-    let mut pair = new_pair(rt.alloc())?;
-    go_through_bytes(&rt, rt.alloc(), &mut pair, &regions, &map)
+    let mut memories = make_memories(rt.alloc())?;
+    compare_each_first_byte(&rt, rt.alloc(), &mut memories, &regions, &map)
 }

@@ -20,15 +20,18 @@ const REGIONS: &[u8] = b"REGIONS 1\nCODE 3000 0005\nSTACK 3005 0000\n";
 /// The session's input.
 const INPUTS: &[u8] = b"02 41\n";
 
-/// A reader that gives one byte at a time. Once it has given a number of them, a read is interrupted, that one alone: who tried again would
-/// have all bytes.
+/// A reader that gives one byte at a time. One read, after `until_failure` bytes, is interrupted; a
+/// caller that tried again would get all bytes.
 #[derive(Drop)]
 struct SlowReader<'a> {
+    /// The bytes that are left.
     left: &'a [u8],
+    /// How many more bytes are given before a read is interrupted.
     until_failure: usize,
 }
 
 impl<'a> Read for SlowReader<'a> {
+    /// Gives one byte, or none at the end; the read after `until_failure` bytes is interrupted.
     fn read(&mut self, buffer: &mut [u8]) -> std::io::Result<usize> {
         if self.until_failure == 0 {
             self.until_failure = usize::MAX;
@@ -44,16 +47,20 @@ impl<'a> Read for SlowReader<'a> {
     }
 }
 
-/// A writer that takes one byte at a time, up to the place `full`. There it takes no byte, or one write is interrupted, that one
-/// alone: who tried again would have all bytes taken.
+/// A writer that takes one byte at a time, up to `full` bytes. Then it takes no byte, or one write
+/// is interrupted; a caller that tried again would have all bytes taken.
 #[derive(Drop)]
 struct SlowWriter {
+    /// The bytes that were taken.
     taken: Vec<u8>,
+    /// After how many bytes it takes no more.
     full: usize,
+    /// Whether a write is interrupted then; else it takes no byte.
     fails: bool,
 }
 
 impl Write for SlowWriter {
+    /// Takes one byte until `full` are taken; then one write is interrupted, or each takes none.
     fn write(&mut self, bytes: &[u8]) -> std::io::Result<usize> {
         if self.taken.len() < self.full && !bytes.is_empty() {
             self.taken.push(bytes[0])?;
@@ -66,12 +73,13 @@ impl Write for SlowWriter {
         Ok(0)
     }
 
+    /// Does nothing: the bytes are in `taken` already.
     fn flush(&mut self) -> std::io::Result<()> {
         Ok(())
     }
 }
 
-/// A reader of these bytes; one that fails does so after two of them.
+/// A reader of these bytes; if `fails` is set, the read after two of them is interrupted.
 fn reader(left: &[u8], fails: bool) -> SlowReader<'_> {
     let until_failure = if fails { 2 } else { usize::MAX };
     SlowReader {
@@ -80,8 +88,8 @@ fn reader(left: &[u8], fails: bool) -> SlowReader<'_> {
     }
 }
 
-/// What is answered of an image, regions and inputs.
-fn answer_of(
+/// The answer of a session on this image, these regions and these inputs.
+fn run_session(
     alloc: Global,
     image: SlowReader<'_>,
     regions: SlowReader<'_>,
@@ -104,7 +112,7 @@ fn answer_of(
 }
 
 #[test]
-fn three_texts_come_to_their_transcript(rt: HostRuntime) -> Result<(), Fail> {
+fn a_session_writes_its_transcript(rt: HostRuntime) -> Result<(), Fail> {
     let alloc = rt.alloc();
     let expected = b"STACK 0\nOUT 01 41\nHALT 3004 AFTER 3\n";
     for full in [0, 20, 64] {
@@ -115,7 +123,7 @@ fn three_texts_come_to_their_transcript(rt: HostRuntime) -> Result<(), Fail> {
         };
         let image = reader(&IMAGE, false);
         let inputs = reader(INPUTS, false);
-        let answer = answer_of(alloc, image, reader(REGIONS, false), inputs, &mut writer);
+        let answer = run_session(alloc, image, reader(REGIONS, false), inputs, &mut writer);
         let fault = if full < 64 {
             Some(SessionFault::Write)
         } else {
@@ -140,7 +148,7 @@ fn a_failed_read_names_its_text(rt: HostRuntime) -> Result<(), Fail> {
         let image = reader(&IMAGE, number == 1);
         let regions = reader(REGIONS, number == 2);
         let inputs = reader(INPUTS, number == 3);
-        let answer = answer_of(alloc, image, regions, inputs, &mut writer);
+        let answer = run_session(alloc, image, regions, inputs, &mut writer);
         assert_eq!(rt; answer.err(), Some(SessionFault::Read(number)));
     }
     Ok(())

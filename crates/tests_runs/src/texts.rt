@@ -4,7 +4,7 @@ use decode80::{Instr, Register, decode, write_text};
 use std::alloc::Global;
 use std::test::Fail;
 
-/// Instructions with their lengths, and their texts.
+/// Instructions as bytes, their lengths, and their texts.
 #[rattlefmt::skip]
 static TEXTS: [([u8; 3], usize, &str); 12] = [
     ([0x31, 0x00, 0x32], 3, "LXI SP,3200"),
@@ -30,7 +30,7 @@ fn text_of(alloc: Global, bytes: [u8; 3]) -> Result<(usize, Vec<u8>), Fail> {
 }
 
 #[test]
-fn texts_of_instructions(rt: HostRuntime) -> Result<(), Fail> {
+fn instructions_have_their_texts(rt: HostRuntime) -> Result<(), Fail> {
     for (bytes, length, wanted) in &TEXTS {
         let (found, text) = text_of(rt.alloc(), *bytes)?;
         assert!(rt;
@@ -41,9 +41,9 @@ fn texts_of_instructions(rt: HostRuntime) -> Result<(), Fail> {
     Ok(())
 }
 
-/// Run with each allocation refused in turn, this shows that a refused text leaves `out` as it was.
+/// If memory runs out, `out` is unchanged; run with each allocation refused in turn, this shows it.
 #[test]
-fn a_refused_growth_leaves_the_text_as_it_was(rt: HostRuntime) {
+fn out_of_memory_leaves_the_text_unchanged(rt: HostRuntime) {
     let mut out = Vec::new(rt.alloc());
     for _ in 0..50u8 {
         let before = out.len();
@@ -53,9 +53,9 @@ fn a_refused_growth_leaves_the_text_as_it_was(rt: HostRuntime) {
     }
 }
 
-/// A text comes after what stands there, also if the vector has no room for it.
+/// A text is appended to what `out` has, also if the vector has no room for it.
 #[test]
-fn a_text_after_others(rt: HostRuntime) -> Result<(), Fail> {
+fn a_text_is_appended(rt: HostRuntime) -> Result<(), Fail> {
     let mut out = b"3000 ".to_vec(rt.alloc())?;
     write_text(rt.alloc(), Instr::Mvi(Register::A, 0xA5), &mut out)?;
     assert!(rt; out.as_slice() == b"3000 MVI A,A5".as_slice());
@@ -64,7 +64,7 @@ fn a_text_after_others(rt: HostRuntime) -> Result<(), Fail> {
 
 /// An instruction is shown by its mnemonic and the bytes that the manual gives it.
 #[test]
-fn instructions_as_shown(rt: HostRuntime) -> Result<(), Fail> {
+fn instructions_are_shown_with_their_bytes(rt: HostRuntime) -> Result<(), Fail> {
     let shown = format!(in rt.alloc();
         "{:?}, {:?}, {:?}",
         Instr::Mvi(Register::B, 0xA5),

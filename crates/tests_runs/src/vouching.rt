@@ -13,12 +13,13 @@ use verify80::{find_reached, verify};
 use verify80_calls::{Procedure, find_calls};
 use verify80_stores::find_stores;
 
-/// The program's one procedure.
+/// The row of the program's one procedure.
 #[rattlefmt::skip]
 static ROWS: [ProcRow; 1] = [
     ProcRow { entry: 0x300B, takes: 1, wants: 1, bound: 0, returns: true },
 ];
 
+/// The image of the program that pushes an argument.
 fn image(alloc: Global) -> Result<Image, Fail> {
     let regions = read_regions(alloc, REGIONS)?;
     match read_image(alloc, &IMAGE, regions) {
@@ -38,7 +39,7 @@ fn an_image_is_verified(rt: HostRuntime) -> Result<(), Fail> {
 }
 
 #[test]
-fn what_a_vouched_image_reaches(rt: HostRuntime) -> Result<(), Fail> {
+fn a_vouched_image_has_its_addresses_stores_and_calls(rt: HostRuntime) -> Result<(), Fail> {
     let image = image(rt.alloc())?;
     let vouched = match vouch(rt.alloc(), image) {
         Ok(vouched) => vouched,
@@ -66,12 +67,13 @@ fn a_vouched_image_is_run(rt: HostRuntime) -> Result<(), Fail> {
     };
     assert_eq!(rt; vouched.stack_bytes(), 4);
     assert!(rt; vouched.rows() == ROWS.as_slice());
-    runs(&rt, &vouched)?;
-    runs_in_pages(&rt, &vouched)
+    run_in_one_piece(&rt, &vouched)?;
+    run_in_pages(&rt, &vouched)
 }
 
-/// The run outputs the argument. It takes no input, so both bytes are left.
-fn runs(rt: &(impl Abort + AllocGlobal), vouched: &Vouched) -> Result<(), Fail> {
+/// Runs the vouched program over a memory in one piece: it outputs the argument. It takes no input,
+/// so both bytes are left.
+fn run_in_one_piece(rt: &(impl Abort + AllocGlobal), vouched: &Vouched) -> Result<(), Fail> {
     let inputs = read_inputs(rt.alloc(), b"02 41FF\n")?;
     let mut bus = FlatBus::new(rt.alloc(), vouched.image())?;
     let mut ports = ListPorts::new(rt.alloc(), inputs, 65_536);
@@ -83,8 +85,8 @@ fn runs(rt: &(impl Abort + AllocGlobal), vouched: &Vouched) -> Result<(), Fail> 
     Ok(())
 }
 
-/// Runs the vouched program over a memory in pages.
-fn runs_in_pages(rt: &(impl Abort + AllocGlobal), vouched: &Vouched) -> Result<(), Fail> {
+/// Runs the vouched program over a memory in pages: it outputs the argument.
+fn run_in_pages(rt: &(impl Abort + AllocGlobal), vouched: &Vouched) -> Result<(), Fail> {
     let inputs = read_inputs(rt.alloc(), INPUTS)?;
     let mut bus = PagedBus::new(rt.alloc(), vouched.image())?;
     let mut ports = ListPorts::new(rt.alloc(), inputs, 65_536);

@@ -13,12 +13,14 @@ use image80::{Image, RegionMap};
 use std::alloc::{AllocError, Global};
 use std::marker::Model;
 
-/// An image, with its memory and its regions by address: a look at an address takes the same time for any number of chunks and
-/// ranges.
+/// An image with its memory and its regions by address, as the verifier reads it: looking up an
+/// address takes the same time for any number of chunks and ranges.
 #[derive(Drop)]
 pub struct ImageCode<'a> {
     image: &'a Image,
+    /// The image's memory: 65,536 bytes.
     memory: Vec<u8>,
+    /// Which region each address is in.
     map: RegionMap,
 }
 
@@ -34,7 +36,7 @@ impl<'a> Model for ImageCode<'a> {
 }
 
 impl<'a> ImageCode<'a> {
-    /// An image as the verifier goes by it.
+    /// Prepares an image for the verifier: makes its memory and the map of its regions.
     ///
     /// # Errors
     /// `AllocError` if memory runs out.
@@ -46,14 +48,14 @@ impl<'a> ImageCode<'a> {
         Ok(ImageCode { image, memory, map })
     }
 
-    /// The memory and the map.
+    /// The image's memory by address, and the map of its regions.
     pub(crate) fn into_parts(self) -> (Vec<u8>, RegionMap)
         ensures { IsKept self.entry result.0.items result.1 }
     {
         (self.memory, self.map)
     }
 
-    /// Whether an address that an instruction may name is data; it is fine to name none.
+    /// Whether the address is data; `None` counts as data.
     fn is_data_if_named(&self, named: Option<u16>) -> bool
         ensures { result ≡ option_map_or (in_data self.now.regions) named true }
     {
@@ -63,7 +65,7 @@ impl<'a> ImageCode<'a> {
         }
     }
 
-    /// Whether the byte after an address is a HLT in the code.
+    /// Whether the byte after an address (at 0000 after FFFF) is a HLT in CODE.
     fn halt_follows(&self, at: u16) -> bool
         ensures { result ≡ halt_follows self.now.regions (memory_of self.now.chunks) at }
     {
@@ -71,7 +73,7 @@ impl<'a> ImageCode<'a> {
         self.is_code(next) && self.byte(next) == 0x76
     }
 
-    /// Whether targets are declared for an address.
+    /// Whether the regions declare targets for a PCHL at this address.
     fn is_declared(&self, at: u16) -> bool
         ensures { result ≡ is_declared self.now.regions at }
     {
@@ -79,7 +81,8 @@ impl<'a> ImageCode<'a> {
         image.regions.targets(at).is_some()
     }
 
-    /// Whether each byte that an instruction stores to by its address is data.
+    /// Whether each byte that an instruction stores to a direct address (STA, SHLD) is in data.
+    /// True for all other instructions.
     fn stores_in_data(&self, instr: Instr) -> bool
         ensures { result ≡ stores_in_data self.now.regions instr }
     {
@@ -87,7 +90,11 @@ impl<'a> ImageCode<'a> {
         self.is_data_if_named(first) && self.is_data_if_named(second)
     }
 
-    /// What was fetched at an address, if its instruction is admitted.
+    /// Checks an instruction that was fetched at an address and returns it unchanged.
+    ///
+    /// # Errors
+    /// `EnablesInterrupts` for an EI without a HLT in CODE after it, `Pchl` for a PCHL without
+    /// declared targets, `DirectStore` for a STA or SHLD outside data.
     fn admit(&self, at: u16, found: Fetched) -> Result<Fetched, LookFault>
         ensures { result ≡ admitted self.now.regions (memory_of self.now.chunks) at found }
     {
@@ -105,10 +112,12 @@ impl<'a> Program for ImageCode<'a> {
 
     ghost held = { λ image address. slice_index (memory_of image.chunks) address };
 
+    /// Whether an address is in CODE.
     fn is_code(&self, address: u16) -> bool {
         self.map.is_code(address)
     }
 
+    /// The byte of the image's memory at an address.
     fn byte(&self, address: u16) -> u8 {
         self.memory[usize::from(address)]
     }
@@ -117,6 +126,7 @@ impl<'a> Program for ImageCode<'a> {
 impl<'a> Code for ImageCode<'a> {
     ghost code = { code_of };
 
+    /// The instruction at an address and the address after it, or why none may be executed there.
     #[tactic(auto, unfolding(crate::specs::Looking::look_at))]
     fn look(&self, at: u16) -> Result<Fetched, LookFault> {
         match fetch(at, self) {
@@ -126,6 +136,7 @@ impl<'a> Code for ImageCode<'a> {
         }
     }
 
+    /// The targets that the regions declare for a PCHL at this address; empty if none are declared.
     fn targets(&self, at: u16) -> &[u16] {
         let image = self.image;
         match image.regions.targets(at) {
@@ -134,16 +145,19 @@ impl<'a> Code for ImageCode<'a> {
         }
     }
 
+    /// The address where the main program starts.
     fn start(&self) -> u16 {
         let image = self.image;
         image.start
     }
 
+    /// The address just above the stack, modulo 65536.
     fn top(&self) -> u16 {
         let image = self.image;
         image.regions.top()
     }
 
+    /// The number of bytes that the stack has.
     fn stack(&self) -> u16 {
         let image = self.image;
         image.regions.stack().length

@@ -11,12 +11,12 @@
 //! | [`Refusal`] | why an image is refused |
 //! | [`vouch`], [`Vouched`] | an image that is accepted, with what is known of it |
 //! | [`find_reached`], [`Reached`] | the instruction at each address that a walk reaches |
-//! | [`ImageCode`] | an image as the verifier looks at it, address by address |
-//! | [`looks_are_exact`] | what the analysis sees of an image, as a contract |
+//! | [`ImageCode`] | an image as the verifier reads it, address by address |
+//! | [`looks_are_exact`] | when the analysis finds an instruction at an address, and when which fault, as a contract |
 //! | [`fitted_images_never_go_wrong`] | if a table of frames fits an image, no run of it goes wrong, as a contract |
-//! | [`images_never_go_wrong_from_power_on`], [`runs_begin_from_power_on`] | the same of runs from power-on, as contracts |
+//! | [`images_never_go_wrong_from_power_on`], [`runs_begin_from_power_on`] | the promise for runs from power-on, as contracts |
 //! | [`accepted_images_stay_on_walks`] | each run of an accepted image stays on its walks, as a contract |
-//! | [`promise_is_kept_on_boards`], [`walks_are_kept_on_boards`] | the same on every board, unguarded and among devices, as contracts |
+//! | [`promise_is_kept_on_boards`], [`walks_are_kept_on_boards`] | both on every board, unguarded and among devices, as contracts |
 #![tactic(auto)]
 
 mod image_code;

@@ -9,11 +9,13 @@ use frames80::places_move;
 use image80::laws::code_data_and_stack_are_apart;
 use verify80_flow::fitting_tables_cover_walks;
 
-/// If a table of frames fits an image, and the stack has the bytes that the table says, then whatever waits at the ports,
-/// however many outputs are taken and however long the program runs, each of its steps fetches only inside code, stores by
-/// address only to data and jumps by PCHL only if targets are declared, touches as stack only a given number of bytes below the stack's
-/// top, and returns only to the place after the newest call that hasn't returned; and it ends, if at all, by HLT, at an empty
-/// port, at a refused output, at a store through a register pair outside data or at a PCHL to none of its declared targets.
+/// The promise, as a contract. If a table of frames fits an image, and the stack has the bytes that
+/// the table says, then whatever waits at the ports, however many outputs are taken and however
+/// long the program runs, each of its steps fetches only inside code, stores by address only to
+/// data and jumps by PCHL only if targets are declared, touches as stack only so many bytes below
+/// the stack's top as the table says, and returns only to the place after the newest call that
+/// hasn't returned; and it ends, if at all, by HLT, at an empty port, at a refused output, at a
+/// store through a register pair outside data or at a PCHL to none of its declared targets.
 pub fn fitted_images_never_go_wrong()
     ensures { FittedImagesNeverGoWrong }
 {
@@ -21,8 +23,9 @@ pub fn fitted_images_never_go_wrong()
     runs_begin_from_power_on();
 }
 
-/// The promise from power-on: whatever the registers, the flags and the memory outside code hold before the first step, if only
-/// SP is at the stack's top and each address of code has the image's byte.
+/// The promise of [`fitted_images_never_go_wrong`] from power-on: whatever the registers, the flags
+/// and the memory outside code hold before the first step, if only SP is at the stack's top and
+/// each address of code has the image's byte.
 pub fn images_never_go_wrong_from_power_on()
     ensures { FittedImagesNeverGoWrongFromPowerOn }
 {
@@ -32,14 +35,16 @@ pub fn images_never_go_wrong_from_power_on()
     looks_are_exact();
 }
 
-/// A run that begins with the image's memory and with registers of 0 is one of those.
+/// A law of runs: one that begins with the image's memory and with registers of 0 is a run from
+/// power-on.
 pub fn runs_begin_from_power_on()
     ensures { RunsBeginFromPowerOn }
 {}
 
-/// From power-on, each step of a run of an accepted image is at an address that a walk of its procedures reaches, and fetches the
-/// instruction that the verifier has found there. A return that is taken goes to the address behind a call on a walk, and a walk
-/// of that call's procedure returns.
+/// A law of accepted images: from power-on, each step of a run is at an address that a walk of the
+/// image's procedures reaches, and fetches the instruction that the verifier has found there. A
+/// return that is taken goes to the address after a call on a walk, and a walk of that call's
+/// procedure returns.
 pub fn accepted_images_stay_on_walks()
     ensures { AcceptedImagesStayOnWalks }
 {
@@ -50,10 +55,11 @@ pub fn accepted_images_stay_on_walks()
     fitting_tables_cover_walks();
 }
 
-/// The promise on every board, where nothing guards a step and devices may write any byte that is neither code nor pushed on the stack:
-/// from the image's start, if SP is at the stack's top or the program sets it before it uses it, whatever else registers, flags and
-/// memory hold, up to the first store through a register pair outside data or the first PCHL outside its targets. A run goes on until a
-/// HLT, and an EI has that behind it. `specs/Boards.antt` says what a board is.
+/// The promise on every board, where nothing guards a step and devices may write any byte that is
+/// neither code nor pushed on the stack: from the image's start, if SP is at the stack's top or the
+/// program sets it before it uses it, whatever else registers, flags and memory hold, up to the
+/// first store through a register pair outside data or the first PCHL outside its targets. A run
+/// goes on until a HLT, and each EI is followed by one. `specs/Boards.antt` says what a board is.
 pub fn promise_is_kept_on_boards()
     ensures promise { PromiseIsKeptOnBoards }
     ensures steps { BoardStepsAreGuarded }
@@ -65,7 +71,8 @@ pub fn promise_is_kept_on_boards()
     looks_are_exact();
 }
 
-/// There, an accepted image stays on its walks, as it does in guarded runs.
+/// A law of accepted images on every board, unguarded and among devices: their runs stay on their
+/// walks, as guarded runs do ([`accepted_images_stay_on_walks`]).
 pub fn walks_are_kept_on_boards()
     ensures { WalksAreKeptOnBoards }
 {

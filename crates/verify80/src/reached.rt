@@ -34,7 +34,7 @@ impl Reached {
     ghost use Rattle.std.specs.Prelude.{◌≡◌, length};
     ghost use Rattle.verify80.specs.Reached.{found_at};
 
-    /// The instructions by address: 65,536 places.
+    /// The instruction at each address, or `None` if no walk reaches the address: 65,536 entries.
     pub fn instructions(&self) -> &[Option<Fetched>]
         ensures table { result.now ≡ self.now }
         ensures whole { length result.now ≡ 65536 }
@@ -52,7 +52,7 @@ impl Reached {
 
 /// The instruction at each address that the walks of an image's procedures reach, from its start on.
 ///
-/// A walk goes on behind a call only if the procedure that is called returns, and after a PCHL at its declared targets. So each
+/// A walk goes on after a call only if the procedure that is called returns, and after a PCHL at its declared targets. So each
 /// step of each run of the image is at one of these addresses; that a run reaches each of them isn't said.
 ///
 /// # Example
@@ -76,7 +76,8 @@ pub fn find_reached(alloc: Global, vouched: &Vouched) -> Result<Reached, AllocEr
     Ok(Reached { table })
 }
 
-/// Notes the instruction at an address, if there is one that may be executed.
+/// Sets the table's entry for an address to the instruction there; `None` if none may be executed
+/// there.
 fn note(table: &mut Vec<Option<Fetched>>, code: &ImageCode, at: u16)
     requires { length table.old.items ≡ 65536 }
     ensures { table.new.items ≡ slice_set table.old.items at (result_ok ((code_of code.now).look at)) }

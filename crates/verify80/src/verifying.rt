@@ -15,6 +15,7 @@ use verify80_flow::{Analysis, ProgramPoint, Refusal, Report, analyze};
 /// What is found of an image that is accepted, with its memory and the map of its regions.
 #[derive(Drop)]
 pub struct Verified {
+    /// The report on its procedures and its stack.
     pub report: Report,
     /// The points that walks reach, by procedure and address.
     pub points: Vec<ProgramPoint>,
@@ -45,8 +46,7 @@ pub fn verify(alloc: Global, image: &Image) -> Result<Report, Refusal>
     Ok(verified.report)
 }
 
-/// Goes over an image as [`verify`] does, and reports on it however small its stack is: on one too that is refused for nothing
-/// but that.
+/// Verifies an image as [`verify`] does, but never refuses it for a stack that is too small.
 ///
 /// # Errors
 /// The refusals of [`verify`], but never `StackTooSmall`.
@@ -59,7 +59,8 @@ pub fn measure(alloc: Global, image: &Image) -> Result<Report, Refusal>
     Ok(found.report)
 }
 
-/// Verifies an image, as [`verify`] does, and keeps what was made of it, so that a run needn't make it once more.
+/// Verifies an image as [`verify`] does, and also returns the points, the memory and the map that
+/// were made for that, so that a run needn't make them again.
 ///
 /// # Errors
 /// The refusals of [`verify`].

@@ -15,7 +15,7 @@ use std::alloc::Global;
 use std::marker::Model;
 use verify80_flow::{ProcRow, ProgramPoint, Refusal};
 
-/// An image that was vouched for: the verifier accepts it, so no run of it goes wrong.
+/// An image that the verifier has accepted, so that no run of it goes wrong.
 ///
 /// Only [`vouch`] makes one.
 #[derive(Drop)]
@@ -23,8 +23,11 @@ pub struct Vouched {
     image: Image,
     memory: Vec<u8>,
     map: RegionMap,
+    /// How many bytes of stack the program needs at most.
     stack_bytes: u64,
+    /// The procedures that calls reach, by entry.
     rows: Vec<ProcRow>,
+    /// The points that walks reach.
     points: Vec<ProgramPoint>,
 }
 
@@ -54,7 +57,8 @@ impl Vouched {
     ghost use Rattle.verify80.specs.Starts.{NeverGoesWrongFromPowerOn};
     ghost use Rattle.verify80.specs.Vouched.{IsVouched};
 
-    /// An image that is accepted.
+    /// Joins an image with what the verifier has found of it, which must be an acceptance of this
+    /// image.
     fn new(image: Image, verified: Verified) -> Vouched
         requires accepted { IsAccepted (code_of image) verified.report.procedures.items verified.report.stack_bytes }
         requires points { ArePoints (code_of image) verified.points.items }
@@ -106,7 +110,7 @@ impl Vouched {
     ///
     /// Whatever waits at the ports, however many outputs are taken and however long the program runs, each of its steps
     /// fetches only inside code, stores directly only to data, jumps by PCHL only if targets are declared, touches as
-    /// stack only a given number of bytes below the stack's top, and returns only to the place after the newest call that hasn't
+    /// stack only this number of bytes below the stack's top, and returns only to the place after the newest call that hasn't
     /// returned; and it ends, if at all, by HLT, at an empty port, at a refused output, at a register-indirect store
     /// outside data or at a PCHL outside its declared targets. The same holds from power-on: whatever registers, flags and
     /// the memory outside code hold, if SP is at the stack's top and each address of code has the image's byte.
@@ -128,7 +132,8 @@ impl Vouched {
         self.rows.as_slice()
     }
 
-    /// The points that the walks of its procedures reach: by procedure, the main program first, then by entry, and by address.
+    /// The points that the walks of the image's procedures reach: by procedure, the main program
+    /// first, then by entry, and by address.
     pub fn points(&self) -> &[ProgramPoint]
         ensures points { ArePoints (code_of self.now.image) result.now }
         ensures vouched { IsVouched self.now.image self.now.rows self.now.stack_bytes }
@@ -137,7 +142,7 @@ impl Vouched {
     }
 }
 
-/// Verifies an image.
+/// Verifies an image, and if it is accepted keeps it together with what was found of it.
 ///
 /// # Example
 /// ```
@@ -166,7 +171,8 @@ pub fn vouch(alloc: Global, image: Image) -> Result<Vouched, (Image, Refusal)>
     }
 }
 
-/// What a fitting table of frames says of the image's runs, also from power-on. (It carries laws, and does nothing.)
+/// The promise for one image, from its own memory and from power-on, if a table of frames fits it.
+/// The call does nothing: its contract is the law.
 #[inline]
 fn runs_as_verified(image: &Image)
     ensures watched { (bytes : ℕ) → IsFitted (code_of image.now) bytes → bytes ≤ image.now.regions.stack.length →

@@ -16,6 +16,7 @@ use std::marker::Model;
 /// The most bytes of stack that each procedure needs below its return address.
 #[derive(Drop)]
 pub struct Bounds {
+    /// The bytes by slot of the procedure.
     bytes: Vec<u64>,
 }
 
@@ -28,7 +29,8 @@ impl Model for Bounds {
 }
 
 impl Bounds {
-    /// The bytes of a procedure; 0 if it isn't entered.
+    /// The most bytes of stack that a procedure needs below its return address; 0 if it isn't
+    /// entered.
     pub fn get(&self, procedure: Procedure) -> u64
         ensures { result ≡ bytes_of self.now procedure }
     {
@@ -41,10 +43,11 @@ impl Bounds {
     }
 }
 
-/// The sums of the procedures, and the calls that couldn't be absorbed.
+/// The greatest sum of each procedure, by slot, and the calls that couldn't be absorbed into them.
 type Settled = (Vec<u64>, Vec<CallSite>);
 
-/// Absorbs calls to settled procedures, until there are none.
+/// Absorbs calls to settled procedures, whose sums are final, until there are none left. Answers
+/// the sum of each procedure, by slot, and the calls that are left, whose callees never settle.
 fn settle(alloc: Global, depths: &[Depth], calls: &[CallSite]) -> Result<Settled, AllocError>
     requires depths { All (λ d. IsModest d.depth) depths.now }
     requires calls { All (λ c. IsModest c.depth) calls.now }

@@ -8,7 +8,7 @@ use crate::graph::CallSite;
 use frames80::{Procedure, SLOTS, slot, table};
 use std::alloc::{AllocError, Global};
 
-/// A table of one call of each procedure that has any.
+/// A table with one call that each procedure makes, by slot; `other` if it makes none.
 fn next_calls(
     alloc: Global,
     calls: &[CallSite],
@@ -25,8 +25,9 @@ fn next_calls(
     Ok(next)
 }
 
-/// The address of a call that leads back to its own procedure, if each callee of the calls has a call among them: one of
-/// each is followed, until a procedure is met twice.
+/// The address of a call that leads back to its own procedure. There must be a call, and each
+/// callee must make one of the calls itself: one call of each procedure is followed until a
+/// procedure comes a second time.
 pub(crate) fn cycle(alloc: Global, calls: &[CallSite]) -> Result<u16, AllocError>
     requires some { 0 < length calls.now }
     requires stuck { AreStuck calls.now }

@@ -20,6 +20,7 @@ impl From<AllocError> for BoundsFault {
 
     ghost from_gives = { λ _ fault. fault ≡ Memory };
 
+    /// Running out of memory is the fault `Memory`.
     fn from(_: AllocError) -> BoundsFault {
         BoundsFault::Memory
     }

@@ -2,12 +2,13 @@
 
 use frames80::Procedure;
 
-/// The depth of a frame of a procedure, in bytes; negative if it has taken more words than it has.
+/// The depth of a frame of a procedure, in bytes; negative if the stack has shrunk since its start.
 #[derive(Clone, Copy, Debug)]
 pub struct Depth {
     /// The procedure.
     pub procedure: Procedure,
-    /// The bytes that it has on the stack, without its return address.
+    /// By how many bytes the stack has grown since the procedure's start, its return address not
+    /// counted.
     pub depth: i64,
 }
 
@@ -18,8 +19,9 @@ pub struct CallSite {
     pub caller: Procedure,
     /// The address of the call.
     pub at: u16,
-    /// The bytes that the caller has on the stack there, without its return address.
+    /// By how many bytes the stack has grown since the caller's start, its return address not
+    /// counted.
     pub depth: i64,
-    /// The address that is called, where the callee is entered.
+    /// The address that is called, which is the callee's entry.
     pub target: u16,
 }

@@ -6,7 +6,7 @@
 //! |---|---|
 //! | [`find_bounds`] | the most bytes of stack that each procedure needs, or a call that leads back to its own procedure |
 //! | [`Depth`], [`CallSite`] | the depths of a program's frames, and its calls |
-//! | [`Bounds`], [`BoundsFault`] | what is found, and why nothing is |
+//! | [`Bounds`], [`BoundsFault`] | the bytes of each procedure, and why there are none |
 #![tactic(auto)]
 
 mod bounds;

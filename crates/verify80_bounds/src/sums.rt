@@ -8,7 +8,7 @@ use crate::graph::{CallSite, Depth};
 use frames80::{Procedure, SLOTS, slot, table};
 use std::alloc::{AllocError, Global};
 
-/// A sum, or a number of bytes if that is greater.
+/// The greater of `sum` and `bytes`; `sum` if `bytes` is negative.
 fn raise(sum: u64, bytes: i64) -> u64
     ensures { IsRaised sum bytes result }
 {
@@ -19,7 +19,7 @@ fn raise(sum: u64, bytes: i64) -> u64
     }
 }
 
-/// The greatest depth of each procedure, or 0.
+/// The greatest depth of each procedure in bytes, by slot; 0 if it has none above 0.
 pub(crate) fn greatest_depths(alloc: Global, depths: &[Depth]) -> Result<Vec<u64>, AllocError>
     requires { All (λ d. IsModest d.depth) depths.now }
     ensures depths { IfOk result (λ v. AreDepths depths.now v.items) }
@@ -33,7 +33,8 @@ pub(crate) fn greatest_depths(alloc: Global, depths: &[Depth]) -> Result<Vec<u64
     Ok(sums)
 }
 
-/// Absorbs a call: its caller's sum is at least what goes through the call.
+/// Absorbs a call: its caller's sum becomes at least the depth at the call, two bytes for the
+/// return address, and the callee's sum.
 pub(crate) fn absorb(sums: &mut [u64], call: &CallSite)
     requires slots { length sums.old ≡ 65537 }
     requires modest { IsModest call.now.depth }

@@ -9,10 +9,10 @@ use crate::sums::absorb;
 use frames80::{Procedure, SLOTS, slot, table};
 use std::alloc::{AllocError, Global};
 
-/// For each procedure the calls to it, and how many calls it has itself.
+/// By slot, the calls to each procedure, and how many calls it makes itself.
 type Grouped = (Vec<Vec<CallSite>>, Vec<usize>);
 
-/// An empty list for each procedure.
+/// An empty list of calls for each procedure, by slot.
 fn no_calls(alloc: Global) -> Result<Vec<Vec<CallSite>>, AllocError>
     ensures places { IfOk result (λ v. length v.items ≡ 65537) }
     ensures none { IfOk result (λ v. All (λ calls. calls.items ≡ []) v.items) }
@@ -24,7 +24,7 @@ fn no_calls(alloc: Global) -> Result<Vec<Vec<CallSite>>, AllocError>
     Ok(lists)
 }
 
-/// The calls by their callees, and how many each procedure has.
+/// Groups the calls by the slots of their callees, and counts how many each procedure makes.
 pub(crate) fn group(alloc: Global, calls: &[CallSite]) -> Result<Grouped, AllocError>
     requires { length calls.now ≤ 262144 }
     ensures { IfOk result (λ g. AreGrouped calls.now (map (λ v. v.items) g.0.items) g.1.items) }
@@ -39,7 +39,7 @@ pub(crate) fn group(alloc: Global, calls: &[CallSite]) -> Result<Grouped, AllocE
     Ok((callers, counts))
 }
 
-/// The slots of the procedures that have callers and no calls.
+/// The slots of the procedures that are called and make no calls.
 pub(crate) fn idle(
     alloc: Global,
     callers: &[Vec<CallSite>],
@@ -57,7 +57,8 @@ pub(crate) fn idle(
     Ok(slots)
 }
 
-/// Absorbs a call to the procedure that was settled last, or takes that procedure off the worklist if none is left.
+/// Absorbs one call to the procedure at the end of the worklist, and appends its caller if that was
+/// the caller's last call; or removes that procedure if no call to it is left.
 pub(crate) fn advance(
     sums: &mut [u64],
     callers: &mut [Vec<CallSite>],
@@ -88,7 +89,7 @@ pub(crate) fn advance(
     Ok(())
 }
 
-/// The calls that aren't absorbed: those whose callees have such calls themselves.
+/// The calls that aren't absorbed: those whose callees still have calls to absorb, by `counts`.
 pub(crate) fn pending_calls(
     alloc: Global,
     calls: &[CallSite],

@@ -17,15 +17,15 @@ use verify80_flow::{Procedure, fitting_tables_cover_walks};
 pub struct Call {
     /// The address of the call.
     pub at: u16,
-    /// The bytes that the caller has on the stack there, without its return address; negative if it has taken more words than it
-    /// has.
+    /// By how many bytes the stack has grown there since the caller's start, its return address not
+    /// counted; negative if it has shrunk.
     pub depth: i64,
-    /// The address that is called, where the callee is entered.
+    /// The address that is called, which is the callee's entry.
     pub target: u16,
 }
 
-/// The calls of a procedure of a vouched image, by address: exactly those of its walks, with the depth of the walk there. There are
-/// none if the image has no such procedure.
+/// The calls of a procedure of a vouched image, by address: exactly those of its walks, with the
+/// depth of the walk there. Empty if the image has no such procedure.
 ///
 /// # Errors
 /// `AllocError` if memory runs out.
@@ -40,7 +40,8 @@ pub fn find_calls(
     calls_among(alloc, vouched, &code, procedure)
 }
 
-/// The calls of a procedure of a vouched image, whose code is at hand.
+/// The calls of a procedure of a vouched image, as [`find_calls`] gives them; `code` must be that
+/// of the image.
 ///
 /// # Errors
 /// `AllocError` if memory runs out.
@@ -58,7 +59,7 @@ pub(crate) fn calls_among(
     Ok(calls)
 }
 
-/// The calls at points.
+/// The calls at those of the points whose instruction is a call, in the order of the points.
 ///
 /// # Errors
 /// `AllocError` if memory runs out.
@@ -75,7 +76,7 @@ fn calls_at(
         .collect(alloc)
 }
 
-/// The call at a point, if its instruction calls.
+/// The call at a point; `None` if its instruction is no call.
 fn call_at(code: &ImageCode, point: &ProgramPoint) -> Option<Call>
     ensures { result ≡ call_at (code_of code.now) point.now }
 {
@@ -88,7 +89,7 @@ fn call_at(code: &ImageCode, point: &ProgramPoint) -> Option<Call>
     })
 }
 
-/// The address that an effect calls.
+/// The address that an effect calls; `None` if it is no call.
 fn target_of(effect: Effect) -> Option<u16>
     ensures { result ≡ called_by effect }
 {

@@ -4,8 +4,8 @@
 //! |---|---|
 //! | [`CallGraph`], [`Node`] | the procedures of a program, each with its bound and its calls |
 //! | [`list_text`] | a line for each procedure, and one for each of its calls |
-//! | [`graph_text`] | the same as a graph for Graphviz |
-//! | [`bounds_are_made_of_chains`] | what the calls that are bold in a graph add up to, as a contract |
+//! | [`graph_text`] | the procedures and their calls as a graph for Graphviz |
+//! | [`bounds_are_made_of_chains`] | the bytes of the calls that are bold in a graph add up to the bound, as a contract |
 
 mod call_graph;
 mod chain;

@@ -7,8 +7,8 @@ ghost use Rattle.verify80_calls.specs.Points.{ArePointsOf};
 use frames80::{Procedure, slot};
 use verify80::ProgramPoint;
 
-/// The points of a procedure among those of a program, which are by procedure and address. The time grows with the logarithm of
-/// their number.
+/// The points of one procedure among those of a program, which must be sorted by procedure and
+/// address. The time grows with the logarithm of their number.
 pub(crate) fn points_of(points: &[ProgramPoint], procedure: Procedure) -> &[ProgramPoint]
     ensures { (code : Code) → ArePoints code points.now → ArePointsOf code procedure result.now }
 {

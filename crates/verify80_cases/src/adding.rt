@@ -7,12 +7,11 @@ use image80::laws::text_of_regions_is_read_as_itself;
 use image80::{Case, Regions, RegionsFault, case_lines, migrate_regions, write_regions};
 use std::alloc::Global;
 
-/// The text of version 2 of the regions with these cases added: the text of version 2 of the regions, the lines of the cases behind
-/// it, and of that the text of version 2.
+/// The text of version 2 of these regions with these cases added to theirs.
 ///
 /// # Errors
-/// What `read_regions` answers of the text with the lines: none but `Memory` if each case is of an address that the regions have no
-/// case for, and each is there once.
+/// The fault of `read_regions` for the text of the regions followed by a line for each case. If the
+/// regions have none of the cases' addresses and no address comes twice, that is `Memory` alone.
 pub fn regions_with_cases(
     alloc: Global,
     regions: &Regions,

@@ -9,7 +9,9 @@ use crate::table::{Run, run_of};
 use crate::trail::Trail;
 use verify80::ImageCode;
 
-/// The entries of the table by which the PCHL at an address goes, if the instructions that stand before it show one.
+/// The entries of the table by which the PCHL at an address goes, if the instructions that lead to
+/// it one after another show one; else `None`. `reached` has a mark for each address that is
+/// reached.
 pub(crate) fn run_before(code: &ImageCode<'_>, reached: &[bool], at: u16) -> Option<Run>
     ensures begun { IfSome result (λ run. IsBegun code.now reached.now at run.first run.limit) }
     ensures small { IfSome result (λ run. run.limit ≤ 65536) }
@@ -19,7 +21,7 @@ pub(crate) fn run_before(code: &ImageCode<'_>, reached: &[bool], at: u16) -> Opt
     run_of(code, table)
 }
 
-/// What the instructions that stand before an address have left.
+/// What the instructions that lead to an address one after another show of a table.
 fn trail_to(code: &ImageCode<'_>, reached: &[bool], at: u16) -> Trail
     ensures { AreBefore code.now reached.now at result }
 {

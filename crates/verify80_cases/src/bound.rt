@@ -9,7 +9,7 @@
 //! DAD D
 //! ```
 //!
-//! Others may stand between, if they leave the flags, A but for doubling it, and then the pair.
+//! Other instructions may come between, if they leave the carry flag, then A but for doubling it, and then the pair.
 
 ghost use Rattle.std.specs.Prelude.{◌≡◌, Contains, IfSome, List, Some, ℕ};
 ghost use Rattle.verify80_cases.specs.Trails.{IsPassed, cpi_of};
@@ -18,23 +18,24 @@ use crate::changes::{may_change, may_change_a, may_change_carry};
 use crate::leads::is_call;
 use decode80::{Condition, Instr, Operand, Operation, Pair, Register};
 
-/// What a comparison has left of its bound, by the address of its CPI.
+/// How far the code of a comparison that bounds an index has been seen, with the address of its
+/// CPI.
 #[derive(Clone, Copy)]
 pub(crate) enum Bound {
-    /// There is none.
+    /// No comparison is seen.
     Unknown,
     /// The carry flag says whether A is below the operand.
     Compared(u16),
     /// A is below the operand, or was before it was doubled.
     Below(u16),
-    /// The pair has in its low byte what A had.
+    /// The pair's low byte has what A had.
     Index(u16, Pair),
-    /// The pair was added to the table's address, once at least.
+    /// The pair was added to the table's address, at least once.
     Added(u16),
 }
 
 impl Bound {
-    /// The CPI that bounds the index which is in HL.
+    /// The address of the CPI that bounds the index in HL; `None` if none does.
     pub(crate) fn comparison(self) -> Option<u16>
         ensures { IfSome result (λ cpi. cpi_of self ≡ Some cpi) }
     {
@@ -44,7 +45,7 @@ impl Bound {
         }
     }
 
-    /// What is left after an instruction at an address.
+    /// The state after an instruction at address `at`.
     pub(crate) fn after(self, at: u16, instr: Instr) -> Bound
         ensures { (passed : List ℕ) → Contains passed at → IsPassed passed (cpi_of self) → IsPassed passed (cpi_of result) }
     {
@@ -55,7 +56,7 @@ impl Bound {
         }
     }
 
-    /// What is left after an instruction that is neither a CPI nor a call.
+    /// The state after an instruction that is neither a CPI nor a call.
     fn after_other(self, instr: Instr) -> Bound
         ensures { (passed : List ℕ) → IsPassed passed (cpi_of self) → IsPassed passed (cpi_of result) }
     {
@@ -69,7 +70,7 @@ impl Bound {
     }
 }
 
-/// After an instruction behind the comparison.
+/// The state after an instruction that follows the CPI while the carry flag still has its result.
 fn compared_after(cpi: u16, instr: Instr) -> Bound
     ensures { (passed : List ℕ) → Contains passed cpi → IsPassed passed (cpi_of result) }
 {
@@ -82,7 +83,7 @@ fn compared_after(cpi: u16, instr: Instr) -> Bound
     }
 }
 
-/// After an instruction where A is below the operand.
+/// The state after an instruction while A has the index, which is below the CPI's operand.
 fn below_after(cpi: u16, instr: Instr) -> Bound
     ensures { (passed : List ℕ) → Contains passed cpi → IsPassed passed (cpi_of result) }
 {
@@ -95,7 +96,7 @@ fn below_after(cpi: u16, instr: Instr) -> Bound
     }
 }
 
-/// After an instruction where a pair has the index.
+/// The state after an instruction while `pair` has the index in its low byte.
 fn index_after(cpi: u16, pair: Pair, instr: Instr) -> Bound
     ensures { (passed : List ℕ) → Contains passed cpi → IsPassed passed (cpi_of result) }
 {
@@ -111,7 +112,7 @@ fn index_after(cpi: u16, pair: Pair, instr: Instr) -> Bound
     }
 }
 
-/// After an instruction where the index was added.
+/// The state after an instruction while HL has the table's address with the index added.
 fn added_after(cpi: u16, instr: Instr) -> Bound
     ensures { (passed : List ℕ) → Contains passed cpi → IsPassed passed (cpi_of result) }
 {

@@ -8,15 +8,17 @@ use crate::marks::is_marked;
 use decode80::{Instr, behind, fetch};
 use verify80::ImageCode;
 
-/// An instruction that was reached and goes on to the one behind it.
+/// An instruction that is reached and that may go on to the next one.
 #[derive(Clone, Copy)]
 pub(crate) struct Passed {
+    /// The instruction.
     pub(crate) instr: Instr,
-    /// The address behind it.
+    /// The address after it.
     pub(crate) next: u16,
 }
 
-/// The instruction at an address, if it was reached and goes on to the one behind it.
+/// The instruction at an address, if the address is reached and the instruction may go on to the
+/// next one; else `None`.
 pub(crate) fn passed_at(code: &ImageCode<'_>, reached: &[bool], at: u16) -> Option<Passed>
     ensures { IfSome result (λ passed. GoesOn code.now reached.now at passed.next) }
 {
@@ -33,8 +35,9 @@ pub(crate) fn passed_at(code: &ImageCode<'_>, reached: &[bool], at: u16) -> Opti
     })
 }
 
-/// The first of the instructions that stand before an address, one after another: each was reached, and goes on to the next one; no
-/// other one that was reached does so. It is the address itself if there is none.
+/// The address where the instructions begin that lead to `at` one after another: each is reached
+/// and may go on to the next one, and no other reached instruction does. `at` itself if there are
+/// none.
 pub(crate) fn first_before(code: &ImageCode<'_>, reached: &[bool], at: u16) -> u16 {
     let mut first = at;
     // Behind a given number of instructions the addresses come again.
@@ -47,7 +50,8 @@ pub(crate) fn first_before(code: &ImageCode<'_>, reached: &[bool], at: u16) -> u
     first
 }
 
-/// The only instruction that was reached and goes on to an address.
+/// The address of the only reached instruction that goes on to `at`; `None` if there are none or
+/// several.
 fn the_one_before(code: &ImageCode<'_>, reached: &[bool], at: u16) -> Option<u16> {
     let mut found = None;
     for bytes in 1..4_u16 {
@@ -62,7 +66,8 @@ fn the_one_before(code: &ImageCode<'_>, reached: &[bool], at: u16) -> Option<u16
     found
 }
 
-/// Whether the instruction at an address was reached and may go on to another one that stands behind it.
+/// Whether the instruction at `before` is reached and may go on to `at`, which must be the next
+/// address.
 fn goes_on_to(code: &ImageCode<'_>, reached: &[bool], before: u16, at: u16) -> bool {
     match passed_at(code, reached, before) {
         Some(passed) => passed.next == at,

@@ -8,7 +8,8 @@ use decode80::{FetchFault, behind, fetch};
 use std::alloc::{AllocError, Global};
 use verify80::ImageCode;
 
-/// For each address whether it is in an instruction at a marked address.
+/// For each address whether it is a byte of an instruction that begins at a marked address of
+/// `reached`. An unused opcode counts as an instruction of one byte.
 ///
 /// # Errors
 /// `AllocError` only if memory runs out.
@@ -27,7 +28,8 @@ pub fn find_covered(
     Ok(marks)
 }
 
-/// How many bytes the instruction at a marked address has; 0 if the address isn't marked, or the code has no instruction there.
+/// How many bytes the instruction at a marked address has, 1 for an unused opcode; 0 if the address
+/// isn't marked, or a byte of the instruction is outside CODE or past FFFF.
 #[tactic(auto, unfolding(crate::specs::Covered::size_at))]
 fn size_at(code: &ImageCode<'_>, reached: &[bool], at: u16) -> u16
     requires { length reached.now ≡ 65536 }
@@ -43,7 +45,8 @@ fn size_at(code: &ImageCode<'_>, reached: &[bool], at: u16) -> u16
     }
 }
 
-/// Whether an address is in an instruction at a marked address: one that begins there, or one or two addresses before it.
+/// Whether an address is a byte of an instruction at a marked address: one that begins there, or
+/// one or two addresses before.
 fn is_covered(code: &ImageCode<'_>, reached: &[bool], address: u16) -> bool
     requires { length reached.now ≡ 65536 }
     ensures { result ≡ is_covered code.now reached.now address }

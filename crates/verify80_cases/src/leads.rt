@@ -6,7 +6,8 @@ ghost use Rattle.verify80_cases.specs.Reach.{falls_to, target_of};
 
 use decode80::{Fetched, Flow, Instr};
 
-/// The address behind an instruction, unless it never goes on there.
+/// The address after an instruction; `None` if the instruction never goes on there. A call counts
+/// as one that returns.
 pub(crate) fn falls_to(found: Fetched) -> Option<u16>
     ensures { result ≡ falls_to found.instr found.next }
 {
@@ -18,7 +19,7 @@ pub(crate) fn falls_to(found: Fetched) -> Option<u16>
     }
 }
 
-/// The address that an instruction names to go to.
+/// The address that a jump, a call or an RST goes to; `None` for other instructions.
 pub(crate) fn target_of(instr: Instr) -> Option<u16>
     ensures { result ≡ target_of instr }
 {
@@ -30,7 +31,7 @@ pub(crate) fn target_of(instr: Instr) -> Option<u16>
     }
 }
 
-/// Whether an instruction is a call.
+/// Whether an instruction is a call, conditional or not, or an RST.
 pub(crate) fn is_call(instr: Instr) -> bool
     ensures { result ≡ is_call instr }
 {

@@ -7,12 +7,12 @@
 //! | [`suggest_cases`] | the cases that the tables of an image suggest |
 //! | [`Suggestions`] | these cases, and the PCHLs for which no table is seen |
 //! | [`Search`], [`SuggestedCase`] | an image that was gone through, and the case of one PCHL |
-//! | [`Note`] | what there is to say of a PCHL beside its case |
+//! | [`Note`] | why the case of a PCHL is uncertain, or why it has none |
 //! | [`TableKind`] | what a table consists of |
 //! | [`regions_with_cases`] | the text of regions to which cases are added |
 //! | [`find_reachable`] | the addresses that a program may reach, along the cases of its regions |
 //! | [`find_covered`] | the bytes of the instructions there |
-//! | [`laws`] | what holds of the definitions alone |
+//! | [`laws`] | a law of the definitions, as a contract |
 #![tactic(auto)]
 
 mod adding;

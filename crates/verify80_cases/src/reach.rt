@@ -13,9 +13,10 @@ use verify80::ImageCode;
 /// How many addresses there are.
 const ADDRESSES: usize = 65_536;
 
-/// For each address whether the program may reach it from its start: along each branch, behind each call whether it returns or
-/// not, and from a PCHL to the targets that the regions have for it. It goes on from those addresses alone at which an instruction
-/// stands whose bytes are all code; an address without one may be marked, and leads nowhere.
+/// For each address whether the program may reach it from its start: along each branch, after each
+/// call whether it returns or not, and from a PCHL to the targets that the regions declare for it.
+/// It goes on only from addresses with an instruction whose bytes are all code; an address without
+/// one may be marked, and leads nowhere.
 ///
 /// # Errors
 /// `AllocError` only if memory runs out.
@@ -27,12 +28,12 @@ pub fn find_reachable(alloc: Global, code: &ImageCode<'_>) -> Result<Vec<bool>, 
     Ok(visited.marks)
 }
 
-/// The addresses that were entered.
+/// The addresses that a search has reached.
 #[derive(Drop)]
 pub(crate) struct Visited {
-    /// For each address whether it was entered.
+    /// For each address whether it is reached.
     pub(crate) marks: Vec<bool>,
-    /// The addresses that are reached, as they were entered, each once.
+    /// The addresses that are reached, each once, in the order in which they were found.
     pub(crate) order: Vec<u16>,
 }
 
@@ -40,7 +41,7 @@ impl Visited {
     ghost use Rattle.std.specs.Prelude.{[], ℕ, List};
     ghost use Rattle.image80.specs.Image.{Located};
 
-    /// None is entered.
+    /// No address is reached. `AllocError` if memory runs out.
     pub(crate) fn new(alloc: Global) -> Result<Visited, AllocError>
         ensures { IfOk result (λ visited. (image : Located) → IsDone image [] visited.marks.items visited.order.items) }
     {
@@ -52,7 +53,8 @@ impl Visited {
 
     ghost use Rattle.std.specs.Prelude.{◌∷◌, ◌++◌};
 
-    /// Enters an address, and all that the program may reach from there.
+    /// Adds an address and all that the program may reach from there. `AllocError` if memory runs
+    /// out.
     pub(crate) fn explore(&mut self, code: &ImageCode<'_>, at: u16) -> Result<(), AllocError>
         requires { length self.old.marks.items ≡ 65536 }
         ensures { OnOk result ((roots : List ℕ) → IsDone code.now roots self.old.marks.items self.old.order.items →
@@ -68,7 +70,7 @@ impl Visited {
         Ok(())
     }
 
-    /// Enters an address, unless it was entered before.
+    /// Adds an address, unless it is reached already. `AllocError` if memory runs out.
     fn enter(&mut self, at: u16) -> Result<(), AllocError>
         requires { length self.old.marks.items ≡ 65536 }
         ensures { OnOk result (Enters self.old.marks.items self.old.order.items (at ∷ []) self.new.marks.items self.new.order.items) }
@@ -81,7 +83,7 @@ impl Visited {
         Ok(())
     }
 
-    /// Enters an address, if there is one.
+    /// Adds an address, if there is one. `AllocError` if memory runs out.
     fn enter_given(&mut self, at: Option<u16>) -> Result<(), AllocError>
         requires { length self.old.marks.items ≡ 65536 }
         ensures { OnOk result (Enters self.old.marks.items self.old.order.items (given at) self.new.marks.items self.new.order.items) }
@@ -92,7 +94,7 @@ impl Visited {
         }
     }
 
-    /// Enters each of the addresses.
+    /// Adds each of these addresses. `AllocError` if memory runs out.
     fn enter_each(&mut self, addresses: &[u16]) -> Result<(), AllocError>
         requires { length self.old.marks.items ≡ 65536 }
         ensures { OnOk result (Enters self.old.marks.items self.old.order.items addresses.now self.new.marks.items self.new.order.items) }
@@ -103,7 +105,8 @@ impl Visited {
         Ok(())
     }
 
-    /// Enters the addresses that the instruction at an address leads to.
+    /// Adds the addresses that the instruction at an address leads to; none if there is no
+    /// instruction. `AllocError` if memory runs out.
     #[tactic(auto, unfolding(crate::specs::Reach::leads_to))]
     fn follow(&mut self, code: &ImageCode<'_>, at: u16) -> Result<(), AllocError>
         requires { length self.old.marks.items ≡ 65536 }
@@ -119,7 +122,8 @@ impl Visited {
     }
 }
 
-/// The targets that are declared for the instruction at an address: none unless it is a PCHL.
+/// The targets that the regions declare for the instruction at an address; empty unless it is a
+/// PCHL.
 fn targets_of<'a>(code: &'a ImageCode<'_>, instr: Instr, at: u16) -> &'a [u16]
     ensures { result.now ≡ targets_of instr (declared_targets code.now.regions at) }
 {

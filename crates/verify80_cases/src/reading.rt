@@ -16,21 +16,22 @@ use verify80::ImageCode;
 /// How many addresses there are.
 const ADDRESSES: usize = 65_536;
 
-/// The tables that were found so far.
+/// Finds the tables of PCHLs without declared targets as a search goes on, and reads their targets
+/// one by one.
 #[derive(Drop)]
 pub(crate) struct Reader {
-    /// For each address whether it belongs to an instruction that was reached.
+    /// For each address whether it is a byte of an instruction that is reached.
     taken: Vec<bool>,
-    /// For each address whether a table there was begun.
+    /// For each address whether the table there was begun.
     begun: Vec<bool>,
-    /// How many of the addresses that were entered are known.
+    /// How many addresses of the search's order have been gone through.
     known: usize,
-    /// The rest of each table that isn't read to its end.
+    /// What is left to read of each table that isn't read to its end.
     pub(crate) unfinished: Vec<Run>,
 }
 
 impl Reader {
-    /// No table is found.
+    /// No table is found. `AllocError` if memory runs out.
     pub(crate) fn new(alloc: Global) -> Result<Reader, AllocError>
         ensures { IfOk result (λ reader. reader.unfinished.items ≡ []) }
     {
@@ -42,8 +43,9 @@ impl Reader {
         })
     }
 
-    /// The next target that a table has: of the table that was found last, since all that a target leads to is known before the next
-    /// one is read.
+    /// The next target that a table has, or `None` if all tables are read to their ends. The table
+    /// that was found last comes first, and the caller must explore what a target leads to before
+    /// it asks for the next.
     pub(crate) fn next_target(
         &mut self,
         code: &ImageCode<'_>,
@@ -69,7 +71,8 @@ impl Reader {
         Ok(None)
     }
 
-    /// Takes note of the addresses that were entered since.
+    /// Goes through the addresses that were reached since the last call: marks the bytes of their
+    /// instructions, and begins the tables of their PCHLs. `AllocError` if memory runs out.
     fn notice(&mut self, code: &ImageCode<'_>, visited: &Visited) -> Result<(), AllocError>
         requires { AreRests code.now visited.now.marks.items self.old.unfinished.items }
         ensures { OnOk result (AreRests code.now visited.now.marks.items self.new.unfinished.items) }
@@ -86,7 +89,7 @@ impl Reader {
         Ok(())
     }
 
-    /// Marks the bytes of the instruction at an address.
+    /// Marks the bytes of the instruction at an address as taken.
     fn take(&mut self, code: &ImageCode<'_>, at: u16)
         ensures { self.new.unfinished.items ≡ self.old.unfinished.items }
     {
@@ -102,8 +105,8 @@ impl Reader {
         }
     }
 
-    /// Begins to read the table of the PCHL at an address, if there is one that isn't declared and its table is seen, unless that was
-    /// done before.
+    /// Begins to read the table of the PCHL at an address, if there is one without declared targets
+    /// and its table is seen, unless that table was begun before. `AllocError` if memory runs out.
     fn begin(&mut self, code: &ImageCode<'_>, visited: &Visited, at: u16) -> Result<(), AllocError>
         requires { AreRests code.now visited.now.marks.items self.old.unfinished.items }
         ensures { OnOk result (AreRests code.now visited.now.marks.items self.new.unfinished.items) }
@@ -119,7 +122,8 @@ impl Reader {
     }
 }
 
-/// The entries of the table of the PCHL at an address, if there is one that isn't declared, and its table is seen.
+/// The entries of the table of the PCHL at an address; `None` if there is no PCHL, it has declared
+/// targets, or no table is seen.
 fn undeclared_run(code: &ImageCode<'_>, visited: &Visited, at: u16) -> Option<Run>
     ensures { IfSome result (IsRest code.now visited.now.marks.items) }
 {
@@ -129,7 +133,8 @@ fn undeclared_run(code: &ImageCode<'_>, visited: &Visited, at: u16) -> Option<Ru
     run_before(code, &visited.marks, at)
 }
 
-/// Where PCHL goes by the first entry of what is left of a table.
+/// The address to which the PCHL goes by the first of the entries that are left; `None` if none are
+/// left or there can be no entry.
 fn first_goal(code: &ImageCode<'_>, visited: &Visited, taken: &[bool], rest: Run) -> Option<u16>
     ensures { IfSome result (IsFirstGoal code.now rest) }
 {
@@ -145,7 +150,7 @@ fn first_goal(code: &ImageCode<'_>, visited: &Visited, taken: &[bool], rest: Run
     )
 }
 
-/// What is left of a table behind its first entry: nothing past the end of memory.
+/// The entries that are left after the first; `None` at the end of memory.
 fn behind_first(rest: Run) -> Option<Run>
     ensures { IfSome result (IsBehindFirst rest) }
 {

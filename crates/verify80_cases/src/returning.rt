@@ -8,8 +8,10 @@ use frames80::Code;
 use std::alloc::{AllocError, Global};
 use verify80::ImageCode;
 
-/// For each address how many words a procedure has on the stack there above its return address: by the first way that comes there, as
-/// if each call left as many as it found. `None` in the main program, and once the return address is popped or exchanged.
+/// For each address how many words a procedure has on the stack there above its return address:
+/// along the first way that is found there, as if each call left the stack as it was. `None` in the
+/// main program, and once the return address is popped or exchanged. `order` has the addresses as
+/// they were reached. `AllocError` if memory runs out.
 pub(crate) fn find_heights(
     alloc: Global,
     code: &ImageCode<'_>,
@@ -22,7 +24,8 @@ pub(crate) fn find_heights(
     Ok(heights)
 }
 
-/// Passes the height at an address on to those that its instruction leads to.
+/// Passes the height at an address on to the addresses that its instruction leads to; a called
+/// address gets 0.
 fn pass_on(heights: &mut Vec<Option<i32>>, code: &ImageCode<'_>, at: u16) {
     let Ok(found) = fetch(at, code) else {
         return;
@@ -42,12 +45,12 @@ fn pass_on(heights: &mut Vec<Option<i32>>, code: &ImageCode<'_>, at: u16) {
     }
 }
 
-/// The height at an address.
+/// How many words are above the return address at an address; `None` if that isn't known.
 pub(crate) fn height_at(heights: &[Option<i32>], at: u16) -> Option<i32> {
     *heights.get(usize::from(at))?
 }
 
-/// Gives an address a height, unless it has one.
+/// Sets the height at an address, unless one is set already.
 fn give(heights: &mut Vec<Option<i32>>, at: u16, height: Option<i32>) {
     if let Some(known) = heights.get_mut(usize::from(at))
         && known.is_none()
@@ -56,7 +59,8 @@ fn give(heights: &mut Vec<Option<i32>>, at: u16, height: Option<i32>) {
     }
 }
 
-/// The height after an instruction.
+/// The height after an instruction; `None` if it wasn't known, the return address is popped or
+/// exchanged, or SP is written.
 fn height_after(height: Option<i32>, instr: Instr) -> Option<i32> {
     let height = height?;
     match instr.flow() {
@@ -71,17 +75,22 @@ fn height_after(height: Option<i32>, instr: Instr) -> Option<i32> {
     }
 }
 
-/// The pairs that have the procedure's return address, and the height.
+/// Which pairs have the procedure's return address, and how many words are above it on the stack.
 #[derive(Clone, Copy)]
 struct Holders {
+    /// How many words are above the return address; `None` if that isn't known or it isn't on the
+    /// stack.
     height: Option<i32>,
+    /// Whether BC has the return address.
     bc: bool,
+    /// Whether DE has the return address.
     de: bool,
+    /// Whether HL has the return address.
     hl: bool,
 }
 
 impl Holders {
-    /// After an instruction.
+    /// The state after an instruction.
     fn after(self, instr: Instr) -> Holders {
         let on_top = self.height == Some(0);
         let height = height_after(self.height, instr);
@@ -116,7 +125,8 @@ impl Holders {
     }
 }
 
-/// Whether HL has the procedure's return address at an address, as the instructions before it show that stand one after another.
+/// Whether HL has the procedure's return address at an address, as far as the instructions show
+/// that lead to it one after another.
 pub(crate) fn has_return_address(
     code: &ImageCode<'_>,
     reached: &[bool],

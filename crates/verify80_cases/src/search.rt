@@ -16,38 +16,43 @@ use std::alloc::{AllocError, Global};
 use std::marker::Model;
 use verify80::ImageCode;
 
-/// A case that a table suggests.
+/// The case that a table suggests for a PCHL.
 #[derive(Drop)]
 pub struct SuggestedCase {
+    /// The PCHL's address and its targets.
     pub case: Case,
     /// The address of the table.
     pub table: u16,
-    /// The address behind its last entry, up to 65536.
+    /// The address after the table's last entry, up to 65536.
     pub end: u32,
-    /// Whether the table may be longer: no code that is reached stands behind it, CODE goes on there, and no comparison bounds the index.
+    /// Whether the table may be longer: no reached code comes after it, CODE goes on there, and no
+    /// comparison bounds the index.
     pub may_go_on: bool,
 }
 
-/// What there is to say of a PCHL that is reached and has no declared targets.
+/// A remark on a PCHL that is reached and has no declared targets.
 #[derive(Clone, Copy, Debug, PartialEq, Eq)]
 pub enum Note {
-    /// The table at an address is taken to end at another one, but nothing that is reached shows it.
+    /// The table at `table` is taken to end at `end`, but nothing that is reached shows that it
+    /// does.
     MayEnd { table: u16, end: u32 },
-    /// No table is seen for the one at this address.
+    /// No table is seen for the PCHL at this address.
     Tableless(u16),
-    /// The one at this address returns: HL has the return address of its procedure.
+    /// The PCHL at this address returns: HL has the return address of its procedure.
     Returns(u16),
 }
 
-/// An image that was gone through, along each branch, behind each call whether it returns or not, from a PCHL to its declared targets,
-/// and to those that its table has. Which instructions show a table is advice: no contract says when one is seen.
+/// What of an image is reached along each branch, after each call whether it returns or not, from a
+/// PCHL to its declared targets, and to those that its table has. Which instructions show a table
+/// is advice: no contract says when one is seen.
 #[derive(Drop)]
 pub struct Search {
     /// For each address whether it was reached.
     reached: Vec<bool>,
-    /// For each address whether it is in an instruction that was reached.
+    /// For each address whether it is a byte of an instruction that is reached.
     taken: Vec<bool>,
-    /// For each address how many words a procedure has on the stack there.
+    /// For each address how many words a procedure has on the stack there above its return address,
+    /// if that is known.
     heights: Vec<Option<i32>>,
 }
 
@@ -60,7 +65,7 @@ impl Model for Search {
 }
 
 impl Search {
-    /// Goes through an image.
+    /// Searches an image from its start.
     ///
     /// # Errors
     /// `AllocError` only if memory runs out.
@@ -85,7 +90,8 @@ impl Search {
         is_marked(&self.reached, at) && is_undeclared(image, code, at)
     }
 
-    /// The case of such a PCHL, if a table is seen for it now that all is reached; `None` says only that none is.
+    /// The case of the PCHL at `at`, which must be reached and without declared targets, if a table
+    /// is seen for it. `None` says only that none is seen.
     ///
     /// # Errors
     /// `AllocError` only if memory runs out.
@@ -107,7 +113,9 @@ impl Search {
         case_of_run(alloc, image, code, &self.reached, &self.taken, at, run)
     }
 
-    /// What there is to say of such a PCHL beside the case that is suggested for it.
+    /// The remark on the PCHL at `at`, for which `found` was suggested: where its table may not
+    /// end, that it returns, or that no table is seen. `None` if something shows where its table
+    /// ends.
     pub fn note(&self, code: &ImageCode<'_>, at: u16, found: &Option<SuggestedCase>) -> Option<Note>
         ensures { IsNote at found.now result }
     {
@@ -125,7 +133,8 @@ impl Search {
     }
 }
 
-/// A walk over an image, and the tables that are found on it and followed.
+/// Searches an image from its start, and from the targets of each table that is found on the way.
+/// `AllocError` if memory runs out.
 fn explore_with_tables(alloc: Global, code: &ImageCode<'_>) -> Result<Visited, AllocError>
     ensures { IfOk result (λ visited. IsExplored code.now visited.marks.items visited.order.items) }
 {
@@ -142,7 +151,8 @@ fn explore_with_tables(alloc: Global, code: &ImageCode<'_>) -> Result<Visited, A
     Ok(visited)
 }
 
-/// The case of a PCHL that goes by a table; `None` if the table has no entry.
+/// The case of a PCHL that goes by these entries of a table; `None` if there is no entry.
+/// `AllocError` if memory runs out.
 fn case_of_run(
     alloc: Global,
     image: &Image,
@@ -175,7 +185,8 @@ fn case_of_run(
     }))
 }
 
-/// Whether CODE goes on at an address with a byte that belongs to nothing that is reached, and with one behind it.
+/// Whether the bytes at address `end` and after it are both code and belong to no instruction that
+/// is reached.
 fn goes_on_behind(code: &ImageCode<'_>, taken: &[bool], end: usize) -> bool
     ensures { result ≡ goes_on_behind code.now taken.now end }
 {

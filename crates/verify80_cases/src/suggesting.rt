@@ -9,22 +9,26 @@ use image80::{Case, Image};
 use std::alloc::{AllocError, Global};
 use verify80::ImageCode;
 
-/// The cases that the tables of an image suggest, and the PCHLs for which no table is seen, both by address; and what there is to say
-/// of either, in the order of the PCHLs.
+/// What is suggested for the PCHLs of an image that are reached and have no declared targets, each
+/// list by address.
 #[derive(Drop)]
 pub struct Suggestions {
+    /// The cases that their tables suggest.
     pub cases: Vec<Case>,
+    /// The addresses of the PCHLs for which no table is seen.
     pub tableless: Vec<u16>,
+    /// The remarks on either, in the order of the PCHLs.
     pub notes: Vec<Note>,
 }
 
-/// For each PCHL that no case names and that the program may reach, the case that its table suggests. The table's address is that of an
-/// LXI. It is a table of words if a word is loaded through HL to which the pair was added, and exchanged: its words are those from there
-/// on, as long as both bytes are code and belong to no instruction that is reached, and an instruction in the code begins at the word.
-/// A table is one of JMPs if the PCHL goes to the address to which the pair was added, and these are its targets. A comparison
-/// with a number of entries ends it too.
+/// For each PCHL that no case names and that the program may reach, the case that its table
+/// suggests. The table's address is that of an LXI. It is a table of words if a word is loaded
+/// through HL to which the pair was added, and exchanged: its words are those from there on, as
+/// long as both bytes are code and belong to no instruction that is reached, and an instruction in
+/// the code begins at the word. A table is one of JMPs if the PCHL goes to the address to which the
+/// pair was added, and these are its targets. A comparison with a number of entries ends it too.
 ///
-/// What is reached follows each branch, goes on behind each CALL whether it returns or not, and goes to the suggested targets: more than
+/// What is reached follows each branch, goes on after each CALL whether it returns or not, and goes to the suggested targets: more than
 /// the verifier's walks do. Nothing rests on it, for a run that jumps elsewhere ends there.
 ///
 /// # Errors
@@ -49,7 +53,8 @@ impl Suggestions {
     ghost use Rattle.std.specs.Prelude.{◌+◌};
     ghost use Rattle.verify80_cases.specs.Suggested.{AreNotesBelow, AreSuggestedBelow};
 
-    /// Appends what a PCHL suggests whose address is above those of the others, if there is one at an address.
+    /// Appends what is suggested for the PCHL at `at`, if there is one that is reached and has no
+    /// declared targets. Addresses must come in ascending order. `AllocError` if memory runs out.
     fn add(
         &mut self,
         alloc: Global,
@@ -78,7 +83,7 @@ impl Suggestions {
     }
 }
 
-/// Appends a note, if there is one.
+/// Appends a remark, if there is one. `AllocError` if memory runs out.
 fn push_given(notes: &mut Vec<Note>, note: Option<Note>) -> Result<(), AllocError>
     ensures { OnOk result (notes.new.items ≡ notes.old.items ++ cons_option note []) }
 {

@@ -16,37 +16,41 @@ use verify80::ImageCode;
 const JMP: u8 = 0xC3;
 /// The opcode of PCHL.
 const PCHL: u8 = 0xE9;
-/// More entries than a table can have.
+/// The limit of a table that no comparison bounds: more entries than it can have.
 const NO_LIMIT: usize = 65_536;
 
 /// What a table consists of.
 #[derive(Clone, Copy, Debug, PartialEq, Eq)]
 pub enum TableKind {
-    /// The words that PCHL goes to, low byte first.
+    /// Addresses that the PCHL goes to, low byte first.
     Words,
-    /// JMPs that PCHL goes to.
+    /// JMPs that the PCHL goes to.
     Jumps,
 }
 
-/// A table by which a PCHL goes.
+/// A table by which a PCHL goes, as the code before the PCHL shows it.
 #[derive(Clone, Copy)]
 pub(crate) struct Table {
-    /// The LXI that has its address.
+    /// The address of the LXI that loads the table's address.
     pub(crate) lxi: u16,
+    /// What the table consists of.
     pub(crate) kind: TableKind,
-    /// The CPI that bounds its index.
+    /// The address of the CPI that bounds the table's index, if there is one.
     pub(crate) comparison: Option<u16>,
 }
 
-/// The address of a table's first entry, and how many entries it has at most, if they don't end before.
+/// Entries of a table, one after another.
 #[derive(Clone, Copy)]
 pub(crate) struct Run {
+    /// What the table consists of.
     pub(crate) kind: TableKind,
+    /// The address of the first entry.
     pub(crate) first: u16,
+    /// How many entries there are at most.
     pub(crate) limit: usize,
 }
 
-/// Whether an address holds a PCHL in the code for which no targets are declared.
+/// Whether an address has a PCHL in CODE for which no targets are declared.
 pub(crate) fn is_undeclared(image: &Image, code: &ImageCode<'_>, at: u16) -> bool
     requires { code.now ≡ image.now }
     ensures { result ≡ is_undeclared image.now at }
@@ -54,7 +58,7 @@ pub(crate) fn is_undeclared(image: &Image, code: &ImageCode<'_>, at: u16) -> boo
     code.is_code(at) && code.byte(at) == PCHL && image.regions.targets(at).is_none()
 }
 
-/// Whether a PCHL stands at an address, in the code.
+/// Whether an address has a PCHL in CODE.
 pub(crate) fn holds_pchl(code: &ImageCode<'_>, at: u16) -> bool
     ensures { result ≡ holds_pchl (fetch_at code.now.regions (memory_of code.now.chunks) at) }
 {
@@ -64,7 +68,7 @@ pub(crate) fn holds_pchl(code: &ImageCode<'_>, at: u16) -> bool
     }
 }
 
-/// The word that the LXI at an address loads.
+/// The word that the LXI at an address loads; `None` if there is no LXI.
 fn loaded_word(code: &ImageCode<'_>, at: u16) -> Option<u16>
     ensures { result ≡ loaded_word (fetch_at code.now.regions (memory_of code.now.chunks) at) }
 {
@@ -77,7 +81,7 @@ fn loaded_word(code: &ImageCode<'_>, at: u16) -> Option<u16>
     }
 }
 
-/// The byte that the CPI at an address compares A with.
+/// The byte that the CPI at an address compares A with; `None` if there is no CPI.
 fn compared_byte(code: &ImageCode<'_>, at: u16) -> Option<u8>
     ensures { result ≡ compared_byte (fetch_at code.now.regions (memory_of code.now.chunks) at) }
 {
@@ -90,7 +94,8 @@ fn compared_byte(code: &ImageCode<'_>, at: u16) -> Option<u8>
     }
 }
 
-/// How many entries a table has at most: as many as the byte of a CPI.
+/// How many entries a table has at most: the operand of the CPI at `comparison`, or `NO_LIMIT` if
+/// there is none.
 fn limit_of(code: &ImageCode<'_>, comparison: Option<u16>) -> usize
     ensures is { IsLimitOf code.now comparison result }
     ensures small { result ≤ 65536 }
@@ -104,7 +109,7 @@ fn limit_of(code: &ImageCode<'_>, comparison: Option<u16>) -> usize
     }
 }
 
-/// The entries of a table, if its address is that of an LXI.
+/// The entries of a table; `None` if there is no LXI at the address that should load the table's.
 pub(crate) fn run_of(code: &ImageCode<'_>, table: Table) -> Option<Run>
     ensures is { IfSome result (IsRunOf code.now table) }
     ensures small { IfSome result (λ run. run.limit ≤ 65536) }
@@ -117,7 +122,7 @@ pub(crate) fn run_of(code: &ImageCode<'_>, table: Table) -> Option<Run>
     })
 }
 
-/// The address of an entry of a table.
+/// The address of the entry with this number, counted from 0, of a table that begins at `first`.
 pub(crate) fn address_of(kind: TableKind, first: u16, number: usize) -> usize
     requires { number ≤ 65536 }
     ensures is { result ≡ first + stride kind * number }
@@ -129,7 +134,7 @@ pub(crate) fn address_of(kind: TableKind, first: u16, number: usize) -> usize
     }
 }
 
-/// The bytes of an entry.
+/// How many bytes an entry of a table of this kind has.
 pub(crate) fn stride(kind: TableKind) -> usize
     ensures { result ≡ stride kind }
 {
@@ -139,21 +144,21 @@ pub(crate) fn stride(kind: TableKind) -> usize
     }
 }
 
-/// Whether an address is code, and isn't marked as taken.
+/// Whether an address is code and not marked as taken by an instruction.
 pub(crate) fn is_free(code: &ImageCode<'_>, taken: &[bool], address: u16) -> bool
     ensures { result ≡ is_free code.now taken.now address }
 {
     code.is_code(address) && !is_marked(taken, address)
 }
 
-/// Whether an instruction stands at an address, all in the code.
+/// Whether a whole instruction in CODE begins at an address.
 fn is_target(code: &ImageCode<'_>, address: u16) -> bool
     ensures { result ≡ is_target code.now address }
 {
     code.is_code(address) && fetch(address, code).is_ok()
 }
 
-/// The word at an address.
+/// The word in the two bytes from an address on, low byte first.
 fn word_at(code: &ImageCode<'_>, address: u16) -> u16
     requires { address + 2 ≤ 65536 }
     ensures { result ≡ word_in (memory_of code.now.chunks) address }
@@ -161,7 +166,8 @@ fn word_at(code: &ImageCode<'_>, address: u16) -> u16
     u16::from_le_bytes([code.byte(address), code.byte(address + 1)])
 }
 
-/// Where PCHL goes by an entry at an address, if a table may have one there.
+/// The address to which the PCHL goes by the entry at `address`; `None` if the table can't have an
+/// entry there.
 pub(crate) fn goal_at(
     code: &ImageCode<'_>,
     reached: &[bool],
@@ -182,7 +188,8 @@ pub(crate) fn goal_at(
     }
 }
 
-/// Whether a table may have a word at an address: its two bytes are free, and an instruction stands at the address that it is.
+/// Whether a table may have a word at an address: its two bytes are free, and an instruction begins
+/// at the address that they spell.
 fn is_word(code: &ImageCode<'_>, taken: &[bool], address: u16) -> bool
     ensures { result ≡ is_word code.now taken.now address }
 {
@@ -192,7 +199,8 @@ fn is_word(code: &ImageCode<'_>, taken: &[bool], address: u16) -> bool
         && is_target(code, word_at(code, address))
 }
 
-/// Whether a table may have a JMP at an address: it stands there all in the code, and is reached or its three bytes are free.
+/// Whether a table may have a JMP at an address: a whole JMP in CODE is there, and it is reached or
+/// its three bytes are free.
 fn is_jump(code: &ImageCode<'_>, reached: &[bool], taken: &[bool], address: u16) -> bool
     ensures { result ≡ is_jump code.now reached.now taken.now address }
 {
@@ -202,7 +210,7 @@ fn is_jump(code: &ImageCode<'_>, reached: &[bool], taken: &[bool], address: u16)
         && (is_marked(reached, address) || are_free(code, taken, address))
 }
 
-/// Whether the three bytes from an address on are code, and none is marked as taken.
+/// Whether the three bytes from an address on are code and not marked as taken by an instruction.
 fn are_free(code: &ImageCode<'_>, taken: &[bool], address: u16) -> bool
     requires inside { address + 3 ≤ 65536 }
     ensures { result ≡ (is_free code.now taken.now address && (is_free code.now taken.now (address + 1) && is_free code.now taken.now (address + 2))) }
@@ -212,7 +220,8 @@ fn are_free(code: &ImageCode<'_>, taken: &[bool], address: u16) -> bool
         && is_free(code, taken, address + 2)
 }
 
-/// Where PCHL goes by the entries of a table from an address on, up to a limit.
+/// The addresses to which a PCHL goes by the entries of a table, in their order, up to the limit or
+/// to the first address that can't be an entry. `AllocError` if memory runs out.
 pub(crate) fn goals_of(
     alloc: Global,
     code: &ImageCode<'_>,

@@ -19,8 +19,9 @@
 //! MOV L,A
 //! ```
 //!
-//! in place of the four before the PCHL. Others may stand before each of the first three, if they leave the pair, or then HL, as it
-//! is. A PCHL behind the first two alone goes into a table of JMPs.
+//! in place of the four before the PCHL. Other instructions may come before each of the first three,
+//! if they leave the pair, or then HL, as it is. A PCHL right after the first two goes into a table of
+//! JMPs.
 
 ghost use Rattle.std.specs.Prelude.{◌≡◌, Contains, IfSome, List, Some, ℕ};
 ghost use Rattle.verify80_cases.specs.Trails.{ArePassed, IsPassed, cpi_of, lxi_of};
@@ -30,48 +31,50 @@ use crate::changes::may_change;
 use crate::table::{Table, TableKind};
 use decode80::{Instr, Pair, Register};
 
-/// What the instructions that come before an address, one after another, have left: the table is known at a PCHL if its word
-/// was loaded and exchanged. A table is known by the address of the LXI that has its own.
+/// What the instructions that lead to an address one after another show of a table: how far its
+/// word is loaded, and which comparison bounds its index. A table is known by the address of the
+/// LXI that loads the table's address.
 #[derive(Clone, Copy)]
 pub(crate) struct Trail {
-    /// The LXI whose word is in BC.
+    /// The address of the LXI whose word is in BC.
     bc: Option<u16>,
-    /// The LXI whose word is in DE.
+    /// The address of the LXI whose word is in DE.
     de: Option<u16>,
+    /// How far the word of a table is loaded.
     load: Load,
-    /// What a comparison has left.
+    /// How far the comparison that bounds the index is seen.
     bound: Bound,
 }
 
-/// How much of a table's word is loaded, and the LXI of the table's address.
+/// How far a table's word is loaded, with the address of the LXI that loads the table's address.
 #[derive(Clone, Copy)]
 enum Load {
     /// HL points to no table that is known.
     Nothing,
     /// HL has the word of this LXI.
     Base(u16),
-    /// A pair was added to the word of this LXI.
+    /// HL has the word of this LXI with a pair added.
     Indexed(u16),
-    /// The address of a table was added to HL.
+    /// HL points into this table: the table's address, in a pair, was added to HL.
     Points(u16),
-    /// HL points to a low byte, which is in A.
+    /// HL points to the low byte of a word of this table, which is in A.
     LowInA(u16),
-    /// The low byte is in A, and HL points to the high byte.
+    /// The low byte of a word of this table is in A, and HL points to the high byte.
     NextOfA(u16),
-    /// The low byte is in A, and the high byte in H.
+    /// The low byte of a word of this table is in A, and the high byte in H.
     HighInH(u16),
-    /// The low byte is in E.
+    /// The low byte of a word of this table is in E, and HL points to it.
     Low(u16),
-    /// HL points to the high byte.
+    /// The low byte of a word of this table is in E, and HL points to the high byte.
     Next(u16),
-    /// The word is in DE.
+    /// A word of this table is in DE.
     Word(u16),
-    /// The word is in HL.
+    /// A word of this table is in HL.
     Exchanged(u16),
 }
 
 impl Trail {
-    /// Where nothing is known of the instructions before.
+    /// Nothing is known of the code before.
     pub(crate) fn unknown() -> Trail
         ensures { (passed : List ℕ) → ArePassed passed result }
     {
@@ -83,7 +86,8 @@ impl Trail {
         }
     }
 
-    /// The table by which a PCHL goes: its word is in HL, or HL points into it.
+    /// The table by which a PCHL goes now: a word of it is in HL, or HL points into it. `None` if
+    /// neither is known.
     pub(crate) fn table(self) -> Option<Table>
         ensures lxi { IfSome result (λ table. lxi_of self.load ≡ Some table.lxi) }
         ensures comparison { IfSome result (λ table. IfSome table.comparison (λ cpi. cpi_of self.bound ≡ Some cpi)) }
@@ -100,7 +104,7 @@ impl Trail {
         })
     }
 
-    /// What is known after an instruction at an address, which goes on behind itself.
+    /// What is known after the instruction at address `at`, if it goes on to the next one.
     pub(crate) fn after(self, at: u16, instr: Instr) -> Trail
         ensures { (passed : List ℕ) → Contains passed at → ArePassed passed self → ArePassed passed result }
     {
@@ -112,7 +116,7 @@ impl Trail {
         }
     }
 
-    /// How much of a word is loaded after an instruction.
+    /// How far a table's word is loaded after the instruction at address `at`.
     fn load_after(self, at: u16, instr: Instr) -> Load
         ensures { (passed : List ℕ) → Contains passed at → ArePassed passed self → IsPassed passed (lxi_of result) }
     {
@@ -135,7 +139,7 @@ impl Trail {
 }
 
 impl Load {
-    /// The table to a word of which HL points.
+    /// The table to a word of which HL points; `None` if none is known.
     fn table(self) -> Option<u16>
         ensures { IfSome result (λ lxi. lxi_of self ≡ Some lxi) }
     {
@@ -145,7 +149,8 @@ impl Load {
         }
     }
 
-    /// After a pair was added to HL whose word is that of an LXI, or isn't known.
+    /// The state after DAD of a pair that has the word of the LXI at `lxi`, or any word if that is
+    /// `None`.
     fn after_dad(self, lxi: Option<u16>) -> Load
         ensures { (passed : List ℕ) → IsPassed passed lxi → IsPassed passed (lxi_of self) → IsPassed passed (lxi_of result) }
     {
@@ -156,7 +161,7 @@ impl Load {
         }
     }
 
-    /// After the byte to which HL points was loaded into A.
+    /// The state after MOV A,M.
     fn low_in_a(self) -> Load
         ensures { (passed : List ℕ) → IsPassed passed (lxi_of self) → IsPassed passed (lxi_of result) }
     {
@@ -166,7 +171,7 @@ impl Load {
         }
     }
 
-    /// After the byte to which HL points was loaded into E.
+    /// The state after MOV E,M.
     fn low_in_e(self) -> Load
         ensures { (passed : List ℕ) → IsPassed passed (lxi_of self) → IsPassed passed (lxi_of result) }
     {
@@ -176,7 +181,7 @@ impl Load {
         }
     }
 
-    /// After an instruction that leaves HL as it is.
+    /// The state after an instruction that leaves HL as it is, and loads no byte of a word.
     fn with_hl_kept(self) -> Load
         ensures { (passed : List ℕ) → IsPassed passed (lxi_of self) → IsPassed passed (lxi_of result) }
     {
@@ -189,7 +194,8 @@ impl Load {
     }
 }
 
-/// The LXI whose word is in a pair, after an instruction at an address.
+/// The address of the LXI whose word is in `pair`, after the instruction at address `at`; `None` if
+/// the pair may have another word. `lxi` is that before it.
 fn loaded_after(lxi: Option<u16>, pair: Pair, at: u16, instr: Instr) -> Option<u16>
     ensures { (passed : List ℕ) → Contains passed at → IsPassed passed lxi → IsPassed passed result }
 {

@@ -21,34 +21,36 @@ use verify80::ImageCode;
 use verify80_bounds::CallSite;
 use verify80_flow::Procedure;
 
-/// A chain of calls, and where the last procedure of it stands.
+/// A chain of calls from the main program, and where its last procedure stands.
 #[derive(Debug, Drop)]
 pub struct Chain {
-    /// The calls, from the main program's on, each with the bytes that its caller has on the stack there. Two bytes more are for
-    /// each return address.
+    /// The calls, from the main program's on, each with the bytes that its caller has on the stack
+    /// there. Each return address takes two bytes more.
     pub calls: Vec<CallSite>,
-    /// Where the last procedure has the rest.
+    /// Where the last procedure stands, and what it has on the stack there.
     pub last: Standing,
 }
 
-/// What a procedure has on the stack at an address.
+/// How many bytes a procedure has on the stack at an address.
 #[derive(Clone, Copy, Debug)]
 pub struct Standing {
     /// The procedure.
     pub procedure: Procedure,
     /// The address.
     pub at: u16,
-    /// The bytes that it has on the stack there, without its return address; negative if it has taken more words than it has.
+    /// By how many bytes the stack has grown since the procedure's start, its return address not
+    /// counted; negative if it has shrunk.
     pub depth: i64,
 }
 
-/// A chain of calls whose bytes on the stack, with two for each return address, add up to a sum: to the bound of the main program,
-/// as `verify` reports it, or as the refusal `StackTooSmall` names it. The limit is that of [`explain`](crate::explain).
+/// A chain of calls whose bytes on the stack, with two for each return address, add up to `bytes`:
+/// the bound of the main program, as `verify` reports it, or as the refusal `StackTooSmall` names
+/// it. The limit is that of [`explain`](crate::explain).
 ///
 /// # Errors
-/// `NotShown` if none is found, as where the bound is another number or a procedure calls itself. `Limit` if the points that are
-/// found weigh more than the limit, or more than 262,144 of them call, or one has more than 1,000,000 words. `Memory` if memory
-/// runs out.
+/// `NotShown` if none is found, as when the bound is another number or a procedure calls itself.
+/// `Limit` if the points that are found weigh more than the limit, or more than 262,144 of them
+/// call, or one has more than 1,000,000 words. `Memory` if memory runs out.
 pub fn find_chain(
     alloc: Global,
     image: &Image,
@@ -61,7 +63,8 @@ pub fn find_chain(
     chain_of(alloc, &code, bytes, limit)
 }
 
-/// A chain of a program's calls that adds up to a sum.
+/// Searches a program for a chain of calls that adds up to `bytes`. The faults are those of
+/// [`find_chain`].
 fn chain_of<C: Code>(
     alloc: Global,
     program: &C,
@@ -77,7 +80,8 @@ fn chain_of<C: Code>(
     chain_among(alloc, program, &search, bytes)
 }
 
-/// A chain of calls of the points of a search that adds up to a sum.
+/// A chain of calls at the points that a search found, which adds up to `bytes`; `NotShown` if
+/// there is none or the points don't come from one another.
 fn chain_among<C: Code>(
     alloc: Global,
     program: &C,
@@ -99,8 +103,9 @@ fn chain_among<C: Code>(
     }
 }
 
-/// The chain of the calls of points, last first, up to the point where the last procedure stands; if it is the main program's, and adds
-/// up to a sum.
+/// The chain of the calls at the points `callers`, the last call first, whose last procedure stands
+/// at point `last`; `None` if these calls don't lead there from the main program, or don't add up
+/// to `bytes`.
 fn chain_by<C: Code>(
     alloc: Global,
     program: &C,
@@ -139,21 +144,23 @@ fn chain_by<C: Code>(
     Ok(Some(Chain { calls, last }))
 }
 
-/// What a caller's depth, its return address and what its callee uses add up to, if a number can say it.
+/// The sum of a caller's depth, two bytes for the return address, and what its callee uses; `None`
+/// if it overflows.
 fn through(depth: i64, below: i64) -> Option<i64>
     ensures { IfSome result (λ sum. sum ≡ (depth +ℤ pos 2) +ℤ below) }
 {
     depth.checked_add(2)?.checked_add(below)
 }
 
-/// Whether a depth is a given number of bytes.
+/// Whether a signed depth equals a number of bytes.
 pub(crate) fn is_sum(depth: i64, bytes: u64) -> bool
     ensures { result ≡ true → pos bytes ≡ depth }
 {
     i128::from(depth) == i128::from(bytes)
 }
 
-/// Where the point with this number stands, if there is one.
+/// The procedure, the address and the depth of the point with this number; `None` if there is no
+/// such point.
 fn standing_by<C: Code>(
     program: &C,
     points: &[Point],
@@ -173,7 +180,8 @@ fn standing_by<C: Code>(
     }))
 }
 
-/// The call of the point with this number, with its depth, if there is one.
+/// The call at the point with this number, and the caller's depth there; `None` if there is no such
+/// point, or if it doesn't call.
 fn site_by<C: Code>(
     alloc: Global,
     program: &C,
@@ -198,7 +206,8 @@ fn site_by<C: Code>(
     }))
 }
 
-/// The depth of a point.
+/// The depth of a point's frame in bytes; `Limit` if the frame has more than 1,000,000 words, or as
+/// many taken.
 pub(crate) fn depth_at<C: Code>(program: &C, point: &Point) -> Result<i64, Unexplained>
     ensures depth { IfOk result (λ d. d ≡ depth_of (role_in (C.code program.now) point.now.procedure) point.now.frame) }
     ensures modest { IfOk result IsModest }

@@ -14,24 +14,25 @@ use verify80_flow::Procedure;
 /// Why an instruction may not be executed.
 #[derive(Clone, Copy)]
 pub(crate) enum Fault {
-    /// With no frame.
+    /// Whatever the frame is.
     Look(LookFault),
     /// With the frame that it is reached with.
     Frame(FrameFault),
 }
 
-/// How two points clash.
+/// In which way two points show a refusal together.
 #[derive(Clone, Copy)]
 pub(crate) enum Clash {
     /// Two walks are at one address of one procedure, and their counts differ.
     Heights,
-    /// Two walks end at returns of one procedure, with other numbers of words taken.
+    /// Two walks end at returns of one procedure, with different numbers of words taken.
     Returns,
-    /// One is a call, and the other, of its callee, has taken more words than the caller has.
+    /// The first is a call, and the second, of its callee, has taken more words than the caller has
+    /// to give.
     Shortage,
 }
 
-/// Whether the instruction at an address may not be executed at a point for this reason.
+/// Whether the point is at address `at`, and its instruction may not be executed for this reason.
 pub(crate) fn is_fault<C: Code>(
     alloc: Global,
     program: &C,
@@ -51,7 +52,7 @@ pub(crate) fn is_fault<C: Code>(
     })
 }
 
-/// Whether two faults are the same.
+/// Whether two faults are of the same kind.
 fn is_same_look(one: LookFault, other: LookFault) -> bool
     ensures { (result ≡ true) ↔ (one ≡ other) }
 {
@@ -64,7 +65,8 @@ fn is_same_look(one: LookFault, other: LookFault) -> bool
     }
 }
 
-/// Whether two points clash so, the first of them at an address.
+/// Whether two points show a refusal together in this way, and the first of them is at address
+/// `at`.
 pub(crate) fn is_clash<C: Code>(
     alloc: Global,
     program: &C,
@@ -85,7 +87,8 @@ pub(crate) fn is_clash<C: Code>(
     }
 }
 
-/// Whether two points are at one address of one procedure, and their counts differ.
+/// Whether two points are at one address of one procedure, and their counts of words, or of words
+/// taken, differ.
 fn do_heights_differ(one: &Point, other: &Point) -> bool
     ensures { (result ≡ true) ↔ DifferAt one.now.at one.now other.now }
 {
@@ -95,7 +98,7 @@ fn do_heights_differ(one: &Point, other: &Point) -> bool
             || other.frame.words.len() != one.frame.words.len())
 }
 
-/// Whether two points return from one procedure with other numbers of words taken.
+/// Whether two points are at returns of one procedure, and the numbers of words taken differ.
 fn do_returns_differ<C: Code>(
     alloc: Global,
     program: &C,
@@ -116,7 +119,8 @@ fn do_returns_differ<C: Code>(
     Ok(taken != other_taken)
 }
 
-/// Whether a point calls the procedure of another, which has taken more words than the caller has.
+/// Whether the first point calls the second's procedure, which has taken more words at the second
+/// than the caller has to give.
 fn is_shortage<C: Code>(
     alloc: Global,
     program: &C,
@@ -135,7 +139,8 @@ fn is_shortage<C: Code>(
     Ok(other.procedure == Procedure::Entry(call.target))
 }
 
-/// How many words a callee may take: those above the bottom word, and in the main program all.
+/// How many words of a caller's frame a callee may take: those above the bottom word, and in the
+/// main program all.
 fn room(frame: &Frame, role: Role) -> usize
     ensures { result ≡ room role frame.now.words }
 {

@@ -15,7 +15,8 @@ use std::alloc::Global;
 use verify80::ImageCode;
 use verify80_flow::Refusal;
 
-/// At which weight a search is looked through first.
+/// At which weight of its points a search stops first to see whether they show the refusal; the
+/// weight doubles each time.
 const FIRST_WEIGHT: usize = 1_024;
 
 /// The ways that show a refusal: the walks of the image's program are followed one by one, breadth first, and no frames are
@@ -44,7 +45,8 @@ pub fn explain(
     }
 }
 
-/// Finds the ways of a program's code that show what is sought, with at most `limit` of what is kept while it looks.
+/// Searches a program for points that show what is sought, in steps of doubled weight, and returns
+/// the ways to them. The faults are those of [`explain`].
 fn explain_sought<C: Code>(
     alloc: Global,
     program: &C,

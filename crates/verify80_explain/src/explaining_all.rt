@@ -28,7 +28,7 @@ pub struct ShownRefusal {
     pub explanation: Explanation,
 }
 
-/// The refusals of points that a search found.
+/// The refusals of points that a search found, and whether they are all.
 #[derive(Debug, Drop)]
 pub struct ShownRefusals {
     /// The refusals by address, those of one address by number, each once.
@@ -40,15 +40,18 @@ pub struct ShownRefusals {
 /// A point whose instruction may not be executed, by its number in a search.
 #[derive(Clone, Copy)]
 struct FaultyPoint {
+    /// The refusal of its instruction.
     refusal: Refusal,
+    /// The number of the point in the search.
     number: usize,
 }
 
-/// All refusals of points, those with the numbers 1 to 11, that walks of the image's program reach, each shown by a way. Walks end at
-/// a fault, so nothing is found behind one.
+/// All refusals of points, those with the numbers 1 to 11, that walks of the image's program reach,
+/// each shown by a way. Walks end at a fault, so nothing is found beyond one.
 ///
-/// The limit is on what the points that are found weigh together, as for [`explain`](crate::explain), and on what the points of all ways weigh.
-/// Past it fewer refusals are shown, and the answer says so.
+/// The limit is on what the points that are found weigh together, as for
+/// [`explain`](crate::explain), and on what the points of all ways weigh. Past it fewer refusals
+/// are shown, and `are_all` is false.
 ///
 /// # Errors
 /// `AllocError` only if memory runs out.
@@ -66,7 +69,7 @@ pub fn explain_all(alloc: Global, image: &Image, limit: usize) -> Result<ShownRe
     })
 }
 
-/// Whether an end was reached; `false` if a limit was.
+/// The answer of a search, with `Limit` and `NotShown` as `false`: not all was found.
 fn is_reached_within(reached: Result<bool, Unexplained>) -> Result<bool, AllocError> {
     match reached {
         Ok(is_whole) => Ok(is_whole),
@@ -75,7 +78,8 @@ fn is_reached_within(reached: Result<bool, Unexplained>) -> Result<bool, AllocEr
     }
 }
 
-/// Appends each refusal of the points of a search with a way that shows it, and answers whether none is left out.
+/// Appends each refusal of the points of a search to `shown`, with a way that shows it; answers
+/// whether none is left out.
 fn show_all<C: Code>(
     alloc: Global,
     program: &C,
@@ -94,7 +98,8 @@ fn show_all<C: Code>(
     show_each(alloc, program, points, origins, &faulty, limit, shown)
 }
 
-/// Appends the refusals of these points, each with a way that shows it, until their ways weigh more than the limit.
+/// Appends the refusals of these points to `shown`, each with a way that shows it, until the ways
+/// weigh more than the limit; answers whether none is left out.
 fn show_each<C: Code>(
     alloc: Global,
     program: &C,
@@ -125,7 +130,7 @@ fn show_each<C: Code>(
     Ok(true)
 }
 
-/// The way to a point that shows its refusal.
+/// The way to a point that shows its refusal; `None` if the checks find no such way.
 fn show_point<C: Code>(
     alloc: Global,
     program: &C,
@@ -154,7 +159,8 @@ fn show_point<C: Code>(
     )
 }
 
-/// What the points and the calls of an explanation weigh, or the most that a number can say.
+/// What the points and the calls of an explanation by a way weigh, `usize::MAX` at most; 0 for
+/// other explanations, which no point alone has.
 fn weight_of<C: Code>(program: &C, explanation: &Explanation) -> usize {
     match explanation {
         Explanation::Way(route) => {
@@ -164,7 +170,7 @@ fn weight_of<C: Code>(program: &C, explanation: &Explanation) -> usize {
     }
 }
 
-/// The first point of each address and refusal, by address and the refusal's number.
+/// The first point for each address and refusal, sorted by address and the refusal's number.
 fn find_faulty<C: Code>(
     alloc: Global,
     program: &C,
@@ -181,12 +187,12 @@ fn find_faulty<C: Code>(
     Ok(faulty)
 }
 
-/// The address and the number of a point's refusal.
+/// The key by which refusals are sorted: the address and the refusal's number.
 fn place_of(found: &FaultyPoint) -> (Option<u16>, u8) {
     (found.refusal.address(), found.refusal.code())
 }
 
-/// The refusal of a point; `None` if its instruction may be executed there.
+/// The refusal of the instruction at a point; `None` if it may be executed there.
 fn refusal_at<C: Code>(
     alloc: Global,
     program: &C,
@@ -200,7 +206,7 @@ fn refusal_at<C: Code>(
     })
 }
 
-/// The refusal for a fault at an address.
+/// The refusal of this fault at an address.
 fn refusal_of(fault: Fault, at: u16) -> Refusal {
     match fault {
         Fault::Look(LookFault::Outside) => Refusal::FetchOutside(at),

@@ -7,15 +7,17 @@ use crate::route::{Call, Route};
 pub enum Explanation {
     /// A way whose last point is at the fault.
     Way(Route),
-    /// Two ways. For `HeightsDiffer` their last points are at one address of one procedure, with other numbers of words, or of
-    /// words taken; for `UnevenArguments` they return with other numbers of words taken; for `ShortArguments` the first is the
-    /// caller's at the call, and the second its callee's where it has taken more words than the caller has.
+    /// Two ways. For `HeightsDiffer` their last points are at one address of one procedure, with
+    /// different numbers of words, or of words taken; for `UnevenArguments` they return with
+    /// different numbers of words taken; for `ShortArguments` the first is the caller's at the
+    /// call, and the second its callee's where it has taken more words than the caller has.
     Ways(Route, Route),
-    /// The calls that lead to a procedure, and the calls that lead from there back to it, that of the fault first.
+    /// The calls that lead to a procedure, and the calls by which that procedure calls itself; the
+    /// first of these is the call that the refusal names.
     Ring {
         /// The calls from the main program to the procedure.
         calls: Vec<Call>,
-        /// The calls from the procedure back to it.
+        /// The calls from the procedure back to itself.
         ring: Vec<Call>,
     },
 }

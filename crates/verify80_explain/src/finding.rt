@@ -12,26 +12,34 @@ use verify80_flow::Procedure;
 /// Two points of a search, by their numbers.
 #[derive(Clone, Copy)]
 pub(crate) struct Pair {
+    /// The number of the first point.
     pub(crate) one: usize,
+    /// The number of the second point.
     pub(crate) other: usize,
 }
 
-/// What two points of a procedure differ by: words taken and, of a point that doesn't return, words.
+/// The counts of a point that are compared with those of other points of its procedure.
 #[derive(Clone, Copy, PartialEq, Eq)]
 struct Count {
+    /// The words taken.
     taken: u32,
+    /// The words of its own; 0 if returns are compared.
     words: usize,
 }
 
-/// The first point of a procedure that has a count, and the first one that has another.
+/// Two points of a procedure whose counts differ, as far as they are found.
 #[derive(Clone, Copy)]
 struct Counts {
+    /// The number of the first point.
     first: usize,
+    /// The counts of the first point.
     count: Count,
+    /// The number of the first point with other counts.
     other: Option<usize>,
 }
 
-/// The first point where the instruction at an address may not be executed for this reason.
+/// The number of the first point at address `at` whose instruction may not be executed for this
+/// reason; `None` if there is none.
 pub(crate) fn find_fault<C: Code>(
     alloc: Global,
     program: &C,
@@ -47,7 +55,8 @@ pub(crate) fn find_fault<C: Code>(
     Ok(None)
 }
 
-/// The first two points that clash so, the first of them at an address.
+/// The first two points that show a refusal together in this way, the first of them at address
+/// `at`; `None` if none do.
 pub(crate) fn find_clash<C: Code>(
     alloc: Global,
     program: &C,
@@ -61,7 +70,8 @@ pub(crate) fn find_clash<C: Code>(
     }
 }
 
-/// The first two points of one procedure whose counts differ, the first of them at an address.
+/// The first two points of one procedure whose counts differ, the first of them at address `at`;
+/// `None` if there are none.
 fn find_difference<C: Code>(
     alloc: Global,
     program: &C,
@@ -80,7 +90,8 @@ fn find_difference<C: Code>(
     Ok(None)
 }
 
-/// The first point of a point's procedure that has another count.
+/// The number of the first point of the same procedure whose counts differ from those of `point`;
+/// `None` if there is none, or if `point` isn't compared.
 fn differing<C: Code>(
     alloc: Global,
     program: &C,
@@ -102,7 +113,8 @@ fn differing<C: Code>(
     }
 }
 
-/// For each procedure, the first of its points that has a count, and the first one that has another.
+/// For each procedure, by slot, the first of its points that is compared, and the first with other
+/// counts.
 fn count_points<C: Code>(
     alloc: Global,
     program: &C,
@@ -119,7 +131,8 @@ fn count_points<C: Code>(
     Ok(counts)
 }
 
-/// Notes the count of a point of a procedure.
+/// Records the counts of point `number` for the procedure with slot `place`, if it is the first
+/// point or the first with other counts.
 fn note(
     counts: &mut IndexMap<usize, Counts>,
     place: usize,
@@ -147,7 +160,8 @@ fn note(
     Ok(())
 }
 
-/// What a point may differ by from others of its procedure: its height, if it is at an address, or the words taken, if it returns.
+/// The counts of a point that are compared: for `Heights` its words and words taken, if it is at
+/// address `at`; for `Returns` the words taken, if it returns. `None` if it isn't compared.
 fn count_of<C: Code>(
     alloc: Global,
     program: &C,
@@ -168,7 +182,8 @@ fn count_of<C: Code>(
     }
 }
 
-/// The first two points of which one calls at an address, and the other, of its callee, has taken more words than the caller has.
+/// The first two points of which one calls at address `at`, and the other, of its callee, has taken
+/// more words than the caller has to give; `None` if there are none.
 fn find_shortage<C: Code>(
     alloc: Global,
     program: &C,
@@ -198,7 +213,8 @@ fn find_shortage<C: Code>(
     Ok(None)
 }
 
-/// A point that calls, and the first one that has taken more words than it has to give.
+/// Point `one`, which calls, and the first point of its callee that has taken more words than `one`
+/// has to give; `None` if there is none.
 fn first_short<C: Code>(
     alloc: Global,
     program: &C,
@@ -223,7 +239,7 @@ fn first_short<C: Code>(
     Ok(None)
 }
 
-/// The number of a point of a procedure that has taken most words; 0 if none has taken any.
+/// The number of the first point of a procedure with the most words taken; 0 if none has taken any.
 fn most_taken(points: &[Point], procedure: Procedure) -> usize {
     let mut most = 0;
     let mut last = 0;

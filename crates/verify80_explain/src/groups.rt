@@ -3,17 +3,18 @@
 use indexmap::IndexMap;
 use std::alloc::{AllocError, Global};
 
-/// Numbers from 0 on, each of a key. Those of one key are found without the others.
+/// Numbers from 0 on, each with a key. The numbers of one key are found without going through the
+/// others.
 #[derive(Drop)]
 pub(crate) struct Groups {
-    /// For each key, its last number.
+    /// For each key, its greatest number.
     last: IndexMap<usize, usize>,
-    /// For each number, the one before it that is of the same key.
+    /// For each number, the next lower one with the same key.
     before: Vec<Option<usize>>,
 }
 
 impl Groups {
-    /// No numbers.
+    /// No numbers are given.
     pub(crate) fn new(alloc: Global) -> Groups {
         Groups {
             last: IndexMap::new(alloc),
@@ -21,7 +22,7 @@ impl Groups {
         }
     }
 
-    /// Gives the next number to a key.
+    /// Gives the next number to a key. `AllocError` if memory runs out.
     pub(crate) fn push(&mut self, key: usize) -> Result<(), AllocError> {
         let number = self.before.len();
         let before = self.last.insert(key, number)?;
@@ -29,7 +30,7 @@ impl Groups {
         Ok(())
     }
 
-    /// The numbers of a key, in order.
+    /// The numbers of a key, ascending. `AllocError` if memory runs out.
     pub(crate) fn of(&self, alloc: Global, key: usize) -> Result<Vec<usize>, AllocError> {
         let mut of = Vec::new(alloc);
         let mut at = self.last.get(&key).copied();

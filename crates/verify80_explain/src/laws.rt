@@ -3,12 +3,14 @@
 ghost use Rattle.verify80_explain.specs.Chains.{ChainsAreUses};
 ghost use Rattle.verify80_explain.specs.Shows.{ShownHolds};
 
-/// What an explanation shows holds of the program: the refusal names a fault that is there.
+/// A law of explanations: what an explanation shows holds of the program, so the refusal names a
+/// fault that is there.
 pub fn what_is_shown_holds()
     ensures { ShownHolds }
 {}
 
-/// A chain of calls is one of those whose sums the bound is the greatest of.
+/// A law of chains: the bytes of a [`Chain`](crate::Chain) are one of the sums of which the bound
+/// is the greatest.
 pub fn chains_are_uses()
     ensures { ChainsAreUses }
 {}

@@ -12,7 +12,7 @@
 //! | [`explain_all`], [`ShownRefusals`], [`ShownRefusal`] | all refusals of points, each with its way |
 //! | [`measure`], [`ProcRow`] | the procedures of an image whose stack is too small |
 //! | [`find_chain`], [`Chain`], [`CallSite`], [`Standing`] | the calls whose bytes on the stack add up to the bound |
-//! | [`Explanation`], [`Route`], [`Call`], [`Point`] | the ways, the calls that lead to them, and their points |
+//! | [`Explanation`], [`Route`], [`Call`], [`Point`] | what shows a refusal: the ways, the calls that lead to them, and their points |
 //! | [`Unexplained`] | why there is no explanation |
 //! | [`what_is_shown_holds`], [`chains_are_uses`] | what an explanation shows holds of the program, and a chain uses the stack, as contracts |
 #![tactic(auto)]

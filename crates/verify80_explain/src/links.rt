@@ -22,7 +22,8 @@ pub(crate) struct Links {
     pub(crate) last: usize,
 }
 
-/// The points of a chain that adds up to a sum, if that is the bound by the points that were found.
+/// The points of a chain that adds up to `bytes`; `None` if that isn't the bound of the main
+/// program by the points that were found. `Limit` if more than 262,144 of them call.
 pub(crate) fn find_links<C: Code>(
     alloc: Global,
     program: &C,
@@ -48,7 +49,8 @@ pub(crate) fn find_links<C: Code>(
     links_by(alloc, calls, &lasts, &nexts)
 }
 
-/// The points of the chain from the main program on.
+/// Follows the chain from the main program on: by `nexts` from call to call, up to the first
+/// procedure that `lasts` has a point of. `None` if the chain breaks off.
 fn links_by(
     alloc: Global,
     calls: &[CallingPoint],
@@ -79,7 +81,7 @@ fn links_by(
     }
 }
 
-/// The depth of each point.
+/// The procedure and the depth of each point.
 fn depths<C: Code>(alloc: Global, program: &C, points: &[Point]) -> Result<Vec<Depth>, Unexplained>
     ensures { IfOk result (λ depths. All (λ d. IsModest d.depth) depths.items) }
 {
@@ -93,7 +95,7 @@ fn depths<C: Code>(alloc: Global, program: &C, points: &[Point]) -> Result<Vec<D
     Ok(depths)
 }
 
-/// The calls, with the depth of each, as far as their points are there.
+/// The calls, with the depth of the caller at each.
 fn sites<C: Code>(
     alloc: Global,
     program: &C,
@@ -117,7 +119,8 @@ fn sites<C: Code>(
     Ok(sites)
 }
 
-/// For each procedure, the number of the first of its points that has its bound on the stack.
+/// For each procedure, by slot, the number of the first of its points whose depth is the
+/// procedure's bound.
 fn lasts(
     alloc: Global,
     depths: &[Depth],
@@ -134,7 +137,8 @@ fn lasts(
     Ok(lasts)
 }
 
-/// For each procedure, the number of its first call with which its callee's bytes add up to its own.
+/// For each procedure, by slot, the number of its first call at which the depth, two bytes and the
+/// callee's bound add up to its own bound.
 fn nexts(
     alloc: Global,
     sites: &[CallSite],

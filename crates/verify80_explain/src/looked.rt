@@ -11,10 +11,10 @@ use frames80::{
 };
 use std::alloc::Global;
 
-/// What a look at a point finds.
+/// What the instruction at a point does.
 #[derive(Drop)]
 pub(crate) enum Looked {
-    /// No instruction may be executed at the address.
+    /// No instruction may be executed at the address, whatever the frame is.
     Wrong(LookFault),
     /// The instruction may not be executed with the frame.
     Stuck(FrameFault),
@@ -22,14 +22,17 @@ pub(crate) enum Looked {
     Moved(Moves, u16),
 }
 
-/// A call: the address that is called, and the one after the instruction.
+/// A call: the address that is called, and that of the instruction after the call.
 #[derive(Clone, Copy)]
 pub(crate) struct Called {
+    /// The address that is called.
     pub(crate) target: u16,
+    /// The address after the call.
     pub(crate) next: u16,
 }
 
-/// A look at a point: what its instruction makes of its frame.
+/// Executes the instruction of a point on its frame: where it leads, or why it may not be executed.
+/// `Limit` if the frame has more than 1,000,000 words, or as many taken.
 pub(crate) fn look_at<C: Code>(
     alloc: Global,
     program: &C,
@@ -56,7 +59,7 @@ pub(crate) fn look_at<C: Code>(
     }
 }
 
-/// Whether a frame is followed: it has up to 1,000,000 words, and as many taken.
+/// Whether a frame is followed further: it has at most 1,000,000 words and at most as many taken.
 pub(crate) fn is_within(frame: &Frame) -> bool
     ensures words { result ≡ true → length frame.now.words ≤ 1000000 }
     ensures taken { result ≡ true → frame.now.taken ≤ 1000000 }
@@ -64,7 +67,8 @@ pub(crate) fn is_within(frame: &Frame) -> bool
     frame.taken <= MOST_WORDS && frame.words.len() <= MOST_WORDS as usize
 }
 
-/// The caller's frame when a callee has returned that took a given number of words; `None` if the caller has fewer.
+/// The caller's frame after a callee has returned that took `taken` words; `None` if the caller has
+/// fewer to give. `Limit` if the frame has more than 1,000,000 words, or as many taken.
 pub(crate) fn frame_after_return(
     alloc: Global,
     frame: &Frame,
@@ -83,7 +87,8 @@ pub(crate) fn frame_after_return(
     }
 }
 
-/// How many words a point's procedure has taken where the point returns; `None` if it doesn't.
+/// How many words the procedure has taken, if the point's instruction returns; `None` if it
+/// doesn't.
 pub(crate) fn words_taken<C: Code>(
     alloc: Global,
     program: &C,
@@ -99,7 +104,7 @@ pub(crate) fn words_taken<C: Code>(
     }
 }
 
-/// With how many words taken a move returns; `None` if it doesn't.
+/// With how many words taken a move returns; `None` if it is no return.
 fn returning(moves: &Moves) -> Option<u32>
     ensures { result ≡ returning moves.now }
 {
@@ -110,7 +115,7 @@ fn returning(moves: &Moves) -> Option<u32>
     }
 }
 
-/// What a point calls; `None` if it doesn't call.
+/// The call that the point's instruction makes; `None` if it makes none.
 pub(crate) fn call_at<C: Code>(
     alloc: Global,
     program: &C,
@@ -126,7 +131,7 @@ pub(crate) fn call_at<C: Code>(
     }
 }
 
-/// What a move calls; `None` if it doesn't call.
+/// The call that a move makes, with `next` as the address after it; `None` if it makes none.
 fn call_of(moves: &Moves, next: u16) -> Option<Called>
     ensures called { IfSome result (λ call. called moves.now ≡ Some call.target) }
     ensures next { IfSome result (λ call. call.next ≡ next) }

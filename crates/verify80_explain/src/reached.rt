@@ -14,6 +14,7 @@ use std::alloc::{AllocError, Global};
 use verify80_flow::Procedure;
 
 /// Whether each point comes from earlier ones, as its origin says, so that a walk reaches it.
+/// `points` and `origins` must be equally long, else the answer is false.
 pub(crate) fn are_reached<C: Code>(
     alloc: Global,
     program: &C,
@@ -41,7 +42,7 @@ pub(crate) fn are_reached<C: Code>(
     Ok(true)
 }
 
-/// Whether the point of a number comes from earlier ones, as an origin says.
+/// Whether `point`, which has this number, comes from earlier points as `origin` says.
 fn comes_from<C: Code>(
     alloc: Global,
     program: &C,
@@ -76,7 +77,7 @@ fn comes_from<C: Code>(
     }
 }
 
-/// Whether the main program begins at a point.
+/// Whether a point is the main program's start, with its frame there.
 fn begins<C: Code>(alloc: Global, program: &C, point: &Point) -> Result<bool, AllocError>
     ensures { IfOk result (λ r. r ≡ true → Begins (C.code program.now) point.now.procedure point.now.at point.now.frame) }
 {
@@ -88,14 +89,15 @@ fn begins<C: Code>(alloc: Global, program: &C, point: &Point) -> Result<bool, Al
     )
 }
 
-/// Whether two frames are the same.
+/// Whether two frames are equal.
 fn is_same(one: &Frame, other: &Frame) -> bool
     ensures { result ≡ true → one.now ≡ other.now }
 {
     *one == *other
 }
 
-/// Whether the instruction of a point leads to another one.
+/// Whether the instruction of the first point leads to the second in the same procedure, with its
+/// frame, other than by a call that returns.
 fn leads_on<C: Code>(
     alloc: Global,
     program: &C,
@@ -111,7 +113,8 @@ fn leads_on<C: Code>(
     Ok(other.procedure == one.procedure && leads_to(&moves, targets, next, other.at, &other.frame))
 }
 
-/// Whether a move leads to an address with a frame, calls aside.
+/// Whether a move leads to address `to` with this frame, other than by a call that returns.
+/// `targets` are the declared targets of a PCHL, and `next` is the address after the instruction.
 fn leads_to(moves: &Moves, targets: &[u16], next: u16, to: u16, frame: &Frame) -> bool
     ensures { result ≡ true → LeadsTo moves.now targets.now next to frame.now }
 {
@@ -128,7 +131,8 @@ fn leads_to(moves: &Moves, targets: &[u16], next: u16, to: u16, frame: &Frame) -
     }
 }
 
-/// Whether a point calls the procedure that is entered at another one.
+/// Whether the first point calls a procedure, and the second is the procedure's entry, with its
+/// frame there.
 fn enters<C: Code>(
     alloc: Global,
     program: &C,
@@ -148,7 +152,8 @@ fn enters<C: Code>(
     )
 }
 
-/// Whether a point calls a procedure that returns from a second one, and goes on at a third.
+/// Whether point `one` calls a procedure that returns at point `callee`, and `other` is the point
+/// after that call, with the frame that this leaves.
 fn comes_back<C: Code>(
     alloc: Global,
     program: &C,

@@ -15,15 +15,18 @@ use indexmap::IndexSet;
 use std::alloc::{AllocError, Global};
 use verify80_flow::Procedure;
 
-/// A call by which a procedure is reached from a first call on.
+/// A call, by which a procedure is reached from a first call on.
 #[derive(Clone, Copy)]
 struct Reach {
+    /// The call.
     call: CallingPoint,
-    /// The number of the call by which its caller is reached; of the first call its own.
+    /// The index of the call by which the caller is reached; for the first call its own.
     from: usize,
 }
 
-/// The ring of the calls of points, if they lead back to the procedure of the first of them, which is at an address.
+/// The explanation by a ring: the calls at the points `numbers`, if they lead back to the procedure
+/// of the first of them and that call is at address `at`, and the calls that lead to that
+/// procedure. `None` if any of this isn't so.
 pub(crate) fn show_ring<C: Code>(
     alloc: Global,
     program: &C,
@@ -54,7 +57,8 @@ pub(crate) fn show_ring<C: Code>(
     }
 }
 
-/// The numbers of the points whose calls lead from the procedure of the first of them, at an address, back to it.
+/// The numbers of points whose calls lead from the procedure of the first of them, which calls at
+/// address `at`, back to that procedure; `None` if there are none.
 pub(crate) fn find_ring(
     alloc: Global,
     search: &Search,
@@ -79,7 +83,8 @@ pub(crate) fn find_ring(
     Ok(None)
 }
 
-/// The calls by which procedures are reached from a first call on, that call first: one for each procedure to which calls lead.
+/// The calls by which procedures are reached from a call on, breadth first: that call first, and
+/// then one for each procedure that is reached.
 fn reach_from(
     alloc: Global,
     points: &[Point],
@@ -109,7 +114,7 @@ fn reach_from(
     Ok(reached)
 }
 
-/// The numbers of the calls by caller.
+/// Groups the calls by the slot of the procedure that makes them.
 fn by_caller(
     alloc: Global,
     points: &[Point],
@@ -125,7 +130,8 @@ fn by_caller(
     Ok(groups)
 }
 
-/// The calls from this one on that lead back to its procedure, this call first, by their points; `None` if none do.
+/// The points of the calls that lead from `call` back to the procedure `caller`, which makes it,
+/// that of `call` first; `None` if none do.
 fn ring_by(
     alloc: Global,
     reached: &[Reach],
@@ -140,7 +146,8 @@ fn ring_by(
     Ok(None)
 }
 
-/// The calls from this one on to the one with a number, in place of the first one, which has the same callee, by their points.
+/// The points of the calls from `call` to the reached call with this index. `call` takes the place
+/// of the first reached one, which has the same callee.
 fn calls_back(
     alloc: Global,
     reached: &[Reach],

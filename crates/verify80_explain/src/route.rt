@@ -19,6 +19,7 @@ pub struct Call {
 pub struct Route {
     /// The calls, from the main program's on; none for a point of the main program.
     pub calls: Vec<Call>,
-    /// The points from the procedure's start to the point that is reached. What lies inside a call isn't among them.
+    /// The points from the procedure's entry to the point that is reached. Points inside the
+    /// procedures that it calls aren't among them.
     pub way: Vec<Point>,
 }

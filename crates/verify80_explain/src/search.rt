@@ -13,37 +13,44 @@ use verify80_flow::Procedure;
 /// Where a point of a search comes from: numbers of points that were found before it.
 #[derive(Clone, Copy)]
 pub(crate) enum Origin {
-    /// The main program begins there.
+    /// The point is the main program's start.
     Begins,
-    /// The instruction of a point leads there.
+    /// The instruction of the point with this number leads there.
     GoesOn(usize),
-    /// A point calls the procedure, which is entered there.
+    /// The point with this number calls the procedure, and this is its entry.
     Enters(usize),
-    /// A point calls a procedure that returns from another point, and goes on there.
+    /// A point calls a procedure that returns from another point, and this is the point after the
+    /// call.
     ComesBack {
-        /// The point that calls.
+        /// The number of the point that calls.
         call: usize,
-        /// The point from which the procedure returns.
+        /// The number of the point from which the procedure returns.
         exit: usize,
     },
 }
 
-/// A point that calls an address, and would come back to `next`.
+/// A point that calls.
 #[derive(Clone, Copy)]
 pub(crate) struct CallingPoint {
+    /// The number of the point.
     pub(crate) point: usize,
+    /// The address that is called.
     pub(crate) target: u16,
+    /// The address after the call.
     pub(crate) next: u16,
 }
 
-/// A point that returns, with a given number of words taken.
+/// A point that returns.
 #[derive(Clone, Copy)]
 struct Exit {
+    /// The number of the point.
     point: usize,
+    /// How many words the procedure has taken there.
     taken: u32,
 }
 
-/// A point: its procedure's place in a table, its address, and the number of its frame.
+/// What tells a point from others: the slot of its procedure, its address, and the number of its
+/// frame.
 #[derive(Clone, Copy, PartialEq, Eq, Hash)]
 struct Key {
     place: usize,
@@ -51,32 +58,33 @@ struct Key {
     frame: usize,
 }
 
-/// The points that were found, in order of first sight, and where each comes from.
+/// The points that a search has found, in order of first sight, and where each comes from.
 #[derive(Drop)]
 pub(crate) struct Search {
+    /// The points; indices in this list are their numbers.
     pub(crate) points: Vec<Point>,
-    /// The points that are known.
+    /// The keys of the points.
     known: IndexSet<Key>,
     /// The frames of the points, each once.
     frames: IndexSet<Frame>,
-    /// Where each of the points comes from.
+    /// For each point where it comes from.
     pub(crate) origins: Vec<Origin>,
     /// The points that call, in order of first sight.
     pub(crate) calls: Vec<CallingPoint>,
-    /// The numbers of the calls by callee.
+    /// The indices of `calls`, by the slot of the callee.
     calls_of: Groups,
     /// The points that return, in order of first sight; one for each number of words that a procedure takes.
     exits: Vec<Exit>,
-    /// The numbers of the exits by procedure.
+    /// The indices of `exits`, by the slot of the procedure.
     exits_of: Groups,
     /// How many points have been followed.
     followed: usize,
-    /// What the points weigh together, or the most that a number can say.
+    /// What the points weigh together, `usize::MAX` at most.
     weight: usize,
 }
 
 impl Search {
-    /// The start of the main program alone.
+    /// A search that has found the main program's start alone. `AllocError` if memory runs out.
     pub(crate) fn new<C: Code>(alloc: Global, program: &C) -> Result<Search, AllocError> {
         let mut search = Search {
             points: Vec::new(alloc),
@@ -102,8 +110,8 @@ impl Search {
         Ok(search)
     }
 
-    /// Follows points in order of first sight until all are followed, or until those that were found weigh more than a given amount.
-    /// Answers whether all are.
+    /// Follows points in order of first sight until all are followed, or until the points that were
+    /// found weigh more than `weight`. Answers whether all are followed.
     pub(crate) fn grow<C: Code>(
         &mut self,
         alloc: Global,
@@ -123,7 +131,7 @@ impl Search {
         Ok(true)
     }
 
-    /// Adds a point if it isn't there yet.
+    /// Adds a point with its origin, unless it was found before. `AllocError` if memory runs out.
     fn add<C: Code>(
         &mut self,
         alloc: Global,
@@ -151,7 +159,7 @@ impl Search {
         Ok(())
     }
 
-    /// The number of a frame.
+    /// The number of a frame, which is added if it is new. `AllocError` if memory runs out.
     fn number_of(&mut self, alloc: Global, frame: &Frame) -> Result<usize, AllocError> {
         if let Some(number) = self.frames.get_index_of(frame) {
             return Ok(number);
@@ -160,7 +168,8 @@ impl Search {
         Ok(number)
     }
 
-    /// Adds where a point leads.
+    /// Adds the points that the instruction of point `number` leads to; none if it may not be
+    /// executed.
     fn visit<C: Code>(
         &mut self,
         alloc: Global,
@@ -179,7 +188,8 @@ impl Search {
         }
     }
 
-    /// Adds where the move of a point leads.
+    /// Adds the points that a move of point `number` leads to. `next` is the address after its
+    /// instruction.
     fn follow<C: Code>(
         &mut self,
         alloc: Global,
@@ -219,7 +229,8 @@ impl Search {
         Ok(())
     }
 
-    /// Adds what a call leads to: its callee's start, and where it goes on after each known exit of the callee.
+    /// Records that a point calls `target`, and adds the callee's entry, and the point after the
+    /// call for each known exit of the callee.
     fn call<C: Code>(
         &mut self,
         alloc: Global,
@@ -247,7 +258,8 @@ impl Search {
         Ok(())
     }
 
-    /// Adds what an exit leads to: where each known call of the procedure goes on.
+    /// Records that a procedure returns from a point with `taken` words taken, unless another exit
+    /// has taken as many, and adds the point after each known call of the procedure.
     fn leave<C: Code>(
         &mut self,
         alloc: Global,
@@ -275,7 +287,8 @@ impl Search {
         Ok(())
     }
 
-    /// Adds where a call goes on when its callee has returned.
+    /// Adds the point after a call whose callee returns by `exit`, unless the caller has too few
+    /// words.
     fn come_back<C: Code>(
         &mut self,
         alloc: Global,
@@ -300,8 +313,8 @@ impl Search {
     }
 }
 
-/// What a point weighs, or the most that a number can say: eight for itself, one for each word of its frame and each word taken; as
-/// much again for each declared target.
+/// What a point weighs, `usize::MAX` at most: eight, one for each word of its frame and each word
+/// taken, and as much again for each target that is declared at its address.
 fn weight_of<C: Code>(program: &C, point: &Point) -> usize {
     let words = point.frame.words.len();
     let own = words
@@ -310,7 +323,7 @@ fn weight_of<C: Code>(program: &C, point: &Point) -> usize {
     own.saturating_mul(program.targets(point.at).len().saturating_add(1))
 }
 
-/// What points weigh together, or the most that a number can say.
+/// What points weigh together, `usize::MAX` at most.
 pub(crate) fn points_weight<C: Code>(program: &C, points: &[Point]) -> usize {
     let mut weight: usize = 0;
     for point in points {

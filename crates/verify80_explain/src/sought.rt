@@ -18,26 +18,28 @@ use frames80::{Code, FrameFault, LookFault};
 use std::alloc::Global;
 use verify80_flow::Refusal;
 
-/// What shows a refusal, at an address.
+/// What a search looks for to show a refusal.
 #[derive(Clone, Copy)]
 pub(crate) struct Sought {
+    /// The address that the refusal names.
     pub(crate) at: u16,
+    /// What has to be found there.
     pub(crate) kind: Kind,
 }
 
-/// What shows a refusal.
+/// The kinds of evidence that show a refusal.
 #[derive(Clone, Copy)]
 pub(crate) enum Kind {
     /// A point whose instruction may not be executed.
     Fault(Fault),
-    /// Two points that clash.
+    /// Two points that show a refusal together.
     Clash(Clash),
     /// Calls that lead back to the procedure of the first of them.
     Ring,
 }
 
 impl Sought {
-    /// A fault at an address.
+    /// Looks for this fault at an address.
     fn fault(at: u16, fault: Fault) -> Sought
         ensures { result ≡ record { at = at; kind = OfFault fault } }
     {
@@ -47,7 +49,7 @@ impl Sought {
         }
     }
 
-    /// A clash at an address.
+    /// Looks for two points that show a refusal in this way, the first of them at an address.
     fn clash(at: u16, clash: Clash) -> Sought
         ensures { result ≡ record { at = at; kind = OfClash clash } }
     {
@@ -57,7 +59,7 @@ impl Sought {
         }
     }
 
-    /// A ring by a call at an address.
+    /// Looks for calls that lead back to the procedure that makes the call at an address.
     fn ring(at: u16) -> Sought
         ensures { result ≡ record { at = at; kind = OfRing } }
     {
@@ -67,7 +69,8 @@ impl Sought {
         }
     }
 
-    /// What shows a refusal; `None` for those of the stack, of the number of points, and of memory, which no ways show.
+    /// What shows a refusal; `None` for `StackTooSmall`, `TooManyPoints` and `Memory`, which no
+    /// ways show.
     pub(crate) fn of(refusal: Refusal) -> Option<Sought>
         ensures { IfSome result (IsSoughtFor refusal) }
     {
@@ -95,7 +98,8 @@ impl Sought {
         })
     }
 
-    /// The explanation that shows it, if points of a search do.
+    /// The explanation by points of a search that shows what is sought; `None` if they don't show
+    /// it.
     pub(crate) fn show<C: Code>(
         self,
         alloc: Global,
@@ -131,7 +135,8 @@ impl Sought {
     }
 }
 
-/// The way to a point, if the instruction at an address may not be executed there for this reason.
+/// The way to point `number`, if it is at address `at` and its instruction may not be executed for
+/// this reason; `None` if that isn't so, or the points don't come from one another.
 fn show_fault<C: Code>(
     alloc: Global,
     program: &C,
@@ -149,7 +154,8 @@ fn show_fault<C: Code>(
     show_reached_fault(alloc, program, points, origins, at, fault, number)
 }
 
-/// The way to one of the points that walks reach, if the instruction at an address may not be executed there for this reason.
+/// The way to point `number`, if it is at address `at` and its instruction may not be executed for
+/// this reason; else `None`. Walks must reach all points.
 pub(crate) fn show_reached_fault<C: Code>(
     alloc: Global,
     program: &C,
@@ -172,7 +178,8 @@ pub(crate) fn show_reached_fault<C: Code>(
     }
 }
 
-/// The ways to two points, if they clash so, the first of them at an address.
+/// The ways to two points, if they show a refusal together in this way and the first is at address
+/// `at`; `None` if that isn't so, or the points don't come from one another.
 fn show_clash<C: Code>(
     alloc: Global,
     program: &C,

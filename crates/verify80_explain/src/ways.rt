@@ -16,7 +16,8 @@ use frames80::Code;
 use std::alloc::{AllocError, Global};
 use verify80_flow::Procedure;
 
-/// The calls and the way that lead to a point; `None` if the calls don't lead there.
+/// The calls that lead to the procedure of point `number`, and the way through it to the point;
+/// `None` if the calls don't lead there.
 pub(crate) fn route_to<C: Code>(
     alloc: Global,
     program: &C,
@@ -39,7 +40,8 @@ pub(crate) fn route_to<C: Code>(
     Ok(Some(Route { calls, way }))
 }
 
-/// The point before another one in its procedure, or `None` at the start of the procedure.
+/// The number of the point that comes before point `number` in its procedure: for one after a call,
+/// the point that calls. `None` at the procedure's start.
 fn before(points: &[Point], origins: &[Origin], number: usize) -> Option<usize>
     requires paired { length origins.now ≡ length points.now }
     requires there { number < length points.now }
@@ -54,7 +56,7 @@ fn before(points: &[Point], origins: &[Origin], number: usize) -> Option<usize>
     }
 }
 
-/// A number, if it is below another one.
+/// `one` if it is less than `number`; else `None`.
 fn earlier(one: usize, number: usize) -> Option<usize>
     ensures one { IfSome result (λ i. i ≡ one) }
     ensures below { IfSome result (λ i. i < number) }
@@ -63,7 +65,7 @@ fn earlier(one: usize, number: usize) -> Option<usize>
     if one < number { Some(one) } else { None }
 }
 
-/// The points from the start of the procedure to a point.
+/// The points from the start of its procedure to point `number`, by the origins.
 fn way_to(
     alloc: Global,
     points: &[Point],
@@ -86,7 +88,8 @@ fn way_to(
     Ok(way)
 }
 
-/// The numbers of the points whose calls lead from the main program to the procedure of a point, by the origins.
+/// The numbers of the points whose calls lead from the main program to the procedure of point
+/// `number`, by the origins.
 pub(crate) fn callers_of(
     alloc: Global,
     origins: &[Origin],
@@ -109,7 +112,8 @@ pub(crate) fn callers_of(
     Ok(callers)
 }
 
-/// The calls of the points with these numbers, if they lead from one procedure to another.
+/// The calls of the points with these numbers, if each calls the procedure of the next and they
+/// lead from procedure `from` to procedure `to`; else `None`.
 pub(crate) fn lead<C: Code>(
     alloc: Global,
     program: &C,
@@ -139,7 +143,7 @@ pub(crate) fn lead<C: Code>(
     Ok(Some(calls))
 }
 
-/// The call of the point with this number, if there is one.
+/// The call at the point with this number; `None` if there is no such point, or if it doesn't call.
 fn call_by<C: Code>(
     alloc: Global,
     program: &C,

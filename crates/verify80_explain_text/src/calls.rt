@@ -11,7 +11,7 @@ use text80::word_digits;
 use verify80_explain::Call;
 use verify80_flow::Procedure;
 
-/// Appends a line for each call.
+/// Appends a line for each call, with the name of its target.
 pub(crate) fn append_calls(
     alloc: Global,
     text: &mut Vec<u8>,
@@ -27,7 +27,7 @@ pub(crate) fn append_calls(
     Ok(())
 }
 
-/// Appends the line of a call, with the name of its target.
+/// Appends the line of a call, as `MAIN 3000 CALLS 3006 AT 3002`, with the name of its target.
 fn append_call(
     alloc: Global,
     text: &mut Vec<u8>,
@@ -41,7 +41,8 @@ fn append_call(
     append_end(alloc, text, image, publics, call.target)
 }
 
-/// Appends who calls what, and where.
+/// Appends the caller of a call, its target, and its address: the line of the call without the
+/// name.
 fn append_call_text(text: &mut Vec<u8>, start: u16, call: Call) -> Result<(), AllocError>
     ensures { OnOk result (text.new.items ≡ text.old.items ++ call_text start call) }
 {
@@ -50,7 +51,8 @@ fn append_call_text(text: &mut Vec<u8>, start: u16, call: Call) -> Result<(), Al
     append_address(text, b" AT ".as_slice(), call.at)
 }
 
-/// Appends what a procedure is called by: its entry, or MAIN and the start.
+/// Appends how a procedure is named in lines: its entry, or for the main program `MAIN` and the
+/// start.
 pub(crate) fn append_procedure(
     text: &mut Vec<u8>,
     start: u16,
@@ -64,7 +66,7 @@ pub(crate) fn append_procedure(
     }
 }
 
-/// Appends a word, and an address behind it.
+/// Appends `word` and an address as four digits.
 pub(crate) fn append_address(
     text: &mut Vec<u8>,
     word: &[u8],
@@ -76,7 +78,7 @@ pub(crate) fn append_address(
     text.extend_from_slice(&word_digits(address))
 }
 
-/// Appends the name of an address, and ends the line.
+/// Appends the name of an address, if the publics have one, and ends the line.
 pub(crate) fn append_end(
     alloc: Global,
     text: &mut Vec<u8>,

@@ -12,8 +12,9 @@ use verify80_bounds::CallSite;
 use verify80_explain::{Chain, Standing};
 use verify80_flow::Procedure;
 
-/// The calls of a chain, and where its last procedure stands, line by line, as `MAIN 3000 AT 3002 HAS 4, CALLS 3006`. Behind a
-/// call stands the name of its target, and behind the last line that of its address, if the publics have one.
+/// The text of a chain: a line for each call, and one for where its last procedure stands, as `MAIN
+/// 3000 AT 3002 HAS 4, CALLS 3006`. After a call comes the name of its target, and at the end of
+/// the last line that of its address, if the publics have one.
 ///
 /// # Errors
 /// `AllocError` only if memory runs out.
@@ -31,7 +32,7 @@ pub fn chain_text(
     Ok(text)
 }
 
-/// Appends a line for each call.
+/// Appends a line for each call of a chain.
 fn append_sites(
     alloc: Global,
     text: &mut Vec<u8>,
@@ -47,7 +48,8 @@ fn append_sites(
     Ok(())
 }
 
-/// Appends the line of a call, with the name of its target.
+/// Appends the line of a call of a chain: its caller, address and depth, and its target with its
+/// name.
 fn append_site(
     alloc: Global,
     text: &mut Vec<u8>,
@@ -61,7 +63,7 @@ fn append_site(
     append_callee(alloc, text, image, publics, call.target)
 }
 
-/// Appends what a call calls, with its name.
+/// Appends the target of a call, with its name, and ends the line.
 fn append_callee(
     alloc: Global,
     text: &mut Vec<u8>,
@@ -76,7 +78,7 @@ fn append_callee(
     Ok(())
 }
 
-/// Appends the line of where the last procedure stands, with the name of the address.
+/// Appends the line of where the last procedure of a chain stands, with the name of the address.
 fn append_standing(
     alloc: Global,
     text: &mut Vec<u8>,
@@ -97,7 +99,8 @@ fn append_standing(
     append_end(alloc, text, image, publics, last.at)
 }
 
-/// Appends what a procedure has on the stack at an address.
+/// Appends a procedure, an address, and how many bytes the procedure has on the stack there, as
+/// `3006 AT 3007 HAS 2`.
 fn append_depth(
     alloc: Global,
     text: &mut Vec<u8>,

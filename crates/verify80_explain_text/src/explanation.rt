@@ -12,13 +12,13 @@ use verify80::ImageCode;
 use verify80_explain::{Explanation, Route};
 use verify80_flow::Refusal;
 
-/// The calls and the ways that show a refusal, line by line.
+/// The text of what shows a refusal: the calls and the ways, line by line.
 ///
-/// A way has a line for each instruction, as a listing has it, and behind a bar what is known of the stack before it, as
+/// A way has a line for each instruction, as a listing has it, and after a bar what is known of the stack before it, as
 /// `3007 C1     POP B      | RET .. DE=RET TAKEN 1`: the words from bottom to top, the pairs that hold the return address, and how
 /// many words were taken from beneath it. An instruction is shown if each of its bytes is code, of whichever ranges; otherwise its
-/// text is `??`. Of more than 40 in a row that leave the stack as it is the first 20 and the last 20 are shown. A public at the
-/// address of an instruction stands on a line above it, and the name of a call's target behind its line.
+/// text is `??`. Of more than 40 in a row that leave the frame as it is only the first and the last 20 are shown. A public at the
+/// address of an instruction stands on a line above it, and the name of a call's target at the end of the call's line.
 ///
 /// # Errors
 /// `AllocError` only if memory runs out.
@@ -52,7 +52,7 @@ pub fn explanation_text(
     Ok(text)
 }
 
-/// The line over the first of two ways: a caller's, if what it calls takes more words than it was given.
+/// The line over the first of two ways: `CALLER` for `ShortArguments`, else `ONE WAY`.
 fn first_heading(refusal: Refusal) -> &'static [u8]
     ensures { result.now ≡ first_heading refusal }
 {
@@ -62,7 +62,7 @@ fn first_heading(refusal: Refusal) -> &'static [u8]
     }
 }
 
-/// The line over the second of two ways.
+/// The line over the second of two ways: `CALLEE` for `ShortArguments`, else `ANOTHER`.
 fn second_heading(refusal: Refusal) -> &'static [u8]
     ensures { result.now ≡ second_heading refusal }
 {
@@ -72,7 +72,8 @@ fn second_heading(refusal: Refusal) -> &'static [u8]
     }
 }
 
-/// Appends the calls that lead to a procedure, and the way through it.
+/// Appends the calls that lead to a procedure, and the way through it. `code` must be that of
+/// `image`.
 fn append_route(
     alloc: Global,
     text: &mut Vec<u8>,

@@ -21,7 +21,7 @@ pub(crate) fn append_frame(
     append_taken(alloc, text, frame.taken)
 }
 
-/// Appends each word.
+/// Appends each word of a frame, in the order given: `RET` or `..`.
 fn append_words(text: &mut Vec<u8>, words: &[Word]) -> Result<(), AllocError>
     ensures { OnOk result (text.new.items ≡ text.old.items ++ flat_map word_shown words.now) }
 {
@@ -31,7 +31,7 @@ fn append_words(text: &mut Vec<u8>, words: &[Word]) -> Result<(), AllocError>
     Ok(())
 }
 
-/// A word of the stack as it is shown.
+/// How a word of the stack is shown: `RET` for the return address, `..` for any word.
 fn word_text(word: Word) -> &'static [u8]
     ensures { result.now ≡ word_shown word }
 {
@@ -60,7 +60,7 @@ fn append_pair(text: &mut Vec<u8>, name: &[u8], word: Word) -> Result<(), AllocE
     }
 }
 
-/// Appends how many words have been taken; nothing if none have.
+/// Appends how many words have been taken, as `TAKEN 1`; nothing if none have.
 fn append_taken(alloc: Global, text: &mut Vec<u8>, taken: u32) -> Result<(), AllocError>
     ensures { OnOk result (text.new.items ≡ text.old.items ++ taken_shown taken) }
 {

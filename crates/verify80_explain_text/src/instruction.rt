@@ -10,7 +10,8 @@ use image80_text::append_columns;
 use std::alloc::{AllocError, Global};
 use verify80::ImageCode;
 
-/// Appends the instruction at an address, and a bar.
+/// Appends the line of the instruction at an address up to the bar: address, bytes and text, with
+/// `??` as the text if none can be fetched.
 pub(crate) fn append_instruction(
     alloc: Global,
     text: &mut Vec<u8>,
@@ -26,7 +27,7 @@ pub(crate) fn append_instruction(
     text.extend_from_slice(b" |".as_slice())
 }
 
-/// Appends an instruction's bytes and its text.
+/// Appends the address, the bytes and the text of an instruction.
 fn append_found(alloc: Global, text: &mut Vec<u8>, at: u16, instr: Instr) -> Result<(), AllocError>
     ensures { OnOk result (text.new.items ≡ text.old.items ++ found_text at instr) }
 {
@@ -35,7 +36,7 @@ fn append_found(alloc: Global, text: &mut Vec<u8>, at: u16, instr: Instr) -> Res
     append_filled(alloc, text, instr)
 }
 
-/// Appends an instruction's text, filled with spaces to ten places.
+/// Appends an instruction's text, padded with spaces to ten characters.
 fn append_filled(alloc: Global, text: &mut Vec<u8>, instr: Instr) -> Result<(), AllocError>
     ensures { OnOk result (text.new.items ≡ text.old.items ++ filled (text_of instr)) }
 {
@@ -45,7 +46,7 @@ fn append_filled(alloc: Global, text: &mut Vec<u8>, instr: Instr) -> Result<(), 
     Ok(())
 }
 
-/// Appends spaces up to ten places from `before` on.
+/// Pads with spaces what `text` has from index `before` on, to ten characters.
 fn fill_from(before: usize, text: &mut Vec<u8>) -> Result<(), AllocError>
     requires { before ≤ length text.old.items }
     ensures { OnOk result (text.new.items ≡ text.old.items ++ drop (length text.old.items - before) (codes "          ")) }
@@ -55,7 +56,7 @@ fn fill_from(before: usize, text: &mut Vec<u8>) -> Result<(), AllocError>
     text.extend_from_slice(&spaces[shown..])
 }
 
-/// Appends the byte at an address where no instruction can be fetched, if it is code, and `??`.
+/// Appends the address of an instruction that can't be fetched, its byte if that is code, and `??`.
 fn append_unknown(text: &mut Vec<u8>, code: &ImageCode<'_>, at: u16) -> Result<(), AllocError>
     ensures { OnOk result (text.new.items ≡ text.old.items ++ unknown_text code.now at) }
 {
@@ -63,7 +64,7 @@ fn append_unknown(text: &mut Vec<u8>, code: &ImageCode<'_>, at: u16) -> Result<(
     text.extend_from_slice(b"??        ".as_slice())
 }
 
-/// Appends the columns of an address with its byte, if it is code.
+/// Appends an address, and its byte if that is code, in the columns of a listing.
 fn append_byte(text: &mut Vec<u8>, code: &ImageCode<'_>, at: u16) -> Result<(), AllocError>
     ensures { OnOk result (text.new.items ≡ text.old.items ++ columns at (byte_of code.now at)) }
 {

@@ -2,8 +2,8 @@
 
 ghost use Rattle.verify80_explain_text.specs.Laws.{RunsAreTheWay};
 
-/// The runs of a way are all of its points, in order. The points of a run have one frame, and the first point behind a run has
-/// another frame.
+/// A law of ways as they are printed: the runs of a way are all of its points, in order. The points
+/// of a run have one frame, and the first point after a run has another frame.
 pub fn ways_are_shown_in_runs()
     ensures { RunsAreTheWay }
 {}

@@ -12,8 +12,9 @@ use std::alloc::{AllocError, Global};
 use verify80_explain::{Chain, Explanation, Unexplained, explain, find_chain};
 use verify80_flow::Refusal;
 
-/// Appends what shows a refusal, as [`explanation_text`] has it; or the line `TOO MANY WAYS TO SHOW`, if it isn't found within the
-/// limit, which is that of [`explain`]; or nothing, if nothing was found that shows the refusal.
+/// Appends what shows a refusal, as [`explanation_text`] has it; or the line `TOO MANY WAYS TO
+/// SHOW`, if nothing is found within the limit, which is that of [`explain`]; or nothing, if no
+/// ways show the refusal.
 ///
 /// # Errors
 /// `AllocError` only if memory runs out; the text may then have a part.
@@ -35,9 +36,9 @@ pub fn append_explanation(
     }
 }
 
-/// Appends the chain of calls that adds up to a given number of bytes of stack, as [`chain_text`] has it; or the line
-/// `TOO MANY WAYS TO SHOW`, if it isn't found within the limit, which is that of [`explain`]; or nothing, if none was found, as where the
-/// main program's bound is another number.
+/// Appends the chain of calls that adds up to `bytes` bytes of stack, as [`chain_text`] has it; or
+/// the line `TOO MANY WAYS TO SHOW`, if it isn't found within the limit, which is that of
+/// [`explain`]; or nothing, if there is none, as when the main program's bound is another number.
 ///
 /// # Errors
 /// `AllocError` only if memory runs out; the text may then have a part.
@@ -59,7 +60,7 @@ pub fn append_chain(
     }
 }
 
-/// Appends the ways that show a refusal.
+/// Appends the text of an explanation.
 fn append_ways(
     alloc: Global,
     text: &mut Vec<u8>,
@@ -75,7 +76,7 @@ fn append_ways(
     text.extend_from_slice(&shown)
 }
 
-/// Appends the calls of a chain.
+/// Appends the text of a chain.
 fn append_calls(
     alloc: Global,
     text: &mut Vec<u8>,
@@ -89,7 +90,7 @@ fn append_calls(
     text.extend_from_slice(&shown)
 }
 
-/// Appends the line that there is too much to show.
+/// Appends the line `TOO MANY WAYS TO SHOW`.
 fn append_too_many(text: &mut Vec<u8>) -> Result<(), AllocError>
     ensures { OnOk result (text.new.items ≡ text.old.items ++ too_many) }
 {

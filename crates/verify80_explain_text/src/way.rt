@@ -12,14 +12,14 @@ use std::alloc::{AllocError, Global};
 use verify80::ImageCode;
 use verify80_explain::Point;
 
-/// The most instructions in a row that are all shown though they leave the stack as it is.
+/// The greatest number of points in a row with one frame that are all shown.
 const LONG_RUN: usize = 40;
 
-/// How many of a longer row are shown at its beginning, and at its end.
+/// How many points of a longer row are shown at its beginning, and as many at its end.
 const SHOWN: usize = 20;
 
-/// Appends a line for each point of a way. In the middle of a long row of instructions that leave the stack as it is they are
-/// counted instead.
+/// Appends a line for each point of a way. Of more than `LONG_RUN` points in a row with one frame
+/// those in the middle are counted instead.
 pub(crate) fn append_way(
     alloc: Global,
     text: &mut Vec<u8>,
@@ -38,7 +38,7 @@ pub(crate) fn append_way(
     Ok(())
 }
 
-/// How many points at the beginning of a way have one frame.
+/// How many points at the beginning of a way have the same frame as the first. The way has a point.
 fn first_run(way: &[Point]) -> usize
     requires { 0 < length way.now }
     ensures run { runs_of way.now ≡ take result way.now ∷ runs_of (drop result way.now) }
@@ -48,7 +48,7 @@ fn first_run(way: &[Point]) -> usize
     1 + same_ahead(&way[1..], &way[0].frame)
 }
 
-/// How many points at the beginning of a way have a frame.
+/// How many points at the beginning of a way have this frame.
 fn same_ahead(way: &[Point], frame: &Frame) -> usize
     ensures value { result ≡ position_or_len (has_other_frame frame.now) way.now }
     ensures within { result ≤ length way.now }
@@ -59,21 +59,22 @@ fn same_ahead(way: &[Point], frame: &Frame) -> usize
     }
 }
 
-/// The place of the first point with another frame.
+/// The index of the first point whose frame isn't this one; `None` if there is none.
 fn other_frame(way: &[Point], frame: &Frame) -> Option<usize>
     ensures { result ≡ position (has_other_frame frame.now) way.now }
 {
     way.iter().position(|point| has_other_frame(point, frame))
 }
 
-/// Whether a point has another frame.
+/// Whether the point's frame differs from this one.
 fn has_other_frame(point: &Point, frame: &Frame) -> bool
     ensures { result ≡ has_other_frame frame.now point.now }
 {
     *frame != point.frame
 }
 
-/// Appends points with one frame.
+/// Appends the lines of a row of points with one frame; in the middle of a long row, how many are
+/// left out.
 fn append_run(
     alloc: Global,
     text: &mut Vec<u8>,
@@ -91,7 +92,7 @@ fn append_run(
     append_points(alloc, text, code, publics, &run[run.len() - SHOWN..])
 }
 
-/// Appends how many instructions aren't shown.
+/// Appends the line that says how many instructions aren't shown.
 fn append_left_out(alloc: Global, text: &mut Vec<u8>, count: usize) -> Result<(), AllocError>
     ensures { OnOk result (text.new.items ≡ text.old.items ++ left_out count) }
 {
@@ -115,7 +116,7 @@ fn append_points(
     Ok(())
 }
 
-/// Appends the line of a point, below that of its name.
+/// Appends the line of a point, and above it a line with the name of its address, if it has one.
 fn append_point(
     alloc: Global,
     text: &mut Vec<u8>,

@@ -20,11 +20,12 @@ use frames80::{Code, Procedure};
 use std::alloc::Global;
 use verify80_hints::{AskedPlaces, find_steps};
 
-/// How many visits a program gets at first, beside those for each of its points.
+/// How many visits the first attempt at a program gets, beside those for each of its points.
 const FIRST_VISITS: u64 = 20_000;
 
-/// Goes over every walk of every procedure of a program, and reports on its procedures and its stack, and on the points that walks
-/// reach. A program of which a refusal holds isn't accepted, and one of which none holds is refused only if memory runs out.
+/// Follows every walk of every procedure of a program, and reports on its procedures and its stack,
+/// and on the points that walks reach. A program of which a refusal holds isn't accepted, and one
+/// of which none holds is refused only if memory runs out.
 ///
 /// # Errors
 /// A refusal that holds, or `Memory`.
@@ -42,8 +43,7 @@ pub fn analyze<C: Code>(alloc: Global, program: &C) -> Result<Analysis, Refusal>
     Ok(found)
 }
 
-/// Goes over a program as [`analyze`] does, and reports on it however small its stack is: on one too that is refused for nothing
-/// but that.
+/// Analyzes a program as [`analyze`] does, but never refuses it for a stack that is too small.
 ///
 /// # Errors
 /// A refusal that holds, but never `StackTooSmall`; or `Memory`.
@@ -62,7 +62,8 @@ pub fn measure<C: Code>(alloc: Global, program: &C) -> Result<Analysis, Refusal>
     measure_whole(alloc, program)
 }
 
-/// Measures a program if a few visits of each point are enough.
+/// Measures a program with full frames and few visits of each point; `None` if these aren't enough.
+/// Any refusal but `Memory` holds.
 fn measure_soon<C: Code>(alloc: Global, program: &C) -> Result<Option<Analysis>, Refusal>
     ensures found { IfOk result (λ found. IfSome found (IsAnalysis (C.code program.now))) }
     ensures refused { IfErr result (HoldsAnyway (C.code program.now)) }
@@ -71,8 +72,9 @@ fn measure_soon<C: Code>(alloc: Global, program: &C) -> Result<Option<Analysis>,
     fill_and_report(alloc, program, &mut table)
 }
 
-/// Measures a program by frames that have forgotten what no return asks for. It is unanswered if a return has another word, which may
-/// be for what was forgotten.
+/// Measures a program with frames that forget what no return asks for. `None` if a return is
+/// reached whose word isn't known to be the return address: it may just have been forgotten. Any
+/// refusal but `Memory` holds.
 fn measure_asked<C: Code>(alloc: Global, program: &C) -> Result<Option<Analysis>, Refusal>
     ensures found { IfOk result (λ found. IfSome found (IsAnalysis (C.code program.now))) }
     ensures refused { IfErr result (HoldsAnyway (C.code program.now)) }
@@ -82,7 +84,8 @@ fn measure_asked<C: Code>(alloc: Global, program: &C) -> Result<Option<Analysis>
     fill_asked_and_report(alloc, program, &mut table)
 }
 
-/// Fills an empty table for a program and reports on it, unless a return has another word.
+/// Fills an empty table for a program and reports on it; `None` in place of `ReturnNotOwn`, which
+/// may come of a forgotten word. Any refusal but `Memory` holds.
 fn fill_asked_and_report<C: Code>(
     alloc: Global,
     program: &C,
@@ -99,7 +102,9 @@ fn fill_asked_and_report<C: Code>(
     }
 }
 
-/// Refuses a program if a walk is found to a return with another word than the return address.
+/// Refuses a program if the search of the hints finds steps of a walk to a return with another word
+/// than the return address, or of two walks with different counts, and they can be taken. Any
+/// refusal but `Memory` holds.
 fn refuse_return<C: Code>(alloc: Global, program: &C) -> Result<(), Refusal>
     ensures refused { IfErr result (HoldsAnyway (C.code program.now)) }
 {
@@ -107,7 +112,8 @@ fn refuse_return<C: Code>(alloc: Global, program: &C) -> Result<(), Refusal>
     go_along(alloc, program, &steps)
 }
 
-/// Measures a program, however many visits it takes.
+/// Measures a program with full frames, however many visits it takes. Any refusal but `Memory`
+/// holds.
 fn measure_whole<C: Code>(alloc: Global, program: &C) -> Result<Analysis, Refusal>
     ensures found { IfOk result (IsAnalysis (C.code program.now)) }
     ensures refused { IfErr result (HoldsAnyway (C.code program.now)) }
@@ -116,7 +122,8 @@ fn measure_whole<C: Code>(alloc: Global, program: &C) -> Result<Analysis, Refusa
     fill_whole_and_report(alloc, program, &mut table)
 }
 
-/// Fills an empty table for a program and reports on it.
+/// Fills an empty table for a program, however many visits that takes, and reports on it. Any
+/// refusal but `Memory` holds; only `ReturnNotOwn` may not, if the table's frames forget.
 fn fill_whole_and_report<C: Code>(
     alloc: Global,
     program: &C,
@@ -130,7 +137,9 @@ fn fill_whole_and_report<C: Code>(
     report_on(alloc, program, table)
 }
 
-/// Fills an empty table for a program and reports on it, unless it is spent before.
+/// Fills an empty table for a program and reports on it; `None` if the table's visits are spent
+/// before. Any refusal but `Memory` holds; only `ReturnNotOwn` may not, if the table's frames
+/// forget.
 fn fill_and_report<C: Code>(
     alloc: Global,
     program: &C,
@@ -146,7 +155,8 @@ fn fill_and_report<C: Code>(
     Ok(Some(report_on(alloc, program, table)?))
 }
 
-/// Reports on a program whose table is filled.
+/// Reports on a program whose table is filled. Any refusal but `Memory` holds; only `ReturnNotOwn`
+/// may not, if the table's frames forget.
 fn report_on<C: Code>(alloc: Global, program: &C, table: &Table) -> Result<Analysis, Refusal>
     requires { IsFilled (C.code program.now) table.now.known }
     ensures found { IfOk result (IsAnalysis (C.code program.now)) }

@@ -7,8 +7,9 @@ use crate::refusal::Refusal;
 use crate::table::Table;
 use frames80::Code;
 
-/// Fills an empty table for a program: one frame for each point that a walk reaches, and each way on in the table. Gives whether it is
-/// filled, which it is unless it is spent before and may be given up then.
+/// Fills an empty table for a program: one frame for each point that a walk reaches, such that each
+/// instruction leads from its frame to frames that the table covers. Answers whether it is filled:
+/// false only if `gives_up` is set and the table's visits are spent before.
 ///
 /// # Errors
 /// A refusal that holds, or out of memory.

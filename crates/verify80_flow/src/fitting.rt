@@ -4,7 +4,8 @@ ghost use Rattle.verify80_flow.specs.FittingLaws.{CoversWalks, KeepsFromFaults, 
 
 use crate::laws::frame_laws;
 
-/// If a table of frames fits a program, every walk of the program is covered by it, so that none of them is at a fault.
+/// A law of programs: if a table of frames fits one, the table covers each of its walks, and no
+/// walk is at a fault.
 pub fn fitting_tables_cover_walks()
     ensures covers { CoversWalks }
     ensures wants { WantsEnough }

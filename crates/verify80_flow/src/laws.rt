@@ -4,7 +4,7 @@ ghost use Rattle.verify80_flow.specs.Shown.{FrameLaws};
 
 use frames80::{counts_decide, covered_goes_along, places_move};
 
-/// What holds of all frames. (The functions that carry the laws have no code.)
+/// The laws of frames that proofs use, as one contract; the call does nothing.
 #[inline]
 pub(crate) fn frame_laws()
     ensures { FrameLaws }

@@ -5,7 +5,7 @@
 //! | Item | What it is |
 //! |---|---|
 //! | [`analyze`] | the whole analysis of a program |
-//! | [`measure`] | the same, however small the stack is |
+//! | [`measure`] | the whole analysis, however small the stack is |
 //! | [`Procedure`] | the main program, or one that a call reaches |
 //! | [`Refusal`] | why a program is refused |
 //! | [`fitting_tables_cover_walks`] | if a table of frames fits, no walk is at a fault, as a contract |

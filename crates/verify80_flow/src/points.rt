@@ -12,7 +12,7 @@ use frames80_interned::{Asked, FrameId, Frames, MeetFault};
 use std::alloc::{AllocError, Global};
 use std::marker::Model;
 
-/// A point, its frame by number.
+/// A point, with its frame by number.
 #[derive(Clone, Copy)]
 struct StoredPoint {
     procedure: Procedure,
@@ -24,8 +24,11 @@ struct StoredPoint {
 /// frames that they and what leads to them have.
 #[derive(Drop)]
 pub(crate) struct Points {
+    /// The frames, by number.
     frames: Frames,
+    /// The points, in order of first sight.
     stored: Vec<StoredPoint>,
+    /// The index in `stored` of the point at each address of each procedure.
     numbers: PointNumbers,
 }
 
@@ -42,7 +45,7 @@ impl Model for Points {
 }
 
 impl Points {
-    /// No points.
+    /// No points and no frames.
     ///
     /// # Errors
     /// `AllocError` if memory runs out.
@@ -66,7 +69,7 @@ impl Points {
         self.stored.len()
     }
 
-    /// Where the point of an address of a procedure stands.
+    /// The index of the point at an address of a procedure, or `None` if it isn't known.
     pub(crate) fn position(&self, procedure: Procedure, at: u16) -> Option<usize>
         ensures found { IfSome result (λ i. IsPointAt self.now.points procedure at i) }
         ensures none { IfNone result (IsNoPoint self.now.points procedure at) }
@@ -75,7 +78,7 @@ impl Points {
         Some(number as usize)
     }
 
-    /// The procedure and the address of the point that stands at `i`.
+    /// The procedure and the address of the point with index `i`.
     pub(crate) fn place(&self, i: usize) -> (Procedure, u16)
         requires { i < length self.now.points }
         ensures { IfSome (slice_get self.now.points i) (λ point. (point.procedure ≡ result.0) × (point.at ≡ result.1)) }
@@ -84,7 +87,7 @@ impl Points {
         (point.procedure, point.at)
     }
 
-    /// The number of the frame of the point that stands at `i`.
+    /// The number of the frame of the point with index `i`.
     pub(crate) fn frame(&self, i: usize) -> FrameId
         requires { i < length self.now.points }
         ensures { IfSome (slice_get self.now.points i) (λ point. IsFrame self.now.frames result point.frame) }
@@ -92,14 +95,14 @@ impl Points {
         self.stored[i].frame
     }
 
-    /// The frames by number.
+    /// The frames, by number.
     pub(crate) fn frames(&self) -> &Frames
         ensures { result.now ≡ self.now.frames }
     {
         &self.frames
     }
 
-    /// Adds a point that isn't there.
+    /// Appends a point that isn't known yet.
     ///
     /// # Errors
     /// `AllocError` if memory runs out: the points are unchanged.
@@ -126,7 +129,7 @@ impl Points {
         Ok(())
     }
 
-    /// The point that stands at `i` gets another frame.
+    /// Sets the frame of the point with index `i`.
     pub(crate) fn replace(&mut self, i: usize, frame: FrameId)
         requires here { i < length self.old.points }
         requires there { frame < length self.old.frames }
@@ -163,7 +166,7 @@ impl Points {
         self.frames.main_entry()
     }
 
-    /// The number of a frame after a change.
+    /// The number of a frame after a change. The points are unchanged.
     ///
     /// # Errors
     /// `AllocError` if memory runs out.
@@ -177,10 +180,12 @@ impl Points {
         self.frames.change(frame, change)
     }
 
-    /// The number of a caller's frame after a call of a procedure that takes a given number of words.
+    /// The number of a caller's frame after a call of a procedure that takes `taken` words. The
+    /// points are unchanged.
     ///
     /// # Errors
-    /// `ShortArguments` if the caller has fewer words above its bottom word, or out of memory.
+    /// `ShortArguments` if the caller has fewer words above its bottom word (in the main program:
+    /// fewer words), or out of memory.
     pub(crate) fn after(
         &mut self,
         frame: FrameId,
@@ -197,7 +202,8 @@ impl Points {
         self.frames.after(frame, role, taken)
     }
 
-    /// The number of a frame of which what isn't asked for may be forgotten.
+    /// The number of a frame like `frame`, in which words and pairs that aren't asked for may have
+    /// become `Any`. The points are unchanged.
     ///
     /// # Errors
     /// `AllocError` if memory runs out.
@@ -210,7 +216,8 @@ impl Points {
         self.frames.forget(frame, asked)
     }
 
-    /// The number of the frame that is known of two frames; that of the first if the first doesn't change.
+    /// The number of the frame with what is known of both frames; `one` itself if that frame
+    /// wouldn't change. The points are unchanged.
     ///
     /// # Errors
     /// `HeightsDiffer` if the counts differ, or out of memory.

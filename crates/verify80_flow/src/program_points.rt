@@ -9,7 +9,7 @@ use crate::table::Table;
 use frames80::slot;
 use std::alloc::{AllocError, Global};
 
-/// The points of a table, by procedure and address.
+/// The points of a table, sorted by procedure and address.
 ///
 /// # Errors
 /// `AllocError` if memory runs out.
@@ -43,7 +43,7 @@ fn sort_points(points: &mut Vec<ProgramPoint>)
     points.sort_unstable_by_key(|point| rank(*point));
 }
 
-/// Where a point stands in order.
+/// The key by which points are sorted: the procedure's slot, then the address.
 fn rank(point: ProgramPoint) -> usize
     ensures { result ≡ rank_of point }
 {

@@ -12,25 +12,25 @@ use std::fmt;
 /// `FetchOutside` and `HeightsDiffer` the address of a point, or the numbers that it compares.
 #[derive(Clone, Copy, PartialEq, Eq)]
 pub enum Refusal {
-    /// A point is reached whose instruction has a byte outside CODE or past FFFF.
+    /// The instruction at a point that is reached has a byte outside CODE or past FFFF.
     FetchOutside(u16),
-    /// One of the twelve unused bytes is reached.
+    /// A walk reaches one of the twelve unused bytes.
     UnusedOpcode(u16),
-    /// An EI is reached whose next byte isn't a HLT in CODE.
+    /// A walk reaches an EI whose next byte isn't a HLT in CODE.
     EnablesInterrupts(u16),
-    /// SPHL is reached.
+    /// A walk reaches SPHL.
     Sphl(u16),
-    /// A PCHL is reached for which no targets are declared.
+    /// A walk reaches a PCHL for which no targets are declared.
     Pchl(u16),
-    /// INX SP or DCX SP is reached.
+    /// A walk reaches INX SP or DCX SP.
     StackByByte(u16),
-    /// LXI SP is reached outside the main program, or with another word than the stack's top.
+    /// A walk reaches LXI SP outside the main program, or with another word than the stack's top.
     SetsStack(u16),
-    /// STA or SHLD is reached with a byte outside data.
+    /// A walk reaches STA or SHLD that stores a byte outside data.
     DirectStore(u16),
-    /// The main program pops with nothing on its stack.
+    /// The main program pops, with POP or XTHL, while it has no words on its stack.
     PopsBelow(u16),
-    /// A return is reached with words that are not the return address alone.
+    /// A procedure that is called returns, and its words are not its return address alone.
     ReturnNotOwn(u16),
     /// The main program returns.
     ReturnFromMain(u16),
@@ -38,7 +38,8 @@ pub enum Refusal {
     HeightsDiffer(u16),
     /// Two returns of one procedure take different numbers of words; the address is that of one of them.
     UnevenArguments(u16),
-    /// A call is reached with fewer words than the callee takes on one of its walks.
+    /// A call is reached with fewer words above the caller's bottom word (in the main program:
+    /// fewer words) than the callee takes on one of its walks.
     ShortArguments(u16),
     /// A call is reached that leads back to its own procedure.
     Recursion(u16),
@@ -77,7 +78,7 @@ impl Refusal {
         }
     }
 
-    /// The refusal's name, as it is printed.
+    /// The refusal's name, as it is printed, without its numbers.
     pub fn name(&self) -> &'static str
         ensures { result.now ≡ refusal_name self.now }
     {
@@ -103,7 +104,8 @@ impl Refusal {
         }
     }
 
-    /// The address that the refusal names, if it names one.
+    /// The address that the refusal names, or `None` for `StackTooSmall`, `TooManyPoints` and
+    /// `Memory`.
     pub fn address(&self) -> Option<u16>
         ensures { result ≡ refusal_address self.now }
     {
@@ -127,14 +129,15 @@ impl Refusal {
         }
     }
 
-    /// Whether the refusal depends on which words of the frame are the procedure's own return address.
+    /// Whether the refusal is `ReturnNotOwn`, the only one that depends on which words are known to
+    /// be the return address.
     pub(crate) fn rests_on_a_word(&self) -> bool
         ensures { result ≡ rests_on_a_word self.now }
     {
         matches!(self, Refusal::ReturnNotOwn(_))
     }
 
-    /// The refusal if no instruction may be executed at an address.
+    /// The refusal for an address where no instruction may be executed, for this reason.
     pub(crate) fn of_look(fault: LookFault, at: u16) -> Refusal
         ensures { result ≡ look_refusal fault at }
     {
@@ -147,7 +150,7 @@ impl Refusal {
         }
     }
 
-    /// The refusal for a frame's fault at an address.
+    /// The refusal for an instruction at an address that has this fault with its frame.
     pub(crate) fn of(fault: FrameFault, at: u16) -> Refusal
         ensures { result ≡ refusal_of fault at }
     {
@@ -164,6 +167,8 @@ impl Refusal {
 }
 
 impl fmt::Display for Refusal {
+    /// Writes the name, and after it the address, as `Sphl AT 3000`, or the two numbers of
+    /// `StackTooSmall`.
     fn fmt<W: fmt::Write>(&self, f: &mut fmt::Formatter<W>) -> fmt::Result {
         let name = self.name();
         if let Refusal::StackTooSmall(need, has) = self {
@@ -176,8 +181,9 @@ impl fmt::Display for Refusal {
     }
 }
 
-/// A refusal is shown by its name here too.
+/// Shown as `Display` does, by its name and numbers.
 impl fmt::Debug for Refusal {
+    /// Writes what `Display` writes.
     fn fmt<W: fmt::Write>(&self, f: &mut fmt::Formatter<W>) -> fmt::Result {
         fmt::Display::fmt(self, f)
     }
@@ -190,6 +196,7 @@ impl From<AllocError> for Refusal {
 
     ghost from_gives = { λ _ refusal. refusal ≡ Memory };
 
+    /// Running out of memory is the refusal `Memory`.
     fn from(_: AllocError) -> Refusal {
         Refusal::Memory
     }

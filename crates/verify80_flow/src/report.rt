@@ -7,9 +7,10 @@ use frames80::Procedure;
 pub struct ProcRow {
     /// The address where it is entered.
     pub entry: u16,
-    /// How many words it has taken from beneath its return address where it returns; 0 if it doesn't return.
+    /// How many words it has popped from beneath its return address where it returns; 0 if it
+    /// doesn't return.
     pub takes: u32,
-    /// The most words that it takes from beneath its return address on any of its walks.
+    /// The most words that it pops from beneath its return address on any of its walks.
     pub wants: u32,
     /// The most bytes of stack that it needs below its return address, its callees' included.
     pub bound: u64,
@@ -17,31 +18,33 @@ pub struct ProcRow {
     pub returns: bool,
 }
 
-/// The report on an image: its procedures by entry, the main program not among them, and the most bytes that the program has
-/// on the stack.
+/// The report on an image: its procedures by entry, the main program not among them, and the most
+/// bytes that the program has on the stack.
 #[derive(Debug, Drop)]
 pub struct Report {
     /// The procedures that are reached, by entry.
     pub procedures: Vec<ProcRow>,
-    /// The greatest sum over chains of calls from the main program: what each caller has on the stack, its return address,
-    /// and what the last procedure has.
+    /// How many bytes of stack the program needs: the greatest sum, over chains of calls from the
+    /// main program, of what each caller has on the stack, its callee's return address, and what
+    /// the last procedure has.
     pub stack_bytes: u64,
 }
 
-/// A point that walks reach: an address of a procedure, and how many words its frame has there, the same on each walk.
+/// A point that walks reach: an address of a procedure, with the counts of its frame, which are the
+/// same on each walk.
 #[derive(Clone, Copy, Debug, PartialEq, Eq)]
 pub struct ProgramPoint {
     /// The procedure.
     pub procedure: Procedure,
     /// The address.
     pub at: u16,
-    /// How many words the procedure has on the stack. One that is called begins with one, its return address.
+    /// How many words the procedure has on the stack. An entry starts with one, its return address.
     pub words: u32,
-    /// How many words it has taken from beneath its return address.
+    /// How many words the procedure has popped from beneath its own.
     pub taken: u32,
 }
 
-/// All that is found of a program.
+/// What the analysis finds of a program: the report and the points.
 #[derive(Debug, Drop)]
 pub struct Analysis {
     /// The report.

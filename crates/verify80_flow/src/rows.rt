@@ -11,7 +11,7 @@ use frames80::{Procedure, SLOTS, slot};
 use std::alloc::{AllocError, Global};
 use verify80_bounds::Bounds;
 
-/// The rows of the procedures that are entered, by entry.
+/// The rows of the procedures that calls reach, sorted by entry. `wants` is by slot.
 ///
 /// # Errors
 /// `AllocError` if memory runs out.
@@ -35,7 +35,8 @@ pub(crate) fn list_rows(
     Ok(rows)
 }
 
-/// For each procedure, by slot, whether it has a point: so that few addresses are looked up.
+/// For each procedure, by slot, whether the table has a point of it. So few addresses are looked
+/// up.
 ///
 /// # Errors
 /// `AllocError` if memory runs out.
@@ -50,7 +51,8 @@ fn mark_procedures(alloc: Global, table: &Table) -> Result<Vec<bool>, AllocError
     Ok(marks)
 }
 
-/// Whether a call reaches the procedure that is entered at an address.
+/// Whether a call reaches the procedure at `entry`; `marks` has by slot whether a procedure has
+/// points.
 fn has_row(table: &Table, marks: &[bool], entry: u16) -> bool
     requires slots { length marks.now ≡ 65537 }
     requires marked { AreMarked table.now.known.points marks.now (length table.now.known.points) }
@@ -61,7 +63,7 @@ fn has_row(table: &Table, marks: &[bool], entry: u16) -> bool
     marked && table.is_entered(entry)
 }
 
-/// The row of a procedure.
+/// The row of the procedure that is entered at `entry`. `wants` is by slot.
 fn row(table: &Table, wants: &[u32], bounds: &Bounds, entry: u16) -> ProcRow
     requires slots { length wants.now ≡ 65537 }
     ensures { result ≡ row_of table.now.known wants.now bounds.now entry }

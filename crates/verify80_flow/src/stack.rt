@@ -12,7 +12,9 @@ use frames80::Code;
 use std::alloc::Global;
 use verify80_bounds::{Bounds, BoundsFault, find_bounds};
 
-/// The most bytes of stack that each procedure needs below its return address, its callees' included.
+/// The most bytes of stack that each procedure needs below its return address, its callees'
+/// included. `table` must be filled, and `wants` has by slot how many words each procedure takes at
+/// most.
 ///
 /// # Errors
 /// `ShortArguments` or `Recursion`, if it holds; out of memory.

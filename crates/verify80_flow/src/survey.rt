@@ -17,11 +17,13 @@ use verify80_bounds::{CallSite, Depth};
 /// The depths of a program's frames, and its calls.
 #[derive(Drop)]
 pub(crate) struct CallGraph {
+    /// The depth of each point's frame.
     pub(crate) depths: Vec<Depth>,
+    /// The calls at the points.
     pub(crate) calls: Vec<CallSite>,
 }
 
-/// Every point of a table is gone over: the depth of its frame is noted, and its call.
+/// The depth of the frame of each point of a table, and the calls at these points.
 ///
 /// # Errors
 /// `ShortArguments`, and any other refusal that holds; out of memory.
@@ -51,7 +53,8 @@ pub(crate) fn find_calls<C: Code>(
 }
 
 impl CallGraph {
-    /// Notes the depth of a point's frame, and its call.
+    /// Appends the depth of a point's frame, and the call there, if there is one. `AllocError` if
+    /// memory runs out.
     fn note(&mut self, depth: Depth, call: Option<CallSite>) -> Result<(), AllocError>
         ensures depths { OnOk result (self.new.depths.items ≡ self.old.depths.items ++ depth ∷ []) }
         ensures calls { OnOk result (self.new.calls.items ≡ noted self.old.calls.items call) }
@@ -64,7 +67,8 @@ impl CallGraph {
     }
 }
 
-/// The depth of a point's frame, and its call, whose caller must have the words that the callee wants.
+/// The depth of a point's frame, and the call at the point, if its instruction is one. The caller
+/// must have the words that the callee wants, by `wants`.
 ///
 /// # Errors
 /// `ShortArguments`, and any other refusal that holds.
@@ -105,7 +109,7 @@ fn look_at<C: Code>(
     Ok((noted, Some(call)))
 }
 
-/// The address that an effect calls.
+/// The address that an effect calls; `None` if it is no call.
 pub(crate) fn target_of(effect: Effect) -> Option<u16>
     ensures { (frame : StackFrame) → result ≡ called (move_of effect frame) }
 {

@@ -27,7 +27,8 @@ use std::alloc::{AllocError, Global};
 use std::marker::Model;
 use verify80_hints::{AskedPlaces, Callers, Pending};
 
-/// How many visits each point is worth. In most programs a point is visited once or twice.
+/// How many visits each new point adds to those that are allowed. In most programs a point is
+/// visited once or twice.
 const VISITS_FOR_A_POINT: u64 = 4;
 
 /// What is known so far: the points with their frames, how many words each procedure takes where it returns, once a return of
@@ -35,12 +36,15 @@ const VISITS_FOR_A_POINT: u64 = 4;
 #[derive(Drop)]
 pub(crate) struct Table {
     points: Points,
+    /// For each entry how many words its procedure takes, once a return of it was seen.
     exits: Vec<Option<u32>>,
+    /// The points that wait for a callee to return.
     callers: Callers,
+    /// The points that are still to be visited.
     pending: Pending,
-    /// What returns ask for, if whatever they don't ask for is forgotten.
+    /// What returns ask for, if frames are to forget the rest.
     asked: Option<AskedPlaces>,
-    /// How many points may still be visited before [`Table::is_spent`].
+    /// How many points may still be visited before the table is spent.
     visits_left: u64,
 }
 
@@ -56,8 +60,9 @@ impl Model for Table {
 }
 
 impl Table {
-    /// An empty table. With what the program's returns ask for, each frame forgets the rest; and it is spent when a given number of points
-    /// were visited, and four more for each point that there is.
+    /// An empty table for `program`. With `asked`, the frames of new points forget what no return
+    /// asks for. The table is spent after `visits_left` visits, and four more for each point that
+    /// is added before.
     ///
     /// # Errors
     /// `AllocError` if memory runs out.
@@ -81,7 +86,8 @@ impl Table {
         })
     }
 
-    /// A frame leads to a point of a procedure: the point is new, or what is known of it is what is known of both.
+    /// Adds a frame that reaches an address of a procedure: the point is new with this frame, or
+    /// its frame becomes what is known of both. Answers whether the table changed.
     ///
     /// # Errors
     /// A refusal that holds, or out of memory.
@@ -96,7 +102,11 @@ impl Table {
         }
     }
 
-    /// A point that is new.
+    /// Adds a new point, whose frame may forget what no return asks for; the point is to be
+    /// visited. Always answers true.
+    ///
+    /// # Errors
+    /// `TooManyPoints` if there are `MOST_POINTS` already, or out of memory.
     fn add(&mut self, procedure: Procedure, to: u16, frame: FrameId) -> Result<bool, Refusal>
         requires frame { CanLead self.old frame (length self.old.known.points + 1) }
         requires new { IsNoPoint self.old.known.points procedure to }
@@ -117,7 +127,8 @@ impl Table {
         Ok(true)
     }
 
-    /// A frame that leads to a new point, without what no return asks for.
+    /// The number of the frame for a new point: `frame` without what no return asks for there, or
+    /// `frame` itself in a table that forgets nothing.
     ///
     /// # Errors
     /// `AllocError` if memory runs out.
@@ -141,7 +152,11 @@ impl Table {
         }
     }
 
-    /// A point that is there.
+    /// Merges a frame into that of the known point with index `i`, which is to be visited again if
+    /// its frame changes. Answers whether it does.
+    ///
+    /// # Errors
+    /// `HeightsDiffer` if the frames differ in their counts, or out of memory.
     fn merge(
         &mut self,
         i: usize,
@@ -170,10 +185,13 @@ impl Table {
         Ok(true)
     }
 
-    /// A procedure returns with a given number of words taken.
+    /// Records that a procedure returns from `at` with `taken` words taken. At its first return the
+    /// points that wait for it are to be visited again. Answers whether that was the first; false
+    /// for the main program.
     ///
     /// # Errors
-    /// A refusal that holds, or out of memory.
+    /// `UnevenArguments` if another return of the procedure takes another number of words, or out
+    /// of memory.
     fn exit(&mut self, procedure: Procedure, at: u16, taken: u32) -> Result<bool, Refusal>
         requires { IsSmall self.old.known }
         ensures exits { Exits self.old.known self.new.known procedure at taken result }
@@ -193,7 +211,7 @@ impl Table {
         }
     }
 
-    /// The main program begins.
+    /// Adds the main program's frame at its start. Answers whether the table changed.
     ///
     /// # Errors
     /// A refusal that holds, or out of memory.
@@ -205,7 +223,7 @@ impl Table {
         self.flow(Procedure::Main, start, frame)
     }
 
-    /// A procedure is entered.
+    /// Adds a callee's frame at its entry `target`. Answers whether the table changed.
     ///
     /// # Errors
     /// A refusal that holds, or out of memory.
@@ -218,7 +236,8 @@ impl Table {
         self.flow(Procedure::Entry(target), target, frame)
     }
 
-    /// Where the instruction at a point stands, and what it does.
+    /// The point with index `point` as a site, and the effect of its instruction, if the
+    /// instruction may be executed there with the point's frame.
     ///
     /// # Errors
     /// A refusal that holds.
@@ -255,7 +274,8 @@ impl Table {
         Ok((site, effect))
     }
 
-    /// Visits a point: its instruction, and each way that it leads.
+    /// Visits a point: adds the frames that its instruction leads to. Answers whether the table
+    /// changed.
     ///
     /// # Errors
     /// A refusal that holds, or out of memory.
@@ -268,7 +288,8 @@ impl Table {
         self.follow(&site, program.targets(site.at), effect)
     }
 
-    /// Visits the points that wait, and those that come of it.
+    /// Visits the points that wait, and those that then have to, until none waits or the visits are
+    /// spent. Answers whether the table changed. `Err` is a refusal that holds, or `Memory`.
     fn drain<C: Code>(&mut self, program: &C) -> Result<bool, Refusal>
         requires { IsSmall self.old.known }
         ensures { ManyVisits (C.code program.now) self.old.known self.new.known result }
@@ -286,12 +307,13 @@ impl Table {
         Ok(changed)
     }
 
-    /// Whether as many points were visited as were allowed.
+    /// Whether no visits are left of those that are allowed.
     pub(crate) fn is_spent(&self) -> bool {
         self.visits_left == 0
     }
 
-    /// The next point that waits, unless as many were visited as are allowed.
+    /// Takes the next point that waits, and one of the visits that are left; `None` if no point
+    /// waits or no visits are left.
     fn next_pending(&mut self) -> Option<usize>
         ensures same { self.new ≡ self.old }
         ensures there { IfSome result (λ point. point < length self.new.known.points) }
@@ -303,7 +325,8 @@ impl Table {
         }
     }
 
-    /// Visits every point once.
+    /// Visits each point once. Answers whether the table changed; if not, each point's instruction
+    /// leads to frames that the table covers. `Err` is a refusal that holds, or `Memory`.
     fn pass<C: Code>(&mut self, program: &C) -> Result<bool, Refusal>
         requires { IsSmall self.old.known }
         ensures visits { ManyVisits (C.code program.now) self.old.known self.new.known result }
@@ -318,8 +341,8 @@ impl Table {
         Ok(changed)
     }
 
-    /// Visits the points that wait, then the main program's start, and then every point. If those two change
-    /// nothing the table is closed.
+    /// Visits the points that wait, then adds the main program's start, and visits every point.
+    /// Answers whether the last two changed the table; if not, the table is filled.
     ///
     /// # Errors
     /// A refusal that holds, or out of memory.
@@ -342,7 +365,7 @@ impl Table {
         self.points.len()
     }
 
-    /// The procedure of the point that stands at `i`.
+    /// The procedure of the point with index `i`.
     pub(crate) fn procedure(&self, i: usize) -> Procedure
         requires { i < length self.now.known.points }
         ensures { IfSome (slice_get self.now.known.points i) (λ point. point.procedure ≡ result) }
@@ -350,7 +373,7 @@ impl Table {
         self.points.place(i).0
     }
 
-    /// How many words are taken at the point that stands at `i`.
+    /// How many words are taken at the point with index `i`.
     pub(crate) fn taken(&self, i: usize) -> u32
         requires { i < length self.now.known.points }
         ensures { IfSome (slice_get self.now.known.points i) (λ point. result ≡ point.frame.taken) }
@@ -358,7 +381,7 @@ impl Table {
         self.frames().taken(self.points.frame(i))
     }
 
-    /// What is kept of the point that stands at `i`.
+    /// The procedure, the address and the counts of the point with index `i`, as they are reported.
     pub(crate) fn program_point(&self, i: usize) -> ProgramPoint
         requires { i < length self.now.known.points }
         ensures { IfSome (slice_get self.now.known.points i) (λ point. result ≡ program_point point) }
@@ -373,7 +396,7 @@ impl Table {
         }
     }
 
-    /// The frames by number.
+    /// The frames, by number.
     pub(crate) fn frames(&self) -> &Frames
         ensures { result.now ≡ self.now.frames }
     {
@@ -390,14 +413,16 @@ impl Table {
             .is_some()
     }
 
-    /// How many words a procedure takes where it returns, once a return was seen.
+    /// How many words the procedure at `entry` takes where it returns, or `None` if no return of it
+    /// was seen.
     pub(crate) fn exit_of(&self, entry: u16) -> Option<u32>
         ensures { result ≡ exit_of self.now.known.exits entry }
     {
         self.exits[usize::from(entry)]
     }
 
-    /// Notes that the point of an address is to be visited again.
+    /// Adds a point, which is at address `at`, to those that wait to be visited. What is known is
+    /// unchanged. `AllocError` if memory runs out.
     fn visit_again(&mut self, point: usize, at: u16) -> Result<(), AllocError>
         ensures { self.new ≡ self.old }
     {
@@ -405,7 +430,7 @@ impl Table {
     }
 }
 
-/// No return of any procedure was seen.
+/// A table of 65,536 entries without any return seen. `AllocError` if memory runs out.
 fn no_exits(alloc: Global) -> Result<Vec<Option<u32>>, AllocError>
     ensures { IfOk result (λ exits. exits.items ≡ replicate 65536 None) }
 {

@@ -21,7 +21,7 @@ use frames80_interned::{FrameId, Frames, MeetFault};
 use std::alloc::{AllocError, Global};
 use verify80_hints::Step;
 
-/// A point to which a walk comes, its frame by number.
+/// A point that a walk reaches, with the number of the walk's frame there.
 #[derive(Clone, Copy)]
 pub(crate) struct WalkedPoint {
     procedure: Procedure,
@@ -29,14 +29,16 @@ pub(crate) struct WalkedPoint {
     frame: FrameId,
 }
 
-/// The points to which the steps so far have come, and their frames.
+/// The walks that the steps so far have shown: the point and the frame at the end of each.
 #[derive(Drop)]
 pub(crate) struct Walks {
+    /// The frames, by number.
     frames: Frames,
+    /// For each step that was taken the point that it reaches.
     points: Vec<WalkedPoint>,
 }
 
-/// Goes over steps until one can't be taken, or a refusal is seen to hold.
+/// Takes steps until one can't be taken or a refusal is shown. `Ok` says nothing of the program.
 ///
 /// # Errors
 /// `ReturnNotOwn` or `HeightsDiffer`, if it holds; or `Memory`.
@@ -56,7 +58,8 @@ pub(crate) fn go_along<C: Code>(alloc: Global, program: &C, steps: &[Step]) -> R
 }
 
 impl Walks {
-    /// Takes a step, and gives whether it is there.
+    /// Takes a step and records the point that it reaches. Answers false, with nothing recorded, if
+    /// the step can't be taken.
     ///
     /// # Errors
     /// `ReturnNotOwn` or `HeightsDiffer`, if it holds; or `Memory`.
@@ -74,7 +77,7 @@ impl Walks {
         }
     }
 
-    /// The point to which a step leads, if the step is there.
+    /// The point that a step reaches, or `None` if the step can't be taken.
     ///
     /// # Errors
     /// `ReturnNotOwn` or `HeightsDiffer`, if it holds; or `Memory`.
@@ -96,7 +99,7 @@ impl Walks {
         }
     }
 
-    /// Notes a point.
+    /// Appends the point that a step reached.
     ///
     /// # Errors
     /// `AllocError` if memory runs out.
@@ -108,7 +111,7 @@ impl Walks {
         Ok(())
     }
 
-    /// The point to which a step came, if there are as many.
+    /// The point that the step with this number reached, or `None` if there is no such step.
     fn point(&self, step: u32) -> Option<WalkedPoint>
         ensures { IfSome result (λ point. (code : CodeSeen) → AreWalked code self.now → IsWalked code self.now.frames point) }
     {
@@ -119,11 +122,12 @@ impl Walks {
         Some(self.points[number])
     }
 
-    /// The point to which a step came, what its instruction does, and the address after it; `None` if it is refused for anything but
-    /// a return's word, or there is no such step.
+    /// The point that the step with this number reached, its instruction's effect, and the address
+    /// after the instruction. `None` if there is no such step, or if the instruction is refused for
+    /// anything but the return address.
     ///
     /// # Errors
-    /// `ReturnNotOwn`, if it holds.
+    /// `ReturnNotOwn`, if the instruction is refused for that.
     fn moving<C: Code>(
         &self,
         program: &C,
@@ -149,7 +153,7 @@ impl Walks {
         }
     }
 
-    /// The main program begins.
+    /// The main program's start, with its frame there. Never `None`.
     ///
     /// # Errors
     /// `Memory`.
@@ -167,7 +171,8 @@ impl Walks {
         }))
     }
 
-    /// The instruction of a point leads on to an address.
+    /// The point at `to` if the instruction at the point of step `from` leads there in its
+    /// procedure; `None` if it doesn't, is refused, or more than `MOST_WORDS` words are taken.
     ///
     /// # Errors
     /// `ReturnNotOwn`, if it holds; or `Memory`.
@@ -199,7 +204,8 @@ impl Walks {
         }))
     }
 
-    /// The instruction of a point calls a procedure.
+    /// The entry of the procedure that the instruction at the point of step `call` calls; `None` if
+    /// it is no call or is refused.
     ///
     /// # Errors
     /// `ReturnNotOwn`, if it holds; or `Memory`.
@@ -223,7 +229,9 @@ impl Walks {
         }))
     }
 
-    /// The instruction of a point calls a procedure, which returns from another point.
+    /// The point after the call at the point of step `call`, if its callee returns at the point of
+    /// step `exit`. `None` if that isn't so, an instruction is refused, or the caller has too few
+    /// words.
     ///
     /// # Errors
     /// `ReturnNotOwn`, if it holds; or `Memory`.
@@ -260,7 +268,7 @@ impl Walks {
         }
     }
 
-    /// Refuses the program if two walks reach one point with different counts.
+    /// Refuses the program if two walks are at one point with different counts; else `None`.
     ///
     /// # Errors
     /// `HeightsDiffer`, if it holds; or `Memory`.
@@ -301,7 +309,9 @@ fn is_one_point(one: &WalkedPoint, other: &WalkedPoint) -> bool
     }
 }
 
-/// Whether an effect leads on to an address, in its own procedure; a PCHL leads to the targets that are declared for it.
+/// Whether an effect leads to address `to` in its own procedure. `next` is the address after the
+/// instruction, and `targets` are the declared targets if it is a PCHL. A call that returns doesn't
+/// count.
 fn leads_to(effect: Effect, targets: &[u16], next: u16, to: u16) -> bool
     ensures { result ≡ true → (f : StackFrame) → LeadsTo (move_of effect f) targets.now next to (changed (change_of effect) f) }
 {
@@ -321,7 +331,7 @@ fn is_return(effect: Effect) -> bool
     matches!(effect, Effect::Return | Effect::ReturnIf)
 }
 
-/// Whether a procedure is the one that an effect calls.
+/// Whether an effect calls this procedure.
 fn is_of_callee(procedure: Procedure, effect: Effect) -> bool
     ensures { result ≡ true → (f : StackFrame) → IsCallee procedure (called (move_of effect f)) }
 {

@@ -7,7 +7,8 @@ use crate::table::Table;
 use frames80::{SLOTS, slot, table as slots};
 use std::alloc::{AllocError, Global};
 
-/// The most words that each procedure takes from beneath its entry, by slot; 0 if it isn't reached.
+/// The most words that each procedure has taken at any of its points, by slot; 0 if it has no
+/// points.
 ///
 /// # Errors
 /// `AllocError` if memory runs out.

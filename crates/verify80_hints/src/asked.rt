@@ -12,18 +12,25 @@ use std::alloc::{AllocError, Global};
 /// The bits of the pairs in the first block.
 const PAIRS: u64 = 7;
 
-/// What the returns of a program ask for.
+/// For each point, the words and pairs that returns ask for: a return may use what they hold as its
+/// return address. Frames may forget the others.
 #[derive(Drop)]
 pub struct AskedPlaces {
+    /// The numbers by which `asked` knows the points.
     numbers: PointNumbers,
+    /// The places that are asked for at each point.
     asked: PlaceSets,
+    /// The words that were last looked up, each by how many words there are from the bottom up to
+    /// it.
     heights: Vec<u32>,
+    /// The pairs that were last looked up: bits 0 to 2 are BC, DE and HL.
     pairs: u64,
 }
 
 impl AskedPlaces {
-    /// What the returns of a program ask for; nothing, if a walk is found to one with another word than the return address: the
-    /// program is refused then, whatever its frames keep.
+    /// Finds what the returns of a program ask for. Nothing is asked for if a walk is found to a
+    /// return with another word than the return address: the program is refused then, whatever its
+    /// frames keep.
     ///
     /// # Errors
     /// `AllocError` if memory runs out.
@@ -37,7 +44,8 @@ impl AskedPlaces {
         })
     }
 
-    /// Looks up what is asked for at an address of a procedure.
+    /// Looks up what is asked for at an address of a procedure; [`AskedPlaces::found`] has it then.
+    /// Nothing is asked for at a point that isn't known.
     ///
     /// # Errors
     /// `AllocError` if memory runs out.
@@ -56,7 +64,7 @@ impl AskedPlaces {
         Ok(())
     }
 
-    /// What was looked up.
+    /// What the last call of [`AskedPlaces::look_up`] found; nothing before the first.
     pub fn found(&self) -> Asked<'_> {
         Asked {
             heights: &self.heights,
@@ -67,7 +75,8 @@ impl AskedPlaces {
     }
 }
 
-/// Adds the words of a block that have these bits, by how many there are from the bottom up to each.
+/// Appends the stack words that these bits of a block stand for, each by how many words there are
+/// from the bottom up to it, ascending. `AllocError` if memory runs out.
 fn push_heights(heights: &mut Vec<u32>, block: u32, bits: u64) -> Result<(), AllocError> {
     let mut left = bits;
     for _ in 0..64 {

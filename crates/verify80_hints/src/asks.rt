@@ -4,33 +4,39 @@ use crate::places::Places;
 use std::alloc::{AllocError, Global};
 use std::collections::BinaryHeap;
 
-/// Places that wait, by the rank of their point's address, the point and the block, the least first.
+/// An entry of the queue. The greatest entry comes first, so ranks and blocks are kept as
+/// `u32::MAX` minus them.
 #[derive(Clone, Copy, PartialEq, Eq, PartialOrd, Ord)]
 struct Ask {
+    /// `u32::MAX` minus the rank of the point's address.
     rank_down: u32,
+    /// The number of the point.
     point: u32,
+    /// `u32::MAX` minus the number of the block.
     block_down: u32,
+    /// The places of the block.
     bits: u64,
 }
 
-/// The places that wait. Those whose address has the least rank come first: what a point leads to has mostly been gone back from
-/// before, so that many of its places are taken at once.
+/// A queue of the places that are asked for and not yet gone back from. Those whose address has the
+/// least rank come first: by then most points after it have been gone back from, so that many of
+/// its places are taken at once.
 #[derive(Drop)]
 pub(crate) struct Asks {
-    /// The newest places that are asked for, kept apart: mostly they are the next ones.
+    /// An entry that is kept out of the heap: mostly it is the next one.
     apart: Option<Ask>,
     others: BinaryHeap<Ask>,
 }
 
 impl Ask {
-    /// Whether two are of one block of one point.
+    /// Whether both entries are of one block of one point.
     fn is_beside(self, other: &Ask) -> bool {
         self.point == other.point && self.block_down == other.block_down
     }
 }
 
 impl Asks {
-    /// No places.
+    /// An empty queue.
     pub(crate) fn new(alloc: Global) -> Asks {
         Asks {
             apart: None,
@@ -38,7 +44,7 @@ impl Asks {
         }
     }
 
-    /// Places of a point whose address has this rank wait.
+    /// Queues places of a point whose address has this rank. `AllocError` if memory runs out.
     pub(crate) fn add(&mut self, rank: u32, places: Places) -> Result<(), AllocError> {
         let ask = Ask {
             rank_down: u32::MAX.wrapping_sub(rank),
@@ -58,7 +64,8 @@ impl Asks {
         Ok(())
     }
 
-    /// Takes the first places: all that wait of their block.
+    /// Removes the first places from the queue, with all others of their point and block that
+    /// follow them, and returns them as one; `None` if the queue is empty.
     pub(crate) fn take(&mut self) -> Option<Places> {
         let first = self.take_first()?;
         let mut bits = first.bits;
@@ -77,7 +84,7 @@ impl Asks {
         })
     }
 
-    /// Takes the first of them.
+    /// Removes the first entry from the queue and returns it; `None` if the queue is empty.
     fn take_first(&mut self) -> Option<Ask> {
         let Some(apart) = self.apart else {
             return self.others.pop();

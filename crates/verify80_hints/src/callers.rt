@@ -10,22 +10,29 @@ const NONE: usize = usize::MAX;
 /// A point at a call and its address, and the link before it of the same callee.
 #[derive(Clone, Copy)]
 struct Link {
+    /// The number of the point.
     point: usize,
+    /// The address of the call.
     at: u16,
+    /// The index of the next older link of the same callee, or `NONE`.
     before: usize,
 }
 
-/// For each entry, the points at calls of it, each once, the newest first: they are visited again when the callee's return is
-/// seen. What the verifier answers doesn't rest on this list, only how soon.
+/// For each entry, the points at calls of it, each once, the newest first: they are visited again
+/// when the callee is seen to return. What the verifier answers doesn't rest on this list, only how
+/// soon.
 #[derive(Drop)]
 pub struct Callers {
+    /// For each entry the index of its newest link, or `NONE`.
     newest: Vec<usize>,
+    /// The links of all entries.
     links: Vec<Link>,
+    /// The points that have a link.
     linked: Marks,
 }
 
 impl Callers {
-    /// No callers.
+    /// Empty lists: no point waits.
     ///
     /// # Errors
     /// `AllocError` if memory runs out.
@@ -37,7 +44,9 @@ impl Callers {
         })
     }
 
-    /// The point of an address waits for a callee. (The instruction there calls no other.)
+    /// Adds `point`, which is at address `at`, to the points that wait for the procedure at `entry`
+    /// to return. A point that waits already is left alone: its instruction calls no other
+    /// procedure.
     ///
     /// # Errors
     /// `AllocError` if memory runs out.
@@ -57,7 +66,7 @@ impl Callers {
         Ok(())
     }
 
-    /// Notes that the points that wait for a callee are to be visited again.
+    /// Adds all points that wait for the procedure at `entry` to return to `pending`.
     ///
     /// # Errors
     /// `AllocError` if memory runs out.

@@ -8,8 +8,11 @@ const EMPTY: u32 = 0;
 /// A list of PCHLs: the newest one, the list of those before it, and the newest list that has one PCHL more.
 #[derive(Clone, Copy)]
 struct CaseList {
+    /// The address of the newest PCHL.
     pchl: u16,
+    /// The number of the list of the others.
     before: u32,
+    /// The number of the newest list with one PCHL more than this one, or `EMPTY`.
     longer: u32,
 }
 
@@ -17,13 +20,14 @@ struct CaseList {
 /// to all of its targets before the next one.
 #[derive(Drop)]
 pub(crate) struct Cases {
+    /// The lists; number `EMPTY` has no PCHL.
     lists: Vec<CaseList>,
     /// For each address the number of its list.
     by_target: Vec<u32>,
 }
 
 impl Cases {
-    /// No PCHL leads to an address.
+    /// Empty lists: no PCHL leads to any address.
     ///
     /// # Errors
     /// `AllocError` if memory runs out.
@@ -55,7 +59,7 @@ impl Cases {
         Ok(())
     }
 
-    /// The number of the list of an address.
+    /// The number of the list of the PCHLs that lead to `target`; `EMPTY` if there are none.
     pub(crate) fn list_of(&self, target: u16) -> u32 {
         self.by_target
             .get(usize::from(target))
@@ -72,7 +76,7 @@ impl Cases {
         Some((found.pchl, found.before))
     }
 
-    /// The list that has this PCHL more than another, if it is the newest that has one more.
+    /// The newest list with one PCHL more than `list`, if that PCHL is `pchl`; else `None`.
     fn longer(&self, list: u32, pchl: u16) -> Option<u32> {
         let longer = self.lists.get(list as usize)?.longer;
         match self.newest(longer) {
@@ -81,7 +85,8 @@ impl Cases {
         }
     }
 
-    /// Adds a list that has one PCHL more than another, and gives its number.
+    /// Adds the list with `pchl` and the PCHLs of list `before`, and returns its number.
+    /// `AllocError` if memory runs out.
     fn add_list(&mut self, before: u32, pchl: u16) -> Result<u32, AllocError> {
         let number = u32::try_from(self.lists.len()).unwrap_or(EMPTY);
         self.lists.push(CaseList {

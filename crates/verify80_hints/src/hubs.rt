@@ -7,12 +7,17 @@ use frames80::Procedure;
 use indexmap::IndexSet;
 use std::alloc::{AllocError, Global};
 
-/// The points of a procedure with the same counts to which the same PCHLs lead: what one of them asks for there, no other one needs to.
+/// The points of a procedure with the same counts to which the same PCHLs lead: what one of them
+/// asked for at these PCHLs, no other needs to ask for again.
 #[derive(Clone, Copy, PartialEq, Eq, Hash)]
 struct Hub {
+    /// The number of the list of PCHLs in `Cases`.
     list: u32,
+    /// The procedure's entry; `None` for the main program.
     entry: Option<u16>,
+    /// How many words the procedure has taken at these points.
     taken: u32,
+    /// How many words the procedure has at these points.
     height: u32,
 }
 
@@ -20,11 +25,12 @@ struct Hub {
 #[derive(Drop)]
 pub(crate) struct Hubs {
     hubs: IndexSet<Hub>,
+    /// The places that were asked for, by the hub's index in `hubs`.
     asked: PlaceSets,
 }
 
 impl Hubs {
-    /// Nothing was asked for.
+    /// Empty sets: nothing was asked for.
     pub(crate) fn new(alloc: Global) -> Hubs {
         Hubs {
             hubs: IndexSet::new(alloc),
@@ -32,7 +38,8 @@ impl Hubs {
         }
     }
 
-    /// Adds places of a point to what is asked for at the PCHLs of a list, and gives those that were not.
+    /// Adds places of a point to those that were asked for at the PCHLs of a list, and returns the
+    /// bits of those that are new there.
     ///
     /// # Errors
     /// `AllocError` if memory runs out.

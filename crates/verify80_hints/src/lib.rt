@@ -4,9 +4,9 @@
 //!
 //! | Item | What it is |
 //! |---|---|
-//! | [`AskedPlaces`] | for each point the words and pairs that a return asks for |
+//! | [`AskedPlaces`] | for each point the words and pairs whose word a return may use as its address |
 //! | [`find_steps`], [`Step`] | the steps of a walk to a return with another word |
-//! | [`Pending`] | the points that wait to be visited: of those the one that is best visited next |
+//! | [`Pending`] | the points that wait to be visited, in the best order |
 //! | [`Callers`] | the points that wait for a callee's return |
 #![tactic(auto)]
 

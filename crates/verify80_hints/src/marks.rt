@@ -10,14 +10,14 @@ pub(crate) struct Marks {
 }
 
 impl Marks {
-    /// No point is marked.
+    /// Marks of which none is set.
     pub(crate) fn new(alloc: Global) -> Marks {
         Marks {
             marks: Vec::new(alloc),
         }
     }
 
-    /// Marks a point, and gives whether it was marked before.
+    /// Marks a point, and returns whether it was marked before.
     ///
     /// # Errors
     /// `AllocError` if memory runs out.
@@ -31,7 +31,7 @@ impl Marks {
         }
     }
 
-    /// Takes the mark of a point away.
+    /// Removes the mark of a point.
     pub(crate) fn remove(&mut self, point: usize) {
         if let Some(mark) = self.marks.get_mut(point) {
             *mark = false;

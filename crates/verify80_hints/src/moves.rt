@@ -3,10 +3,12 @@
 use crate::places::{Place, Places};
 use frames80::{Change, FramePair};
 
-/// What a place gets: the word of another place, or a word that is no return address.
+/// What a place of a frame gets from an instruction.
 #[derive(Clone, Copy)]
 pub(crate) struct Move {
+    /// The place that is written.
     pub(crate) to: Place,
+    /// The place whose word it gets; `None` if it gets a word that is no return address.
     pub(crate) from: Option<Place>,
 }
 
@@ -15,7 +17,7 @@ pub(crate) struct Move {
 pub(crate) struct Moves([Option<Move>; 3]);
 
 impl Move {
-    /// A pair gets a word that is no return address.
+    /// The move by which a pair gets a word that is no return address.
     fn losing(pair: FramePair) -> Move {
         Move {
             to: Place::of_pair(pair),
@@ -25,7 +27,7 @@ impl Move {
 }
 
 impl Moves {
-    /// Returns the moves of a change, with a given number of words before it.
+    /// Returns the moves of a change of a frame that has `height` words before it.
     pub(crate) fn of_change(change: Change, height: u32) -> Moves {
         let top = height.checked_sub(1).map(Place::of_word);
         let above = Place::of_word(height);
@@ -42,7 +44,7 @@ impl Moves {
         }
     }
 
-    /// Returns the moves of a call that comes back.
+    /// Returns the moves of a call that returns: no pair has a return address then.
     pub(crate) fn of_call() -> Moves {
         Moves([
             Some(Move::losing(FramePair::Bc)),
@@ -51,12 +53,12 @@ impl Moves {
         ])
     }
 
-    /// One move.
+    /// Moves of which there is one.
     fn one(to: Place, from: Option<Place>) -> Moves {
         Moves([Some(Move { to, from }), None, None])
     }
 
-    /// Two moves at once.
+    /// Two moves at once, each as the place that is written and the place that its word comes from.
     fn two(one: (Place, Option<Place>), other: (Place, Option<Place>)) -> Moves {
         let (to, from) = one;
         let first = Move { to, from };
@@ -64,12 +66,12 @@ impl Moves {
         Moves([Some(first), Some(Move { to, from }), None])
     }
 
-    /// Each of them.
+    /// All of the moves; `None` fills the unused entries.
     pub(crate) fn each(self) -> [Option<Move>; 3] {
         self.0
     }
 
-    /// Returns the bits of those places that keep their words.
+    /// Returns the bits of those of `places` that no move writes, so that they keep their words.
     pub(crate) fn kept_of(self, places: Places) -> u64 {
         let mut kept = places.bits;
         for found in self.0 {

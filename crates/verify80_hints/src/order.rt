@@ -1,6 +1,6 @@
 //! The order in which points are visited: reverse postorder of the code, over all of its procedures.
 //!
-//! A point is best visited when what leads to it has been: then a frame that reaches it late changes nothing behind it a
+//! A point is best visited when what leads to it has been: then a frame that reaches it late changes nothing after it a
 //! second time. What the verifier answers doesn't rest on this order, only how soon.
 
 use decode80::Fetched;
@@ -10,6 +10,7 @@ use std::alloc::{AllocError, Global};
 /// The ways on from an address, in its own procedure.
 #[derive(Clone, Copy)]
 enum Ways {
+    /// To up to two addresses.
     To(Option<u16>, Option<u16>),
     /// To the declared targets.
     Case,
@@ -18,23 +19,32 @@ enum Ways {
 /// An address on the path of the search, its ways on, and how many of them have been tried.
 #[derive(Clone, Copy)]
 struct Step {
+    /// The address.
     at: u16,
+    /// Where its instruction leads.
     ways: Ways,
+    /// How many of these ways have been tried.
     tried: usize,
 }
 
-/// A depth-first search over addresses. Each procedure that is called is a root of its own, and a call is assumed to come back.
+/// A depth-first search over addresses. Each procedure that is called is a root of its own, and a
+/// call is assumed to return.
 #[derive(Drop)]
 struct Search {
     /// For each address its number in postorder, counted from 1; 0 if it isn't finished.
     ranks: Vec<u32>,
+    /// For each address whether it was put on the path.
     seen: Vec<bool>,
+    /// How many addresses are finished.
     finished: u32,
+    /// The addresses from the root to where the search is.
     path: Vec<Step>,
+    /// The starts of procedures that are still to be searched.
     roots: Vec<u16>,
 }
 
-/// For each address its rank: of two addresses the one with the greater rank is visited first.
+/// For each address its rank in postorder, 0 if it isn't reached: of two addresses the one with the
+/// greater rank is visited first.
 ///
 /// # Errors
 /// `AllocError` if memory runs out.
@@ -53,7 +63,7 @@ pub(crate) fn rank_addresses<C: Code>(alloc: Global, program: &C) -> Result<Vec<
 }
 
 impl Search {
-    /// Nothing is seen.
+    /// A search that has seen no address.
     ///
     /// # Errors
     /// `AllocError` if memory runs out.
@@ -67,7 +77,8 @@ impl Search {
         })
     }
 
-    /// An address is put on the path, unless it was seen before. If it calls a procedure, that is a root.
+    /// Puts an address on the path, unless it was seen before. A procedure that its instruction
+    /// calls becomes a root.
     ///
     /// # Errors
     /// `AllocError` if memory runs out.
@@ -87,7 +98,7 @@ impl Search {
         Ok(())
     }
 
-    /// Goes on from the end of the path until it is empty.
+    /// Searches on from the end of the path until the path is empty.
     ///
     /// # Errors
     /// `AllocError` if memory runs out.
@@ -102,7 +113,8 @@ impl Search {
         Ok(())
     }
 
-    /// Tries the next way on from an address, or finishes it.
+    /// Takes the next untried way on from an address, which was just taken off the path, or
+    /// finishes the address.
     ///
     /// # Errors
     /// `AllocError` if memory runs out.
@@ -119,7 +131,7 @@ impl Search {
         self.enter(program, to)
     }
 
-    /// Numbers an address from which every way on was tried.
+    /// Gives an address the next postorder number: each way on from it was tried.
     fn finish(&mut self, at: u16) {
         self.finished = self.finished.saturating_add(1);
         if let Some(rank) = self.ranks.get_mut(usize::from(at)) {
@@ -128,7 +140,8 @@ impl Search {
     }
 }
 
-/// The ways on from an address, and the procedure that its instruction calls.
+/// The ways on from an address in its own procedure, and the procedure that its instruction calls,
+/// if any. There are no ways if no instruction may be executed there.
 fn ways_from<C: Code>(program: &C, at: u16) -> (Ways, Option<u16>) {
     let Ok(Fetched { instr, next }) = program.look(at) else {
         return (Ways::To(None, None), None);
@@ -145,7 +158,7 @@ fn ways_from<C: Code>(program: &C, at: u16) -> (Ways, Option<u16>) {
     }
 }
 
-/// The next way on that wasn't tried.
+/// The address where the next untried way of a step leads; `None` if each was tried.
 fn way_on<C: Code>(program: &C, step: Step) -> Option<u16> {
     match step.ways {
         Ways::To(first, second) => match step.tried {

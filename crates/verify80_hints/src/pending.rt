@@ -6,7 +6,7 @@ use frames80::Code;
 use std::alloc::{AllocError, Global};
 use std::collections::BinaryHeap;
 
-/// A point that waits, by the rank of its address.
+/// A point that waits, ordered by the rank of its address.
 #[derive(Clone, Copy, PartialEq, Eq, PartialOrd, Ord)]
 struct Waiting {
     rank: u32,
@@ -16,13 +16,15 @@ struct Waiting {
 /// The points that wait to be visited, each once. The one whose address has the greatest rank comes first.
 #[derive(Drop)]
 pub struct Pending {
+    /// The rank of each address.
     ranks: Vec<u32>,
     waiting: BinaryHeap<Waiting>,
+    /// The points that are in the queue.
     waits: Marks,
 }
 
 impl Pending {
-    /// No points, of a program.
+    /// An empty queue for points of `program`, whose addresses are ranked.
     ///
     /// # Errors
     /// `AllocError` if memory runs out.
@@ -35,7 +37,7 @@ impl Pending {
         })
     }
 
-    /// The point of an address waits.
+    /// Adds `point`, which is at address `at`. A point that waits already is left alone.
     ///
     /// # Errors
     /// `AllocError` if memory runs out.
@@ -51,7 +53,7 @@ impl Pending {
         Ok(())
     }
 
-    /// Takes the first point.
+    /// Removes the point that is best visited next and returns it; `None` if none waits.
     pub fn take(&mut self) -> Option<usize> {
         let first = self.waiting.pop()?;
         self.waits.remove(first.point);

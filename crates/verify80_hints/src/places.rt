@@ -2,21 +2,24 @@
 
 use frames80::FramePair;
 
-/// How many places are of pairs: BC, DE and HL. The words of the stack follow, from the bottom up.
+/// How many places are pairs: BC, DE and HL. The words of the stack follow, from the bottom up.
 const PAIRS: u32 = 3;
 
 /// How many places are in a block.
 const PLACES: u32 = 64;
 
-/// A place of a frame: one of its pairs, or one of its words.
+/// A place of a frame, by number: one of its pairs, or one of its words.
 #[derive(Clone, Copy, PartialEq, Eq)]
 pub(crate) struct Place(u32);
 
-/// Places of a point: its number, the number of their block, and a bit for each.
+/// Places of a frame of one point that are in one block.
 #[derive(Clone, Copy)]
 pub(crate) struct Places {
+    /// The number of the point.
     pub(crate) point: u32,
+    /// The number of the block.
     pub(crate) block: u32,
+    /// A bit for each of the block's places that is meant.
     pub(crate) bits: u64,
 }
 
@@ -35,7 +38,7 @@ impl Place {
         Place(beneath.wrapping_add(PAIRS))
     }
 
-    /// The number of its block.
+    /// The number of the place's block.
     pub(crate) fn block(self) -> u32 {
         self.0 / PLACES
     }
@@ -47,7 +50,7 @@ impl Place {
 }
 
 impl Places {
-    /// One place of a point.
+    /// One place of the point with this number.
     pub(crate) fn one(point: u32, place: Place) -> Places {
         Places {
             point,
@@ -56,12 +59,12 @@ impl Places {
         }
     }
 
-    /// Whether a place is one of them.
+    /// Whether `place` is one of these places.
     pub(crate) fn has(self, place: Place) -> bool {
         place.block() == self.block && self.bits & place.bit() != 0
     }
 
-    /// The first pair that is one of the places.
+    /// The first pair that is one of these places; `None` if no pair is.
     pub(crate) fn first_pair(self) -> Option<Place> {
         let pair = self.bits.trailing_zeros();
         if self.block == 0 && pair < PAIRS {
@@ -72,7 +75,8 @@ impl Places {
     }
 }
 
-/// How many words there are from the bottom up to the one with this bit of a block.
+/// How many words there are from the bottom up to the one that this bit of a block stands for. The
+/// bit must not be that of a pair.
 pub(crate) fn height_up_to(block: u32, bit: u32) -> u32 {
     let place = block.wrapping_mul(PLACES).wrapping_add(bit);
     place.wrapping_sub(PAIRS).wrapping_add(1)

@@ -4,10 +4,12 @@ use crate::lists::Turn;
 use crate::moves::Moves;
 use frames80::{Change, Code, Effect, Procedure, effect_of};
 
-/// How many words a procedure has taken at a point, and how many it has.
+/// The counts of a frame.
 #[derive(Clone, Copy, PartialEq, Eq)]
 pub(crate) struct Counts {
+    /// How many words the procedure has taken from beneath its own.
     pub(crate) taken: u32,
+    /// How many words of its own the procedure has.
     pub(crate) height: u32,
 }
 
@@ -22,10 +24,12 @@ pub(crate) struct Point {
     pub(crate) counts: Counts,
     /// The rank of the address.
     pub(crate) rank: u32,
+    /// The number of the first step that reaches the point.
     pub(crate) step: u32,
 }
 
-/// What the instruction at an address does, and the address after it. One that is refused leads nowhere.
+/// What the instruction at an address does, and the address after it. If none may be executed
+/// there, `Halt` and the address itself.
 pub(crate) fn effect_at<C: Code>(program: &C, at: u16) -> (Effect, u16) {
     match program.look(at) {
         Ok(found) => (effect_of(found.instr), found.next),
@@ -34,7 +38,8 @@ pub(crate) fn effect_at<C: Code>(program: &C, at: u16) -> (Effect, u16) {
 }
 
 impl Point {
-    /// Whether the point is the start of its procedure.
+    /// Whether the point is at the entry of a procedure that is called. False for the main
+    /// program's start.
     pub(crate) fn starts(self) -> bool {
         match self.procedure {
             Procedure::Main => false,
@@ -42,23 +47,24 @@ impl Point {
         }
     }
 
-    /// Whether a procedure that is called returns there.
+    /// Whether the point is at a return of a procedure that is called. False for the main program.
     pub(crate) fn returns(self) -> bool {
         let is_return = matches!(self.effect, Effect::Return | Effect::ReturnIf);
         is_return && self.procedure != Procedure::Main
     }
 
-    /// Whether the point is no start, and leads to one point alone, over no call.
+    /// Whether the point isn't at its procedure's entry and its instruction leads to one address
+    /// only, without a call.
     pub(crate) fn leads_straight(self) -> bool {
         matches!(self.effect, Effect::Change(_) | Effect::Jump(_)) && !self.starts()
     }
 
-    /// Whether every place keeps its word on a way on.
+    /// Whether each place of the frame keeps its word if this way on is taken.
     pub(crate) fn keeps(self, turn: Turn) -> bool {
         matches!(turn, Turn::Leads(_)) && self.effect.change() == Change::Keep
     }
 
-    /// What the places get on a way on.
+    /// What the places of the frame get if this way on is taken.
     pub(crate) fn moves(self, turn: Turn) -> Moves {
         match turn {
             Turn::Leads(_) => Moves::of_change(self.effect.change(), self.counts.height),
@@ -66,7 +72,8 @@ impl Point {
         }
     }
 
-    /// The counts after the instruction, calls aside; `None` if it leads nowhere. The stack's top is at an address.
+    /// The counts after the instruction, if no call is taken; `None` if it is refused for its
+    /// counts or because the main program would return. `top` is the address just above the stack.
     pub(crate) fn counts_on(self, top: u16) -> Option<Counts> {
         match self.effect {
             Effect::Change(change) => self.counts_after(change, top),
@@ -75,7 +82,8 @@ impl Point {
         }
     }
 
-    /// The counts after a change; `None` if it is refused.
+    /// The counts after a change; `None` if it is refused. `top` is the address just above the
+    /// stack.
     fn counts_after(self, change: Change, top: u16) -> Option<Counts> {
         let Counts { taken, height } = self.counts;
         let is_main = self.procedure == Procedure::Main;
@@ -92,7 +100,8 @@ impl Point {
         Some(Counts { taken, height })
     }
 
-    /// The counts after a call of a procedure that takes a given number of words; `None` if there are fewer.
+    /// The counts after a call of a procedure that takes `taken` words; `None` if the caller has
+    /// fewer above its bottom word, or the main program fewer in all.
     pub(crate) fn counts_over(self, taken: u32) -> Option<Counts> {
         let kept = match self.procedure {
             Procedure::Main => 0,

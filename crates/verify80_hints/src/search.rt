@@ -3,7 +3,7 @@
 //! The search goes forth over the points that walks reach, with the counts that they have there, and back from the returns: a
 //! return asks for its word, and what is asked for at a point is asked for where it comes from, at each point that leads there.
 //! That is done for 64 places of a frame at once. If the bottom word is asked for at the start of a procedure, the procedure
-//! returns with its return address, and walks go on behind its calls. If another word reaches a place that is asked for, a walk
+//! returns with its return address, and walks go on after its calls. If another word reaches a place that is asked for, a walk
 //! leads from there to a return with that word, and the search ends.
 
 mod back;
@@ -25,42 +25,56 @@ use std::alloc::{AllocError, Global};
 /// The most steps that are kept.
 const MOST_STEPS: usize = 2_000_000;
 
-/// How a procedure returns: the step to its return, and how many words it has taken there.
+/// How a procedure returns.
 #[derive(Clone, Copy)]
 struct Exit {
+    /// The number of the step that reaches its return.
     step: u32,
+    /// How many words it has taken there.
     taken: u32,
 }
 
-/// The search. Steps and points are known by their numbers.
+/// The search for what returns ask for. Steps and points are known by their numbers.
 #[derive(Drop)]
 pub(crate) struct Search<'a, C> {
     program: &'a C,
+    /// The number of each point.
     numbers: PointNumbers,
+    /// The points, by number.
     points: Vec<Point>,
+    /// The rank of each address, in postorder.
     ranks: Vec<u32>,
+    /// The steps, by number.
     steps: Vec<Step>,
-    /// For each point the ways that lead to it, but for those from PCHLs; for each address the PCHLs that lead to it, and what was asked
-    /// for at those.
+    /// For each point the ways that lead to it, but for those from PCHLs.
     leading: Lists,
+    /// For each address the PCHLs that lead to it.
     cases: Cases,
+    /// What was asked for at the PCHLs of each of these lists.
     hubs: Hubs,
+    /// The addresses of the PCHLs that are in `cases`.
     noted: Marks,
-    /// For each entry how its procedure returns, and the calls that wait for that.
+    /// For each entry how its procedure returns, if that is known.
     exits: Vec<Option<Exit>>,
+    /// For each entry the calls that wait for its procedure to return.
     callers: Lists,
-    /// The points that are to be left.
+    /// The points whose ways on are still to be followed.
     left: Vec<u32>,
+    /// The places that are asked for at each point.
     asked: PlaceSets,
+    /// For each place that is asked for, how its word goes on, bit by bit.
     choices: PlaceSets,
+    /// The places that are asked for and still to be gone back from.
     asks: Asks,
-    /// Whether walks to a point with different counts are noted, and whether a walk is found to a return with another word.
+    /// Whether steps were added that show two walks to one point with different counts.
     differs: bool,
+    /// Whether a walk is found to a return with another word than the return address.
     is_found: bool,
 }
 
-/// The steps of a walk to a return whose word isn't the return address, or of two walks to a point with different counts, and of what
-/// they need; none if no such walk is found, or if it takes more than 2,000,000 steps.
+/// The steps of a walk to a return whose word isn't the return address, or of two walks to one
+/// point with different counts, and of the walks that these need. Empty if no such walks are found,
+/// or if the first kind alone is found and takes 2,000,000 steps or more.
 ///
 /// # Errors
 /// `AllocError` if memory runs out.
@@ -75,7 +89,8 @@ pub fn find_steps<C: Code>(alloc: Global, program: &C) -> Result<Vec<Step>, Allo
 }
 
 impl<'a, C: Code> Search<'a, C> {
-    /// Searches until a walk is found to a return with another word, or all that is asked for is found.
+    /// Searches a program until a walk is found to a return with another word than the return
+    /// address, or all that returns ask for is found.
     ///
     /// # Errors
     /// `AllocError` if memory runs out.
@@ -101,7 +116,7 @@ impl<'a, C: Code> Search<'a, C> {
         Ok(search)
     }
 
-    /// Nothing is found yet.
+    /// A search that has reached no point. `AllocError` if memory runs out.
     fn new(alloc: Global, program: &'a C) -> Result<Search<'a, C>, AllocError> {
         Ok(Search {
             program,
@@ -124,7 +139,8 @@ impl<'a, C: Code> Search<'a, C> {
         })
     }
 
-    /// The numbers of the points, and what is asked for at each: nothing, if a walk was found to a return with another word.
+    /// The numbers of the points, and what is asked for at each. Nothing is asked for if a walk was
+    /// found to a return with another word than the return address.
     pub(crate) fn into_asked(self, alloc: Global) -> (PointNumbers, PlaceSets) {
         let Search {
             numbers,
@@ -138,17 +154,18 @@ impl<'a, C: Code> Search<'a, C> {
         (numbers, asked)
     }
 
-    /// The point with this number.
+    /// The point with this number, or `None` if there is none.
     fn point(&self, number: u32) -> Option<Point> {
         self.points.get(number as usize).copied()
     }
 
-    /// How the procedure that is entered at an address returns.
+    /// How the procedure that is entered at an address returns, or `None` if that isn't known.
     fn exit_of(&self, entry: u16) -> Option<Exit> {
         *self.exits.get(usize::from(entry))?
     }
 
-    /// Adds a step, unless there are too many, and gives its number.
+    /// Adds a step and returns its number. From `MOST_STEPS` on steps are dropped. `AllocError` if
+    /// memory runs out.
     fn add_step(&mut self, step: Step) -> Result<u32, AllocError> {
         let number = self.steps.len();
         if number < MOST_STEPS {

@@ -5,12 +5,13 @@
 pub enum Step {
     /// The main program begins.
     Begins,
-    /// The instruction of a point leads on to an address.
+    /// The instruction of the point of a step leads on to an address in its procedure.
     GoesOn(u32, u16),
-    /// The instruction of a point calls a procedure.
+    /// The instruction of the point of a step calls a procedure.
     Enters(u32),
-    /// The instruction of the first point calls a procedure, which returns from the second.
+    /// The instruction of the first step's point calls a procedure, which returns from the
+    /// second's.
     ComesBack(u32, u32),
-    /// No step: the walks of two steps reach one point with different counts.
+    /// Not a step: the walks of two steps reach one point with different counts.
     Differs(u32, u32),
 }

@@ -21,7 +21,8 @@ pub(crate) const NO_STACK: Range = Range {
     length: 0,
 };
 
-/// The regions of what is found of an image, with these cases, and with a stack of a given number of bytes, if as many are free.
+/// The regions that a survey of an image suggests, with these cases, and with a stack of `wanted`
+/// bytes or as many as are free.
 ///
 /// # Errors
 /// `AllocError` only if memory runs out.
@@ -41,7 +42,7 @@ pub(crate) fn arrange(
     with_cases(alloc, &regions, cases)
 }
 
-/// Makes regions without cases.
+/// The regions that a survey suggests, without cases. `AllocError` if memory runs out.
 fn without_cases(
     alloc: Global,
     survey: &Survey,
@@ -59,7 +60,7 @@ fn without_cases(
     Ok(Regions::from_disjoint(alloc, code, stack, data_ranges))
 }
 
-/// For each address whether it isn't free for the stack.
+/// For each address whether the stack can't lie there. `AllocError` if memory runs out.
 fn find_taken(alloc: Global, survey: &Survey) -> Result<Vec<bool>, AllocError>
     requires { AreMarkTables survey.now }
     ensures { IfOk result (λ marks. AreMarks (is_taken survey.now) 65536 marks.items) }
@@ -71,7 +72,8 @@ fn find_taken(alloc: Global, survey: &Survey) -> Result<Vec<bool>, AllocError>
     Ok(marks)
 }
 
-/// Whether an address isn't free for the stack.
+/// Whether the stack can't lie at an address: the image has a byte there, or an instruction names
+/// it or covers it.
 fn is_taken(survey: &Survey, address: u16) -> bool
     requires { AreMarkTables survey.now }
     ensures { result ≡ is_taken survey.now address }
@@ -80,7 +82,8 @@ fn is_taken(survey: &Survey, address: u16) -> bool
     survey.bytes[index] || survey.named[index] || survey.covered[index]
 }
 
-/// The stack below an LXI SP, in the bytes that aren't marked as taken.
+/// The stack below the word of the first LXI SP, in bytes that aren't taken; an empty one if there
+/// is no LXI SP.
 fn stack_of(first: Option<Setter>, taken: &[bool], wanted: u64) -> Range
     requires { length taken.now ≡ 65536 }
     ensures { IsStack (marked taken.now) first wanted result }
@@ -91,7 +94,7 @@ fn stack_of(first: Option<Setter>, taken: &[bool], wanted: u64) -> Range
     }
 }
 
-/// For each address whether it is data.
+/// For each address whether it is to be data. `AllocError` if memory runs out.
 fn find_data(
     alloc: Global,
     survey: &Survey,
@@ -108,7 +111,9 @@ fn find_data(
     Ok(marks)
 }
 
-/// Whether an address is data.
+/// Whether an address is to be data: in a range of `ram`, or, if that has no ranges, named by an
+/// instruction and without a byte of the image; and neither in a reached instruction nor in the
+/// stack.
 fn is_data(survey: &Survey, ram: &[Range], stack: Range, address: u16) -> bool
     requires { AreMarkTables survey.now }
     ensures { result ≡ is_data survey.now ram.now stack address }

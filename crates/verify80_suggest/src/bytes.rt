@@ -26,7 +26,7 @@ pub(crate) fn find_bytes(alloc: Global, chunks: &[Chunk]) -> Result<Vec<bool>, A
     Ok(marks)
 }
 
-/// Marks a given number of addresses from the first on, as far as there are such.
+/// Marks `count` addresses from `first` on, up to FFFF.
 fn mark_span(marks: &mut Vec<bool>, first: u16, count: usize)
     requires { length marks.old.items ≡ 65536 }
     ensures size { length marks.new.items ≡ 65536 }
@@ -41,7 +41,8 @@ fn mark_span(marks: &mut Vec<bool>, first: u16, count: usize)
     }
 }
 
-/// For each address whether it may be code: it is marked as one of the image's, and in a range of the ROM, if such ranges are given.
+/// For each address whether it may be code: the image has a byte there, and it is in a range of
+/// `rom`, if that has any.
 ///
 /// # Errors
 /// `AllocError` only if memory runs out.
@@ -61,7 +62,7 @@ pub(crate) fn find_room(
     Ok(marks)
 }
 
-/// Whether an address is in a range of a list.
+/// Whether an address is in one of these ranges.
 pub(crate) fn is_in(ranges: &[Range], address: u16) -> bool
     ensures { result ≡ in_ranges ranges.now address }
 {

@@ -20,16 +20,18 @@ ghost use Rattle.verify80.specs.Looking.{code_of};
 use decode80::spelling_laws;
 use verify80::looks_are_exact;
 
-/// The code that is suggested lies where the image has bytes, and in the ranges of the ROM, if there are such.
+/// A law of suggested regions: their code lies where the image has bytes, and in the ranges of
+/// `rom`, if there are any.
 pub fn suggested_code_lies_in_the_image()
     ensures { (image : Located) (rom ram : List Range) (first second : Option Setter) (tableless : List ℕ) (notes : List Note) (new : Located) →
         IsSuggestion image rom ram first second tableless notes new →
         (address : ℕ) → in_code new.regions address ≡ true → may_be_code image.chunks rom address ≡ true }
 {}
 
-/// The verifier's walks over the regions that are suggested come only to addresses that are reached (`walks`); so `verify` and `measure`
-/// answer `FetchOutside` of them only at an address whose instruction lacks a byte: the image has none there, or it lies outside the
-/// ranges of the ROM, if there are such (`outside`).
+/// A law of suggested regions: the verifier's walks over them come only to addresses that are
+/// reached (`walks`). So `verify` and `measure` answer `FetchOutside` only at an address whose
+/// instruction lacks a byte: the image has none there, or it lies outside the ranges of `rom`, if
+/// there are any (`outside`).
 pub fn fetches_outside_lack_bytes()
     ensures walks { (image : Located) (rom ram : List Range) (first second : Option Setter) (tableless : List ℕ) (notes : List Note) (new : Located) →
         (is : IsSuggestion image rom ram first second tableless notes new) →

@@ -5,8 +5,8 @@
 //! | Item | What it is |
 //! |---|---|
 //! | [`suggest_regions`], [`base_regions`] | gives an image the regions that its bytes suggest; all its bytes as code |
-//! | [`Advice`], [`Setter`] | what there is to say of them |
-//! | [`laws`] | what holds of the definitions alone |
+//! | [`Advice`], [`Setter`] | which LXI SP they go by, and remarks on PCHLs |
+//! | [`laws`] | laws of suggested regions, as contracts |
 #![tactic(auto)]
 
 mod arranging;

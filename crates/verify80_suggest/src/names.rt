@@ -9,7 +9,8 @@ use frames80::table;
 use std::alloc::{AllocError, Global};
 use verify80::ImageCode;
 
-/// For each address whether STA, LDA, SHLD or LHLD at a marked address names it.
+/// For each address whether STA, LDA, SHLD or LHLD at a marked address of `reached` names it; SHLD
+/// and LHLD name two.
 ///
 /// # Errors
 /// `AllocError` only if memory runs out.
@@ -28,7 +29,7 @@ pub(crate) fn find_named(
     Ok(named)
 }
 
-/// Marks the bytes that the instruction at a marked address names.
+/// Marks the addresses that the instruction at `at` names, if `at` is marked in `reached`.
 #[tactic(auto, unfolding(crate::specs::Names::names_at))]
 fn mark_names(named: &mut Vec<bool>, code: &ImageCode<'_>, reached: &[bool], at: u16)
     requires named { length named.old.items ≡ 65536 }
@@ -55,7 +56,7 @@ fn mark_given(named: &mut Vec<bool>, address: Option<u16>)
     }
 }
 
-/// The first byte that an instruction names.
+/// The address that an instruction names: that of STA, LDA, SHLD or LHLD; else `None`.
 fn first_name(instr: Instr) -> Option<u16>
     ensures { result ≡ first_name instr }
 {
@@ -66,7 +67,7 @@ fn first_name(instr: Instr) -> Option<u16>
     }
 }
 
-/// The second byte that an instruction names.
+/// The address after the one that SHLD or LHLD names; `None` for other instructions.
 fn second_name(instr: Instr) -> Option<u16>
     ensures { result ≡ second_name instr }
 {

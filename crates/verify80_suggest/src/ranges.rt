@@ -7,7 +7,8 @@ ghost use Rattle.verify80_suggest.specs.Ranges.{CoversBelow};
 use image80::Range;
 use std::alloc::{AllocError, Global};
 
-/// The ranges of the marked addresses, by address; ranges that touch are one, up to 65,535 addresses.
+/// The ranges of the marked addresses, by address. Marked addresses in a row are one range, of up
+/// to 65,535.
 ///
 /// # Errors
 /// `AllocError` only if memory runs out.
@@ -32,7 +33,7 @@ pub(crate) fn ranges_of(alloc: Global, marks: &[bool]) -> Result<Vec<Range>, All
     Ok(ranges)
 }
 
-/// How many addresses from one on are marked, one after another, up to 65,535.
+/// How many addresses in a row are marked from address `at` on, up to 65,535; 0 if `at` isn't.
 fn run_from(marks: &[bool], at: u32) -> u32
     requires size { length marks.now ≡ 65536 }
     requires inside { at < 65536 }

@@ -6,21 +6,25 @@ ghost use Rattle.verify80_suggest.specs.Names.{AreSetters, FirstSetter, stack_wo
 use decode80::{Instr, Pair, fetch};
 use verify80::ImageCode;
 
-/// An LXI SP: its address, and the word that it writes to SP.
+/// An LXI SP.
 #[derive(Clone, Copy, Debug, PartialEq, Eq)]
 pub struct Setter {
+    /// The address of the instruction.
     pub at: u16,
+    /// The word that it writes to SP.
     pub word: u16,
 }
 
-/// The first two LXI SP at marked addresses.
+/// The first two LXI SP of a program, by address.
 #[derive(Clone, Copy, Debug, PartialEq, Eq)]
 pub(crate) struct Setters {
+    /// The first one; `None` if there is none.
     pub(crate) first: Option<Setter>,
+    /// The next one; `None` if there is none.
     pub(crate) second: Option<Setter>,
 }
 
-/// The first two LXI SP at marked addresses.
+/// The first two LXI SP at marked addresses of `reached`.
 pub(crate) fn find_setters(code: &ImageCode<'_>, reached: &[bool]) -> Setters
     requires { length reached.now ≡ 65536 }
     ensures { AreSetters code.now reached.now result.first result.second }
@@ -33,7 +37,7 @@ pub(crate) fn find_setters(code: &ImageCode<'_>, reached: &[bool]) -> Setters
     Setters { first, second }
 }
 
-/// The first LXI SP at a marked address that is at or above `from`.
+/// The first LXI SP at a marked address that is at or above `from`; `None` if there is none.
 fn find_setter(code: &ImageCode<'_>, reached: &[bool], from: u32) -> Option<Setter>
     requires { length reached.now ≡ 65536 }
     ensures { FirstSetter code.now reached.now from result }
@@ -47,7 +51,8 @@ fn find_setter(code: &ImageCode<'_>, reached: &[bool], from: u32) -> Option<Sett
     None
 }
 
-/// The word that the instruction at a marked address writes to SP.
+/// The word that the instruction at an address writes to SP; `None` if the address isn't marked or
+/// has no LXI SP.
 #[tactic(auto, unfolding(crate::specs::Names::word_at))]
 fn word_at(code: &ImageCode<'_>, reached: &[bool], at: u16) -> Option<u16>
     requires { length reached.now ≡ 65536 }
@@ -62,7 +67,7 @@ fn word_at(code: &ImageCode<'_>, reached: &[bool], at: u16) -> Option<u16>
     }
 }
 
-/// The word that an instruction writes to SP.
+/// The word that an LXI SP writes to SP; `None` for other instructions.
 fn stack_word(instr: Instr) -> Option<u16>
     ensures { result ≡ stack_word instr }
 {

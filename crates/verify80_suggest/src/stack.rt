@@ -6,8 +6,8 @@ ghost use Rattle.verify80_suggest.specs.Stack.{IsBelow, end_of};
 
 use image80::Range;
 
-/// The stack that ends at the address that LXI SP names, 0 for the end of memory: as many bytes as are wanted, or the fewer ones
-/// that aren't marked as taken.
+/// The stack that ends below `word`, the word of an LXI SP, where 0 means the end of memory:
+/// `wanted` bytes, or fewer if the next one down is taken.
 pub(crate) fn stack_below(word: u16, wanted: u64, taken: &[bool]) -> Range
     requires { length taken.now ≡ 65536 }
     ensures { IsBelow (marked taken.now) (end_of word) wanted result }
@@ -20,7 +20,7 @@ pub(crate) fn stack_below(word: u16, wanted: u64, taken: &[bool]) -> Range
     }
 }
 
-/// The address above the stack.
+/// The address just above a stack whose top is `word`: 65,536 for 0.
 fn end_of(word: u16) -> u32
     ensures value { result ≡ end_of word }
     ensures inside { result ≤ 65536 }
@@ -28,7 +28,8 @@ fn end_of(word: u16) -> u32
     if word == 0 { 65_536 } else { u32::from(word) }
 }
 
-/// How many bytes below an address aren't marked as taken, up to as many as are wanted and to 65,535.
+/// How many bytes in a row below address `end` aren't marked as taken, up to `wanted` and to
+/// 65,535.
 fn count_free(end: u32, wanted: u64, taken: &[bool]) -> u32
     requires size { length taken.now ≡ 65536 }
     requires inside { end ≤ 65536 }

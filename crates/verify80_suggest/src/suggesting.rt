@@ -16,19 +16,19 @@ use std::alloc::{AllocError, Global};
 use verify80::{Refusal, measure};
 use verify80_cases::{Note, suggest_cases};
 
-/// The bytes of stack that are wanted at least.
+/// How many bytes of stack are wanted at least.
 const LEAST_STACK: u64 = 16;
 
-/// What there is to say of the regions that are suggested.
+/// What the suggested regions rest on: which LXI SP, and remarks on the PCHLs.
 #[derive(Drop)]
 pub struct Advice {
     /// The LXI SP whose word is the stack's end, the first by address; `None` if there is none, and the stack is empty.
     pub first: Option<Setter>,
-    /// The next one, if there are several.
+    /// The second LXI SP by address, if there are several.
     pub second: Option<Setter>,
     /// The PCHLs for which no table is seen, by address.
     pub tableless: Vec<u16>,
-    /// What there is to say of the PCHLs, in their order.
+    /// The remarks on the PCHLs, in their order.
     pub notes: Vec<Note>,
 }
 
@@ -37,7 +37,7 @@ pub struct Advice {
 /// The image is gone through from its start, as [`verify80_cases::find_reachable`] does, with all its bytes as code that lie in the ranges of
 /// `rom`, or with all its bytes if there are no such ranges, and with the cases that its tables suggest. CODE is exactly the bytes
 /// of the instructions that are reached. STACK ends at the word of the first LXI SP, 0000 for the end of memory: it is sixteen
-/// bytes, or more if the image is refused for nothing but that, but only such as are free below that address, neither the image's
+/// bytes, or more if the image is refused for nothing but that, but only as many as are free right below that address, neither the image's
 /// nor named by an instruction. DATA is what STA, LDA, SHLD and LHLD name, but for CODE, STACK and the image's bytes; or, if `ram`
 /// has ranges, exactly these but for CODE and STACK. The cases are those of the tables.
 ///
@@ -67,8 +67,8 @@ pub fn suggest_regions(
     })
 }
 
-/// The regions that have as code all bytes of an image that may be code, those in the ranges of `rom` or all if there are no such ranges,
-/// and no stack.
+/// Regions without a stack whose code is all bytes of an image that may be code: those in the
+/// ranges of `rom`, or all if it has no ranges.
 ///
 /// # Errors
 /// `AllocError` only if memory runs out.
@@ -82,7 +82,8 @@ pub fn base_regions(alloc: Global, image: &Image, rom: &[Range]) -> Result<Regio
     Ok(Regions::from_disjoint(alloc, code, NO_STACK, Vec::new(alloc)))
 }
 
-/// How many bytes of stack are wanted: as many as the image uses if it is refused for nothing but its stack, and sixteen at least.
+/// How many bytes of stack are wanted: as many as the program needs, and sixteen at least. Sixteen
+/// too if the image is refused for something else than its stack. `AllocError` if memory runs out.
 fn wanted_stack(alloc: Global, image: &Image) -> Result<u64, AllocError>
     ensures { IfOk result (λ wanted. IsWanted image.now wanted) }
 {

@@ -12,15 +12,20 @@ use std::marker::Model;
 use verify80::ImageCode;
 use verify80_cases::{find_covered, find_reachable};
 
-/// What is found of an image: for each address whether it has a byte there, whether the program may reach it, whether it is in an
-/// instruction to which it may come, and whether such an instruction names it; and the first two of these that set SP.
+/// What is found of an image by following its code from the start.
 #[derive(Drop)]
 pub(crate) struct Survey {
+    /// For each address whether the image has a byte there.
     pub(crate) bytes: Vec<bool>,
+    /// For each address whether the program may reach it.
     pub(crate) reached: Vec<bool>,
+    /// For each address whether it is a byte of an instruction at a reached address.
     pub(crate) covered: Vec<bool>,
+    /// For each address whether an instruction at a reached address names it.
     pub(crate) named: Vec<bool>,
+    /// The first LXI SP at a reached address.
     pub(crate) first: Option<Setter>,
+    /// The second LXI SP at a reached address.
     pub(crate) second: Option<Setter>,
 }
 
@@ -39,7 +44,8 @@ impl Model for Survey {
     } };
 }
 
-/// Goes through an image.
+/// Follows the code of an image from its start, by its regions, and notes what is found at each
+/// address.
 ///
 /// # Errors
 /// `AllocError` only if memory runs out.

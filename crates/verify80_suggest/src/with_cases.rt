@@ -8,8 +8,8 @@ use image80::{Case, Regions, read_regions};
 use std::alloc::{AllocError, Global};
 use verify80_cases::regions_with_cases;
 
-/// Returns regions of the same ranges with these cases, which are by address, one for an address at most. (Regions with cases are
-/// made by reading their text.)
+/// Regions of the same ranges with these cases, which must be by address, one for an address at
+/// most. They are made by reading the text of such regions.
 ///
 /// # Errors
 /// `AllocError` only if memory runs out.

@@ -6,32 +6,33 @@ use place80::{ImageFault, Options, PlaceFault, layout, locate};
 use std::alloc::Global;
 use std::test::Fail;
 
-/// A module A: one byte of CODE, a halt, where it starts.
+/// A main program A: one byte of CODE, HLT, where it starts.
 static HALT: [u8; 28] = [
     0x02, 0x09, 0x00, 0x01, 0x41, 0x00, 0x00, 0x01, 0x01, 0x00, 0x03, 0xAE, // module header
     0x06, 0x05, 0x00, 0x01, 0x00, 0x00, 0x76, 0x7E, // content
     0x04, 0x05, 0x00, 0x01, 0x01, 0x00, 0x00, 0xF5, // module end
 ];
 
+/// The module of `HALT`.
 fn module(alloc: Global) -> Result<Module, Fail> {
     let (module, _) = read_module(alloc, &HALT, 0)?;
     Ok(module)
 }
 
-/// The number of segments that are laid out for a module, with no option.
-fn segments(alloc: Global, source: &Module) -> Result<usize, PlaceFault> {
+/// How many segments the layout of a module has, without options.
+fn count_segments(alloc: Global, source: &Module) -> Result<usize, PlaceFault> {
     Ok(layout(alloc, source, &Options::default())?.segments.len())
 }
 
 #[test]
-fn a_halt_is_laid_out(rt: HostRuntime) -> Result<(), Fail> {
+fn a_program_is_laid_out(rt: HostRuntime) -> Result<(), Fail> {
     let module = module(rt.alloc())?;
-    assert_eq!(rt; segments(rt.alloc(), &module), Ok(5));
+    assert_eq!(rt; count_segments(rt.alloc(), &module), Ok(5));
     Ok(())
 }
 
 #[test]
-fn a_halt_is_located(rt: HostRuntime) -> Result<(), Fail> {
+fn a_program_is_located(rt: HostRuntime) -> Result<(), Fail> {
     let module = module(rt.alloc())?;
     let image = locate(rt.alloc(), &module, &Options::default())?;
     assert_eq!(rt; image.start, 0x3000);
@@ -40,7 +41,7 @@ fn a_halt_is_located(rt: HostRuntime) -> Result<(), Fail> {
 }
 
 #[test]
-fn out_of_memory_as_printed(rt: HostRuntime) -> Result<(), Fail> {
+fn out_of_memory_is_printed_by_name(rt: HostRuntime) -> Result<(), Fail> {
     let text = format!(in rt.alloc();
         "{} {} {}",
         PlaceFault::Memory,

@@ -8,7 +8,8 @@ use std::alloc::Global;
 use std::process::Abort;
 use std::test::Fail;
 
-/// Calls of procedures that want and take a given number of words, and the caller's frame before and after.
+/// Roles of callers, their frames before a call, how many words the callee wants and takes, and the
+/// callers' frames after it.
 #[rattlefmt::skip]
 static CALLS: [(Role, Parts, u32, u32, Parts); 2] = [
     (Entry, (3, &[Own, Own, Any], [Own, Own, Own]), 2, 1, (3, &[Own, Own], [Any, Any, Any])),
@@ -16,17 +17,17 @@ static CALLS: [(Role, Parts, u32, u32, Parts); 2] = [
 ];
 
 #[test]
-fn a_call_comes_back(rt: HostRuntime) -> Result<(), Fail> {
+fn a_callee_takes_words_of_its_caller(rt: HostRuntime) -> Result<(), Fail> {
     for (role, before, wants, takes, back) in &CALLS {
         let wanted = frame_of(rt.alloc(), back)?;
-        let came = called(&rt, rt.alloc(), *role, before, *wants, *takes)??;
+        let came = frame_after_call(&rt, rt.alloc(), *role, before, *wants, *takes)??;
         assert!(rt; came == wanted);
     }
     Ok(())
 }
 
-/// The frame after a call of a procedure that wants and takes a given number of words.
-fn called(
+/// The caller's frame after a call of a procedure that wants and takes these numbers of words.
+fn frame_after_call(
     rt: &impl Abort,
     alloc: Global,
     role: Role,
@@ -40,8 +41,8 @@ fn called(
     Ok(after(alloc, &frame, role, wants, takes))
 }
 
-/// Callers that are short of the word that a callee wants: the main program needs one, a procedure one above its bottom word,
-/// whatever that is.
+/// Callers without the one word that a callee wants: the main program has none, a procedure none
+/// above its bottom word, whatever that is.
 #[rattlefmt::skip]
 static SHORT: [(Role, Parts); 3] = [
     (MAIN, (0, &[], [Any, Any, Any])),
@@ -50,16 +51,16 @@ static SHORT: [(Role, Parts); 3] = [
 ];
 
 #[test]
-fn a_caller_is_short(rt: HostRuntime) -> Result<(), Fail> {
+fn a_caller_short_of_words_is_refused(rt: HostRuntime) -> Result<(), Fail> {
     for (role, parts) in &SHORT {
-        let came = called(&rt, rt.alloc(), *role, parts, 1, 0)?;
+        let came = frame_after_call(&rt, rt.alloc(), *role, parts, 1, 0)?;
         assert!(rt; came.err() == Some(CallFault::ShortArguments));
     }
     Ok(())
 }
 
 #[test]
-fn numbers_of_faults(rt: HostRuntime) {
+fn faults_have_their_numbers(rt: HostRuntime) {
     let codes = [
         FrameFault::Memory.code(),
         CallFault::ShortArguments.code(),
@@ -69,7 +70,7 @@ fn numbers_of_faults(rt: HostRuntime) {
     assert!(rt; codes == [18, 14, 18, 12]);
 }
 
-/// Roles and frames, and how deep they are.
+/// Roles and frames, and the depth of each in bytes.
 #[rattlefmt::skip]
 static DEPTHS: [(Role, Parts, i64); 6] = [
     (MAIN, (0, &[], [Any, Any, Any]), 0),
@@ -81,7 +82,7 @@ static DEPTHS: [(Role, Parts, i64); 6] = [
 ];
 
 #[test]
-fn frames_are_so_deep(rt: HostRuntime) -> Result<(), Fail> {
+fn frames_have_their_depths(rt: HostRuntime) -> Result<(), Fail> {
     for (role, parts, wanted) in &DEPTHS {
         let frame = frame_of(rt.alloc(), parts)?;
         assert_small(&rt, &frame);

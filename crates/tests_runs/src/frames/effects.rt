@@ -4,7 +4,7 @@ use decode80::decode;
 use frames80::{Change, Effect, FrameFault, FramePair, effect_of};
 use std::test::Fail;
 
-/// Each effect and the first bytes of its instructions, before the word 3200, by the rows of the opcode table.
+/// Effects, and the opcodes of the instructions that have each if the word 3200 follows.
 #[rattlefmt::skip]
 static ROWS: [(Effect, &[u8]); 33] = [
     (Effect::Change(Change::Keep), &[

@@ -6,7 +6,7 @@ use frames80::Word::{Any, Own};
 use std::collections::HashSet;
 use std::test::Fail;
 
-/// Frames, and whether no row above is the same frame.
+/// Frames, and whether each differs from those in the rows above it.
 #[rattlefmt::skip]
 static ROWS: [(Parts, bool); 8] = [
     ((1, &[Own, Any], [Any, Own, Any]), true),
@@ -21,7 +21,7 @@ static ROWS: [(Parts, bool); 8] = [
 
 /// A copy is the same key; frames that differ in one field are different keys.
 #[test]
-fn frames_are_keys(rt: HostRuntime) -> Result<(), Fail> {
+fn equal_frames_are_one_key(rt: HostRuntime) -> Result<(), Fail> {
     let mut set: HashSet<Frame> = HashSet::new(rt.alloc());
     for (parts, new) in &ROWS {
         let frame = frame_of(rt.alloc(), parts)?;

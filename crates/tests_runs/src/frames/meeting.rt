@@ -5,8 +5,8 @@ use frames80::Word::{Any, Own};
 use frames80::{HeightsDiffer, meet};
 use std::test::Fail;
 
-/// A frame, one that it meets, what is answered, and the frame then. A word stays the return address only if both frames have
-/// it; frames of other counts don't meet.
+/// A frame, another one that it meets, the answer of `meet`, and the first frame then. A word stays
+/// the return address only if both frames have it; frames with different counts don't meet.
 #[rattlefmt::skip]
 static ROWS: [(Parts, Parts, Result<bool, HeightsDiffer>, Parts); 4] = [
     ((1, &[Own, Own, Any], [Own, Any, Own]), (1, &[Own, Any, Own], [Own, Own, Any]), Ok(true), (1, &[Own, Any, Any], [Own, Any, Any])),
@@ -16,7 +16,7 @@ static ROWS: [(Parts, Parts, Result<bool, HeightsDiffer>, Parts); 4] = [
 ];
 
 #[test]
-fn frames_meet(rt: HostRuntime) -> Result<(), Fail> {
+fn frames_meet_as_listed(rt: HostRuntime) -> Result<(), Fail> {
     for (before, other, answer, after) in &ROWS {
         let mut frame = frame_of(rt.alloc(), before)?;
         let other = frame_of(rt.alloc(), other)?;

@@ -1,14 +1,14 @@
 //! What becomes of a frame at an instruction: each effect on a frame, each kind of move, and each refusal on the least
 //! program that has it.
 
-use super::{MAIN, Parts, frame_of, moved};
+use super::{MAIN, Parts, frame_of, moves_after};
 use frames80::Role::Entry;
 use frames80::Word::{Any, Own};
 use frames80::{Frame, FrameFault, Moves, Role};
 use std::test::Fail;
 
-/// Instructions, each with the frame before it, how the procedure goes on, the address or the number of words or of the refusal,
-/// and the frame after it; if there is none, the frame before it stands there.
+/// Roles, instructions, the frame before each, the kind of its moves, the address or the number of
+/// words or of the refusal, and the frame after it; if there is none, the frame before it again.
 #[rattlefmt::skip]
 static ROWS: [(Role, [u8; 3], Parts, &str, u32, Parts); 54] = [
     // PUSH and POP of BC, DE and HL carry the return address; PSW doesn't.
@@ -80,8 +80,8 @@ static ROWS: [(Role, [u8; 3], Parts, &str, u32, Parts); 54] = [
     (Entry, [0xC8, 0x00, 0x31], (1, &[Own, Own], [Any, Own, Any]), "refused", 10, (1, &[Own, Own], [Any, Own, Any])),
 ];
 
-/// How the procedure goes on, with the address, the number of words or that of the refusal.
-fn kind(moves: &Result<Moves, FrameFault>) -> (&'static str, u32) {
+/// The kind of moves, and their address, the number of words taken, or the number of the refusal.
+fn describe(moves: &Result<Moves, FrameFault>) -> (&'static str, u32) {
     match moves {
         Ok(Moves::End) => ("end", 0),
         Ok(Moves::On(_)) => ("on", 0),
@@ -97,8 +97,8 @@ fn kind(moves: &Result<Moves, FrameFault>) -> (&'static str, u32) {
     }
 }
 
-/// Whether the frame after the instruction is this one, if there is one.
-fn leaves(moves: &Result<Moves, FrameFault>, wanted: &Frame) -> bool {
+/// Whether the frame of the moves is this one; true if they have none.
+fn has_frame_after(moves: &Result<Moves, FrameFault>, wanted: &Frame) -> bool {
     match moves {
         Ok(Moves::End | Moves::Return(_)) | Err(_) => true,
         Ok(
@@ -114,19 +114,19 @@ fn leaves(moves: &Result<Moves, FrameFault>, wanted: &Frame) -> bool {
 }
 
 #[test]
-fn what_becomes_of_frames(rt: HostRuntime) -> Result<(), Fail> {
+fn instructions_move_frames_as_listed(rt: HostRuntime) -> Result<(), Fail> {
     for (role, bytes, before, wanted, number, after) in &ROWS {
         let after = frame_of(rt.alloc(), after)?;
-        let moves = moved(&rt, rt.alloc(), *role, before, *bytes)?;
-        assert_eq!(rt; kind(&moves), (*wanted, *number), "{bytes:?}");
-        assert!(rt; leaves(&moves, &after), "{bytes:?}");
+        let moves = moves_after(&rt, rt.alloc(), *role, before, *bytes)?;
+        assert_eq!(rt; describe(&moves), (*wanted, *number), "{bytes:?}");
+        assert!(rt; has_frame_after(&moves, &after), "{bytes:?}");
     }
     Ok(())
 }
 
 /// The frames at the start of a procedure and of the main program.
 #[test]
-fn frames_begin(rt: HostRuntime) -> Result<(), Fail> {
+fn procedures_begin_with_their_frames(rt: HostRuntime) -> Result<(), Fail> {
     let entry = Frame::entry(rt.alloc())?;
     assert!(rt; entry.words.as_slice() == [Own].as_slice());
     let main = Frame::main_entry(rt.alloc())?;

@@ -30,15 +30,18 @@ const STACK_AT_0000: &[u8] = b"REGIONS 1\nCODE 3000 0100\nSTACK 0000 0100\n";
 /// The first of two halts is the one declared target of the PCHL at 3003.
 const ONE_TARGET: &[u8] = b"REGIONS 2\nCODE 3000 0100\nSTACK 3100 0100\nCASE 3003 3004\n";
 
-/// A program, and how it goes.
+/// A program, and how its run goes.
 #[derive(Clone, Copy)]
 pub struct Program {
+    /// What the program shows.
     pub title: &'static str,
+    /// The text of its regions.
     pub regions: &'static [u8],
+    /// The address where it starts.
     pub start: u16,
     /// The program's bytes, from the start on.
     pub bytes: &'static [u8],
-    /// How the run ends, its steps, and the program counter and the stack pointer then.
+    /// How its run ends, after how many steps, and the program counter and the stack pointer then.
     pub ends: (Option<End>, u64, u16, u16),
 }
 

@@ -10,7 +10,7 @@ use std::alloc::{AllocError, Global};
 use std::marker::Model;
 use verify80::{ImageCode, ProcRow, Vouched};
 
-/// A procedure with its bound and its calls.
+/// A procedure of a program, with its bound and its calls.
 #[derive(Debug, Drop)]
 pub struct Node {
     /// The procedure.
@@ -39,7 +39,8 @@ impl Model for CallGraph {
 }
 
 impl CallGraph {
-    /// The procedures of a program that is accepted: the main program, and that of each row, with its bound and exactly its calls.
+    /// The graph of a program that is accepted: the main program, and the procedure of each row of
+    /// its report, each with its bound and exactly its calls.
     ///
     /// # Errors
     /// `AllocError` if memory runs out.
@@ -54,7 +55,7 @@ impl CallGraph {
         Ok(CallGraph { nodes })
     }
 
-    /// The procedures.
+    /// The procedures, the main program first.
     pub fn nodes(&self) -> &[Node]
         ensures { result.now ≡ self.now }
     {
@@ -62,7 +63,7 @@ impl CallGraph {
     }
 }
 
-/// The main program.
+/// The node of the main program. `AllocError` if memory runs out.
 fn main_node(alloc: Global, vouched: &Vouched, code: &ImageCode) -> Result<Node, AllocError>
     requires { code.now ≡ vouched.now.image }
     ensures heading { IfOk result (λ node. heading_of node ≡ main_heading vouched.now) }
@@ -76,7 +77,7 @@ fn main_node(alloc: Global, vouched: &Vouched, code: &ImageCode) -> Result<Node,
     })
 }
 
-/// The procedure of a row.
+/// The node of the procedure of a report's row. `AllocError` if memory runs out.
 fn row_node(
     alloc: Global,
     vouched: &Vouched,
@@ -96,7 +97,7 @@ fn row_node(
     })
 }
 
-/// Appends the procedure of each of these rows.
+/// Appends the node of the procedure of each row. `AllocError` if memory runs out.
 fn append_nodes(
     alloc: Global,
     vouched: &Vouched,

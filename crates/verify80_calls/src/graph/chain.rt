@@ -11,20 +11,23 @@ use crate::{Call, Procedure};
 use std::alloc::{AllocError, Global};
 use std::marker::Model;
 
-/// A call of a chain, and the procedure that makes it.
+/// A call of a chain.
 #[derive(Clone, Copy, Debug, PartialEq, Eq)]
 pub(crate) struct Link {
+    /// The procedure that makes the call.
     pub(crate) caller: Procedure,
+    /// The call.
     pub(crate) call: Call,
 }
 
 /// How many addresses there are.
 const ADDRESSES: usize = 65536;
 
-/// The calls of a chain, with a mark for each address at which one stands. A contract sees the calls.
+/// The calls of a chain, with a mark for each address of one. A contract sees the calls.
 #[derive(Drop)]
 pub(crate) struct MarkedChain {
     links: Vec<Link>,
+    /// For each address whether a call of the chain is there, so that most look-ups end at once.
     marks: Vec<bool>,
 }
 
@@ -41,8 +44,9 @@ impl Model for MarkedChain {
 }
 
 impl MarkedChain {
-    /// The calls of which the main program's bound is made: from the main program on, of each procedure the first call whose depth and
-    /// needs add up to its bound.
+    /// The chain of calls that adds up to the main program's bound: from the main program on, the
+    /// first call of each procedure whose depth and needs add up to the procedure's bound.
+    /// `AllocError` if memory runs out.
     pub(crate) fn of(alloc: Global, nodes: &IndexedNodes<'_>) -> Result<MarkedChain, AllocError>
         ensures { IfOk result (λ chain. chain ≡ chain_of nodes.now) }
     {
@@ -52,7 +56,7 @@ impl MarkedChain {
         Ok(MarkedChain { links, marks })
     }
 
-    /// Whether a procedure's call at an address is one of the chain.
+    /// Whether the call of procedure `caller` at address `at` is one of the chain.
     pub(crate) fn has(&self, caller: Procedure, at: u16) -> bool
         ensures { result ≡ list_any (is_link caller at) self.now }
     {
@@ -60,7 +64,7 @@ impl MarkedChain {
     }
 }
 
-/// Sets the mark of each address at which a call of the chain stands; before, none is set.
+/// Sets the mark of each address with a call of the chain. No mark may be set before.
 fn set_marks(marks: &mut [bool], chain: &[Link])
     requires { marks.old ≡ replicate 65536 false }
     ensures { AreMarks chain.now marks.new }
@@ -70,7 +74,8 @@ fn set_marks(marks: &mut [bool], chain: &[Link])
     }
 }
 
-/// The calls of which the main program's bound is made.
+/// The chain of calls that adds up to the main program's bound, from the main program on.
+/// `AllocError` if memory runs out.
 fn chain_of(alloc: Global, nodes: &IndexedNodes<'_>) -> Result<Vec<Link>, AllocError>
     ensures { IfOk result (λ chain. chain.items ≡ chain_of nodes.now) }
 {
@@ -88,7 +93,8 @@ fn chain_of(alloc: Global, nodes: &IndexedNodes<'_>) -> Result<Vec<Link>, AllocE
     Ok(chain)
 }
 
-/// The first call of a procedure whose depth and needs add up to its bound.
+/// The first call of a procedure whose depth and needs add up to the procedure's bound; `None` if
+/// there is none.
 fn deepest_call(nodes: &IndexedNodes<'_>, caller: Procedure) -> Option<Call>
     ensures { result ≡ deepest_call nodes.now caller }
 {
@@ -98,7 +104,8 @@ fn deepest_call(nodes: &IndexedNodes<'_>, caller: Procedure) -> Option<Call>
     }
 }
 
-/// The first of a node's calls whose depth and needs add up to its bound.
+/// The first of a node's calls whose depth and needs add up to the node's bound; `None` if there is
+/// none.
 fn first_deepest<'a>(nodes: &IndexedNodes<'_>, node: &'a Node) -> Option<&'a Call>
     ensures { option_copied result ≡ first_deepest nodes.now node.now }
 {
@@ -107,7 +114,8 @@ fn first_deepest<'a>(nodes: &IndexedNodes<'_>, node: &'a Node) -> Option<&'a Cal
         .find(|call| reaches(nodes, node.bound, **call))
 }
 
-/// Whether the depth and the needs of a call add up to a bound.
+/// Whether the depth at a call, two bytes for its return address and its callee's bound add up to
+/// `bound`.
 fn reaches(nodes: &IndexedNodes<'_>, bound: u64, call: Call) -> bool
     ensures { result ≡ reaches nodes.now bound call }
 {
@@ -115,14 +123,14 @@ fn reaches(nodes: &IndexedNodes<'_>, bound: u64, call: Call) -> bool
     i128::from(call.depth) + needs == i128::from(bound)
 }
 
-/// Whether a procedure's call at an address is one of the chain.
+/// Whether one of these calls is that of procedure `caller` at address `at`.
 fn is_in(chain: &[Link], caller: Procedure, at: u16) -> bool
     ensures { result ≡ list_any (is_link caller at) chain.now }
 {
     chain.iter().any(|link| is_link(link, caller, at))
 }
 
-/// Whether a call of a chain is a procedure's, and stands at an address.
+/// Whether this call is that of procedure `caller` at address `at`.
 fn is_link(link: &Link, caller: Procedure, at: u16) -> bool
     ensures { result ≡ is_link caller at link.now }
 {

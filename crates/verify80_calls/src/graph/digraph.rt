@@ -38,7 +38,7 @@ pub fn graph_text(
     Ok(text)
 }
 
-/// The calls of which the main program's bound is made.
+/// The chain of calls that adds up to the main program's bound. `AllocError` if memory runs out.
 fn chain_of(alloc: Global, nodes: &[Node]) -> Result<MarkedChain, AllocError>
     ensures { IfOk result (λ chain. chain ≡ chain_of nodes.now) }
 {
@@ -79,7 +79,7 @@ fn append_box(
     text.extend_from_slice(b"\"];\n".as_slice())
 }
 
-/// Appends what a procedure is called in the graph.
+/// Appends the name of a procedure's box: its entry or `MAIN`, in quotes.
 fn append_id(text: &mut Vec<u8>, procedure: Procedure) -> Result<(), AllocError>
     ensures { OnOk result (text.new.items ≡ text.old.items ++ node_id procedure) }
 {
@@ -89,7 +89,7 @@ fn append_id(text: &mut Vec<u8>, procedure: Procedure) -> Result<(), AllocError>
     }
 }
 
-/// Appends an entry in quotes.
+/// Appends the name of an entry's box: the entry in quotes.
 fn append_entry(text: &mut Vec<u8>, entry: u16) -> Result<(), AllocError>
     ensures { OnOk result (text.new.items ≡ text.old.items ++ entry_id entry) }
 {
@@ -98,7 +98,7 @@ fn append_entry(text: &mut Vec<u8>, entry: u16) -> Result<(), AllocError>
     Ok(())
 }
 
-/// Appends the beginning of a procedure's label.
+/// Appends the beginning of the label of a procedure's box, with the procedure's address.
 fn append_label(text: &mut Vec<u8>, node: &Node) -> Result<(), AllocError>
     ensures { OnOk result (text.new.items ≡ text.old.items ++ label_begin node.now) }
 {
@@ -110,7 +110,7 @@ fn append_label(text: &mut Vec<u8>, node: &Node) -> Result<(), AllocError>
     )
 }
 
-/// Appends the name of an address inside a label.
+/// Appends the name of an address, escaped for a label; nothing if the publics have none.
 fn append_escaped_name(
     alloc: Global,
     text: &mut Vec<u8>,
@@ -125,7 +125,7 @@ fn append_escaped_name(
     append_escaped(text, &name)
 }
 
-/// Appends a name inside a label.
+/// Appends a name, escaped for a label.
 fn append_escaped(text: &mut Vec<u8>, name: &[u8]) -> Result<(), AllocError>
     ensures { OnOk result (text.new.items ≡ text.old.items ++ flat_map escaped name.now) }
 {
@@ -135,7 +135,7 @@ fn append_escaped(text: &mut Vec<u8>, name: &[u8]) -> Result<(), AllocError>
     Ok(())
 }
 
-/// Appends a byte of a name, with a backslash before a quote or a backslash.
+/// Appends a byte of a name, after a backslash if it is a quote or a backslash.
 fn append_byte(text: &mut Vec<u8>, byte: u8) -> Result<(), AllocError>
     ensures { OnOk result (text.new.items ≡ text.old.items ++ escaped byte) }
 {
@@ -177,7 +177,7 @@ fn append_calls(
     Ok(())
 }
 
-/// Appends the edge of a call.
+/// Appends the edge of a call, in bold if the call is one of the chain.
 fn append_edge(
     alloc: Global,
     text: &mut Vec<u8>,
@@ -193,7 +193,8 @@ fn append_edge(
     text.extend_from_slice(edge_end(chain.has(caller, call.at)))
 }
 
-/// Appends the label of a call's edge.
+/// Appends the label of a call's edge: the call's address, and how many bytes the caller has on the
+/// stack there.
 fn append_edge_label(alloc: Global, text: &mut Vec<u8>, call: Call) -> Result<(), AllocError>
     ensures { OnOk result (text.new.items ≡ text.old.items ++ edge_label call) }
 {
@@ -203,7 +204,7 @@ fn append_edge_label(alloc: Global, text: &mut Vec<u8>, call: Call) -> Result<()
     text.extend_from_slice(shown.as_bytes())
 }
 
-/// The end of an edge's line.
+/// The end of an edge's line, with the bold style or without.
 fn edge_end(is_bold: bool) -> &'static [u8]
     ensures { result.now ≡ edge_end is_bold }
 {

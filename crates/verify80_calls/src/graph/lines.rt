@@ -13,8 +13,9 @@ use image80_text::PublicTable;
 use std::alloc::{AllocError, Global};
 
 /// The procedures of a program, line by line, as `PROC 3004 BOUND 2`, and below each its calls, as
-/// `  AT 3005 DEPTH 2 CALLS 300A NEEDS 2`: the bytes that the procedure has on the stack there, and those that the call needs, its
-/// return address included. Behind a line stands the name of the procedure or of the call's target, if the publics have one.
+/// `  AT 3005 DEPTH 2 CALLS 300A NEEDS 2`: the bytes that the procedure has on the stack there, and
+/// those that the call needs, its return address included. A line ends with the name of the
+/// procedure or of the call's target, if the publics have one.
 ///
 /// # Errors
 /// `AllocError` only if memory runs out.
@@ -32,7 +33,7 @@ pub fn list_text(
     Ok(text)
 }
 
-/// Appends the lines of each procedure.
+/// Appends the line of each procedure, and the lines of its calls.
 fn append_nodes(
     alloc: Global,
     text: &mut Vec<u8>,
@@ -49,7 +50,7 @@ fn append_nodes(
     Ok(())
 }
 
-/// Appends the line of a procedure.
+/// Appends the line of a procedure: its address, bound and name.
 fn append_node_line(
     alloc: Global,
     text: &mut Vec<u8>,
@@ -68,7 +69,7 @@ fn append_node_line(
     append_end(alloc, text, image, publics, node.address)
 }
 
-/// Appends a line for each call.
+/// Appends a line for each of these calls.
 fn append_calls(
     alloc: Global,
     text: &mut Vec<u8>,
@@ -102,7 +103,8 @@ fn append_call(
     Ok(())
 }
 
-/// Appends where a call stands, and what its procedure has on the stack there.
+/// Appends the beginning of a call's line: its address, and how many bytes the caller has on the
+/// stack there.
 fn append_depth(alloc: Global, text: &mut Vec<u8>, call: Call) -> Result<(), AllocError>
     ensures { OnOk result (text.new.items ≡ text.old.items ++ depth_text call) }
 {
@@ -112,7 +114,7 @@ fn append_depth(alloc: Global, text: &mut Vec<u8>, call: Call) -> Result<(), All
     text.extend_from_slice(shown.as_bytes())
 }
 
-/// Appends what is called, and how many bytes that needs.
+/// Appends the target of a call, and how many bytes the call needs.
 fn append_needs(
     alloc: Global,
     text: &mut Vec<u8>,

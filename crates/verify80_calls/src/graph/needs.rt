@@ -11,14 +11,14 @@ use crate::graph::call_graph::Node;
 use std::alloc::{AllocError, Global};
 use std::marker::Model;
 
-/// How many entries there may be.
+/// How many addresses there are, each of which may be an entry.
 const ENTRIES: usize = 65536;
 
-/// The procedures of a program, with the bound of each entry at hand, however many calls ask for it. A contract sees the procedures.
+/// The nodes of a graph, with a table of their bounds by entry. A contract sees the nodes.
 #[derive(Drop)]
 pub(crate) struct IndexedNodes<'a> {
     nodes: &'a [Node],
-    /// The bound of each entry, 0 if it isn't among the nodes.
+    /// The bound of the procedure at each entry, 0 if no node is its.
     bounds: Vec<u64>,
 }
 
@@ -35,7 +35,7 @@ impl<'a> Model for IndexedNodes<'a> {
 }
 
 impl<'a> IndexedNodes<'a> {
-    /// The procedures with their bounds.
+    /// Makes the table of bounds for these nodes. `AllocError` if memory runs out.
     pub(crate) fn of(alloc: Global, nodes: &'a [Node]) -> Result<IndexedNodes<'a>, AllocError>
         ensures { IfOk result (λ indexed. indexed ≡ nodes.now) }
     {
@@ -44,21 +44,22 @@ impl<'a> IndexedNodes<'a> {
         Ok(IndexedNodes { nodes, bounds })
     }
 
-    /// The procedures.
+    /// The nodes of the graph.
     pub(crate) fn nodes(&self) -> &'a [Node]
         ensures { result.now ≡ self.now }
     {
         self.nodes
     }
 
-    /// The bound of an entry's procedure, 0 if it isn't among them.
+    /// The bound of the procedure at an entry, 0 if no node is its.
     pub(crate) fn bound_of(&self, entry: u16) -> u64
         ensures { result ≡ bound_of self.now (Entry entry) }
     {
         self.bounds[usize::from(entry)]
     }
 
-    /// The bytes that a call of an address needs: those of its return address, and its callee's bound.
+    /// The bytes that a call of an address needs: two for its return address, and its callee's
+    /// bound.
     pub(crate) fn needs(&self, target: u16) -> u128
         ensures { result ≡ needs self.now target }
     {
@@ -66,7 +67,8 @@ impl<'a> IndexedNodes<'a> {
     }
 }
 
-/// Sets the bound of each entry, from the last procedure to the first; before, each is 0.
+/// Sets the bound of each node's entry; of two nodes with one entry the first counts. Each bound
+/// must be 0 before.
 fn set_bounds(bounds: &mut [u64], nodes: &[Node])
     requires { bounds.old ≡ replicate 65536 0 }
     ensures { AreBounds nodes.now bounds.new }
@@ -76,7 +78,7 @@ fn set_bounds(bounds: &mut [u64], nodes: &[Node])
     }
 }
 
-/// Sets the bound of a procedure, if it is an entry's.
+/// Sets the bound of a node's entry; nothing changes for the main program's node.
 fn set_bound(bounds: &mut [u64], node: &Node)
     requires { length bounds.old ≡ 65536 }
     ensures whole { length bounds.new ≡ 65536 }
@@ -88,14 +90,14 @@ fn set_bound(bounds: &mut [u64], node: &Node)
     }
 }
 
-/// The node of a procedure.
+/// The first node of a procedure; `None` if there is none.
 pub(crate) fn node_of(nodes: &[Node], procedure: Procedure) -> Option<&Node>
     ensures { option_copied result ≡ node_of nodes.now procedure }
 {
     nodes.iter().find(|node| is_node_of(node, procedure))
 }
 
-/// Whether a node is that of a procedure.
+/// Whether a node is that of this procedure.
 fn is_node_of(node: &Node, procedure: Procedure) -> bool
     ensures { result ≡ is_node_of procedure node.now }
 {

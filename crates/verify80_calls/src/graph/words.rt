@@ -9,7 +9,7 @@ use image80_text::{PublicTable, append_name};
 use std::alloc::{AllocError, Global};
 use text80::word_digits;
 
-/// Appends a text, and an address behind it.
+/// Appends the text `before` and an address as four digits.
 pub(crate) fn append_address(
     text: &mut Vec<u8>,
     before: &[u8],
@@ -21,7 +21,7 @@ pub(crate) fn append_address(
     text.extend_from_slice(&word_digits(address))
 }
 
-/// Appends the name of an address, and ends the line.
+/// Appends the name of an address, if the publics have one, and ends the line.
 pub(crate) fn append_end(
     alloc: Global,
     text: &mut Vec<u8>,
@@ -36,7 +36,7 @@ pub(crate) fn append_end(
     Ok(())
 }
 
-/// The word before a procedure's address: the main program's, or that of an entry.
+/// The word before a procedure's address: `MAIN` for the main program, else `entry_word`.
 pub(crate) fn node_word(procedure: Procedure, entry_word: &'static [u8]) -> &'static [u8]
     ensures { result.now ≡ node_word entry_word.now procedure }
 {
@@ -46,7 +46,7 @@ pub(crate) fn node_word(procedure: Procedure, entry_word: &'static [u8]) -> &'st
     }
 }
 
-/// Appends a text, and a bound behind it.
+/// Appends the text `before` and a bound, as `BOUND 2`.
 pub(crate) fn append_bound(
     alloc: Global,
     text: &mut Vec<u8>,

@@ -16,7 +16,7 @@ use frames80::{CallFault, Change, Effect};
 use frames80_interned::FrameId;
 
 impl Table {
-    /// An instruction goes on to the next one with a changed frame.
+    /// Adds the frame after a change at the next instruction. Answers whether the table changed.
     ///
     /// # Errors
     /// A refusal that holds, or out of memory.
@@ -30,7 +30,8 @@ impl Table {
         self.flow(site.procedure, site.next, frame)
     }
 
-    /// A caller goes on after a call of a procedure that takes a given number of words.
+    /// The number of the caller's frame at the instruction after a call of a procedure that takes
+    /// `taken` words. What is known is unchanged.
     ///
     /// # Errors
     /// `ShortArguments` if the caller has fewer words above its bottom word; any other refusal that holds; out of memory.
@@ -50,7 +51,9 @@ impl Table {
         }
     }
 
-    /// A call: the callee is entered, and if a return of it was seen, the caller goes on without the words that it takes.
+    /// Enters a callee, and if a return of it was seen, adds the caller's frame at the next
+    /// instruction, without the words that the callee takes; else the call waits for a return.
+    /// Answers whether the table changed.
     ///
     /// # Errors
     /// A refusal that holds, or out of memory.
@@ -75,7 +78,8 @@ impl Table {
         }
     }
 
-    /// A conditional jump goes both ways.
+    /// Adds the frame of a conditional jump at the next instruction and at `to`. Answers whether
+    /// the table changed. `Err` is a refusal that holds, or `Memory`.
     fn branch(&mut self, site: &Site, to: u16) -> Result<bool, Refusal>
         requires { CanLead self.old site.now.frame (length self.old.known.points) }
         ensures steps { (targets : List ℕ) →
@@ -89,7 +93,8 @@ impl Table {
         Ok(one | other)
     }
 
-    /// A PCHL goes to each target that is declared for it, with the frame that it has.
+    /// Adds the frame of a PCHL at each of its declared targets. Answers whether the table changed.
+    /// `Err` is a refusal that holds, or `Memory`.
     fn go_to_each(&mut self, site: &Site, targets: &[u16]) -> Result<bool, Refusal>
         requires { CanLead self.old site.now.frame (length self.old.known.points) }
         ensures steps { Steps self.old.known self.new.known site.now.procedure site.now.at targets.now site.now.next site.now.role
@@ -105,7 +110,8 @@ impl Table {
         Ok(changed)
     }
 
-    /// A conditional call is taken, or it goes on.
+    /// Follows a conditional call both ways: adds its frame at the next instruction, and calls.
+    /// Answers whether the table changed. `Err` is a refusal that holds, or `Memory`.
     fn call_if(&mut self, site: &Site, target: u16) -> Result<bool, Refusal>
         requires { CanLead self.old site.now.frame (length self.old.known.points) }
         ensures steps { (targets : List ℕ) →
@@ -119,7 +125,9 @@ impl Table {
         Ok(one | other)
     }
 
-    /// A conditional return is taken, or it goes on.
+    /// Follows a conditional return both ways: adds its frame at the next instruction, and returns
+    /// with `taken` words taken. Answers whether the table changed. `Err` is a refusal that holds,
+    /// or `Memory`.
     fn return_if(&mut self, site: &Site, taken: u32) -> Result<bool, Refusal>
         requires { CanLead self.old site.now.frame (length self.old.known.points) }
         ensures steps { (targets : List ℕ) →
@@ -133,7 +141,8 @@ impl Table {
         Ok(one | other)
     }
 
-    /// Each way that an instruction leads; a PCHL leads to the targets that are declared for it.
+    /// Adds the frames that an effect leads to: at the next instruction, at a target, or at each of
+    /// `targets` for a PCHL. Answers whether the table changed.
     ///
     /// # Errors
     /// A refusal that holds, or out of memory.

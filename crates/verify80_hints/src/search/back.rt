@@ -9,7 +9,8 @@ use frames80::{Code, Procedure};
 use std::alloc::AllocError;
 
 impl<'a, C: Code> Search<'a, C> {
-    /// Goes back from places of a point, over each way to it.
+    /// Asks for places at each point that leads to their point, in the places from which their
+    /// words come. `AllocError` if memory runs out.
     pub(super) fn go_back(&mut self, places: Places) -> Result<(), AllocError> {
         let places = self.go_straight_back(places)?;
         let mut link = self.leading.newest(places.point as usize);
@@ -26,8 +27,9 @@ impl<'a, C: Code> Search<'a, C> {
         }
     }
 
-    /// Goes back from places of a point as long as only one point leads there, which leads nowhere else and keeps them. Gives the
-    /// places from which that isn't so.
+    /// Goes back from places of a point as long as only one point leads there, which leads nowhere
+    /// else and keeps the words of the places. Returns the places, of the last such point, that are
+    /// new there. `AllocError` if memory runs out.
     fn go_straight_back(&mut self, places: Places) -> Result<Places, AllocError> {
         let mut places = places;
         // The bound is never met: each place of a point is asked for once.
@@ -44,7 +46,8 @@ impl<'a, C: Code> Search<'a, C> {
         Ok(places)
     }
 
-    /// Returns these places of the only point that leads to their point, if it leads nowhere else and keeps them.
+    /// The same places of the only point that leads to their point, if that leads nowhere else and
+    /// keeps their words; else `None`.
     fn straight_before(&self, places: Places) -> Option<Places> {
         let way = self.leading.only(places.point as usize)?;
         let from = self.point(way.from)?;
@@ -60,8 +63,8 @@ impl<'a, C: Code> Search<'a, C> {
         None
     }
 
-    /// Goes back from places of a point to each PCHL that leads to it. What another target of the same PCHLs asked for was asked for
-    /// there already.
+    /// Asks for places of a point at each PCHL that leads to it. What another target of the same
+    /// PCHLs has asked for there isn't asked for again. `AllocError` if memory runs out.
     fn go_back_to_cases(&mut self, places: Places, point: Point) -> Result<(), AllocError> {
         let mut list = self.cases.list_of(point.at);
         if self.cases.newest(list).is_none() {
@@ -82,7 +85,8 @@ impl<'a, C: Code> Search<'a, C> {
         Ok(())
     }
 
-    /// Goes back from places of a point to a PCHL that leads to it, if walks have the same counts there. It keeps every place.
+    /// Asks for places of a point at one PCHL that leads to it, if walks have the same counts
+    /// there: a PCHL keeps each place. `AllocError` if memory runs out.
     fn go_back_to_case(&mut self, pchl: u16, places: Places, to: Point) -> Result<(), AllocError> {
         let Some(point) = self.numbers.get(to.procedure, pchl) else {
             return Ok(());
@@ -101,14 +105,17 @@ impl<'a, C: Code> Search<'a, C> {
         }
     }
 
-    /// By which of its ways a PCHL leads to a target.
+    /// Which of the declared targets of a PCHL this one is, counted from 0; 0 if it is none of
+    /// them.
     fn choice_of_target(&self, pchl: u16, target: u16) -> u16 {
         let mut targets = self.program.targets(pchl).iter();
         let choice = targets.position(|at| *at == target).unwrap_or(0);
         u16::try_from(choice).unwrap_or(0)
     }
 
-    /// Goes back from places of a point over a way to it.
+    /// Asks for places of a point where their words come from over one way to it. If one of them
+    /// gets a word there that is no return address, a walk is found. `AllocError` if memory runs
+    /// out.
     pub(super) fn carry(&mut self, way: Way, places: Places) -> Result<(), AllocError> {
         let Some(from) = self.point(way.from) else {
             return Ok(());
@@ -138,7 +145,8 @@ impl<'a, C: Code> Search<'a, C> {
         Ok(())
     }
 
-    /// Goes back from a place of a point to the one from which its word moves; if there is none, a walk is found.
+    /// Asks for the place from which a move takes its word; if the word is no return address, a
+    /// walk is found. `AllocError` if memory runs out.
     fn carry_moved(
         &mut self,
         from: Point,
@@ -152,7 +160,8 @@ impl<'a, C: Code> Search<'a, C> {
         }
     }
 
-    /// Places of a point are asked for, and their words go on by this choice.
+    /// Records that places of a point are asked for, and by `choice` how their words go on; those
+    /// that were asked for before are skipped. `AllocError` if memory runs out.
     pub(super) fn ask(
         &mut self,
         point: Point,
@@ -175,7 +184,9 @@ impl<'a, C: Code> Search<'a, C> {
         Ok(())
     }
 
-    /// Places are asked for at the start of a procedure: the return address, or pairs, which have other words.
+    /// Handles places that are asked for at the entry of a procedure. Its bottom word is the return
+    /// address, so the procedure returns; a pair holds another word, so a walk is found.
+    /// `AllocError` if memory runs out.
     fn start(&mut self, point: Point, new: Places) -> Result<(), AllocError> {
         if let Some(pair) = new.first_pair() {
             self.find_from(point.step, new.point, pair)?;
@@ -188,7 +199,9 @@ impl<'a, C: Code> Search<'a, C> {
         }
     }
 
-    /// A walk leads from the start of a procedure to a return with its return address: the calls that wait for that go on.
+    /// Records, once for each procedure, that a walk leads from its entry to a return with its
+    /// return address. The calls that wait for that are followed again. `AllocError` if memory runs
+    /// out.
     fn exit(&mut self, entry: u16, point: Point, number: u32) -> Result<(), AllocError> {
         if self.exit_of(entry).is_some() {
             return Ok(());

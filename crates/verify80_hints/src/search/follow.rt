@@ -8,19 +8,24 @@ use crate::step::Step;
 use frames80::{Code, Effect};
 use std::alloc::AllocError;
 
-/// More blocks than a frame has places for: a choice has its bits in the sets of places that many blocks apart.
+/// How many blocks lie between the bits of a choice in `choices`; no frame has so many blocks of
+/// places.
 const BLOCKS: u32 = 2048;
 
-/// How a word goes on: by which way, to which address, and to which place there.
+/// How a word goes on from a place of a point.
 #[derive(Clone, Copy)]
 struct Hop {
+    /// The way that it goes.
     turn: Turn,
+    /// The address where that leads.
     at: u16,
+    /// The place that has the word there.
     place: Place,
 }
 
 impl<'a, C: Code> Search<'a, C> {
-    /// A walk is found if none was before: another word comes over a way to a place that is asked for.
+    /// Completes a walk, unless one was found before: over this way another word than the return
+    /// address comes to a place that is asked for. `AllocError` if memory runs out.
     pub(super) fn find_over(&mut self, way: Way, to: u32, place: Place) -> Result<(), AllocError> {
         match (self.point(way.from), self.point(to)) {
             (Some(from), Some(end)) if !self.is_found => {
@@ -31,7 +36,8 @@ impl<'a, C: Code> Search<'a, C> {
         }
     }
 
-    /// A walk is found if none was before: its last step reaches a point with another word in a place that is asked for.
+    /// Completes a walk, unless one was found before: its last step reaches a point with another
+    /// word than the return address in a place that is asked for. `AllocError` if memory runs out.
     pub(super) fn find_from(
         &mut self,
         step: u32,
@@ -45,7 +51,8 @@ impl<'a, C: Code> Search<'a, C> {
         self.find(step, end)
     }
 
-    /// A walk is found, and ends with a step at a return. What comes then doesn't matter: the return leads nowhere.
+    /// Records that a walk is found, and adds a step on from the return that it ends at. Where that
+    /// step leads doesn't matter: the return is refused. `AllocError` if memory runs out.
     pub(super) fn find(&mut self, step: u32, number: u32) -> Result<(), AllocError> {
         self.is_found = true;
         if let Some(end) = self.point(number) {
@@ -54,7 +61,8 @@ impl<'a, C: Code> Search<'a, C> {
         Ok(())
     }
 
-    /// Takes the steps by which the word of a place reaches a return, and gives the last one and its point.
+    /// Adds the steps by which the word of a place reaches a return, and returns the number of the
+    /// last step and that of its point. `AllocError` if memory runs out.
     pub(super) fn follow(
         &mut self,
         step: u32,
@@ -79,7 +87,8 @@ impl<'a, C: Code> Search<'a, C> {
         Ok((step, number))
     }
 
-    /// How the word of a place of a point goes on; `None` if that is at a return, or nothing asks for it.
+    /// How the word of a place of a point goes on; `None` if it is used by a return there, or leads
+    /// nowhere.
     fn hop(&self, from: Point, number: u32, place: Place) -> Option<Hop> {
         if from.returns() && place == Place::of_word(0) {
             return None;
@@ -102,7 +111,8 @@ impl<'a, C: Code> Search<'a, C> {
         Some(hop)
     }
 
-    /// Takes a step on from a point, and gives its number.
+    /// Adds the step from a point over this way to address `at`, and returns its number.
+    /// `AllocError` if memory runs out.
     fn step_on(&mut self, from: Point, step: u32, turn: Turn, at: u16) -> Result<u32, AllocError> {
         match (turn, from.effect) {
             (Turn::OverCall, Effect::Call(target) | Effect::CallIf(target)) => {
@@ -116,7 +126,9 @@ impl<'a, C: Code> Search<'a, C> {
         }
     }
 
-    /// The words of places that had no choice go on by this one. It is kept bit by bit: most are 0, which takes no memory.
+    /// Records how the words of places go on: by which way, or for a change whether they move (1)
+    /// or stay (0). It is kept bit by bit: most choices are 0, which takes no memory. `AllocError`
+    /// if memory runs out.
     pub(super) fn choose(&mut self, places: Places, choice: u16) -> Result<(), AllocError> {
         let (mut left, mut block) = (choice, places.block);
         for _ in 0..16 {
@@ -132,7 +144,8 @@ impl<'a, C: Code> Search<'a, C> {
         Ok(())
     }
 
-    /// The choice of a place of a point.
+    /// How the word of a place of a point goes on, as `choose` recorded it; 0 if nothing was
+    /// recorded.
     fn choice(&self, point: u32, place: Place) -> u16 {
         let (mut choice, mut bit, mut block) = (0, 1u16, place.block());
         for _ in 0..16 {

@@ -9,7 +9,8 @@ use frames80::{Code, Effect, MOST_POINTS, Procedure};
 use std::alloc::AllocError;
 
 impl<'a, C: Code> Search<'a, C> {
-    /// Goes each way on from a point.
+    /// Follows each way on from a point, and enters the procedure that it calls. `AllocError` if
+    /// memory runs out.
     pub(super) fn leave(&mut self, number: u32) -> Result<(), AllocError> {
         let Some(from) = self.point(number) else {
             return Ok(());
@@ -31,7 +32,8 @@ impl<'a, C: Code> Search<'a, C> {
         }
     }
 
-    /// Goes on from a point to an address.
+    /// Follows the way with number `choice` on from a point to address `at`, unless the instruction
+    /// is refused. `AllocError` if memory runs out.
     fn go_to(&mut self, number: u32, from: Point, at: u16, choice: u16) -> Result<(), AllocError> {
         let way = Way {
             from: number,
@@ -43,7 +45,7 @@ impl<'a, C: Code> Search<'a, C> {
         }
     }
 
-    /// Goes on from a PCHL to each target.
+    /// Follows the ways on from a PCHL to each declared target. `AllocError` if memory runs out.
     fn go_to_each(&mut self, number: u32, from: Point) -> Result<(), AllocError> {
         let is_noted = self.noted.add(usize::from(from.at))?;
         let program = self.program;
@@ -58,7 +60,8 @@ impl<'a, C: Code> Search<'a, C> {
         Ok(())
     }
 
-    /// Enters a callee, and goes on behind the call if it returns; else the call waits for that.
+    /// Enters a callee, and follows the way on to the address after the call if the callee is known
+    /// to return; else the call waits for that. `AllocError` if memory runs out.
     fn call(&mut self, number: u32, from: Point, target: u16) -> Result<(), AllocError> {
         let way = Way {
             from: number,
@@ -80,7 +83,8 @@ impl<'a, C: Code> Search<'a, C> {
         }
     }
 
-    /// Goes a way on from a point, and asks there for what is asked for at its end.
+    /// Takes a way on from a point to address `at`, and asks at the point for what is asked for at
+    /// `at` already. `AllocError` if memory runs out.
     fn go(
         &mut self,
         way: Way,
@@ -104,7 +108,9 @@ impl<'a, C: Code> Search<'a, C> {
         Ok(())
     }
 
-    /// A walk reaches a point by a step. Gives its number, if the walk is the first there or has the counts of the first.
+    /// Records that a walk reaches a point by a step, and returns the point's number. `None` if the
+    /// walk has other counts than the first one there, or if there are too many points.
+    /// `AllocError` if memory runs out.
     pub(super) fn come(
         &mut self,
         procedure: Procedure,
@@ -125,7 +131,8 @@ impl<'a, C: Code> Search<'a, C> {
         }
     }
 
-    /// The walk of a step has other counts at a point than the first there. Such walks are noted once.
+    /// Adds steps that show two walks to one point with different counts, unless such steps were
+    /// added before. `AllocError` if memory runs out.
     fn differ(&mut self, first: u32, step: Step) -> Result<(), AllocError> {
         if !self.differs {
             let other = self.add_step(step)?;
@@ -135,7 +142,9 @@ impl<'a, C: Code> Search<'a, C> {
         Ok(())
     }
 
-    /// A walk is the first to reach a point. If that is a return, it asks for its word; if it has others, the walk is found.
+    /// Adds a point that no walk has reached before and returns its number; `None` if there are
+    /// `MOST_POINTS`. A return asks for its word if that is the only one; if not, a walk is found.
+    /// `AllocError` if memory runs out.
     fn reach(
         &mut self,
         procedure: Procedure,
