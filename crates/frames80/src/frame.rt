@@ -125,7 +125,8 @@ impl Frame {
     }
 
     /// Removes the top word and returns it. If the procedure has no word of its own left, it pops
-    /// one from beneath: `taken` is one more, and the result is `Any`.
+    /// one from beneath: `taken` is one more, and the result is `Any`. `taken` must be at most
+    /// 1,000,000 before.
     pub(crate) fn pop(&mut self) -> Word
         requires { self.old.taken ≤ 1000000 }
         ensures word { result ≡ top_word self.old.words }

@@ -31,7 +31,7 @@ pub fn meet(frame: &mut Frame, other: &Frame) -> Result<bool, HeightsDiffer>
 }
 
 /// Sets each word to what is known of it and of the word of `others` at the same index; answers
-/// whether any of them changed.
+/// whether any of them changed. `words` and `others` must have equally many words.
 fn meet_words(words: &mut Vec<Word>, others: &Vec<Word>) -> bool
     requires { vec_len words.old ≡ vec_len others.now }
     ensures met { words.new.items ≡ words_met words.old.items others.now.items }

@@ -74,9 +74,9 @@ pub fn next(alloc: Global, frame: &Frame, instr: Instr, role: Role) -> Result<Mo
     })
 }
 
-/// A copy of `frame` with a change applied to it. Whether the change is admitted must be checked
-/// before: here a pop of no words takes one from beneath, and `SetStack` drops all words.
-/// `AllocError` if memory runs out.
+/// A copy of `frame` with a change applied to it. `frame.taken` must be at most 1,000,000. Whether
+/// the change is admitted must be checked before: here a pop of no words takes one from beneath,
+/// and `SetStack` drops all words. `AllocError` if memory runs out.
 fn change_frame(alloc: Global, frame: &Frame, change: Change) -> Result<Frame, AllocError>
     requires { frame.now.taken ≤ 1000000 }
     ensures { IfOk result (λ after. after ≡ changed change frame.now) }
