@@ -11,7 +11,9 @@ use crate::stacks::{EMPTY, Stacks};
 use frames80::{Change, FramePair, Word};
 use std::alloc::AllocError;
 
-/// The frame after a change; words that it pushes are added to `stacks`.
+/// The frame after a change; words that it pushes are added to `stacks`, whose stacks keep their
+/// numbers. The words of `kept` must be a stack of `stacks`, with at most 1,000,000 words taken,
+/// and stack `EMPTY` must have no words.
 ///
 /// # Errors
 /// `AllocError` if memory runs out.
@@ -53,7 +55,8 @@ pub(crate) fn change_frame(
     }
 }
 
-/// The frame with `word` pushed on its words.
+/// The frame with `word` pushed on its words. The words of `kept` must be a stack of `stacks`,
+/// whose stacks keep their numbers.
 ///
 /// # Errors
 /// `AllocError` if memory runs out.
@@ -67,7 +70,8 @@ fn push_word(stacks: &mut Stacks, kept: Kept, word: Word) -> Result<Kept, AllocE
 }
 
 /// The frame without its top word, and that word. If the procedure has no word of its own left, the
-/// frame has one more word taken from beneath, and the word is `Any`.
+/// frame has one more word taken from beneath, and the word is `Any`. The words of `kept` must be a
+/// stack of `stacks`, with at most 1,000,000 words taken.
 fn pop_word(stacks: &Stacks, kept: Kept) -> (Kept, Word)
     requires there { kept.words < length stacks.now }
     requires taken { kept.taken ≤ 1000000 }

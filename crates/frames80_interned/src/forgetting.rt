@@ -38,7 +38,7 @@ struct Lessened {
 
 /// The number of a stack as high as stack `number`, in which words that aren't asked for may be
 /// `Any`. It goes down from the top, and leaves the rest as it is once all return addresses there
-/// may be asked for.
+/// may be asked for. There must be a stack `number`; all stacks keep their numbers.
 ///
 /// # Errors
 /// `AllocError` if memory runs out.
@@ -56,7 +56,8 @@ pub(crate) fn forget_words(
 }
 
 /// The upper words of stack `number`, with `Any` for those that aren't asked for, down to where all
-/// return addresses beneath may be asked for; and the number of the stack that is left.
+/// return addresses beneath may be asked for; and the number of the stack that is left. There must
+/// be a stack `number`.
 ///
 /// # Errors
 /// `AllocError` if memory runs out.
@@ -74,7 +75,8 @@ fn forget_tops(stacks: &Stacks, number: u32, heights: &[u32]) -> Result<Lessened
 }
 
 /// The top word of a stack and whether it is asked for. `None` if nothing more is to be forgotten:
-/// the stack is empty, or has no more return addresses than words that are asked for.
+/// the stack is empty, or has no more return addresses than words that are asked for. There must be
+/// a stack `number`.
 fn top_to_forget(stacks: &Stacks, number: u32, heights: &[u32]) -> Option<(Link, bool)>
     requires { number < length stacks.now }
     ensures { IfSome result (λ top. IsLink stacks.now number top.0) }

@@ -78,8 +78,8 @@ impl Frames {
         keep(&mut self.kept, Kept::of_words(0, EMPTY))
     }
 
-    /// Why an effect is refused with a frame, or `None` if it is admitted. The call takes no
-    /// memory.
+    /// Why an effect is refused with a frame, or `None` if it is admitted. `frame` must be the
+    /// number of one of these frames. The call takes no memory.
     pub fn fault_of(&self, frame: FrameId, role: Role, effect: Effect) -> Option<FrameFault>
         requires { frame < length self.now }
         ensures refused { IfSome result (λ fault. moves_of role effect (frame_at self.now frame) ≡ Err fault) }
@@ -93,9 +93,9 @@ impl Frames {
         holding_of(&self.stacks, kept.words).fault_of(role, effect)
     }
 
-    /// The number of the frame after a change of `frame`, which must have at most 1,000,000 words
-    /// taken and is kept unchanged. Whether the change is admitted must be checked before: here a
-    /// pop of no words takes one from beneath.
+    /// The number of the frame after a change of `frame`, which is kept unchanged. `frame` must be
+    /// the number of one of these frames, with at most 1,000,000 words taken. Whether the change is
+    /// admitted must be checked before: here a pop of no words takes one from beneath.
     ///
     /// # Errors
     /// `AllocError` if memory runs out.
@@ -111,7 +111,8 @@ impl Frames {
     }
 
     /// The number of a caller's frame after a call of a procedure that takes `taken` words: the top
-    /// `taken` words are gone, and BC, DE and HL may hold anything.
+    /// `taken` words are gone, and BC, DE and HL may hold anything. `frame` must be the number of
+    /// one of these frames.
     ///
     /// # Errors
     /// `ShortArguments` exactly where the caller has fewer words above its bottom word; in the main program, if it has fewer
@@ -134,6 +135,7 @@ impl Frames {
 
     /// The number of the frame with what is known of both frames: a word or a pair is the return
     /// address only if it is in both. The result is `one` itself if that frame wouldn't change.
+    /// Both must be numbers of these frames.
     ///
     /// # Errors
     /// `HeightsDiffer` exactly where the frames differ in the words taken or in the number of words; `Memory` only if they
@@ -160,6 +162,7 @@ impl Frames {
 
     /// The number of a frame like `frame`, in which words and pairs that aren't asked for may have
     /// become `Any`: it has the same counts, and the return address only where `frame` has it.
+    /// `frame` must be the number of one of these frames.
     ///
     /// # Errors
     /// `AllocError` if memory runs out.
@@ -180,8 +183,8 @@ impl Frames {
         keep(&mut self.kept, lesser)
     }
 
-    /// How many words a frame has popped from beneath the procedure's own. The call takes no
-    /// memory.
+    /// How many words a frame has popped from beneath the procedure's own. `frame` must be the
+    /// number of one of these frames. The call takes no memory.
     pub fn taken(&self, frame: FrameId) -> u32
         requires { frame < length self.now }
         ensures { result ≡ (frame_at self.now frame).taken }
@@ -189,7 +192,8 @@ impl Frames {
         kept_at(&self.kept, frame).taken
     }
 
-    /// How many own words a frame has. The call takes no memory.
+    /// How many own words a frame has. `frame` must be the number of one of these frames. The call
+    /// takes no memory.
     pub fn words(&self, frame: FrameId) -> u32
         requires { frame < length self.now }
         ensures { result ≡ length (frame_at self.now frame).words }
@@ -199,7 +203,8 @@ impl Frames {
     }
 
     /// How many words of a caller's frame a callee may take: those above the bottom word, and in
-    /// the main program all. The call takes no memory.
+    /// the main program all. `frame` must be the number of one of these frames. The call takes no
+    /// memory.
     pub fn room(&self, frame: FrameId, role: Role) -> u32
         requires { frame < length self.now }
         ensures { result ≡ room role (frame_at self.now frame).words }
@@ -210,7 +215,7 @@ impl Frames {
 
     /// By how many bytes the stack has grown since the procedure's start: `2 * (words - 1 - taken)`
     /// in an entry, which starts with its return address on it, and `2 * words` in the main
-    /// program. The call takes no memory.
+    /// program. `frame` must be the number of one of these frames. The call takes no memory.
     pub fn depth(&self, frame: FrameId, role: Role) -> i64
         requires { frame < length self.now }
         ensures { result ≡ depth_of role (frame_at self.now frame) }

@@ -8,7 +8,7 @@ use crate::stacks::Stacks;
 use frames80::{Holding, Word};
 
 /// What the checks of pops and returns need to know of the words of stack `words`: whether there
-/// are none, the return address alone, or others.
+/// are none, the return address alone, or others. There must be a stack `words`.
 pub(crate) fn holding_of(stacks: &Stacks, words: u32) -> Holding
     requires { words < length stacks.now }
     ensures { result ≡ holding_of (words_at stacks.now words) }

@@ -67,7 +67,7 @@ impl Kept {
     }
 }
 
-/// The frame with this number.
+/// The frame with this number, which must be below the number of `frames`.
 pub(crate) fn kept_at(frames: &IndexSet<Kept>, id: FrameId) -> Kept
     requires { id < length frames.now.keys }
     ensures { slice_get frames.now.keys id ≡ Some result }

@@ -37,7 +37,8 @@ enum Top {
 }
 
 /// The frame with what is known of both frames: a word or a pair is the return address only if it
-/// is in both. The result is `one` itself if that frame wouldn't change.
+/// is in both. The result is `one` itself if that frame wouldn't change. The words of both must be
+/// stacks of `stacks`, whose stacks keep their numbers.
 ///
 /// # Errors
 /// `HeightsDiffer` exactly where the frames differ in the words taken or in the number of words; `Memory` only if they don't
@@ -67,7 +68,8 @@ pub(crate) fn meet_frames(stacks: &mut Stacks, one: Kept, other: Kept) -> Result
 }
 
 /// The number of the stack that two equally high stacks merge into: each word is the return address
-/// only if it is in both. The result is `one` if that stack wouldn't change.
+/// only if it is in both. The result is `one` if that stack wouldn't change. Both must be stacks of
+/// `stacks`, whose stacks keep their numbers.
 ///
 /// Deep stacks that meet again and again take few steps, since a pair of stacks whose height is a
 /// multiple of 16 is kept with the stack that it merges into. Pairs that aren't kept yet are merged
@@ -94,7 +96,7 @@ fn meet_words(stacks: &mut Stacks, one: u32, other: u32) -> Result<u32, AllocErr
     meet_to_kept(stacks, pair)
 }
 
-/// A pair of stacks without the top `depth` words of each.
+/// A pair of stacks without the top `depth` words of each. Both must be stacks of `stacks`.
 fn beneath(stacks: &Stacks, pair: Pair, depth: u32) -> Pair
     requires one { pair.one < length stacks.now }
     requires other { pair.other < length stacks.now }
@@ -109,7 +111,7 @@ fn beneath(stacks: &Stacks, pair: Pair, depth: u32) -> Pair
 
 /// How many words down from the top of two stacks the first pair lies that is equal or kept, of
 /// those whose height is a multiple of `STRIDE`; their whole height if there is none, and 0 if the
-/// two are equal. Only speed depends on the answer.
+/// two are equal. Only speed depends on the answer. Both must be stacks of `stacks`.
 fn depth_to_met(stacks: &Stacks, pair: Pair) -> u32
     requires one { pair.one < length stacks.now }
     requires other { pair.other < length stacks.now }
@@ -130,7 +132,7 @@ fn depth_to_met(stacks: &Stacks, pair: Pair) -> u32
 }
 
 /// Merges a pair of stacks without the top `depth` words of each, and keeps the result for that
-/// pair.
+/// pair. Both must be stacks of `stacks`, with equally many words. All stacks keep their numbers.
 ///
 /// # Errors
 /// `AllocError` if memory runs out.
@@ -146,7 +148,8 @@ fn meet_beneath(stacks: &mut Stacks, pair: Pair, depth: u32) -> Result<(), Alloc
 }
 
 /// The number of the stack that two equally high stacks merge into, going from the top down to a
-/// pair that is equal or kept. The result is `pair.one` if that stack wouldn't change.
+/// pair that is equal or kept. The result is `pair.one` if that stack wouldn't change. Both must be
+/// stacks of `stacks`, whose stacks keep their numbers.
 ///
 /// # Errors
 /// `AllocError` if memory runs out.
@@ -169,7 +172,7 @@ fn meet_to_kept(stacks: &mut Stacks, pair: Pair) -> Result<u32, AllocError>
 }
 
 /// Goes down two equally high stacks until they are equal or a kept pair, and gathers what is known
-/// of both words at each place.
+/// of both words at each place. Both must be stacks of `stacks`.
 ///
 /// # Errors
 /// `AllocError` if memory runs out.
@@ -206,7 +209,7 @@ fn meet_tops(stacks: &Stacks, pair: Pair) -> Result<Meeting, AllocError>
 }
 
 /// The top words of two equally high stacks; or the number of the stack that they merge into, if
-/// they are equal, have no words, or are a kept pair.
+/// they are equal, have no words, or are a kept pair. Both must be stacks of `stacks`.
 fn tops(stacks: &Stacks, pair: Pair) -> Top
     requires one { pair.one < length stacks.now }
     requires other { pair.other < length stacks.now }
@@ -227,7 +230,8 @@ fn tops(stacks: &Stacks, pair: Pair) -> Top
     }
 }
 
-/// The number of the stack with these words, top first, on stack `below`.
+/// The number of the stack with these words, top first, on stack `below`. There must be a stack
+/// `below`; all stacks keep their numbers.
 ///
 /// # Errors
 /// `AllocError` if memory runs out.

@@ -63,7 +63,8 @@ impl Stacks {
         *self.links.allocator()
     }
 
-    /// The word on top of a stack, with the number of the stack beneath it, or `None` if the stack has no words.
+    /// The word on top of a stack, with the number of the stack beneath it, or `None` if the stack
+    /// has no words. There must be a stack `number`.
     pub(crate) fn top(&self, number: u32) -> Option<Link>
         requires { number < length self.now }
         ensures link { IfSome result (λ link. IsLink self.now number link) }
@@ -76,7 +77,7 @@ impl Stacks {
         Some(links[number as usize - 1])
     }
 
-    /// How many words a stack has.
+    /// How many words a stack has. There must be a stack `number`.
     pub(crate) fn height(&self, number: u32) -> u32
         requires { number < length self.now }
         ensures { result ≡ length (words_at self.now number) }
@@ -93,7 +94,7 @@ impl Stacks {
     }
 
     /// How many words of a caller's stack a callee may take: those above the bottom word, and in
-    /// the main program all.
+    /// the main program all. There must be a stack `number`.
     pub(crate) fn room(&self, number: u32, role: Role) -> u32
         requires { number < length self.now }
         ensures { result ≡ room role (words_at self.now number) }
@@ -105,7 +106,8 @@ impl Stacks {
         }
     }
 
-    /// The number of a stack without its top word; the stack's own number if it has no words.
+    /// The number of a stack without its top word; the stack's own number if it has no words. There
+    /// must be a stack `number`.
     pub(crate) fn below(&self, number: u32) -> u32
         requires { number < length self.now }
         ensures { IsStack self.now result (drop 1 (words_at self.now number)) }
@@ -117,7 +119,8 @@ impl Stacks {
     }
 
     /// The number of a stack without its top `count` words; that of a stack with no words if it has
-    /// fewer. The number of steps grows with the logarithm of `count`.
+    /// fewer. The number of steps grows with the logarithm of `count`. There must be a stack
+    /// `number`.
     pub(crate) fn beneath(&self, number: u32, count: u32) -> u32
         requires { number < length self.now }
         ensures { IsStack self.now result (drop count (words_at self.now number)) }
@@ -134,7 +137,8 @@ impl Stacks {
         beneath
     }
 
-    /// The top word of a stack that has more than `left` words; else `None`.
+    /// The top word of a stack that has more than `left` words; else `None`. There must be a stack
+    /// `number`.
     fn top_above(&self, number: u32, left: u32) -> Option<Link>
         requires { number < length self.now }
         ensures link { IfSome result (λ link. IsLink self.now number link) }
@@ -148,7 +152,8 @@ impl Stacks {
     /// The number of the stack to which the skip pointer of a new word on stack `below` leads. If
     /// the skip from the top of `below` and the one after that pass over equally many words, it
     /// leads as far as both together; else to `below` itself. So skips pass over 1, 3, 7, 15 ..
-    /// words, and two of one length follow one another only at the top.
+    /// words, and two of one length follow one another only at the top. There must be a stack
+    /// `below`; the result has its lower words.
     fn skip_over(&self, below: u32) -> u32
         requires { below < length self.now }
         ensures there { result < length self.now }
@@ -167,7 +172,8 @@ impl Stacks {
         }
     }
 
-    /// Over how many words the skip pointer of a link leads.
+    /// Over how many words the skip pointer of a link leads. There must be a stack to which it
+    /// leads.
     fn stride(&self, link: Link) -> u32
         requires { link.skip < length self.now }
     {
@@ -175,6 +181,7 @@ impl Stacks {
     }
 
     /// The number of the stack with `word` on stack `below`; a stack that isn't there yet is added.
+    /// There must be a stack `below`; all stacks keep their numbers.
     ///
     /// # Errors
     /// `AllocError` if memory runs out, and if there are 4,294,967,295 links already.
@@ -200,7 +207,8 @@ impl Stacks {
         Ok(number)
     }
 
-    /// The number of the stack that a pair of stacks merges into, or `None` if it isn't kept.
+    /// The number of the stack that a pair of stacks merges into, or `None` if it isn't kept. There
+    /// must be a stack `pair.one`.
     pub(crate) fn meet_of(&self, pair: Pair) -> Option<u32>
         requires { pair.one < length self.now }
         ensures { IfSome result (λ number. IsMet self.now pair number) }
@@ -212,7 +220,8 @@ impl Stacks {
     }
 
     /// Keeps `number` as the stack that a pair of stacks merges into. If `KEPT_PAIRS` are kept
-    /// already, these are dropped first.
+    /// already, these are dropped first. Both must be stacks here that merge into `number`, which
+    /// must be `pair.one` if that stack wouldn't change.
     ///
     /// # Errors
     /// `AllocError` if memory runs out: the stacks stay as they are.
