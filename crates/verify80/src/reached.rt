@@ -77,7 +77,7 @@ pub fn find_reached(alloc: Global, vouched: &Vouched) -> Result<Reached, AllocEr
 }
 
 /// Sets the table's entry for an address to the instruction there; `None` if none may be executed
-/// there.
+/// there. `table` must have an entry for each address.
 fn note(table: &mut Vec<Option<Fetched>>, code: &ImageCode, at: u16)
     requires { length table.old.items ≡ 65536 }
     ensures { table.new.items ≡ slice_set table.old.items at (result_ok ((code_of code.now).look at)) }
