@@ -48,6 +48,7 @@ type Settled = (Vec<u64>, Vec<CallSite>);
 
 /// Absorbs calls to settled procedures, whose sums are final, until there are none left. Answers
 /// the sum of each procedure, by slot, and the calls that are left, whose callees never settle.
+/// Each depth must be from -2,097,152 to 2,097,152 bytes, and there must be at most 262,144 calls.
 fn settle(alloc: Global, depths: &[Depth], calls: &[CallSite]) -> Result<Settled, AllocError>
     requires depths { All (λ d. IsModest d.depth) depths.now }
     requires calls { All (λ c. IsModest c.depth) calls.now }

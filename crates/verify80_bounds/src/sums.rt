@@ -19,7 +19,9 @@ fn raise(sum: u64, bytes: i64) -> u64
     }
 }
 
-/// The greatest depth of each procedure in bytes, by slot; 0 if it has none above 0.
+/// The greatest depth of each procedure in bytes, by slot; 0 if it has none above 0. Each depth
+/// must be from -2,097,152 to 2,097,152 bytes. The result has an entry for each of the 65,537
+/// slots.
 pub(crate) fn greatest_depths(alloc: Global, depths: &[Depth]) -> Result<Vec<u64>, AllocError>
     requires { All (λ d. IsModest d.depth) depths.now }
     ensures depths { IfOk result (λ v. AreDepths depths.now v.items) }
@@ -34,7 +36,8 @@ pub(crate) fn greatest_depths(alloc: Global, depths: &[Depth]) -> Result<Vec<u64
 }
 
 /// Absorbs a call: its caller's sum becomes at least the depth at the call, two bytes for the
-/// return address, and the callee's sum.
+/// return address, and the callee's sum. `sums` must have an entry for each slot, at most
+/// 1,099,515,822,080 each, and the call's depth must be from -2,097,152 to 2,097,152 bytes.
 pub(crate) fn absorb(sums: &mut [u64], call: &CallSite)
     requires slots { length sums.old ≡ 65537 }
     requires modest { IsModest call.now.depth }

@@ -24,7 +24,8 @@ fn no_calls(alloc: Global) -> Result<Vec<Vec<CallSite>>, AllocError>
     Ok(lists)
 }
 
-/// Groups the calls by the slots of their callees, and counts how many each procedure makes.
+/// Groups the calls by the slots of their callees, and counts how many each procedure makes. There
+/// must be at most 262,144 calls.
 pub(crate) fn group(alloc: Global, calls: &[CallSite]) -> Result<Grouped, AllocError>
     requires { length calls.now ≤ 262144 }
     ensures { IfOk result (λ g. AreGrouped calls.now (map (λ v. v.items) g.0.items) g.1.items) }
@@ -39,7 +40,8 @@ pub(crate) fn group(alloc: Global, calls: &[CallSite]) -> Result<Grouped, AllocE
     Ok((callers, counts))
 }
 
-/// The slots of the procedures that are called and make no calls.
+/// The slots of the procedures that are called and make no calls. `callers` and `counts` must have
+/// equally many entries.
 pub(crate) fn idle(
     alloc: Global,
     callers: &[Vec<CallSite>],
@@ -58,7 +60,10 @@ pub(crate) fn idle(
 }
 
 /// Absorbs one call to the procedure at the end of the worklist, and appends its caller if that was
-/// the caller's last call; or removes that procedure if no call to it is left.
+/// the caller's last call; or removes that procedure if no call to it is left. `settled` must have
+/// an entry; it must have each procedure that is still called and makes none of the calls in
+/// `callers`, and no procedure that makes one; and `counts` must count these calls by caller. All
+/// that holds afterwards too. Sums and depths must be as small as `absorb` needs them.
 pub(crate) fn advance(
     sums: &mut [u64],
     callers: &mut [Vec<CallSite>],
@@ -90,6 +95,7 @@ pub(crate) fn advance(
 }
 
 /// The calls that aren't absorbed: those whose callees still have calls to absorb, by `counts`.
+/// `counts` must have an entry for each slot.
 pub(crate) fn pending_calls(
     alloc: Global,
     calls: &[CallSite],
