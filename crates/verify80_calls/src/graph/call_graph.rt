@@ -63,7 +63,7 @@ impl CallGraph {
     }
 }
 
-/// The node of the main program. `AllocError` if memory runs out.
+/// The node of the main program. `code` must be that of the image. `AllocError` if memory runs out.
 fn main_node(alloc: Global, vouched: &Vouched, code: &ImageCode) -> Result<Node, AllocError>
     requires { code.now ≡ vouched.now.image }
     ensures heading { IfOk result (λ node. heading_of node ≡ main_heading vouched.now) }
@@ -77,7 +77,8 @@ fn main_node(alloc: Global, vouched: &Vouched, code: &ImageCode) -> Result<Node,
     })
 }
 
-/// The node of the procedure of a report's row. `AllocError` if memory runs out.
+/// The node of the procedure of a report's row. `code` must be that of the image. `AllocError` if
+/// memory runs out.
 fn row_node(
     alloc: Global,
     vouched: &Vouched,
@@ -97,7 +98,8 @@ fn row_node(
     })
 }
 
-/// Appends the node of the procedure of each row. `AllocError` if memory runs out.
+/// Appends the node of the procedure of each row. `code` must be that of the image, and each node
+/// that is in `nodes` before must have all calls of its procedure. `AllocError` if memory runs out.
 fn append_nodes(
     alloc: Global,
     vouched: &Vouched,

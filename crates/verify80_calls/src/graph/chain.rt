@@ -64,7 +64,8 @@ impl MarkedChain {
     }
 }
 
-/// Sets the mark of each address with a call of the chain. No mark may be set before.
+/// Sets the mark of each address with a call of the chain. `marks` must have an entry for each
+/// address, none of them set.
 fn set_marks(marks: &mut [bool], chain: &[Link])
     requires { marks.old ≡ replicate 65536 false }
     ensures { AreMarks chain.now marks.new }

@@ -67,8 +67,8 @@ impl<'a> IndexedNodes<'a> {
     }
 }
 
-/// Sets the bound of each node's entry; of two nodes with one entry the first counts. Each bound
-/// must be 0 before.
+/// Sets the bound of each node's entry; of two nodes with one entry the first counts. `bounds` must
+/// have an entry for each address, and each must be 0 before.
 fn set_bounds(bounds: &mut [u64], nodes: &[Node])
     requires { bounds.old ≡ replicate 65536 0 }
     ensures { AreBounds nodes.now bounds.new }
@@ -78,7 +78,8 @@ fn set_bounds(bounds: &mut [u64], nodes: &[Node])
     }
 }
 
-/// Sets the bound of a node's entry; nothing changes for the main program's node.
+/// Sets the bound of a node's entry; nothing changes for the main program's node. `bounds` must
+/// have an entry for each address.
 fn set_bound(bounds: &mut [u64], node: &Node)
     requires { length bounds.old ≡ 65536 }
     ensures whole { length bounds.new ≡ 65536 }
