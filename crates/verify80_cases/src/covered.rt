@@ -9,7 +9,8 @@ use std::alloc::{AllocError, Global};
 use verify80::ImageCode;
 
 /// For each address whether it is a byte of an instruction that begins at a marked address of
-/// `reached`. An unused opcode counts as an instruction of one byte.
+/// `reached`. An unused opcode counts as an instruction of one byte. `reached` must have an entry
+/// for each address.
 ///
 /// # Errors
 /// `AllocError` only if memory runs out.
@@ -29,7 +30,8 @@ pub fn find_covered(
 }
 
 /// How many bytes the instruction at a marked address has, 1 for an unused opcode; 0 if the address
-/// isn't marked, or a byte of the instruction is outside CODE or past FFFF.
+/// isn't marked, or a byte of the instruction is outside CODE or past FFFF. `reached` must have an
+/// entry for each address.
 #[tactic(auto, unfolding(crate::specs::Covered::size_at))]
 fn size_at(code: &ImageCode<'_>, reached: &[bool], at: u16) -> u16
     requires { length reached.now ≡ 65536 }
@@ -46,7 +48,7 @@ fn size_at(code: &ImageCode<'_>, reached: &[bool], at: u16) -> u16
 }
 
 /// Whether an address is a byte of an instruction at a marked address: one that begins there, or
-/// one or two addresses before.
+/// one or two addresses before. `reached` must have an entry for each address.
 fn is_covered(code: &ImageCode<'_>, reached: &[bool], address: u16) -> bool
     requires { length reached.now ≡ 65536 }
     ensures { result ≡ is_covered code.now reached.now address }

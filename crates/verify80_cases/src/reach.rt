@@ -53,8 +53,8 @@ impl Visited {
 
     ghost use Rattle.std.specs.Prelude.{◌∷◌, ◌++◌};
 
-    /// Adds an address and all that the program may reach from there. `AllocError` if memory runs
-    /// out.
+    /// Adds an address and all that the program may reach from there. `marks` must have an entry
+    /// for each address. `AllocError` if memory runs out.
     pub(crate) fn explore(&mut self, code: &ImageCode<'_>, at: u16) -> Result<(), AllocError>
         requires { length self.old.marks.items ≡ 65536 }
         ensures { OnOk result ((roots : List ℕ) → IsDone code.now roots self.old.marks.items self.old.order.items →
@@ -70,7 +70,8 @@ impl Visited {
         Ok(())
     }
 
-    /// Adds an address, unless it is reached already. `AllocError` if memory runs out.
+    /// Adds an address, unless it is reached already. `marks` must have an entry for each address.
+    /// `AllocError` if memory runs out.
     fn enter(&mut self, at: u16) -> Result<(), AllocError>
         requires { length self.old.marks.items ≡ 65536 }
         ensures { OnOk result (Enters self.old.marks.items self.old.order.items (at ∷ []) self.new.marks.items self.new.order.items) }
@@ -83,7 +84,8 @@ impl Visited {
         Ok(())
     }
 
-    /// Adds an address, if there is one. `AllocError` if memory runs out.
+    /// Adds an address, if there is one. `marks` must have an entry for each address. `AllocError`
+    /// if memory runs out.
     fn enter_given(&mut self, at: Option<u16>) -> Result<(), AllocError>
         requires { length self.old.marks.items ≡ 65536 }
         ensures { OnOk result (Enters self.old.marks.items self.old.order.items (given at) self.new.marks.items self.new.order.items) }
@@ -94,7 +96,8 @@ impl Visited {
         }
     }
 
-    /// Adds each of these addresses. `AllocError` if memory runs out.
+    /// Adds each of these addresses. `marks` must have an entry for each address. `AllocError` if
+    /// memory runs out.
     fn enter_each(&mut self, addresses: &[u16]) -> Result<(), AllocError>
         requires { length self.old.marks.items ≡ 65536 }
         ensures { OnOk result (Enters self.old.marks.items self.old.order.items addresses.now self.new.marks.items self.new.order.items) }
@@ -106,7 +109,7 @@ impl Visited {
     }
 
     /// Adds the addresses that the instruction at an address leads to; none if there is no
-    /// instruction. `AllocError` if memory runs out.
+    /// instruction. `marks` must have an entry for each address. `AllocError` if memory runs out.
     #[tactic(auto, unfolding(crate::specs::Reach::leads_to))]
     fn follow(&mut self, code: &ImageCode<'_>, at: u16) -> Result<(), AllocError>
         requires { length self.old.marks.items ≡ 65536 }

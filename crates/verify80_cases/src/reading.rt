@@ -45,7 +45,8 @@ impl Reader {
 
     /// The next target that a table has, or `None` if all tables are read to their ends. The table
     /// that was found last comes first, and the caller must explore what a target leads to before
-    /// it asks for the next.
+    /// it asks for the next. Each unfinished table must be the rest of one by which an undeclared
+    /// PCHL goes, as `visited` has it; each is so afterwards.
     pub(crate) fn next_target(
         &mut self,
         code: &ImageCode<'_>,
@@ -72,7 +73,9 @@ impl Reader {
     }
 
     /// Goes through the addresses that were reached since the last call: marks the bytes of their
-    /// instructions, and begins the tables of their PCHLs. `AllocError` if memory runs out.
+    /// instructions, and begins the tables of their PCHLs. Each unfinished table must be the rest
+    /// of one by which an undeclared PCHL goes, as `visited` has it; each is so afterwards.
+    /// `AllocError` if memory runs out.
     fn notice(&mut self, code: &ImageCode<'_>, visited: &Visited) -> Result<(), AllocError>
         requires { AreRests code.now visited.now.marks.items self.old.unfinished.items }
         ensures { OnOk result (AreRests code.now visited.now.marks.items self.new.unfinished.items) }
@@ -106,7 +109,9 @@ impl Reader {
     }
 
     /// Begins to read the table of the PCHL at an address, if there is one without declared targets
-    /// and its table is seen, unless that table was begun before. `AllocError` if memory runs out.
+    /// and its table is seen, unless that table was begun before. Each unfinished table must be the
+    /// rest of one by which an undeclared PCHL goes, as `visited` has it; each is so afterwards.
+    /// `AllocError` if memory runs out.
     fn begin(&mut self, code: &ImageCode<'_>, visited: &Visited, at: u16) -> Result<(), AllocError>
         requires { AreRests code.now visited.now.marks.items self.old.unfinished.items }
         ensures { OnOk result (AreRests code.now visited.now.marks.items self.new.unfinished.items) }

@@ -82,7 +82,8 @@ impl Search {
         })
     }
 
-    /// Whether an address holds a PCHL that is reached and has no declared targets.
+    /// Whether an address holds a PCHL that is reached and has no declared targets. `code` must be
+    /// that of `image`.
     pub fn is_open(&self, image: &Image, code: &ImageCode<'_>, at: u16) -> bool
         requires { code.now ≡ image.now }
         ensures { result ≡ is_open image.now self.now.reached at }
@@ -91,7 +92,7 @@ impl Search {
     }
 
     /// The case of the PCHL at `at`, which must be reached and without declared targets, if a table
-    /// is seen for it. `None` says only that none is seen.
+    /// is seen for it. `code` must be that of `image`. `None` says only that none is seen.
     ///
     /// # Errors
     /// `AllocError` only if memory runs out.
@@ -151,7 +152,9 @@ fn explore_with_tables(alloc: Global, code: &ImageCode<'_>) -> Result<Visited, A
     Ok(visited)
 }
 
-/// The case of a PCHL that goes by these entries of a table; `None` if there is no entry.
+/// The case of a PCHL that goes by these entries of a table; `None` if there is no entry. The PCHL
+/// at `at` must be reached and without declared targets, and `run` must begin at the word of an LXI
+/// that stands before it, with its limit, at most 65,536. `code` must be that of `image`.
 /// `AllocError` if memory runs out.
 fn case_of_run(
     alloc: Global,

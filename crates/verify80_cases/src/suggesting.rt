@@ -54,7 +54,9 @@ impl Suggestions {
     ghost use Rattle.verify80_cases.specs.Suggested.{AreNotesBelow, AreSuggestedBelow};
 
     /// Appends what is suggested for the PCHL at `at`, if there is one that is reached and has no
-    /// declared targets. Addresses must come in ascending order. `AllocError` if memory runs out.
+    /// declared targets. All that is suggested for the addresses below `at` must be here before,
+    /// and nothing else: addresses come in ascending order. `code` must be that of `image`.
+    /// `AllocError` if memory runs out.
     fn add(
         &mut self,
         alloc: Global,

@@ -50,7 +50,8 @@ pub(crate) struct Run {
     pub(crate) limit: usize,
 }
 
-/// Whether an address has a PCHL in CODE for which no targets are declared.
+/// Whether an address has a PCHL in CODE for which no targets are declared. `code` must be that of
+/// `image`.
 pub(crate) fn is_undeclared(image: &Image, code: &ImageCode<'_>, at: u16) -> bool
     requires { code.now ≡ image.now }
     ensures { result ≡ is_undeclared image.now at }
@@ -123,6 +124,7 @@ pub(crate) fn run_of(code: &ImageCode<'_>, table: Table) -> Option<Run>
 }
 
 /// The address of the entry with this number, counted from 0, of a table that begins at `first`.
+/// `number` must be at most 65,536. The result may be past FFFF, but is below 262,144.
 pub(crate) fn address_of(kind: TableKind, first: u16, number: usize) -> usize
     requires { number ≤ 65536 }
     ensures is { result ≡ first + stride kind * number }
@@ -158,7 +160,7 @@ fn is_target(code: &ImageCode<'_>, address: u16) -> bool
     code.is_code(address) && fetch(address, code).is_ok()
 }
 
-/// The word in the two bytes from an address on, low byte first.
+/// The word in the two bytes from an address on, low byte first. `address` must be at most FFFE.
 fn word_at(code: &ImageCode<'_>, address: u16) -> u16
     requires { address + 2 ≤ 65536 }
     ensures { result ≡ word_in (memory_of code.now.chunks) address }
@@ -211,6 +213,7 @@ fn is_jump(code: &ImageCode<'_>, reached: &[bool], taken: &[bool], address: u16)
 }
 
 /// Whether the three bytes from an address on are code and not marked as taken by an instruction.
+/// `address` must be at most FFFD.
 fn are_free(code: &ImageCode<'_>, taken: &[bool], address: u16) -> bool
     requires inside { address + 3 ≤ 65536 }
     ensures { result ≡ (is_free code.now taken.now address && (is_free code.now taken.now (address + 1) && is_free code.now taken.now (address + 2))) }
@@ -221,7 +224,8 @@ fn are_free(code: &ImageCode<'_>, taken: &[bool], address: u16) -> bool
 }
 
 /// The addresses to which a PCHL goes by the entries of a table, in their order, up to the limit or
-/// to the first address that can't be an entry. `AllocError` if memory runs out.
+/// to the first address that can't be an entry. `table.limit` must be at most 65,536. `AllocError`
+/// if memory runs out.
 pub(crate) fn goals_of(
     alloc: Global,
     code: &ImageCode<'_>,
