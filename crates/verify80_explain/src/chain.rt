@@ -105,7 +105,7 @@ fn chain_among<C: Code>(
 
 /// The chain of the calls at the points `callers`, the last call first, whose last procedure stands
 /// at point `last`; `None` if these calls don't lead there from the main program, or don't add up
-/// to `bytes`.
+/// to `bytes`. Walks must reach all `points`.
 fn chain_by<C: Code>(
     alloc: Global,
     program: &C,
@@ -160,7 +160,7 @@ pub(crate) fn is_sum(depth: i64, bytes: u64) -> bool
 }
 
 /// The procedure, the address and the depth of the point with this number; `None` if there is no
-/// such point.
+/// such point. Walks must reach all `points`.
 fn standing_by<C: Code>(
     program: &C,
     points: &[Point],
@@ -181,7 +181,7 @@ fn standing_by<C: Code>(
 }
 
 /// The call at the point with this number, and the caller's depth there; `None` if there is no such
-/// point, or if it doesn't call.
+/// point, or if it doesn't call. Walks must reach all `points`.
 fn site_by<C: Code>(
     alloc: Global,
     program: &C,

@@ -99,7 +99,8 @@ fn show_all<C: Code>(
 }
 
 /// Appends the refusals of these points to `shown`, each with a way that shows it, until the ways
-/// weigh more than the limit; answers whether none is left out.
+/// weigh more than the limit; answers whether none is left out. Walks must reach all `points`, and
+/// each must come from where its entry of `origins` says.
 fn show_each<C: Code>(
     alloc: Global,
     program: &C,
@@ -130,7 +131,8 @@ fn show_each<C: Code>(
     Ok(true)
 }
 
-/// The way to a point that shows its refusal; `None` if the checks find no such way.
+/// The way to a point that shows its refusal; `None` if the checks find no such way. Walks must
+/// reach all `points`, and each must come from where its entry of `origins` says.
 fn show_point<C: Code>(
     alloc: Global,
     program: &C,

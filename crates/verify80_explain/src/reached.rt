@@ -42,7 +42,8 @@ pub(crate) fn are_reached<C: Code>(
     Ok(true)
 }
 
-/// Whether `point`, which has this number, comes from earlier points as `origin` says.
+/// Whether `point`, which has this number, comes from earlier points as `origin` says. `number`
+/// must be at most the number of `points`.
 fn comes_from<C: Code>(
     alloc: Global,
     program: &C,

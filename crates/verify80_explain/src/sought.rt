@@ -155,7 +155,8 @@ fn show_fault<C: Code>(
 }
 
 /// The way to point `number`, if it is at address `at` and its instruction may not be executed for
-/// this reason; else `None`. Walks must reach all points.
+/// this reason; else `None`. Walks must reach all `points`, and each must come from where its entry
+/// of `origins` says.
 pub(crate) fn show_reached_fault<C: Code>(
     alloc: Global,
     program: &C,

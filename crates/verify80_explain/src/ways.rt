@@ -17,7 +17,8 @@ use std::alloc::{AllocError, Global};
 use verify80_flow::Procedure;
 
 /// The calls that lead to the procedure of point `number`, and the way through it to the point;
-/// `None` if the calls don't lead there.
+/// `None` if the calls don't lead there. There must be a point `number`. Walks must reach all
+/// `points`, and each must come from where its entry of `origins` says.
 pub(crate) fn route_to<C: Code>(
     alloc: Global,
     program: &C,
@@ -41,7 +42,8 @@ pub(crate) fn route_to<C: Code>(
 }
 
 /// The number of the point that comes before point `number` in its procedure: for one after a call,
-/// the point that calls. `None` at the procedure's start.
+/// the point that calls. `None` at the procedure's start. The result is below `number`. There must
+/// be a point `number`, and `origins` must have an entry for each point.
 fn before(points: &[Point], origins: &[Origin], number: usize) -> Option<usize>
     requires paired { length origins.now ≡ length points.now }
     requires there { number < length points.now }
@@ -65,7 +67,8 @@ fn earlier(one: usize, number: usize) -> Option<usize>
     if one < number { Some(one) } else { None }
 }
 
-/// The points from the start of its procedure to point `number`, by the origins.
+/// The points from the start of its procedure to point `number`, by the origins. There must be a
+/// point `number`, and `origins` must have an entry for each point.
 fn way_to(
     alloc: Global,
     points: &[Point],
@@ -113,7 +116,7 @@ pub(crate) fn callers_of(
 }
 
 /// The calls of the points with these numbers, if each calls the procedure of the next and they
-/// lead from procedure `from` to procedure `to`; else `None`.
+/// lead from procedure `from` to procedure `to`; else `None`. Walks must reach all `points`.
 pub(crate) fn lead<C: Code>(
     alloc: Global,
     program: &C,
@@ -144,6 +147,7 @@ pub(crate) fn lead<C: Code>(
 }
 
 /// The call at the point with this number; `None` if there is no such point, or if it doesn't call.
+/// Walks must reach all `points`.
 fn call_by<C: Code>(
     alloc: Global,
     program: &C,
