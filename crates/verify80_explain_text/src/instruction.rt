@@ -46,7 +46,8 @@ fn append_filled(alloc: Global, text: &mut Vec<u8>, instr: Instr) -> Result<(), 
     Ok(())
 }
 
-/// Pads with spaces what `text` has from index `before` on, to ten characters.
+/// Pads with spaces what `text` has from index `before` on, to ten characters. `before` must be at
+/// most the length of `text`.
 fn fill_from(before: usize, text: &mut Vec<u8>) -> Result<(), AllocError>
     requires { before ≤ length text.old.items }
     ensures { OnOk result (text.new.items ≡ text.old.items ++ drop (length text.old.items - before) (codes "          ")) }

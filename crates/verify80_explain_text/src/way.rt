@@ -38,7 +38,8 @@ pub(crate) fn append_way(
     Ok(())
 }
 
-/// How many points at the beginning of a way have the same frame as the first. The way has a point.
+/// How many points at the beginning of a way have the same frame as the first; at least 1. The way
+/// must have a point.
 fn first_run(way: &[Point]) -> usize
     requires { 0 < length way.now }
     ensures run { runs_of way.now ≡ take result way.now ∷ runs_of (drop result way.now) }
