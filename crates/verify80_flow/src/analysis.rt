@@ -85,7 +85,8 @@ fn measure_asked<C: Code>(alloc: Global, program: &C) -> Result<Option<Analysis>
 }
 
 /// Fills an empty table for a program and reports on it; `None` in place of `ReturnNotOwn`, which
-/// may come of a forgotten word. Any refusal but `Memory` holds.
+/// may come of a forgotten word. Any refusal but `Memory` holds. `table` must have no points and no
+/// returns before.
 fn fill_asked_and_report<C: Code>(
     alloc: Global,
     program: &C,
@@ -123,7 +124,8 @@ fn measure_whole<C: Code>(alloc: Global, program: &C) -> Result<Analysis, Refusa
 }
 
 /// Fills an empty table for a program, however many visits that takes, and reports on it. Any
-/// refusal but `Memory` holds; only `ReturnNotOwn` may not, if the table's frames forget.
+/// refusal but `Memory` holds; only `ReturnNotOwn` may not, if the table's frames forget. `table`
+/// must have no points and no returns before.
 fn fill_whole_and_report<C: Code>(
     alloc: Global,
     program: &C,
@@ -139,7 +141,7 @@ fn fill_whole_and_report<C: Code>(
 
 /// Fills an empty table for a program and reports on it; `None` if the table's visits are spent
 /// before. Any refusal but `Memory` holds; only `ReturnNotOwn` may not, if the table's frames
-/// forget.
+/// forget. `table` must have no points and no returns before.
 fn fill_and_report<C: Code>(
     alloc: Global,
     program: &C,
@@ -156,7 +158,8 @@ fn fill_and_report<C: Code>(
 }
 
 /// Reports on a program whose table is filled. Any refusal but `Memory` holds; only `ReturnNotOwn`
-/// may not, if the table's frames forget.
+/// may not, if the table's frames forget. `table` must be filled for this program, as `fill` leaves
+/// it.
 fn report_on<C: Code>(alloc: Global, program: &C, table: &Table) -> Result<Analysis, Refusal>
     requires { IsFilled (C.code program.now) table.now.known }
     ensures found { IfOk result (IsAnalysis (C.code program.now)) }

@@ -9,7 +9,8 @@ use frames80::Code;
 
 /// Fills an empty table for a program: one frame for each point that a walk reaches, such that each
 /// instruction leads from its frame to frames that the table covers. Answers whether it is filled:
-/// false only if `gives_up` is set and the table's visits are spent before.
+/// false only if `gives_up` is set and the table's visits are spent before. `table` must have no
+/// points and no returns before.
 ///
 /// # Errors
 /// A refusal that holds, or out of memory.

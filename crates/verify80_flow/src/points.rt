@@ -78,7 +78,8 @@ impl Points {
         Some(number as usize)
     }
 
-    /// The procedure and the address of the point with index `i`.
+    /// The procedure and the address of the point with index `i`. `i` must be below the number of
+    /// points.
     pub(crate) fn place(&self, i: usize) -> (Procedure, u16)
         requires { i < length self.now.points }
         ensures { IfSome (slice_get self.now.points i) (λ point. (point.procedure ≡ result.0) × (point.at ≡ result.1)) }
@@ -87,7 +88,7 @@ impl Points {
         (point.procedure, point.at)
     }
 
-    /// The number of the frame of the point with index `i`.
+    /// The number of the frame of the point with index `i`. `i` must be below the number of points.
     pub(crate) fn frame(&self, i: usize) -> FrameId
         requires { i < length self.now.points }
         ensures { IfSome (slice_get self.now.points i) (λ point. IsFrame self.now.frames result point.frame) }
@@ -102,7 +103,8 @@ impl Points {
         &self.frames
     }
 
-    /// Appends a point that isn't known yet.
+    /// Appends a point, which must not be known yet; there must be fewer than 4,294,967,295 points
+    /// before, and `frame` must be the number of one of the frames here.
     ///
     /// # Errors
     /// `AllocError` if memory runs out: the points are unchanged.
@@ -129,7 +131,8 @@ impl Points {
         Ok(())
     }
 
-    /// Sets the frame of the point with index `i`.
+    /// Sets the frame of the point with index `i`, and nothing else. `i` must be below the number
+    /// of points, and `frame` must be the number of one of the frames here.
     pub(crate) fn replace(&mut self, i: usize, frame: FrameId)
         requires here { i < length self.old.points }
         requires there { frame < length self.old.frames }
@@ -166,7 +169,8 @@ impl Points {
         self.frames.main_entry()
     }
 
-    /// The number of a frame after a change. The points are unchanged.
+    /// The number of a frame after a change. `frame` must be the number of one of the frames here,
+    /// with at most 1,000,000 words taken. The points are unchanged, and frames keep their numbers.
     ///
     /// # Errors
     /// `AllocError` if memory runs out.
@@ -180,8 +184,9 @@ impl Points {
         self.frames.change(frame, change)
     }
 
-    /// The number of a caller's frame after a call of a procedure that takes `taken` words. The
-    /// points are unchanged.
+    /// The number of a caller's frame after a call of a procedure that takes `taken` words. `frame`
+    /// must be the number of one of the frames here. The points are unchanged, and frames keep
+    /// their numbers.
     ///
     /// # Errors
     /// `ShortArguments` if the caller has fewer words above its bottom word (in the main program:
@@ -203,7 +208,8 @@ impl Points {
     }
 
     /// The number of a frame like `frame`, in which words and pairs that aren't asked for may have
-    /// become `Any`. The points are unchanged.
+    /// become `Any`. `frame` must be the number of one of the frames here. The points are
+    /// unchanged, and frames keep their numbers.
     ///
     /// # Errors
     /// `AllocError` if memory runs out.
@@ -217,7 +223,8 @@ impl Points {
     }
 
     /// The number of the frame with what is known of both frames; `one` itself if that frame
-    /// wouldn't change. The points are unchanged.
+    /// wouldn't change. Both must be numbers of frames here. The points are unchanged, and frames
+    /// keep their numbers.
     ///
     /// # Errors
     /// `HeightsDiffer` if the counts differ, or out of memory.

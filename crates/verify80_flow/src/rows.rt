@@ -11,7 +11,8 @@ use frames80::{Procedure, SLOTS, slot};
 use std::alloc::{AllocError, Global};
 use verify80_bounds::Bounds;
 
-/// The rows of the procedures that calls reach, sorted by entry. `wants` is by slot.
+/// The rows of the procedures that calls reach, sorted by entry. `wants` must have an entry for
+/// each slot.
 ///
 /// # Errors
 /// `AllocError` if memory runs out.
@@ -51,8 +52,8 @@ fn mark_procedures(alloc: Global, table: &Table) -> Result<Vec<bool>, AllocError
     Ok(marks)
 }
 
-/// Whether a call reaches the procedure at `entry`; `marks` has by slot whether a procedure has
-/// points.
+/// Whether a call reaches the procedure at `entry`. `marks` must say for each slot whether its
+/// procedure has points.
 fn has_row(table: &Table, marks: &[bool], entry: u16) -> bool
     requires slots { length marks.now ≡ 65537 }
     requires marked { AreMarked table.now.known.points marks.now (length table.now.known.points) }
@@ -63,7 +64,7 @@ fn has_row(table: &Table, marks: &[bool], entry: u16) -> bool
     marked && table.is_entered(entry)
 }
 
-/// The row of the procedure that is entered at `entry`. `wants` is by slot.
+/// The row of the procedure that is entered at `entry`. `wants` must have an entry for each slot.
 fn row(table: &Table, wants: &[u32], bounds: &Bounds, entry: u16) -> ProcRow
     requires slots { length wants.now ≡ 65537 }
     ensures { result ≡ row_of table.now.known wants.now bounds.now entry }

@@ -23,7 +23,8 @@ pub(crate) struct CallGraph {
     pub(crate) calls: Vec<CallSite>,
 }
 
-/// The depth of the frame of each point of a table, and the calls at these points.
+/// The depth of the frame of each point of a table, and the calls at these points. `wants` must
+/// have for each slot the most words that are taken at one of its procedure's points.
 ///
 /// # Errors
 /// `ShortArguments`, and any other refusal that holds; out of memory.
@@ -67,8 +68,9 @@ impl CallGraph {
     }
 }
 
-/// The depth of a point's frame, and the call at the point, if its instruction is one. The caller
-/// must have the words that the callee wants, by `wants`.
+/// The depth of a point's frame, and the call at the point, if its instruction is one. A caller
+/// without the words that its callee wants is refused. There must be a point with index `point`.
+/// `wants` must have for each slot the most words that are taken at one of its procedure's points.
 ///
 /// # Errors
 /// `ShortArguments`, and any other refusal that holds.

@@ -31,8 +31,10 @@ use verify80_hints::{AskedPlaces, Callers, Pending};
 /// visited once or twice.
 const VISITS_FOR_A_POINT: u64 = 4;
 
-/// What is known so far: the points with their frames, how many words each procedure takes where it returns, once a return of
-/// it was seen, and the points that are still to be visited.
+/// What is known so far: the points with their frames, how many words each procedure takes where it
+/// returns, once a return of it was seen, and the points that are still to be visited. A table is
+/// small if it has at most `MOST_POINTS` points, no two at one address of a procedure, and no frame
+/// of a point has more words, or more words taken, than there are points.
 #[derive(Drop)]
 pub(crate) struct Table {
     points: Points,
@@ -87,7 +89,9 @@ impl Table {
     }
 
     /// Adds a frame that reaches an address of a procedure: the point is new with this frame, or
-    /// its frame becomes what is known of both. Answers whether the table changed.
+    /// its frame becomes what is known of both. Answers whether the table changed. `frame` must be
+    /// one of the table's frames, with at most one word more, and one more taken, than there are
+    /// points. The table must be small: no more words in a frame than there are points.
     ///
     /// # Errors
     /// A refusal that holds, or out of memory.
@@ -103,7 +107,10 @@ impl Table {
     }
 
     /// Adds a new point, whose frame may forget what no return asks for; the point is to be
-    /// visited. Always answers true.
+    /// visited. Always answers true. There must be no point at this address of the procedure yet.
+    /// `frame` must be one of the table's frames, with at most one word more, and one more taken,
+    /// than there are points. The table must be small: no more words in a frame than there are
+    /// points.
     ///
     /// # Errors
     /// `TooManyPoints` if there are `MOST_POINTS` already, or out of memory.
@@ -128,7 +135,8 @@ impl Table {
     }
 
     /// The number of the frame for a new point: `frame` without what no return asks for there, or
-    /// `frame` itself in a table that forgets nothing.
+    /// `frame` itself in a table that forgets nothing. `frame` must be one of the table's frames.
+    /// What is known is unchanged.
     ///
     /// # Errors
     /// `AllocError` if memory runs out.
@@ -153,7 +161,9 @@ impl Table {
     }
 
     /// Merges a frame into that of the known point with index `i`, which is to be visited again if
-    /// its frame changes. Answers whether it does.
+    /// its frame changes. Answers whether it does. Point `i` must be the one at address `to` of the
+    /// procedure, and `frame` one of the table's frames. The table must be small: no more words in
+    /// a frame than there are points.
     ///
     /// # Errors
     /// `HeightsDiffer` if the frames differ in their counts, or out of memory.
@@ -187,7 +197,8 @@ impl Table {
 
     /// Records that a procedure returns from `at` with `taken` words taken. At its first return the
     /// points that wait for it are to be visited again. Answers whether that was the first; false
-    /// for the main program.
+    /// for the main program. The table must be small: no more words in a frame than there are
+    /// points.
     ///
     /// # Errors
     /// `UnevenArguments` if another return of the procedure takes another number of words, or out
@@ -211,7 +222,8 @@ impl Table {
         }
     }
 
-    /// Adds the main program's frame at its start. Answers whether the table changed.
+    /// Adds the main program's frame at its start. Answers whether the table changed. The table
+    /// must be small: no more words in a frame than there are points.
     ///
     /// # Errors
     /// A refusal that holds, or out of memory.
@@ -223,7 +235,8 @@ impl Table {
         self.flow(Procedure::Main, start, frame)
     }
 
-    /// Adds a callee's frame at its entry `target`. Answers whether the table changed.
+    /// Adds a callee's frame at its entry `target`. Answers whether the table changed. The table
+    /// must be small: no more words in a frame than there are points.
     ///
     /// # Errors
     /// A refusal that holds, or out of memory.
@@ -237,7 +250,8 @@ impl Table {
     }
 
     /// The point with index `point` as a site, and the effect of its instruction, if the
-    /// instruction may be executed there with the point's frame.
+    /// instruction may be executed there with the point's frame. `point` must be below the number
+    /// of points.
     ///
     /// # Errors
     /// A refusal that holds.
@@ -274,8 +288,9 @@ impl Table {
         Ok((site, effect))
     }
 
-    /// Visits a point: adds the frames that its instruction leads to. Answers whether the table
-    /// changed.
+    /// Visits the point with index `point`, which must be below the number of points: adds the
+    /// frames that its instruction leads to. Answers whether the table changed. The table must be
+    /// small: no more words in a frame than there are points.
     ///
     /// # Errors
     /// A refusal that holds, or out of memory.
@@ -289,7 +304,8 @@ impl Table {
     }
 
     /// Visits the points that wait, and those that then have to, until none waits or the visits are
-    /// spent. Answers whether the table changed. `Err` is a refusal that holds, or `Memory`.
+    /// spent. Answers whether the table changed. The table must be small: no more words in a frame
+    /// than there are points. `Err` is a refusal that holds, or `Memory`.
     fn drain<C: Code>(&mut self, program: &C) -> Result<bool, Refusal>
         requires { IsSmall self.old.known }
         ensures { ManyVisits (C.code program.now) self.old.known self.new.known result }
@@ -326,7 +342,8 @@ impl Table {
     }
 
     /// Visits each point once. Answers whether the table changed; if not, each point's instruction
-    /// leads to frames that the table covers. `Err` is a refusal that holds, or `Memory`.
+    /// leads to frames that the table covers. The table must be small: no more words in a frame
+    /// than there are points. `Err` is a refusal that holds, or `Memory`.
     fn pass<C: Code>(&mut self, program: &C) -> Result<bool, Refusal>
         requires { IsSmall self.old.known }
         ensures visits { ManyVisits (C.code program.now) self.old.known self.new.known result }
@@ -342,7 +359,8 @@ impl Table {
     }
 
     /// Visits the points that wait, then adds the main program's start, and visits every point.
-    /// Answers whether the last two changed the table; if not, the table is filled.
+    /// Answers whether the last two changed the table; if not, the table is filled. The table must
+    /// be small: no more words in a frame than there are points.
     ///
     /// # Errors
     /// A refusal that holds, or out of memory.
@@ -365,7 +383,7 @@ impl Table {
         self.points.len()
     }
 
-    /// The procedure of the point with index `i`.
+    /// The procedure of the point with index `i`. `i` must be below the number of points.
     pub(crate) fn procedure(&self, i: usize) -> Procedure
         requires { i < length self.now.known.points }
         ensures { IfSome (slice_get self.now.known.points i) (λ point. point.procedure ≡ result) }
@@ -373,7 +391,8 @@ impl Table {
         self.points.place(i).0
     }
 
-    /// How many words are taken at the point with index `i`.
+    /// How many words are taken at the point with index `i`. `i` must be below the number of
+    /// points.
     pub(crate) fn taken(&self, i: usize) -> u32
         requires { i < length self.now.known.points }
         ensures { IfSome (slice_get self.now.known.points i) (λ point. result ≡ point.frame.taken) }
@@ -382,6 +401,7 @@ impl Table {
     }
 
     /// The procedure, the address and the counts of the point with index `i`, as they are reported.
+    /// `i` must be below the number of points.
     pub(crate) fn program_point(&self, i: usize) -> ProgramPoint
         requires { i < length self.now.known.points }
         ensures { IfSome (slice_get self.now.known.points i) (λ point. result ≡ program_point point) }

@@ -59,7 +59,8 @@ pub(crate) fn go_along<C: Code>(alloc: Global, program: &C, steps: &[Step]) -> R
 
 impl Walks {
     /// Takes a step and records the point that it reaches. Answers false, with nothing recorded, if
-    /// the step can't be taken.
+    /// the step can't be taken. A walk must reach each point that is recorded; one reaches the new
+    /// point too.
     ///
     /// # Errors
     /// `ReturnNotOwn` or `HeightsDiffer`, if it holds; or `Memory`.
@@ -77,7 +78,8 @@ impl Walks {
         }
     }
 
-    /// The point that a step reaches, or `None` if the step can't be taken.
+    /// The point that a step reaches, or `None` if the step can't be taken. A walk must reach each
+    /// point that is recorded; one reaches the result too.
     ///
     /// # Errors
     /// `ReturnNotOwn` or `HeightsDiffer`, if it holds; or `Memory`.
@@ -124,7 +126,7 @@ impl Walks {
 
     /// The point that the step with this number reached, its instruction's effect, and the address
     /// after the instruction. `None` if there is no such step, or if the instruction is refused for
-    /// anything but the return address.
+    /// anything but the return address. A walk must reach each point that is recorded.
     ///
     /// # Errors
     /// `ReturnNotOwn`, if the instruction is refused for that.
@@ -153,7 +155,8 @@ impl Walks {
         }
     }
 
-    /// The main program's start, with its frame there. Never `None`.
+    /// The main program's start, with its frame there. Never `None`. A walk must reach each point
+    /// that is recorded; one reaches the result too.
     ///
     /// # Errors
     /// `Memory`.
@@ -172,7 +175,8 @@ impl Walks {
     }
 
     /// The point at `to` if the instruction at the point of step `from` leads there in its
-    /// procedure; `None` if it doesn't, is refused, or more than `MOST_WORDS` words are taken.
+    /// procedure; `None` if it doesn't, is refused, or more than `MOST_WORDS` words are taken. A
+    /// walk must reach each point that is recorded; one reaches the result too.
     ///
     /// # Errors
     /// `ReturnNotOwn`, if it holds; or `Memory`.
@@ -205,7 +209,8 @@ impl Walks {
     }
 
     /// The entry of the procedure that the instruction at the point of step `call` calls; `None` if
-    /// it is no call or is refused.
+    /// it is no call or is refused. A walk must reach each point that is recorded; one reaches the
+    /// result too.
     ///
     /// # Errors
     /// `ReturnNotOwn`, if it holds; or `Memory`.
@@ -231,7 +236,7 @@ impl Walks {
 
     /// The point after the call at the point of step `call`, if its callee returns at the point of
     /// step `exit`. `None` if that isn't so, an instruction is refused, or the caller has too few
-    /// words.
+    /// words. A walk must reach each point that is recorded; one reaches the result too.
     ///
     /// # Errors
     /// `ReturnNotOwn`, if it holds; or `Memory`.
@@ -268,7 +273,8 @@ impl Walks {
         }
     }
 
-    /// Refuses the program if two walks are at one point with different counts; else `None`.
+    /// Refuses the program if two walks are at one point with different counts; else `None`. A walk
+    /// must reach each point that is recorded, and both `one` and `other`.
     ///
     /// # Errors
     /// `HeightsDiffer`, if it holds; or `Memory`.

@@ -17,6 +17,8 @@ use frames80_interned::FrameId;
 
 impl Table {
     /// Adds the frame after a change at the next instruction. Answers whether the table changed.
+    /// `site` must have a frame of the table, and the table must be small: no more words in a frame
+    /// than there are points.
     ///
     /// # Errors
     /// A refusal that holds, or out of memory.
@@ -31,7 +33,7 @@ impl Table {
     }
 
     /// The number of the caller's frame at the instruction after a call of a procedure that takes
-    /// `taken` words. What is known is unchanged.
+    /// `taken` words. What is known is unchanged. `site` must have a frame of the table.
     ///
     /// # Errors
     /// `ShortArguments` if the caller has fewer words above its bottom word; any other refusal that holds; out of memory.
@@ -53,7 +55,8 @@ impl Table {
 
     /// Enters a callee, and if a return of it was seen, adds the caller's frame at the next
     /// instruction, without the words that the callee takes; else the call waits for a return.
-    /// Answers whether the table changed.
+    /// Answers whether the table changed. `site` must have a frame of the table, and the table must
+    /// be small: no more words in a frame than there are points.
     ///
     /// # Errors
     /// A refusal that holds, or out of memory.
@@ -79,7 +82,8 @@ impl Table {
     }
 
     /// Adds the frame of a conditional jump at the next instruction and at `to`. Answers whether
-    /// the table changed. `Err` is a refusal that holds, or `Memory`.
+    /// the table changed. `site` must have a frame of the table, and the table must be small: no
+    /// more words in a frame than there are points. `Err` is a refusal that holds, or `Memory`.
     fn branch(&mut self, site: &Site, to: u16) -> Result<bool, Refusal>
         requires { CanLead self.old site.now.frame (length self.old.known.points) }
         ensures steps { (targets : List ℕ) →
@@ -94,7 +98,8 @@ impl Table {
     }
 
     /// Adds the frame of a PCHL at each of its declared targets. Answers whether the table changed.
-    /// `Err` is a refusal that holds, or `Memory`.
+    /// `site` must have a frame of the table, and the table must be small: no more words in a frame
+    /// than there are points. `Err` is a refusal that holds, or `Memory`.
     fn go_to_each(&mut self, site: &Site, targets: &[u16]) -> Result<bool, Refusal>
         requires { CanLead self.old site.now.frame (length self.old.known.points) }
         ensures steps { Steps self.old.known self.new.known site.now.procedure site.now.at targets.now site.now.next site.now.role
@@ -111,7 +116,9 @@ impl Table {
     }
 
     /// Follows a conditional call both ways: adds its frame at the next instruction, and calls.
-    /// Answers whether the table changed. `Err` is a refusal that holds, or `Memory`.
+    /// Answers whether the table changed. `site` must have a frame of the table, and the table must
+    /// be small: no more words in a frame than there are points. `Err` is a refusal that holds, or
+    /// `Memory`.
     fn call_if(&mut self, site: &Site, target: u16) -> Result<bool, Refusal>
         requires { CanLead self.old site.now.frame (length self.old.known.points) }
         ensures steps { (targets : List ℕ) →
@@ -126,8 +133,9 @@ impl Table {
     }
 
     /// Follows a conditional return both ways: adds its frame at the next instruction, and returns
-    /// with `taken` words taken. Answers whether the table changed. `Err` is a refusal that holds,
-    /// or `Memory`.
+    /// with `taken` words taken. Answers whether the table changed. `site` must have a frame of the
+    /// table, and the table must be small: no more words in a frame than there are points. `Err` is
+    /// a refusal that holds, or `Memory`.
     fn return_if(&mut self, site: &Site, taken: u32) -> Result<bool, Refusal>
         requires { CanLead self.old site.now.frame (length self.old.known.points) }
         ensures steps { (targets : List ℕ) →
@@ -142,7 +150,8 @@ impl Table {
     }
 
     /// Adds the frames that an effect leads to: at the next instruction, at a target, or at each of
-    /// `targets` for a PCHL. Answers whether the table changed.
+    /// `targets` for a PCHL. Answers whether the table changed. `site` must have a frame of the
+    /// table, and the table must be small: no more words in a frame than there are points.
     ///
     /// # Errors
     /// A refusal that holds, or out of memory.
