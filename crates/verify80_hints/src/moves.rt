@@ -1,9 +1,10 @@
-//! Where the words of places come from over an instruction, and where they move.
+//! What the places of a frame get when an instruction or a call is passed: which of them are written, and with which words.
 
 use crate::places::{Place, Places};
 use frames80::{Change, FramePair};
 
-/// What a place of a frame gets from an instruction.
+/// What a place of a frame gets when an instruction or a call is passed: not a move of
+/// docs/GLOSSARY.md, which says where an instruction leads with the new frame.
 #[derive(Clone, Copy)]
 pub(crate) struct Move {
     /// The place that is written.
@@ -12,12 +13,13 @@ pub(crate) struct Move {
     pub(crate) from: Option<Place>,
 }
 
-/// What each place gets that an instruction writes. Every other place keeps its word.
+/// What each place gets that an instruction or a call writes: one `Move` for each. Every other
+/// place keeps its word.
 #[derive(Clone, Copy)]
 pub(crate) struct Moves([Option<Move>; 3]);
 
 impl Move {
-    /// The move by which a pair gets a word that is no return address.
+    /// What a pair gets if it is written with a word that is no return address.
     fn losing(pair: FramePair) -> Move {
         Move {
             to: Place::of_pair(pair),
@@ -27,7 +29,8 @@ impl Move {
 }
 
 impl Moves {
-    /// Returns the moves of a change of a frame that has `height` words before it.
+    /// What each place gets that this change writes, in a frame that has `height` words before the
+    /// change. A word that Drop takes away is no write.
     pub(crate) fn of_change(change: Change, height: u32) -> Moves {
         let top = height.checked_sub(1).map(Place::of_word);
         let above = Place::of_word(height);
@@ -44,7 +47,7 @@ impl Moves {
         }
     }
 
-    /// Returns the moves of a call that returns: no pair has a return address then.
+    /// What each place gets over a call that returns: every pair a word that is no return address.
     pub(crate) fn of_call() -> Moves {
         Moves([
             Some(Move::losing(FramePair::Bc)),
@@ -53,12 +56,14 @@ impl Moves {
         ])
     }
 
-    /// Moves of which there is one.
+    /// One write, of the place `to`, with the word of the place `from`, or with one that is no
+    /// return address.
     fn one(to: Place, from: Option<Place>) -> Moves {
         Moves([Some(Move { to, from }), None, None])
     }
 
-    /// Two moves at once, each as the place that is written and the place that its word comes from.
+    /// Two writes at once, each as the place that is written and the place that its word comes
+    /// from.
     fn two(one: (Place, Option<Place>), other: (Place, Option<Place>)) -> Moves {
         let (to, from) = one;
         let first = Move { to, from };
@@ -66,12 +71,12 @@ impl Moves {
         Moves([Some(first), Some(Move { to, from }), None])
     }
 
-    /// All of the moves; `None` fills the unused entries.
+    /// All of the writes; `None` fills the unused entries.
     pub(crate) fn each(self) -> [Option<Move>; 3] {
         self.0
     }
 
-    /// Returns the bits of those of `places` that no move writes, so that they keep their words.
+    /// Returns the bits of those of `places` that aren't written, so that they keep their words.
     pub(crate) fn kept_of(self, places: Places) -> u64 {
         let mut kept = places.bits;
         for found in self.0 {
@@ -83,7 +88,7 @@ impl Moves {
         kept
     }
 
-    /// The place to which the word of a place moves, or the place itself if its word stays.
+    /// The place that gets the word of `place`, or `place` itself if no other gets it.
     pub(crate) fn moved_to(self, place: Place) -> Place {
         for found in self.0 {
             match found {

@@ -64,7 +64,8 @@ impl Point {
         matches!(turn, Turn::Leads(_)) && self.effect.change() == Change::Keep
     }
 
-    /// What the places of the frame get if this way on is taken.
+    /// What the places of the frame get if this way on is taken: which are written, and with which
+    /// words.
     pub(crate) fn moves(self, turn: Turn) -> Moves {
         match turn {
             Turn::Leads(_) => Moves::of_change(self.effect.change(), self.counts.height),

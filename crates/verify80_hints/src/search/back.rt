@@ -145,8 +145,8 @@ impl<'a, C: Code> Search<'a, C> {
         Ok(())
     }
 
-    /// Asks for the place from which a move takes its word; if the word is no return address, a
-    /// walk is found. `AllocError` if memory runs out.
+    /// Asks for the place from which a written place gets its word; if that word is no return
+    /// address, a walk is found. `AllocError` if memory runs out.
     fn carry_moved(
         &mut self,
         from: Point,
