@@ -22,7 +22,9 @@ pub(crate) const NO_STACK: Range = Range {
 };
 
 /// The regions that a survey of an image suggests, with these cases, and with a stack of `wanted`
-/// bytes or as many as are free.
+/// bytes or as many as are free. Each table of marks in `survey` must have an entry for each
+/// address. `cases` must be by address, one for an address at most, each with ascending targets, at
+/// least one.
 ///
 /// # Errors
 /// `AllocError` only if memory runs out.
@@ -42,7 +44,8 @@ pub(crate) fn arrange(
     with_cases(alloc, &regions, cases)
 }
 
-/// The regions that a survey suggests, without cases. `AllocError` if memory runs out.
+/// The regions that a survey suggests, without cases. Each table of marks in `survey` must have an
+/// entry for each address. `AllocError` if memory runs out.
 fn without_cases(
     alloc: Global,
     survey: &Survey,
@@ -60,7 +63,8 @@ fn without_cases(
     Ok(Regions::from_disjoint(alloc, code, stack, data_ranges))
 }
 
-/// For each address whether the stack can't lie there. `AllocError` if memory runs out.
+/// For each address whether the stack can't lie there. Each table of marks in `survey` must have an
+/// entry for each address. `AllocError` if memory runs out.
 fn find_taken(alloc: Global, survey: &Survey) -> Result<Vec<bool>, AllocError>
     requires { AreMarkTables survey.now }
     ensures { IfOk result (λ marks. AreMarks (is_taken survey.now) 65536 marks.items) }
@@ -73,7 +77,7 @@ fn find_taken(alloc: Global, survey: &Survey) -> Result<Vec<bool>, AllocError>
 }
 
 /// Whether the stack can't lie at an address: the image has a byte there, or an instruction names
-/// it or covers it.
+/// it or covers it. Each table of marks in `survey` must have an entry for each address.
 fn is_taken(survey: &Survey, address: u16) -> bool
     requires { AreMarkTables survey.now }
     ensures { result ≡ is_taken survey.now address }
@@ -83,7 +87,7 @@ fn is_taken(survey: &Survey, address: u16) -> bool
 }
 
 /// The stack below the word of the first LXI SP, in bytes that aren't taken; an empty one if there
-/// is no LXI SP.
+/// is no LXI SP. `taken` must have an entry for each address.
 fn stack_of(first: Option<Setter>, taken: &[bool], wanted: u64) -> Range
     requires { length taken.now ≡ 65536 }
     ensures { IsStack (marked taken.now) first wanted result }
@@ -94,7 +98,8 @@ fn stack_of(first: Option<Setter>, taken: &[bool], wanted: u64) -> Range
     }
 }
 
-/// For each address whether it is to be data. `AllocError` if memory runs out.
+/// For each address whether it is to be data. Each table of marks in `survey` must have an entry
+/// for each address. `AllocError` if memory runs out.
 fn find_data(
     alloc: Global,
     survey: &Survey,
@@ -113,7 +118,7 @@ fn find_data(
 
 /// Whether an address is to be data: in a range of `ram`, or, if that has no ranges, named by an
 /// instruction and without a byte of the image; and neither in a reached instruction nor in the
-/// stack.
+/// stack. Each table of marks in `survey` must have an entry for each address.
 fn is_data(survey: &Survey, ram: &[Range], stack: Range, address: u16) -> bool
     requires { AreMarkTables survey.now }
     ensures { result ≡ is_data survey.now ram.now stack address }

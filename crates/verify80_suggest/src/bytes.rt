@@ -26,7 +26,8 @@ pub(crate) fn find_bytes(alloc: Global, chunks: &[Chunk]) -> Result<Vec<bool>, A
     Ok(marks)
 }
 
-/// Marks `count` addresses from `first` on, up to FFFF.
+/// Marks `count` addresses from `first` on, up to FFFF. `marks` must have an entry for each
+/// address.
 fn mark_span(marks: &mut Vec<bool>, first: u16, count: usize)
     requires { length marks.old.items ≡ 65536 }
     ensures size { length marks.new.items ≡ 65536 }
@@ -42,7 +43,7 @@ fn mark_span(marks: &mut Vec<bool>, first: u16, count: usize)
 }
 
 /// For each address whether it may be code: the image has a byte there, and it is in a range of
-/// `rom`, if that has any.
+/// `rom`, if that has any. `bytes` must have an entry for each address.
 ///
 /// # Errors
 /// `AllocError` only if memory runs out.

@@ -10,7 +10,7 @@ use std::alloc::{AllocError, Global};
 use verify80::ImageCode;
 
 /// For each address whether STA, LDA, SHLD or LHLD at a marked address of `reached` names it; SHLD
-/// and LHLD name two.
+/// and LHLD name two. `reached` must have an entry for each address.
 ///
 /// # Errors
 /// `AllocError` only if memory runs out.
@@ -29,7 +29,8 @@ pub(crate) fn find_named(
     Ok(named)
 }
 
-/// Marks the addresses that the instruction at `at` names, if `at` is marked in `reached`.
+/// Marks the addresses that the instruction at `at` names, if `at` is marked in `reached`. `named`
+/// and `reached` must have an entry for each address.
 #[tactic(auto, unfolding(crate::specs::Names::names_at))]
 fn mark_names(named: &mut Vec<bool>, code: &ImageCode<'_>, reached: &[bool], at: u16)
     requires named { length named.old.items ≡ 65536 }
@@ -46,7 +47,7 @@ fn mark_names(named: &mut Vec<bool>, code: &ImageCode<'_>, reached: &[bool], at:
     mark_given(named, second_name(found.instr));
 }
 
-/// Marks an address, if there is one.
+/// Marks an address, if there is one. `named` must have an entry for each address.
 fn mark_given(named: &mut Vec<bool>, address: Option<u16>)
     requires { length named.old.items ≡ 65536 }
     ensures { Marks named.old.items (given address) named.new.items }

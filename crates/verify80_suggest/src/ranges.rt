@@ -8,7 +8,7 @@ use image80::Range;
 use std::alloc::{AllocError, Global};
 
 /// The ranges of the marked addresses, by address. Marked addresses in a row are one range, of up
-/// to 65,535.
+/// to 65,535. `marks` must have an entry for each address.
 ///
 /// # Errors
 /// `AllocError` only if memory runs out.
@@ -34,6 +34,7 @@ pub(crate) fn ranges_of(alloc: Global, marks: &[bool]) -> Result<Vec<Range>, All
 }
 
 /// How many addresses in a row are marked from address `at` on, up to 65,535; 0 if `at` isn't.
+/// `marks` must have an entry for each address, and `at` must be below 65,536.
 fn run_from(marks: &[bool], at: u32) -> u32
     requires size { length marks.now ≡ 65536 }
     requires inside { at < 65536 }

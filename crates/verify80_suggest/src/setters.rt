@@ -24,7 +24,8 @@ pub(crate) struct Setters {
     pub(crate) second: Option<Setter>,
 }
 
-/// The first two LXI SP at marked addresses of `reached`.
+/// The first two LXI SP at marked addresses of `reached`. `reached` must have an entry for each
+/// address.
 pub(crate) fn find_setters(code: &ImageCode<'_>, reached: &[bool]) -> Setters
     requires { length reached.now ≡ 65536 }
     ensures { AreSetters code.now reached.now result.first result.second }
@@ -38,6 +39,7 @@ pub(crate) fn find_setters(code: &ImageCode<'_>, reached: &[bool]) -> Setters
 }
 
 /// The first LXI SP at a marked address that is at or above `from`; `None` if there is none.
+/// `reached` must have an entry for each address.
 fn find_setter(code: &ImageCode<'_>, reached: &[bool], from: u32) -> Option<Setter>
     requires { length reached.now ≡ 65536 }
     ensures { FirstSetter code.now reached.now from result }
@@ -52,7 +54,7 @@ fn find_setter(code: &ImageCode<'_>, reached: &[bool], from: u32) -> Option<Sett
 }
 
 /// The word that the instruction at an address writes to SP; `None` if the address isn't marked or
-/// has no LXI SP.
+/// has no LXI SP. `reached` must have an entry for each address.
 #[tactic(auto, unfolding(crate::specs::Names::word_at))]
 fn word_at(code: &ImageCode<'_>, reached: &[bool], at: u16) -> Option<u16>
     requires { length reached.now ≡ 65536 }

@@ -7,7 +7,8 @@ ghost use Rattle.verify80_suggest.specs.Stack.{IsBelow, end_of};
 use image80::Range;
 
 /// The stack that ends below `word`, the word of an LXI SP, where 0 means the end of memory:
-/// `wanted` bytes, or fewer if the next one down is taken.
+/// `wanted` bytes, or fewer if the next one down is taken. `taken` must have an entry for each
+/// address.
 pub(crate) fn stack_below(word: u16, wanted: u64, taken: &[bool]) -> Range
     requires { length taken.now ≡ 65536 }
     ensures { IsBelow (marked taken.now) (end_of word) wanted result }
@@ -29,7 +30,7 @@ fn end_of(word: u16) -> u32
 }
 
 /// How many bytes in a row below address `end` aren't marked as taken, up to `wanted` and to
-/// 65,535.
+/// 65,535. `taken` must have an entry for each address, and `end` must be at most 65,536.
 fn count_free(end: u32, wanted: u64, taken: &[bool]) -> u32
     requires size { length taken.now ≡ 65536 }
     requires inside { end ≤ 65536 }

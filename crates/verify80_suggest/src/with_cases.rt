@@ -9,7 +9,8 @@ use std::alloc::{AllocError, Global};
 use verify80_cases::regions_with_cases;
 
 /// Regions of the same ranges with these cases, which must be by address, one for an address at
-/// most. They are made by reading the text of such regions.
+/// most, each with ascending targets, at least one. `regions` must have no cases. The result is
+/// made by reading the text of such regions.
 ///
 /// # Errors
 /// `AllocError` only if memory runs out.
