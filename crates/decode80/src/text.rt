@@ -64,8 +64,8 @@ fn append_operands(instr: Instr, out: &mut Vec<u8>) -> Result<(), AllocError>
     }
 }
 
-/// Appends a space and the operand of an instruction that has at most one; nothing if it has none. If memory runs
-/// out, a part may have been appended.
+/// Appends a space and the operand of an instruction, which must have at most one; nothing if it has none. If memory
+/// runs out, a part may have been appended.
 fn append_operand(instr: Instr, out: &mut Vec<u8>) -> Result<(), AllocError>
     requires { drop 1 (operand_texts instr) ≡ [] }
     ensures ok { OnOk result (out.new.items ≡ out.old.items ++ joined (operand_texts instr)) }
