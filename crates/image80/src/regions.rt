@@ -101,7 +101,7 @@ impl Regions {
     }
 
     /// Returns the regions with their cases replaced by these, which must be sorted by address, at most one for an
-    /// address.
+    /// address, each with one target at least and its targets ascending.
     pub(crate) fn with_cases(self, cases: Vec<Case>) -> Self
         requires by_address { AreByAddress cases.items }
         requires each { All IsCase cases.items }
