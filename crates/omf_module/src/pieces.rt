@@ -80,8 +80,8 @@ fn walk_on(
 }
 
 /// The place from which the records of an unfinished module are still to be checked, or `None` if
-/// its header is cut off. A fault is one that the module has whatever bytes follow. No memory is
-/// taken. `bytes` must begin with those read before.
+/// its header is cut off. A fault is one that the module has whatever bytes follow. It takes no
+/// memory. `bytes` must begin with those read before.
 fn unchecked_from(bytes: &[u8], unfinished: &UnfinishedModule) -> Result<Option<usize>, ModuleFault>
     requires { ReadsModule bytes.now unfinished.now.begin unfinished.now.here unfinished.now.commons.items }
     ensures begun { IfOk result (λ from. IfSome from (λ here.
