@@ -63,7 +63,7 @@ fn with_word(opcode: u8, word: u16) -> ([u8; 3], usize)
     ([opcode, low, high], 3)
 }
 
-/// The opcode of an instruction that has one byte only; no other may be given.
+/// The opcode of an instruction, which must have one byte only.
 fn opcode_alone(instr: Instr) -> u8
     requires { length (spelling instr) ≡ 1 }
     ensures { result ≡ opcode instr }

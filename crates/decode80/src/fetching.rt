@@ -24,7 +24,7 @@ pub trait Program {
     fn byte(&self, address: u16) -> u8
         ensures { result ≡ held self.now address };
 
-    /// Whether `count` bytes from an address on, one to three, are code, and none of them is past FFFF.
+    /// Whether `count` bytes from an address on, which must be one to three, are code, and none of them is past FFFF.
     ///
     /// Asks for each of the addresses; an implementation that knows its ranges can answer at once.
     #[inline]

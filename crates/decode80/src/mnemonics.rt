@@ -40,7 +40,7 @@ pub(crate) fn mnemonic_of(instr: Instr) -> &'static [u8]
     }
 }
 
-/// The mnemonic of an instruction without operands in its text; no other may be given.
+/// The mnemonic of an instruction, which must have no operands in its text.
 fn mnemonic_alone(instr: Instr) -> &'static [u8]
     requires { operand_texts instr ≡ [] }
     ensures { result.now ≡ mnemonic instr }

@@ -34,7 +34,8 @@ pub fn write_text(_alloc: Global, instr: Instr, out: &mut Vec<u8>) -> Result<(),
     }
 }
 
-/// Appends the text of an instruction. If memory runs out, a part of it may have been appended.
+/// Appends the text of an instruction. If memory runs out, which it can't if `out` has room for the text, a part of it
+/// may have been appended after what `out` had.
 fn append_text(instr: Instr, out: &mut Vec<u8>) -> Result<(), AllocError>
     ensures ok { OnOk result (out.new.items ≡ out.old.items ++ text instr) }
     ensures err { OnErr result (take (vec_len out.old) out.new.items ≡ out.old.items) }
@@ -64,8 +65,8 @@ fn append_operands(instr: Instr, out: &mut Vec<u8>) -> Result<(), AllocError>
     }
 }
 
-/// Appends a space and the operand of an instruction that has at most one; nothing if it has none. If memory runs
-/// out, a part may have been appended.
+/// Appends a space and the operand of an instruction, which must have at most one; nothing if it has none. If memory
+/// runs out, which it can't if `out` has room for these, a part may have been appended.
 fn append_operand(instr: Instr, out: &mut Vec<u8>) -> Result<(), AllocError>
     requires { drop 1 (operand_texts instr) ≡ [] }
     ensures ok { OnOk result (out.new.items ≡ out.old.items ++ joined (operand_texts instr)) }
@@ -124,7 +125,8 @@ fn append_value(operand: Operand, out: &mut Vec<u8>) -> Result<(), AllocError>
     }
 }
 
-/// Appends a space and an operand. If memory runs out, the space may have been appended.
+/// Appends a space and an operand. If memory runs out, which it can't if `out` has room for these, the space may have
+/// been appended.
 fn append_one(operand: &[u8], out: &mut Vec<u8>) -> Result<(), AllocError>
     ensures ok { OnOk result (out.new.items ≡ out.old.items ++ (codes " " ++ operand.now)) }
     ensures err { OnErr result (take (vec_len out.old) out.new.items ≡ out.old.items) }
@@ -134,7 +136,8 @@ fn append_one(operand: &[u8], out: &mut Vec<u8>) -> Result<(), AllocError>
     append_after(b" ", operand, out)
 }
 
-/// Appends a space and two operands, with a comma between them. If memory runs out, a part may have been appended.
+/// Appends a space and two operands, with a comma between them. If memory runs out, which it can't if `out` has room
+/// for these, a part may have been appended.
 fn append_two(first: &[u8], second: &[u8], out: &mut Vec<u8>) -> Result<(), AllocError>
     ensures ok { OnOk result (out.new.items ≡ out.old.items ++ (codes " " ++ first.now ++ (codes "," ++ second.now))) }
     ensures err { OnErr result (take (vec_len out.old) out.new.items ≡ out.old.items) }
@@ -146,7 +149,8 @@ fn append_two(first: &[u8], second: &[u8], out: &mut Vec<u8>) -> Result<(), Allo
     append_after(b",", second, out)
 }
 
-/// Appends a separator and an operand. If memory runs out, the separator may have been appended.
+/// Appends a separator and an operand. If memory runs out, which it can't if `out` has room for these, the separator
+/// may have been appended.
 fn append_after(separator: &[u8], operand: &[u8], out: &mut Vec<u8>) -> Result<(), AllocError>
     ensures ok { OnOk result (out.new.items ≡ out.old.items ++ (separator.now ++ operand.now)) }
     ensures err { OnErr result (take (vec_len out.old) out.new.items ≡ out.old.items) }
@@ -157,7 +161,7 @@ fn append_after(separator: &[u8], operand: &[u8], out: &mut Vec<u8>) -> Result<(
     append(operand, out)
 }
 
-/// Appends bytes, or none of them if memory runs out.
+/// Appends bytes, or none of them if memory runs out, which it can't if `out` has room for them.
 fn append(bytes: &[u8], out: &mut Vec<u8>) -> Result<(), AllocError>
     ensures ok { OnOk result (out.new.items ≡ out.old.items ++ bytes.now) }
     ensures err { OnErr result (take (vec_len out.old) out.new.items ≡ out.old.items) }

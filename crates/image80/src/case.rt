@@ -26,8 +26,8 @@ impl Model for Case {
     ghost invariant = { λ c. IsCase (record { at = c.at; targets = c.targets.items }) };
 }
 
-/// The case for the PCHL at the address, `None` if no case has that address. The time grows with the logarithm of the
-/// number of cases.
+/// The case for the PCHL at the address, `None` if no case has that address. The cases must be sorted by address, at
+/// most one for an address. The time grows with the logarithm of the number of cases.
 pub(crate) fn case_at(cases: &[Case], address: u16) -> Option<&Case>
     requires { AreByAddress cases.now }
     ensures found { IfSome result (λ case. find (λ c. c.at == address) cases.now ≡ Some case.now) }

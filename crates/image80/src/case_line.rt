@@ -63,8 +63,8 @@ pub(crate) fn read_case(alloc: Global, text: &[u8]) -> Result<Option<CaseLine>, 
     Ok(Some(CaseLine { at, targets }))
 }
 
-/// Fills an empty list with the targets at the beginning of the text, and returns whether the text ends with the last
-/// of them.
+/// Fills a list, which must be empty, with the targets at the beginning of the text, and returns whether the text ends
+/// with the last of them.
 fn put_targets(text: &[u8], targets: &mut Vec<u16>) -> Result<bool, AllocError>
     requires { targets.old.items ≡ [] }
     ensures spelled { IfOk result (λ whole. IsTrue whole → text.now ≡ targets_text targets.new.items) }

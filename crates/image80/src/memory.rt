@@ -33,7 +33,8 @@ pub(crate) fn zeros(alloc: Global, count: usize) -> Result<Vec<u8>, AllocError>
     Ok(vec![in alloc; 0; count]?)
 }
 
-/// Copies the chunk's bytes to their addresses in a memory of 65536 bytes, and leaves the other bytes unchanged.
+/// Copies the chunk's bytes to their addresses in the memory, which must have 65536 bytes, and leaves the other bytes
+/// unchanged.
 fn place(memory: &mut Vec<u8>, chunk: &Chunk)
     requires { length memory.old.items ≡ 65536 }
     ensures { Holds memory.old.items chunk.now memory.new.items }

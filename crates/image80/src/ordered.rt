@@ -16,7 +16,8 @@ pub(crate) fn sort(ranges: &mut Vec<Range>)
     ranges.sort_unstable_by_key(|range| range.first);
 }
 
-/// Whether no address lies in two of the ranges of code, stack and data. The stack's may be empty.
+/// Whether no address lies in two of the ranges of code, stack and data. Those of code and data
+/// must not be empty; the stack's may be.
 pub(crate) fn are_disjoint(
     alloc: Global,
     code: &[Range],

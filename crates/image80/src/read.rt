@@ -77,8 +77,8 @@ fn read_entries(alloc: Global, version: Version, lines: &[u8]) -> Result<Vec<Ent
     Ok(entries)
 }
 
-/// Fills an empty list with all lines after the heading of a text of the version. The first bad line is reported as
-/// `BadLine`, with the heading counted as line 1.
+/// Fills a list, which must be empty, with all lines after the heading of a text of the version. The first bad line is
+/// reported as `BadLine`, with the heading counted as line 1.
 fn put_entries(
     alloc: Global,
     version: Version,
@@ -164,7 +164,7 @@ fn data_of(alloc: Global, entries: &[Entry]) -> Result<Vec<Range>, AllocError>
         .collect(alloc)
 }
 
-/// The cases that the CASE lines declare, sorted by address. No two lines may have the same address.
+/// The cases that the CASE lines declare, sorted by address. Each line must have an address of its own.
 fn cases_of(alloc: Global, entries: &[Entry]) -> Result<Vec<Case>, AllocError>
     requires { IsDistinct (λ a b. a == b) (map (λ case. case.at) (case_lines entries.now)) }
     ensures { IfOk result (λ cases. AreCasesOf (case_lines entries.now) cases.items) }

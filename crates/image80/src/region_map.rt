@@ -67,7 +67,8 @@ impl RegionMap {
     }
 }
 
-/// Sets the byte of each address of the ranges to `mark`, in a table of 65536 bytes by address; the others are unchanged.
+/// Sets the byte of each address of the ranges to `mark`, in a table of bytes by address, which must have 65536; the
+/// others are unchanged. The ranges must end in memory.
 fn mark_all(marks: &mut Vec<u8>, ranges: &[Range], mark: u8)
     requires whole { length marks.old.items ≡ 65536 }
     requires in_memory { All IsInMemory ranges.now }
@@ -78,7 +79,8 @@ fn mark_all(marks: &mut Vec<u8>, ranges: &[Range], mark: u8)
     }
 }
 
-/// Sets the byte of each address of the range to `mark`, in a table of 65536 bytes by address; the others are unchanged.
+/// Sets the byte of each address of the range to `mark`, in a table of bytes by address, which must have 65536; the
+/// others are unchanged. The range must end in memory.
 fn mark_range(marks: &mut Vec<u8>, range: Range, mark: u8)
     requires whole { length marks.old.items ≡ 65536 }
     requires in_memory { IsInMemory range }

@@ -101,7 +101,7 @@ impl Regions {
     }
 
     /// Returns the regions with their cases replaced by these, which must be sorted by address, at most one for an
-    /// address.
+    /// address, each with one target at least and its targets ascending.
     pub(crate) fn with_cases(self, cases: Vec<Case>) -> Self
         requires by_address { AreByAddress cases.items }
         requires each { All IsCase cases.items }
@@ -121,7 +121,8 @@ impl Regions {
         }
     }
 
-    /// The ranges of code, sorted by address.
+    /// The ranges of code, sorted by address: none is empty or passes the end of memory, and no address lies in two
+    /// ranges of the regions.
     pub fn code(&self) -> &[Range]
         ensures ranges { result.now ≡ self.now.code }
         ensures rules { AreRegions self.now }
@@ -129,7 +130,8 @@ impl Regions {
         &self.code
     }
 
-    /// The ranges of data, sorted by address.
+    /// The ranges of data, sorted by address: none is empty or passes the end of memory, and no address lies in two
+    /// ranges of the regions.
     pub fn data_ranges(&self) -> &[Range]
         ensures ranges { result.now ≡ self.now.data_ranges }
         ensures rules { AreRegions self.now }
@@ -137,7 +139,7 @@ impl Regions {
         &self.data_ranges
     }
 
-    /// The range of the stack, which may be empty.
+    /// The range of the stack, which may be empty: it ends in memory and shares no address with code or data.
     pub fn stack(&self) -> Range
         ensures range { result ≡ self.now.stack }
         ensures rules { AreRegions self.now }
@@ -145,7 +147,7 @@ impl Regions {
         self.stack
     }
 
-    /// The cases, sorted by the address of their PCHL.
+    /// The cases, sorted by the address of their PCHL, at most one for an address.
     pub fn cases(&self) -> &[Case]
         ensures cases { result.now ≡ self.now.cases }
         ensures rules { AreRegions self.now }

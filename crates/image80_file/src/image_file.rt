@@ -184,7 +184,8 @@ fn starts_absolute(start: Option<(u8, u16)>) -> bool
     }
 }
 
-/// Converts each content to a chunk, in order. The contents must be absolute.
+/// Converts each content to a chunk, in order. The contents must be absolute, of at most 65531 bytes each, and end in
+/// memory.
 fn chunks_of(alloc: Global, contents: &[Content]) -> Result<Vec<Chunk>, AllocError>
     requires { AllByRecursion (λ content. IsChunk (content_chunk content)) contents.now }
     ensures { IfOk result (λ chunks. chunks.items ≡ map content_chunk contents.now) }
@@ -196,7 +197,8 @@ fn chunks_of(alloc: Global, contents: &[Content]) -> Result<Vec<Chunk>, AllocErr
     Ok(chunks)
 }
 
-/// Converts an absolute content to a chunk: its offset is the address, and its bytes are copied.
+/// Converts an absolute content to a chunk: its offset is the address, and its bytes are copied. There must be 65531
+/// bytes at most, and they must end in memory.
 fn chunk_of(alloc: Global, content: &Content) -> Result<Chunk, AllocError>
     requires { IsChunk (content_chunk content.now) }
     ensures { IfOk result (λ chunk. chunk ≡ content_chunk content.now) }

@@ -2,7 +2,7 @@
 
 ghost use Rattle.image80_text.specs.NameText.{NearestIsGreatest, NoPublicsNoNames, PrintedAddressIsNamed};
 
-/// A law: without publics, naming and labelling leave a text as it is, character for character.
+/// A law: without publics, naming and labelling leave a text as it is, byte for byte.
 pub fn texts_without_names_are_as_before()
     ensures { NoPublicsNoNames }
 {}

@@ -24,7 +24,7 @@ pub fn listing(alloc: Global, image: &Image) -> Result<Vec<u8>, AllocError>
     Ok(text)
 }
 
-/// Appends the listing of each range of code, in order.
+/// Appends the listing of each range of code, in order. `memory` must have 65536 bytes.
 fn append_ranges(
     alloc: Global,
     memory: &[u8],
@@ -40,7 +40,7 @@ fn append_ranges(
     Ok(())
 }
 
-/// Appends the listing of one range of code, from its first byte to its last.
+/// Appends the listing of one range of code, from its first byte to its last. `memory` must have 65536 bytes.
 fn append_range(
     alloc: Global,
     memory: &[u8],
@@ -62,6 +62,7 @@ fn append_range(
 
 /// Appends the line of the instruction at an address and returns its length; or, if none begins there or it is longer
 /// than the `left` bytes that its range has from there on, the line of one byte with the text `??`, and returns 1.
+/// `memory` must have 65536 bytes, and `left` be at least 1.
 fn append_line(
     alloc: Global,
     memory: &[u8],
@@ -93,7 +94,8 @@ fn append_line(
     }
 }
 
-/// The bytes at an address and at the two addresses after it, which wrap around at FFFF.
+/// The bytes at an address and at the two addresses after it, which wrap around at FFFF. `memory` must have 65536
+/// bytes.
 fn bytes_at(memory: &[u8], at: u16) -> [u8; 3]
     requires { length memory.now ≡ 65536 }
     ensures { result ≡ bytes_from memory.now at }
@@ -121,8 +123,8 @@ fn instruction_in(bytes: [u8; 3], left: usize) -> Option<(Instr, usize)>
     }
 }
 
-/// Appends the columns before the text of a line: the address, and the digits of at most three bytes padded with
-/// spaces to six places, each column with a space behind it.
+/// Appends the columns before the text of a line: the address, and the digits of the bytes, which must be three at
+/// most, padded with spaces to six places, each column with a space behind it.
 ///
 /// # Errors
 /// `AllocError` only if memory runs out.

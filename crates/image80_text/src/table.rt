@@ -179,7 +179,7 @@ fn empty_table(alloc: Global, count: usize) -> Result<Vec<Option<usize>>, AllocE
 }
 
 /// Enters the index of a public at the public's address, unless another one is entered there or the public is outside
-/// the absolute segment.
+/// the absolute segment. The table must have 65536 entries.
 fn note(table: &mut Vec<Option<usize>>, public: &Public, number: usize)
     requires { length table.old.items ≡ 65536 }
     ensures noted { table.new.items ≡ noted table.old.items public.now number }

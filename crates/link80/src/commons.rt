@@ -140,7 +140,7 @@ impl<'a> JoinedModules<'a> {
     }
 
     /// The offset at which the part of the module with index `number` starts in the linked segment
-    /// `id`: 0 but for CODE, DATA and STACK.
+    /// `id`: 0 but for CODE, DATA and STACK. `number` must be below the number of modules.
     pub(crate) fn start(&self, number: usize, id: u8) -> u16
         requires { number < length self.now }
         ensures { result ≡ part_start self.now number id }
@@ -150,7 +150,7 @@ impl<'a> JoinedModules<'a> {
 
     /// The offset in the linked segment of an offset in segment `id` of the module with index
     /// `number`: the start of the module's part is added, modulo 65536, but for absolute bytes and
-    /// STACK.
+    /// STACK. `number` must be below the number of modules.
     pub(crate) fn linked_offset(&self, number: usize, id: u8, offset: u16) -> u16
         requires { number < length self.now }
         ensures { result ≡ moved self.now number id offset }

@@ -14,8 +14,9 @@ use omf_model::{Content, Fixup, Module, Patch, apply_patches};
 use std::alloc::{AllocError, Global};
 
 /// What LINK makes of the fixups of a content: for each a patch to the content's bytes, and the
-/// fixups that the linked module still has, which are all but those to absolute bytes. `source` is
-/// the module with index `number`. `Err` only if memory runs out.
+/// fixups that the linked module still has, which are all but those to absolute bytes. `source`
+/// must be the module with index `number`, and the content one of its own, which ends at 65535 at
+/// most once it is moved. `Err` only if memory runs out.
 fn resolve_fixups(
     alloc: Global,
     tables: &SymbolTables,
@@ -64,8 +65,9 @@ fn patched_copy(alloc: Global, bytes: &[u8], patches: &[Patch]) -> Result<Vec<u8
 }
 
 /// A content as the linked module has it: its segment's id, its offset and its fixups are those of
-/// the linked module, and its patches are applied. `source` is the module with index `number`.
-/// `Err` only if memory runs out.
+/// the linked module, and its patches are applied. `source` must be the module with index `number`,
+/// and the content one of its own, which ends at 65535 at most once it is moved. `Err` only if
+/// memory runs out.
 fn linked_content(
     alloc: Global,
     tables: &SymbolTables,
@@ -88,7 +90,8 @@ fn linked_content(
 }
 
 /// Appends the contents of `source`, the module with index `number`, as the linked module has them.
-/// `Err` only if memory runs out.
+/// `source` must be that module, and the linked CODE, DATA and STACK must have at most 65535 bytes
+/// each. `Err` only if memory runs out.
 fn add_contents(
     alloc: Global,
     tables: &SymbolTables,

@@ -21,7 +21,8 @@ pub(crate) fn any_high_off_page(modules: &LaidModules) -> bool
 }
 
 /// Whether a fixup in these contents of the module with index `number` is for the high byte of an
-/// address in a segment in which the module's part doesn't start at a multiple of 256.
+/// address in a segment in which the module's part doesn't start at a multiple of 256. `number`
+/// must be below the number of modules.
 fn has_high_off_page(modules: &LaidModules, number: usize, contents: &[Content]) -> bool
     requires { number < length modules.now }
     ensures { result ≡ has_high_off_page modules.now number contents.now }
@@ -35,7 +36,8 @@ fn has_high_off_page(modules: &LaidModules, number: usize, contents: &[Content])
 }
 
 /// Whether one of these fixups of the module with index `number` is for the high byte of an address
-/// in a segment in which the module's part doesn't start at a multiple of 256.
+/// in a segment in which the module's part doesn't start at a multiple of 256. `number` must be
+/// below the number of modules.
 fn takes_high_off_page(modules: &LaidModules, number: usize, fixups: &[Fixup]) -> bool
     requires { number < length modules.now }
     ensures { result ≡ list_any (is_high_off_page modules.now number) fixups.now }
@@ -49,7 +51,8 @@ fn takes_high_off_page(modules: &LaidModules, number: usize, fixups: &[Fixup]) -
 }
 
 /// Whether this fixup of the module with index `number` is for the high byte of an address in a
-/// segment in which the module's part doesn't start at a multiple of 256.
+/// segment in which the module's part doesn't start at a multiple of 256. `number` must be below
+/// the number of modules.
 fn is_high_off_page(modules: &LaidModules, number: usize, fixup: Fixup) -> bool
     requires { number < length modules.now }
     ensures { result ≡ is_high_off_page modules.now number fixup }

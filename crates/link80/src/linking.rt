@@ -70,7 +70,8 @@ fn modules_with<'a>(
 }
 
 /// The start of the linked module: that of the main program, as segment id and offset in the linked
-/// module. `None` if `main`, the index of the main program, is `None`.
+/// module. `None` if there is no main program. `main` must be the index of the only main program,
+/// or `None` if there is none.
 fn start_of(tables: &SymbolTables, main: Option<usize>) -> Option<(u8, u16)>
     requires { cons_option main [] ≡ mains_from 0 tables.now }
     ensures { result ≡ slice_get (starts tables.now) 0 }
@@ -84,8 +85,8 @@ fn start_of(tables: &SymbolTables, main: Option<usize>) -> Option<(u8, u16)>
     ))
 }
 
-/// The [`Parts`] of the linked module but for its publics, which are empty. `main` is the index of
-/// the main program, if there is one. `Err` only if memory runs out.
+/// The [`Parts`] of the linked module but for its publics, which are empty. `main` must be the
+/// index of the only main program, or `None` if there is none. `Err` only if memory runs out.
 fn parts_without_publics(
     alloc: Global,
     name: &Name,
@@ -113,8 +114,8 @@ fn parts_without_publics(
     })
 }
 
-/// The [`Parts`] of the linked module, and the names that no module declares. `main` is the index
-/// of the main program, if there is one. `Err` only if memory runs out.
+/// The [`Parts`] of the linked module, and the names that no module declares. `main` must be the
+/// index of the only main program, or `None` if there is none. `Err` only if memory runs out.
 fn parts_of(
     alloc: Global,
     name: &Name,
@@ -133,7 +134,9 @@ fn parts_of(
 }
 
 /// The module of this name that joined modules are linked into, and the names that none of them
-/// declares. `declared` has the names of their publics, `main` is the index of the main program.
+/// declares. `declared` must have the names of their publics, in order; `main` must be the index of
+/// the only main program, or `None` if there is none. The modules must have no fault of linking but
+/// `TooManyExternals`.
 ///
 /// # Errors
 /// `TooManyExternals` exactly if more than 65536 names are undeclared; `Memory` only if memory runs
@@ -160,8 +163,9 @@ fn link_joined(
 }
 
 /// The module of this name that laid modules are linked into, and the names that none of them
-/// declares. `declared` has the names of their publics. The fault is the first of `TwoMains`,
-/// `HighNotPaged`, `TooManyCommons` and `TooManyExternals`, or `Memory`.
+/// declares. `declared` must have the names of their publics, in order, no two the same, and the
+/// linked CODE, DATA and STACK must have at most 65535 bytes each. The fault is the first of
+/// `TwoMains`, `HighNotPaged`, `TooManyCommons` and `TooManyExternals`, or `Memory`.
 fn link_laid(
     alloc: Global,
     name: &Name,
@@ -183,8 +187,8 @@ fn link_laid(
 }
 
 /// The module of this name that modules are linked into, and the names that none of them declares.
-/// `declared` has the names of their publics, no two the same. The fault is the first but for
-/// `DuplicatePublic`, or `Memory`.
+/// `declared` must have the names of their publics, in order, no two the same. The fault is the
+/// first but for `DuplicatePublic`, or `Memory`.
 fn link_declared(
     alloc: Global,
     name: &Name,

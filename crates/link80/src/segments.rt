@@ -49,8 +49,8 @@ fn fixed_segment(joined: &JoinedModules, id: u8) -> Segment
     }
 }
 
-/// Joins the named commons of a module to the linked segments of the same names; `segments` has one
-/// for each, in order of first sight.
+/// Joins the named commons of a module to the linked segments of the same names; `segments` must
+/// have one for each of the commons of all modules, in order of first sight.
 fn join_commons(segments: &mut Vec<Segment>, joined: &JoinedModules, source: &Module)
     requires { length segments.old.items ≡ length (common_names joined.now) }
     ensures joined { segments.new.items

@@ -62,7 +62,8 @@ fn next_part(before: u16, segment: Segment) -> Option<(u16, u16)>
 }
 
 impl LaidOut {
-    /// Lays out the parts that the modules have of segment `id`, one after another.
+    /// Lays out the parts that the modules have of segment `id`, one after another. `id` must be
+    /// that of CODE, DATA, STACK, MEMORY or the unnamed common.
     ///
     /// # Errors
     /// `SegmentTooLong` exactly if they need more than 65535 bytes; `Memory` only if memory runs
@@ -88,7 +89,8 @@ impl LaidOut {
         Ok(LaidOut { starts, end })
     }
 
-    /// The offset at which the part of the module with index `number` starts.
+    /// The offset at which the part of the module with index `number` starts. `number` must be
+    /// below the number of modules.
     fn start(&self, number: usize) -> u16
         requires { number < length self.now.starts }
         ensures { result ≡ slice_index self.now.starts number }
@@ -182,7 +184,7 @@ impl<'a> LaidModules<'a> {
     }
 
     /// The offset at which the part of the module with index `number` starts in the linked segment
-    /// `id`: 0 but for CODE, DATA and STACK.
+    /// `id`: 0 but for CODE, DATA and STACK. `number` must be below the number of modules.
     pub(crate) fn start(&self, number: usize, id: u8) -> u16
         requires { number < length self.now }
         ensures { result ≡ part_start self.now number id }
@@ -195,7 +197,8 @@ impl<'a> LaidModules<'a> {
 
     /// The offset in the linked segment of an offset in segment `id` of the module with index
     /// `number`: the start of the module's part is added, modulo 65536. Absolute offsets stay as
-    /// they are, and so do those in STACK, which count from its top.
+    /// they are, and so do those in STACK, which count from its top. `number` must be below the
+    /// number of modules.
     pub(crate) fn linked_offset(&self, number: usize, id: u8, offset: u16) -> u16
         requires { number < length self.now }
         ensures { result ≡ moved self.now number id offset }

@@ -22,7 +22,7 @@ use std::marker::Model;
 const MOST_EXTERNALS: usize = 65536;
 
 /// Appends the publics of `source`, the module with index `number`, with their segments and offsets
-/// in the linked module. `Err` only if memory runs out.
+/// in the linked module. `source` must be that module. `Err` only if memory runs out.
 fn add_moved_publics(
     alloc: Global,
     joined: &JoinedModules,
@@ -77,7 +77,8 @@ fn add_undeclared<'a>(
 }
 
 /// The externals that no module declares, each once, in order of first sight: as a table, and as a
-/// list of copies. `declared` has the names of all publics. `Err` only if memory runs out.
+/// list of copies. `declared` must have the names of all publics, in order. `Err` only if memory
+/// runs out.
 fn find_unresolved<'a>(
     alloc: Global,
     joined: &JoinedModules<'a>,
@@ -154,8 +155,9 @@ impl<'t, 'a> Model for SymbolTables<'t, 'a> {
 }
 
 impl<'t, 'a> SymbolTables<'t, 'a> {
-    /// Moves the publics of the modules and finds the names that no module declares. `declared` has
-    /// the names of all publics.
+    /// Moves the publics of the modules and finds the names that no module declares. `declared`
+    /// must have the names of all publics, in order, and the linked CODE, DATA and STACK must have
+    /// at most 65535 bytes each.
     ///
     /// # Errors
     /// `TooManyExternals` exactly if more than 65536 names are undeclared; `Memory` only if memory

@@ -21,8 +21,8 @@ struct Search {
 }
 
 impl Search {
-    /// A search that has the first `roots` modules of the row marked. `Err` only if memory runs
-    /// out.
+    /// A search that has the first `roots` modules of the row marked. `roots` must be at most the
+    /// number of modules in the row. `Err` only if memory runs out.
     fn from_roots(alloc: Global, row: &Row<'_>, roots: usize) -> Result<Search, AllocError>
         requires { roots ≤ length row.now }
         ensures { IfOk result (λ search. IsSearched row.now roots 0 search.marked.items search.queue.items) }
@@ -38,7 +38,7 @@ impl Search {
     }
 
     /// Marks the module with this index, and appends it to the queue; nothing changes if it is
-    /// marked. `Err` only if memory runs out.
+    /// marked. The index must be below the number of modules. `Err` only if memory runs out.
     fn mark(&mut self, number: usize) -> Result<(), AllocError>
         requires { number < length self.old.marked.items }
         ensures { OnOk result (MarksIn (number ∷ []) self.old self.new) }
@@ -51,7 +51,7 @@ impl Search {
     }
 
     /// Marks the modules that declare the externals of `source`, for each the first of the row that
-    /// does. `Err` only if memory runs out.
+    /// does. `row` must be the row that is searched. `Err` only if memory runs out.
     fn mark_needed(&mut self, row: &Row<'_>, source: &Module) -> Result<(), AllocError>
         requires { length self.old.marked.items ≡ length row.now }
         ensures { OnOk result (MarksIn (needed row.now source.now) self.old self.new) }
@@ -66,7 +66,8 @@ impl Search {
 }
 
 /// For each module of the row, whether it is one of the first `roots` or they need it, themselves
-/// or through others. `Err` only if memory runs out.
+/// or through others. `roots` must be at most the number of modules in the row. `Err` only if
+/// memory runs out.
 fn mark_reached(alloc: Global, row: &Row<'_>, roots: usize) -> Result<Vec<bool>, AllocError>
     requires { roots ≤ length row.now }
     ensures { IfOk result (λ marked. AreReached row.now roots marked.items) }

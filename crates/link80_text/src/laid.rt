@@ -11,7 +11,8 @@ use omf_model::{Common, Module, segment_in};
 use std::alloc::AllocError;
 
 /// Appends a line for each module's part of segment `id`, CODE, DATA or STACK, that has bytes or is
-/// paged: the parts lie one after another. `Err` only if memory runs out.
+/// paged: the parts lie one after another. The last part must end at 65535 at most. `commons` are
+/// those of the linked module. `Err` only if memory runs out.
 pub(crate) fn append_laid(
     text: &mut Vec<u8>,
     modules: &[&Module],
@@ -33,7 +34,7 @@ pub(crate) fn append_laid(
 }
 
 /// The start of a part that is laid after offset `before`: the next multiple of 256 for a paged
-/// one, `before` for others.
+/// one, `before` for others. `before` must be at most 65535.
 fn round_up(before: u32, paged: bool) -> u32
     requires { before ≤ 65535 }
     ensures { result ≡ rounded paged before }

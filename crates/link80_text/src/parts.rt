@@ -42,8 +42,8 @@ pub fn append_parts(
     append_all(text, &modules, made.module.commons())
 }
 
-/// Appends a line for each part of each segment; `commons` are those of the linked module. `Err`
-/// only if memory runs out.
+/// Appends a line for each part of each segment; `commons` must be those of the linked module, and
+/// the modules must link without fault. `Err` only if memory runs out.
 fn append_all(text: &mut Vec<u8>, modules: &[&Module], commons: &[Common]) -> Result<(), AllocError>
     requires commons { commons.now ≡ linked_commons (map (λ m. m.now) modules.now) }
     requires no_fault { link_fault (map (λ m. m.now) modules.now) ≡ None }
@@ -57,8 +57,8 @@ fn append_all(text: &mut Vec<u8>, modules: &[&Module], commons: &[Common]) -> Re
     append_commons(text, modules, commons)
 }
 
-/// Appends a line for each part of each named common; `commons` are those of the linked module.
-/// `Err` only if memory runs out.
+/// Appends a line for each part of each named common; `commons` must be those of the linked module,
+/// and the modules must link without fault. `Err` only if memory runs out.
 fn append_commons(
     text: &mut Vec<u8>,
     modules: &[&Module],
@@ -75,8 +75,8 @@ fn append_commons(
     Ok(())
 }
 
-/// Appends a line for each part of segment `id`; `commons` are those of the linked module. `Err`
-/// only if memory runs out.
+/// Appends a line for each part of segment `id`; `commons` must be those of the linked module, and
+/// the modules must link without fault. `Err` only if memory runs out.
 fn append_segment(
     text: &mut Vec<u8>,
     modules: &[&Module],

@@ -35,8 +35,8 @@ pub fn append_unresolved(
     append_names(text, &needs, &modules, &made.unresolved)
 }
 
-/// Appends a line for each of these names and each module that needs it. `Err` only if memory runs
-/// out.
+/// Appends a line for each of these names and each module that needs it. `needs` must be those of
+/// these modules. `Err` only if memory runs out.
 fn append_names(
     text: &mut Vec<u8>,
     needs: &Needs<'_>,
@@ -53,7 +53,8 @@ fn append_names(
     Ok(())
 }
 
-/// Appends a line for each module that needs the name. `Err` only if memory runs out.
+/// Appends a line for each module that needs the name. `needs` must be those of these modules.
+/// `Err` only if memory runs out.
 fn append_needing(
     text: &mut Vec<u8>,
     needs: &Needs<'_>,

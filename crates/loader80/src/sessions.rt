@@ -60,8 +60,9 @@ pub fn session<A: Source, B: Source, C: Source, K: Sink>(
     }
 }
 
-/// Reads a text whole. The fault has the text's number, 1 to 3: `Read` if a read fails, `TooLong` if the text has
-/// more bytes than the limit; or it is `Memory`.
+/// Reads a text whole. The fault has the text's number, 1 to 3: `Read` if a read fails, `TooLong` if the text has more
+/// bytes than the limit; or it is `Memory`. One byte more than the limit is taken at most. The source's count of
+/// failures must be below the greatest `u64`.
 fn read_text<S: Source>(alloc: Global, source: &mut S, number: u8) -> Result<Vec<u8>, SessionFault>
     requires countable { S.failed source.old < u64.MAX }
     ensures whole { IfOk result (λ bytes. IfSome (S.left source.old) (λ text. bytes.items ≡ text)) }

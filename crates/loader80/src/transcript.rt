@@ -10,8 +10,13 @@ use std::alloc::{AllocError, Global};
 use std::fmt::Write;
 use verify80::Refusal;
 
-/// The transcript of a run: `STACK n`, a line `OUT pp bb` for each output, and the line of its end by `end`, the
-/// program counter `at` and the number of steps.
+/// The transcript of a run: `STACK n` with the bytes of stack, a line `OUT pp bb` for each output, and a last line that
+/// says how the run ended (`end`; `None` if its steps were used up) and after how many steps. After a halt it also has
+/// the program counter (`at`), after other ends the port or the address that `end` has. For an end that a vouched image
+/// never has there is no last line.
+///
+/// # Errors
+/// `AllocError` only if memory runs out.
 pub fn transcript_text(
     alloc: Global,
     stack_bytes: u64,

@@ -70,7 +70,9 @@ pub fn count_steps(
 }
 
 /// Makes at most `steps` steps of a run from its first state on, and counts in `counts`, by address, those that begin
-/// there. `AllocError` if memory runs out for an output below the limit.
+/// there. `AllocError` if memory runs out for an output below the limit. All 65536 counts must be 0 before. The map
+/// must be that of the regions. The ports must have the limit `rules.outputs`, no more outputs than that, and none
+/// refused.
 fn count_each(
     rules: &Rules<'_>,
     steps: u64,
@@ -107,7 +109,8 @@ fn count_each(
     })
 }
 
-/// Adds 1 to the count of an address, in a table of 65536 counts.
+/// Adds 1 to the count of an address, in a table that must have 65536 counts. That of the address must be below the
+/// greatest `u64`.
 fn count_at(counts: &mut Vec<u64>, address: u16)
     requires whole { length counts.old.items ≡ 65536 }
     requires countable { slice_index counts.old.items address < 2 ^ 64 - 1 }

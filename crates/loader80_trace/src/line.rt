@@ -66,7 +66,8 @@ fn append_shown(byte: Option<u8>, line: &mut Vec<u8>) -> Result<(), AllocError>
     }
 }
 
-/// Appends spaces until ten bytes stand from the place `before` on; none if there are that many already.
+/// Appends spaces until ten bytes stand from the place `before` on; none if there are that many already. The place must
+/// not lie behind the end of the line.
 fn fill_from(before: usize, line: &mut Vec<u8>) -> Result<(), AllocError>
     requires { before ≤ length line.old.items }
     ensures { OnOk result (line.new.items ≡ line.old.items ++ drop (length line.old.items - before) (codes "          ")) }
@@ -130,7 +131,7 @@ pub(crate) fn append_front(
     append_number(alloc, numbered, number, line)
 }
 
-/// Appends the number of a line and a space if lines are numbered; otherwise nothing.
+/// Appends the number of a line in decimal and a space if lines are numbered; otherwise nothing.
 fn append_number(
     alloc: Global,
     numbered: bool,

@@ -24,7 +24,9 @@ pub(crate) struct Rules<'a> {
     pub outputs: usize,
 }
 
-/// Makes one step of a run of verified code; returns how the run ends if it ends there, and `None` if it goes on.
+/// Makes one step of a run of verified code; returns how the run ends if it ends there, and `None` if it goes on. The
+/// map must be that of the regions. The ports must have the limit `rules.outputs`, no more outputs than that, and none
+/// refused.
 ///
 /// # Errors
 /// `AllocError` if memory runs out for an output below the limit.

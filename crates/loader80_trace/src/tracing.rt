@@ -102,7 +102,9 @@ struct Lines<'a> {
 }
 
 /// Runs on from the state that the run has reached before the first line, and writes the lines. Returns how the run
-/// ended, or `None` if the span ended first.
+/// ended, or `None` if the span ended first. The span must begin within the run's steps, and the count of failures of
+/// `out` be below the greatest `u64`. The map must be that of the regions. The ports must have the limit
+/// `rules.outputs`, no more outputs than that, and none refused.
 fn write_each<K: Sink>(
     alloc: Global,
     rules: &Rules<'_>,
@@ -163,8 +165,9 @@ fn write_each<K: Sink>(
     Ok(None)
 }
 
-/// Makes one step of a run of verified code and appends its line; returns how the run ends if it ends there. If
-/// memory runs out, `AllocError`.
+/// Makes one step of a run of verified code and appends its line; returns how the run ends if it ends there. If memory
+/// runs out, `AllocError`. The map must be that of the regions. The ports must have the limit `rules.outputs`, no more
+/// outputs than that, and none refused.
 fn show_step(
     alloc: Global,
     rules: &Rules<'_>,

@@ -36,7 +36,7 @@ fn operand<B: Bus>(operand: Operand, registers: &Registers, bus: &B) -> u8
 }
 
 /// Executes an operation on the accumulator, INR or DCR of a register, DAD, a rotation, DAA, CMA, STC or CMC, but for
-/// the program counter. No other instruction may be given.
+/// the program counter. The instruction must be one of these.
 #[inline]
 fn compute<B: Bus>(instr: Instr, cpu: &mut Cpu, bus: &B)
     requires { Computes instr }
@@ -60,7 +60,7 @@ fn compute<B: Bus>(instr: Instr, cpu: &mut Cpu, bus: &B)
 }
 
 /// Executes an instruction that neither jumps nor stores nor touches the stack, but for the program counter and the
-/// ports. No other instruction may be given. IN, OUT, EI, DI, NOP and HLT change nothing here.
+/// ports. The instruction must be of that kind. IN, OUT, EI, DI, NOP and HLT change nothing here.
 #[inline]
 fn change<B: Bus>(instr: Instr, cpu: &mut Cpu, bus: &B)
     requires { IsPlain instr }
@@ -189,8 +189,8 @@ fn call<B: Bus>(
     Ok(address)
 }
 
-/// Executes an instruction that goes on to the next one, but for the program counter. `Err` is how the run ends if a
-/// byte that it touches is outside its region; then nothing has changed.
+/// Executes an instruction, which must be one that goes on to the next, but for the program counter. `Err` is how the
+/// run ends if a byte that it touches is outside its region; then nothing has changed.
 #[inline]
 fn go_straight<B: Bus>(
     instr: Instr,

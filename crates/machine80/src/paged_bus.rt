@@ -55,7 +55,7 @@ impl PagedBus {
     }
 }
 
-/// The page with this number: the 256 bytes from `number` times 256 on.
+/// The page with this number: the 256 bytes from `number` times 256 on. `bytes` must have all of them.
 fn page_of(bytes: &[u8], number: usize) -> [u8; 256]
     requires { number * 256 + 256 ≤ length bytes.now }
     ensures page { result ≡ take 256 (drop (number * 256) bytes.now) }

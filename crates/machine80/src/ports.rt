@@ -22,7 +22,8 @@ pub trait Ports {
         ensures taken { lists self.new ≡ record (lists self.old) { inputs = without_next (lists self.old).inputs port } }
         ensures whole { length (lists self.new).inputs ≡ 256 };
 
-    /// Outputs a byte at a port, or refuses it; a refused byte is counted and changes nothing else.
+    /// Outputs a byte at a port, or refuses it; a refused byte is counted and changes nothing else. The count must be
+    /// below the greatest `u64`.
     ///
     /// # Errors
     /// `PortRefused` if the limit is reached, or memory runs out; never while there is room.

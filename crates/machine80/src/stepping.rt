@@ -46,7 +46,7 @@ pub fn step<B: Bus, P: Ports>(
 }
 
 /// Executes a fetched instruction with its checks, and returns how the run ends, if it does; then nothing has changed
-/// but the count of refused outputs.
+/// but the count of refused outputs. That count must be below the greatest `u64`.
 #[inline]
 fn execute<B: Bus, P: Ports>(
     found: Fetched,

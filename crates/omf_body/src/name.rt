@@ -40,7 +40,7 @@ impl<'a> NameBytes<'a> {
         NameBytes::new(name.bytes())
     }
 
-    /// The name's bytes. It takes no memory.
+    /// The name's bytes, 1 to 255 of them, each 21h to 7Eh. It takes no memory.
     pub fn bytes(&self) -> &'a [u8]
         ensures value { result.now ≡ self.now }
         ensures name { IsTrue (is_name self.now) }

@@ -114,6 +114,7 @@ impl Feed {
 
 /// Reads on from `before`: counts whole records up to the end-of-file record or as far as the bytes
 /// go, and returns the new progress. `Err` is the fault of a record that isn't just cut off.
+/// `before` must be how far these bytes, or a front of them, were read.
 fn read_on(bytes: &[u8], before: Progress) -> Result<Progress, RecordFault>
     requires { ReadsUpTo bytes.now before.at before.count before.ended }
     ensures read { IfOk result (λ read. ReadsUpTo bytes.now read.at read.count read.ended) }

@@ -63,7 +63,7 @@ impl Name {
         Ok(Name { bytes })
     }
 
-    /// The name's bytes. It takes no memory.
+    /// The name's bytes, 1 to 255 of them, each 21h to 7Eh. It takes no memory.
     pub fn bytes(&self) -> &[u8]
         ensures value { result.now ≡ self.now }
         ensures name { IsTrue (is_name self.now) }

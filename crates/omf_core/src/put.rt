@@ -80,7 +80,8 @@ pub fn push_word(word: u16, out: &mut Vec<u8>) -> Result<(), AllocError>
     out.extend_from_slice(&[(word % 256) as u8, (word / 256) as u8])
 }
 
-/// Appends a name to `out`: its length byte and its bytes, 1 to 255 of them, each 21h to 7Eh.
+/// Appends a name to `out`: its length byte and its bytes. There must be 1 to 255 of them, each 21h
+/// to 7Eh.
 ///
 /// # Errors
 /// `AllocError` only if `out` can't grow; the length byte may then have been appended.

@@ -130,8 +130,8 @@ impl LibraryFeed {
     }
 }
 
-/// The library of a file that has these bytes and no more, read on from `unfinished`; or the file's
-/// first fault, or `Memory`.
+/// The library of a file that has these bytes and no more, read on from `unfinished`, whose bytes
+/// they must begin with; or the file's first fault, or `Memory`.
 fn finish(
     alloc: Global,
     bytes: &[u8],

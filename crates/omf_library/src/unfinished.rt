@@ -132,7 +132,7 @@ fn after_record(
 }
 
 /// What the bytes have where the module `next` begins; its header isn't read again if it was read.
-/// `Module` if the bytes there are no record.
+/// `Module` if the bytes there are no record. `bytes` must begin with those read before.
 fn standing_at(bytes: &[u8], next: &UnfinishedModule) -> Result<Standing, LibraryFault>
     requires { ReadsModule bytes.now next.now.begin next.now.here next.now.commons.items }
     ensures stands { IfOk result (StandsAt bytes.now next.now) }
@@ -163,9 +163,10 @@ fn begin_at(next: &mut UnfinishedModule, place: usize)
     next.commons.clear();
 }
 
-/// Reads on in the module `next`, whose header is there, and if it is whole appends it to `modules`
-/// and makes `next` the one after it. `false` if more bytes are needed. A fault is one that the
-/// library has whatever bytes follow, or `Memory`.
+/// Reads on in the module `next`, whose header must be there, and if it is whole appends it to
+/// `modules` and makes `next` the one after it. `false` if more bytes are needed. A fault is one
+/// that the library has whatever bytes follow, or `Memory`. `bytes` must begin with those read
+/// before.
 fn read_module(
     alloc: Global,
     bytes: &[u8],
@@ -196,7 +197,7 @@ fn read_module(
 
 /// Reads the next module, or the record in its place: the first of the index, or the end of the
 /// file. Returns the new progress, or `None` if more bytes are needed. A fault is one that the
-/// library has whatever bytes follow, or `Memory`.
+/// library has whatever bytes follow, or `Memory`. `bytes` must begin with those read before.
 fn read_after_modules(
     alloc: Global,
     bytes: &[u8],
@@ -228,8 +229,9 @@ fn read_after_modules(
     }
 }
 
-/// Reads the record at a place after index records. Returns the new progress, or `None` if the
-/// record is cut off. A fault is one that the library has whatever bytes follow.
+/// Reads the record at place `at`, before which a library header, `modules` and at least one index
+/// record must stand. Returns the new progress, or `None` if the record is cut off. A fault is one
+/// that the library has whatever bytes follow.
 fn read_after_index(
     bytes: &[u8],
     said: u16,
@@ -281,7 +283,8 @@ impl UnfinishedLibrary {
     }
 
     /// Reads the library header. Returns the new progress, or `None` if the record is cut off. A
-    /// fault is one that the library has whatever bytes follow.
+    /// fault is one that the library has whatever bytes follow. `self` must have read no modules
+    /// yet.
     fn read_header(&mut self, bytes: &[u8]) -> Result<Option<Progress>, LibraryFault>
         requires { self.old.modules.items ≡ [] }
         ensures modules { self.new.modules.items ≡ self.old.modules.items }
@@ -300,7 +303,7 @@ impl UnfinishedLibrary {
 
     /// Reads the next module, or the next record outside the modules. Returns the new progress, or
     /// `None` if more bytes are needed or the library has ended. A fault is one that the library
-    /// has whatever bytes follow, or `Memory`.
+    /// has whatever bytes follow, or `Memory`. `bytes` must begin with those read before.
     fn read_next(&mut self, alloc: Global, bytes: &[u8]) -> Result<Option<Progress>, LibraryFault>
         requires { ReadsLibrary bytes.now self.old }
         ensures further { IfOk result (λ o. IfSome o
@@ -320,7 +323,7 @@ impl UnfinishedLibrary {
     }
 
     /// Reads on as far as the bytes go. A fault is one that the library has whatever bytes follow,
-    /// or `Memory`; the modules before it stay read.
+    /// or `Memory`; the modules before it stay read. `bytes` must begin with those read before.
     fn read_all(&mut self, alloc: Global, bytes: &[u8]) -> Result<(), LibraryFault>
         requires { ReadsLibrary bytes.now self.old }
         ensures all { OnOk result (ReadsAll bytes.now self.new.modules.items self.new.next self.new.progress) }
@@ -349,9 +352,12 @@ impl UnfinishedLibrary {
         self.progress = progress;
     }
 
-    /// Reads on as far as the bytes go. A fault is one that the library has whatever bytes follow,
-    /// or `Memory`: then the library is as it was, except that nothing is read of the module that
-    /// was unfinished.
+    /// Reads on to the last whole record. `bytes` are all of the file that has come so far, from
+    /// its first byte, and must begin with those read before.
+    ///
+    /// # Errors
+    /// A fault that the file has whatever bytes follow, or `Memory`. Then `self` is as before the
+    /// call, except that the module that was unfinished will be read again from its beginning.
     pub fn read_on(&mut self, alloc: Global, bytes: &[u8]) -> Result<(), LibraryFault>
         requires { ReadsLibrary bytes.now self.old }
         ensures reads { OnOk result (ReadsLibrary bytes.now self.new) }
@@ -372,7 +378,7 @@ impl UnfinishedLibrary {
     }
 
     /// The fault of a library that has these bytes and no more, all of them read; `None` if it has
-    /// ended.
+    /// ended. `bytes` must be those that `read_on` was last given, and it must have had no fault.
     pub fn fault_at_end(&self, bytes: &[u8]) -> Option<LibraryFault>
         requires reads { ReadsLibrary bytes.now self.now }
         requires waits { WaitsLibrary bytes.now self.now }

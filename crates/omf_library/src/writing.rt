@@ -86,8 +86,8 @@ fn names_of(alloc: Global, modules: &[Module]) -> Result<Vec<u8>, AllocError>
     Ok(body)
 }
 
-/// The body of the library module locations record (26) for these places. `Err` only if memory runs
-/// out.
+/// The body of the library module locations record (26) for these places. Each place must lie in
+/// one of the first 65536 blocks of 128 bytes. `Err` only if memory runs out.
 fn locations_of(alloc: Global, places: &[usize]) -> Result<Vec<u8>, AllocError>
     requires { AllByRecursion (λ place. place / 128 ≤ 65535) places.now }
     ensures { IfOk result (λ body. body.items ≡ flat_map location_bytes places.now) }
@@ -182,8 +182,8 @@ fn append(alloc: Global, kind: RecordKind, body: &[u8], out: &mut Vec<u8>) -> Re
     never_too_long(put_record(alloc, kind.byte(), body, out))
 }
 
-/// The body of the library header (2C): the number of modules, and the place of the index. `Err`
-/// only if memory runs out.
+/// The body of the library header (2C): the number of modules, and the place of the index. That
+/// place must lie in one of the first 65536 blocks of 128 bytes. `Err` only if memory runs out.
 fn header_of(alloc: Global, count: u16, index: usize) -> Result<Vec<u8>, AllocError>
     requires { index / 128 ≤ 65535 }
     ensures { IfOk result (λ body. body.items ≡ word_bytes count ++ location_bytes index) }
@@ -206,7 +206,8 @@ struct Index {
 }
 
 /// The bytes of a library file: a header record with this body, the modules' records, those of the
-/// index, and an end-of-file record. `Err` only if memory runs out.
+/// index, and an end-of-file record. The header body and the bodies of the index must have at most
+/// 65534 bytes each. `Err` only if memory runs out.
 fn file_of(
     alloc: Global,
     header: &[u8],
@@ -245,8 +246,9 @@ fn file_of(
     Ok(file)
 }
 
-/// The index of these modules, whose places and records are given. `TooLarge` only if the modules
-/// are too large for a library, `Memory` only if memory runs out.
+/// The index of these modules; `places` must be the places of their records in the file, the first
+/// at 10, and `bytes` their records. `TooLarge` only if the modules are too large for a library,
+/// `Memory` only if memory runs out.
 fn index_of(
     alloc: Global,
     modules: &[Module],

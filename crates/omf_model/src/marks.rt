@@ -37,7 +37,8 @@ pub fn is_inside(first: u16, size: usize, fixup: Fixup) -> bool
     }
 }
 
-/// Marks the byte at index `place`; `true` if it had no mark before.
+/// Marks the byte at index `place`; `true` if it had no mark before. `place` must be below the
+/// number of marks.
 fn take_byte(marks: &mut Vec<bool>, place: usize) -> bool
     requires { place < vec_len marks.old }
     ensures marked { marks.new.items ≡ slice_set marks.old.items place true }

@@ -176,8 +176,8 @@ impl Module {
         }
     }
 
-    /// The ids and sizes of the segments as a module's header lists them: in ascending order of
-    /// ids, every named common, and of the others those that have bytes or are paged.
+    /// The ids and sizes of the segments as a module's header lists them: in ascending order of ids, every named
+    /// common, and of the others those that have bytes or are paged; 255 at most.
     pub fn segments(&self) -> &[(u8, Segment)]
         ensures value { result.now ≡ self.now.segments }
         ensures rules { IsModule self.now }

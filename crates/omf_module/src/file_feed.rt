@@ -162,8 +162,8 @@ impl FileFeed {
     }
 }
 
-/// The modules of a file that has these bytes and no more, read on from `before`; or the file's
-/// first fault, or `Memory`.
+/// The modules of a file that has these bytes and no more, read on from `before`, whose bytes they
+/// must begin with; or the file's first fault, or `Memory`.
 fn modules_of(alloc: Global, bytes: &[u8], before: Progress) -> Result<Vec<Module>, ModuleFault>
     requires { ReadsFile bytes.now before }
     ensures read { IfOk result (λ modules. SpellsFile bytes.now modules.items) }
@@ -178,7 +178,8 @@ fn modules_of(alloc: Global, bytes: &[u8], before: Progress) -> Result<Vec<Modul
 }
 
 /// The fault of a file that ends too early, read as far as `read` says: `NoEnd` after a whole
-/// module, or the fault of the module that is cut off; or `Memory`.
+/// module, or the fault of the module that is cut off; or `Memory`. `read` must be how far these
+/// bytes were read, up to where more are needed.
 fn missing_end_fault(alloc: Global, bytes: &[u8], read: &Progress) -> ModuleFault
     requires reads { ReadsFile bytes.now read.now }
     requires waits { WaitsModule bytes.now read.now.unfinished.begin }
@@ -200,6 +201,7 @@ fn missing_end_fault(alloc: Global, bytes: &[u8], read: &Progress) -> ModuleFaul
 
 /// Reads the modules from where `read` stands up to the end of the file or as far as the bytes go.
 /// A fault is one that the file has whatever bytes follow, or `Memory`; the modules stay read.
+/// `bytes` must begin with those that were read before.
 fn read_on(alloc: Global, bytes: &[u8], read: &mut Progress) -> Result<(), ModuleFault>
     requires { ReadsFile bytes.now read.old }
     ensures grown { GrowsBy read.old.modules.items read.new.modules.items }
@@ -222,7 +224,8 @@ fn read_on(alloc: Global, bytes: &[u8], read: &mut Progress) -> Result<(), Modul
 }
 
 /// Reads one more module into `read`. `false` if the file ends there, or more bytes are needed. A
-/// fault is one that the file has whatever bytes follow, or `Memory`.
+/// fault is one that the file has whatever bytes follow, or `Memory`. `bytes` must begin with those
+/// that were read before.
 fn read_one(alloc: Global, bytes: &[u8], read: &mut Progress) -> Result<bool, ModuleFault>
     requires { ReadsFile bytes.now read.old }
     ensures grown { GrowsBy read.old.modules.items read.new.modules.items }
@@ -253,7 +256,7 @@ fn read_one(alloc: Global, bytes: &[u8], read: &mut Progress) -> Result<bool, Mo
 }
 
 /// Whether a module was read, nothing is read of the next one, and the end-of-file record stands in
-/// its place.
+/// its place. `read` must be how far these bytes, or a front of them, were read.
 fn ends_here(bytes: &[u8], read: &Progress) -> bool
     requires { ReadsModule bytes.now read.now.unfinished.begin read.now.unfinished.here read.now.unfinished.commons.items }
     ensures ends { IsTrue result → EndsAfter bytes.now read.now.unfinished.begin read.now.modules.items }

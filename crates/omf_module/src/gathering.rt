@@ -110,7 +110,8 @@ fn by_offset(
     Ok(fixups)
 }
 
-/// A fixup for each entry of an external references record. `Err` only if memory runs out.
+/// A fixup for each entry of an external references record, with the record's field and the entry's
+/// external as its target. `Err` only if memory runs out.
 fn by_index(alloc: Global, body: &ExternalReferencesBody) -> Result<Vec<Fixup>, AllocError>
     ensures { IfOk result (λ fixups. fixups.items
         ≡ map (λ r. record { offset = r.offset; field = body.now.field; target = target.External r.index }) body.now.references) }

@@ -16,7 +16,9 @@ use omf_core::laws::{
 };
 pub use omf_model::laws::segments_are_kept;
 
-/// Bytes spell at most one module at a place, or have one first fault there, and never both.
+/// A law: at a place, bytes spell at most one module and have at most one first fault, and never
+/// both. So, too, of the header alone: where one should stand there is at most one fault, and none
+/// where one stands.
 pub fn one_reading()
     ensures module { OneModule }
     ensures fault { OneFault }
@@ -30,7 +32,8 @@ pub fn one_reading()
     one_fault();
 }
 
-/// Bytes spell at most one list of modules as a file, or have one first fault, and never both.
+/// A law: bytes spell at most one list of modules as a file, or have one first fault, and never
+/// both.
 pub fn one_file_reading()
     ensures file { OneFile }
     ensures fault { OneFileFault }
@@ -42,8 +45,8 @@ pub fn one_file_reading()
     one_fault();
 }
 
-/// A module that bytes spell at a place is spelled there whatever bytes follow; it ends after the
-/// place where it begins, inside the bytes.
+/// A law: a module that bytes spell at a place is spelled there whatever bytes follow; it ends
+/// after the place where it begins, inside the bytes.
 pub fn modules_stay()
     ensures stay { ModulesStay }
     ensures stand { ModulesStand }
@@ -52,49 +55,50 @@ pub fn modules_stay()
     other_faults_stay();
 }
 
-/// The bytes of a file have one number of whole modules.
+/// A law: the bytes of a file have one number of whole modules.
 pub fn one_module_count()
     ensures { OneModuleCount }
 {
     one_reading();
 }
 
-/// A fault that a file has whatever bytes follow is one that it has with any bytes after it.
+/// A law: a fault that a file has whatever bytes follow is one that it has with any bytes after it.
 #[tactic(auto, using(crate::proofs::FileFeedLemmas::lasting_file_faults_last))]
 pub fn lasting_file_faults_last()
     ensures { LastingFileFaultsLast }
 {}
 
-/// Each content record gives one content, with the fixups of the records after it up to the next
-/// one.
+/// A law: each content record gives one content, with the fixups of the records after it up to the
+/// next one.
 #[tactic(auto, using(crate::proofs::GatheredLemmas::contents_have_the_fixups_up_to_the_next))]
 pub fn contents_have_the_fixups_up_to_the_next()
     ensures { ContentsHaveTheFixupsUpToTheNext }
 {}
 
-/// The uses in a module's records have no fault exactly if what the records say keeps the rules of
-/// modules, each segment that they name exists, and each fixup record comes after a content record.
+/// A law: the uses in a module's records have no fault exactly if what the records say keeps the
+/// rules of modules, each segment that they name exists, and each fixup record comes after a
+/// content record.
 pub fn records_without_fault_keep_the_rules()
     ensures { NoFaultExactlyWhereUsesAreThere }
 {}
 
-/// The fault in the uses of a module's records is the first: that of the first entry, in order,
-/// that uses what doesn't exist. A fixup is checked against the last content record before it, and
-/// the fixups of that which come before it.
+/// A law: the fault in the uses of a module's records is the first: that of the first entry, in
+/// order, that uses what doesn't exist. A fixup is checked against the last content record before
+/// it, and the fixups of that which come before it.
 pub fn fault_of_use_is_the_first()
     ensures bodies { BodiesFaultIsTheFirst }
     ensures all { UseFaultIsTheFirst }
 {}
 
-/// The bytes that are written for a module spell it at any place: it is read again as the same
-/// module.
+/// A law: the bytes that are written for a module spell it at any place: it is read again as the
+/// same module.
 pub fn written_module_is_spelled()
     ensures { WrittenModuleIsSpelled }
 {
     written_is_spelled();
 }
 
-/// The bytes that are written for a file spell its modules: they are read again as the same
+/// A law: the bytes that are written for a file spell its modules: they are read again as the same
 /// modules.
 pub fn written_file_is_spelled()
     ensures { WrittenFileIsSpelled }

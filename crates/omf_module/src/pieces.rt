@@ -48,7 +48,8 @@ fn after_header(bytes: &[u8], begin: usize) -> Result<Option<usize>, ModuleFault
 
 /// Checks the records of a module from place `from` on, and appends the commons that they declare.
 /// Returns the place of the record that is cut off, or `None` if the module's end record is
-/// reached. A fault is one that the module has whatever bytes follow, or `Memory`.
+/// reached. A fault is one that the module has whatever bytes follow, or `Memory`. The module's
+/// header and whole records must stand from `begin` to `from`, and `commons` be what they declare.
 fn walk_on(
     alloc: Global,
     bytes: &[u8],
@@ -80,7 +81,7 @@ fn walk_on(
 
 /// The place from which the records of an unfinished module are still to be checked, or `None` if
 /// its header is cut off. A fault is one that the module has whatever bytes follow. It takes no
-/// memory.
+/// memory. `bytes` must begin with those read before.
 fn unchecked_from(bytes: &[u8], unfinished: &UnfinishedModule) -> Result<Option<usize>, ModuleFault>
     requires { ReadsModule bytes.now unfinished.now.begin unfinished.now.here unfinished.now.commons.items }
     ensures begun { IfOk result (λ from. IfSome from (λ here.
@@ -98,6 +99,8 @@ fn unchecked_from(bytes: &[u8], unfinished: &UnfinishedModule) -> Result<Option<
 /// The module that begins at `unfinished.begin`, with the place after its end, or `None` if more
 /// bytes are needed; `unfinished` then says how far its records are checked. Each record is checked
 /// once, whatever the pieces in which the bytes come, and read again when the module is whole.
+/// `bytes` are all that has come so far, from the first byte of the file; they must begin with
+/// those read before and not end before `unfinished.begin`, which stays as it is.
 ///
 /// # Errors
 /// The first fault that the module has whatever bytes follow, or `Memory` at place 0.

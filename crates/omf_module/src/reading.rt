@@ -58,9 +58,9 @@ fn without_contents(
     })
 }
 
-/// The contents that a module's records give, with their fixups; `draft` has the other parts. The
-/// fault is the first in what the records use, from `SegmentUnknown` to `IndexUnknown`, or
-/// `Memory`.
+/// The contents that a module's records give, with their fixups; `draft` must have the other parts
+/// that they give, and no contents. The fault is the first in what the records use, from
+/// `SegmentUnknown` to `IndexUnknown`, or `Memory`.
 fn used_contents(
     alloc: Global,
     draft: &Parts,

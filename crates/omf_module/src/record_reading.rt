@@ -62,7 +62,8 @@ pub(crate) fn next_body<'a>(
 }
 
 /// The records of a module from place `first` after its header up to its end, the named commons
-/// that they declare, and the place after the end; or their first fault, or `Memory`.
+/// that they declare, and the place after the end; or their first fault, or `Memory`. `first` must
+/// not lie past the end of the bytes.
 fn within_at<'a>(
     alloc: Global,
     bytes: &'a [u8],

@@ -159,7 +159,7 @@ fn append_content(alloc: Global, content: &Content, out: &mut Vec<u8>) -> Result
     append_fixups(alloc, content.segment, &content.fixups, out)
 }
 
-/// Appends the records of the contents and their fixups, in order. No content may have more than
+/// Appends the records of the contents and their fixups, in order. Each content must have at most
 /// 65531 bytes. `Err` only if memory runs out.
 fn append_contents(alloc: Global, contents: &[Content], out: &mut Vec<u8>) -> Result<(), AllocError>
     requires { AllByRecursion (λ c. length c.bytes ≤ 65531) contents.now }
@@ -219,9 +219,10 @@ fn file_of(alloc: Global, modules: &[Module]) -> Result<Vec<u8>, AllocError>
     Ok(file)
 }
 
-/// Appends the object file of these modules, at least one, to `out`, which grows by its own
-/// allocator: the records of each, as [`write_module`] writes them, and then an end-of-file record.
-/// (8080 Object Module Formats, object file.)
+/// Appends the object file of these modules, of which there must be at least one, to `out`, which
+/// grows by its own allocator: the records of each, as [`write_module`] writes them, and then an
+/// end-of-file record. It is read again as the same modules. (8080 Object Module Formats, object
+/// file.)
 ///
 /// # Errors
 /// `AllocError` only if memory runs out; `out` is then unchanged.

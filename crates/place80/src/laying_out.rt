@@ -92,7 +92,8 @@ pub(crate) fn place_all(
 }
 
 /// Places the segment with this id: at the base that the options give, or else at `before`, the end of the segment
-/// before it, or the next multiple of 256 if it is paged. A segment that the program doesn't have is empty.
+/// before it, or the next multiple of 256 if it is paged. A segment that the program doesn't have is empty. `before`
+/// must be at most 4,000,000,000; the base is then at most 65535 greater.
 fn place_after(program: &Module, options: &Options, before: u32, id: u8) -> Placed
     requires { before ≤ 4000000000 }
     ensures place { result ≡ placed_after options.now program.now before id }
@@ -115,7 +116,8 @@ fn place_after(program: &Module, options: &Options, before: u32, id: u8) -> Plac
     }
 }
 
-/// The address itself, or for a paged segment the next multiple of 256 if it isn't one.
+/// The address itself, or for a paged segment the next multiple of 256 if it isn't one. The address must be at most
+/// 4,000,000,000.
 fn round_up(paged: bool, place: u32) -> u32
     requires { place ≤ 4000000000 }
     ensures rounded { result ≡ rounded paged place }

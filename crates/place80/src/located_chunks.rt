@@ -53,7 +53,8 @@ fn target_word(segments: &[Placed], target: Target) -> u16
     }
 }
 
-/// Makes a chunk of each content, in order: its bytes at their address, with its fixups applied.
+/// Makes a chunk of each content, in order: its bytes at their address, with its fixups applied. Each content must have
+/// 65531 bytes at most and end in memory, and its fixups lie inside it and apart.
 pub(crate) fn located_chunks(
     alloc: Global,
     segments: &[Placed],
@@ -69,7 +70,8 @@ pub(crate) fn located_chunks(
     Ok(chunks)
 }
 
-/// Makes the chunk of a content: its bytes at their address, with its fixups applied.
+/// Makes the chunk of a content: its bytes at their address, with its fixups applied. The content must have 65531 bytes
+/// at most and end in memory, and its fixups lie inside it and apart.
 fn located_chunk(alloc: Global, segments: &[Placed], content: &Content) -> Result<Chunk, AllocError>
     requires { CanBePlaced segments.now content.now }
     ensures { IfOk result (λ chunk. chunk ≡ chunk_among segments.now content.now) }
@@ -83,7 +85,8 @@ fn located_chunk(alloc: Global, segments: &[Placed], content: &Content) -> Resul
     })
 }
 
-/// Converts the fixups of a content, whose first byte has the offset `first`, to patches of its bytes.
+/// Converts the fixups of a content, whose first byte has the offset `first`, to patches of its bytes. The offset of
+/// each fixup must be at least `first`.
 fn patches_of(
     alloc: Global,
     segments: &[Placed],

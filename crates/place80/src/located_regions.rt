@@ -11,7 +11,8 @@ use image80::{Range, Regions};
 use omf_core::segment_id::{CODE, STACK};
 use std::alloc::{AllocError, Global};
 
-/// The regions of the segments: code is CODE, data are DATA, MEMORY and all commons, the stack is STACK.
+/// The regions of the segments: code is CODE, data are DATA, MEMORY and all commons, the stack is STACK. The segments
+/// must be in memory and apart, each with a length below 65536.
 pub(crate) fn located_regions(alloc: Global, segments: &[Placed]) -> Result<Regions, AllocError>
     requires { Fit segments.now }
     ensures { IfOk result (Arranges (located_code segments.now) (located_stack segments.now) (located_data segments.now)) }
@@ -22,7 +23,7 @@ pub(crate) fn located_regions(alloc: Global, segments: &[Placed]) -> Result<Regi
     Ok(Regions::from_disjoint(alloc, code, stack, data_ranges))
 }
 
-/// The range of CODE, in a list that is empty if CODE has no bytes.
+/// The range of CODE, in a list that is empty if CODE has no bytes. Each segment's length must be below 65536.
 pub(crate) fn code_ranges(alloc: Global, segments: &[Placed]) -> Result<Vec<Range>, AllocError>
     requires { AllByRecursion (λ p. p.length < 65536) segments.now }
     ensures { IfOk result (λ ranges. ranges.items ≡ located_code segments.now) }
@@ -36,7 +37,7 @@ pub(crate) fn code_ranges(alloc: Global, segments: &[Placed]) -> Result<Vec<Rang
     Ok(ranges)
 }
 
-/// The ranges of DATA, MEMORY and all commons, without the empty ones.
+/// The ranges of DATA, MEMORY and all commons, without the empty ones. Each segment's length must be below 65536.
 pub(crate) fn data_ranges(alloc: Global, segments: &[Placed]) -> Result<Vec<Range>, AllocError>
     requires { AllByRecursion (λ p. p.length < 65536) segments.now }
     ensures { IfOk result (λ ranges. ranges.items ≡ located_data segments.now) }
@@ -67,7 +68,7 @@ fn push_filled(ranges: &mut Vec<Range>, range: Range) -> Result<(), AllocError>
     Ok(())
 }
 
-/// The range of STACK, which may be empty.
+/// The range of STACK, which may be empty. Each segment's length must be below 65536.
 pub(crate) fn stack_range(segments: &[Placed]) -> Range
     requires { AllByRecursion (λ p. p.length < 65536) segments.now }
     ensures { result ≡ located_stack segments.now }
@@ -75,7 +76,8 @@ pub(crate) fn stack_range(segments: &[Placed]) -> Range
     range_at(placed_in(segments, STACK))
 }
 
-/// The range of a placed segment; an empty one at the end of memory begins at 0.
+/// The range of a placed segment; an empty one at the end of memory begins at 0. The segment's length must be below
+/// 65536.
 fn range_at(placed: Placed) -> Range
     requires { placed.length < 65536 }
     ensures { result ≡ range_at placed }

@@ -72,7 +72,9 @@ pub fn locate(alloc: Global, program: &Module, options: &Options) -> Result<Imag
     Ok(image_of(alloc, program, &segments, start)?)
 }
 
-/// Makes the image of a program with its segments at these places and its start at this address.
+/// Makes the image of a program with its segments at these places and its start at this address. The segments must be
+/// in memory and apart, each with a length below 65536. Each content must have 65531 bytes at most and end in memory,
+/// and its fixups lie inside it and apart.
 fn image_of(
     alloc: Global,
     program: &Module,

@@ -73,7 +73,7 @@ pub(crate) fn first_of_contents(program: &Module, segments: &[Placed]) -> Option
 }
 
 /// The content and the first segment that shares an address with it; `None` if there is none, or the content isn't
-/// absolute.
+/// absolute. The content must have at most 65531 bytes.
 fn first_of_content(content: &Content, segments: &[Placed]) -> Option<Pair>
     requires { length content.now.bytes ≤ 65531 }
     ensures { result ≡ (if content.now.segment == 0 then first_sharing (beside_each (absolute_place content.now) segments.now) else None) }
@@ -85,7 +85,8 @@ fn first_of_content(content: &Content, segments: &[Placed]) -> Option<Pair>
     }
 }
 
-/// The addresses of an absolute content, as those of a segment with the id 0.
+/// The addresses of an absolute content, as those of a segment with the id 0. The content must have at most 65531
+/// bytes.
 fn absolute_place(content: &Content) -> Placed
     requires { length content.now.bytes ≤ 65531 }
     ensures { result ≡ absolute_place content.now }

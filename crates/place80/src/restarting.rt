@@ -67,8 +67,9 @@ pub(crate) fn first_over_restart(program: &Module, segments: &[Placed]) -> Optio
     }
 }
 
-/// Adds the restart to a located image whose segments are these: a chunk with a JMP to the image's start, code at 0
-/// to 2, and 0 as the start.
+/// The located image with the restart: one more chunk, a JMP to the image's start; 0 as the start; and regions made
+/// anew from `segments`, with 0 to 2 as code. `segments` must be the image's own, in memory and apart, and none may
+/// have one of the addresses 0 to 2.
 fn with_restart(alloc: Global, image: Image, segments: &[Placed]) -> Result<Image, AllocError>
     requires fit { Fit segments.now }
     requires apart { find (overlaps restart_place) segments.now ≡ None }
@@ -104,7 +105,8 @@ fn chunk_of_restart(alloc: Global, start: u16) -> Result<Chunk, AllocError>
     })
 }
 
-/// The regions of the segments, with the restart's addresses 0 to 2 as code, too.
+/// The regions of the segments, with the restart's addresses 0 to 2 as code, too. The segments must be in memory and
+/// apart, and none may have one of these addresses.
 fn regions_with_restart(alloc: Global, segments: &[Placed]) -> Result<Regions, AllocError>
     requires fit { Fit segments.now }
     requires apart { find (overlaps restart_place) segments.now ≡ None }

@@ -105,7 +105,7 @@ fn first_of_restart(restart: bool, board: Board<'_>) -> Option<Unmapped>
 }
 
 /// The first of `count` addresses from `first` on at which the board has no memory for a segment with this id, `None`
-/// if each has memory.
+/// if each has memory. The addresses must all be below the greatest `u64`.
 fn unmapped_from(board: Board<'_>, segment: u8, first: u64, count: u64) -> Option<Unmapped>
     requires { first + count ≤ u64.MAX }
     ensures { result ≡ unmapped_from board.entry.rom.now board.entry.ram.now segment first count }
@@ -143,7 +143,8 @@ fn contains(range: Range, address: u64) -> bool
 }
 
 /// Appends the lines for an address without memory: that of its segment, unless it belongs to absolute content or a
-/// restart, and one that says which ranges lack the address, as `2100 is in no --ram-range`.
+/// restart, and one that says which ranges lack the address, as `2100 is in no --ram-range`. Each segment's length must
+/// be below 65536.
 ///
 /// # Errors
 /// `AllocError` only if memory runs out; the text may then have a part of these lines.
@@ -161,7 +162,7 @@ pub fn append_unmapped(
     text.extend_from_slice(lack_words(found.segment))
 }
 
-/// Appends the line of the segment with this id; nothing if there is none.
+/// Appends the line of the segment with this id; nothing if there is none. Each segment's length must be below 65536.
 fn append_own(
     text: &mut Vec<u8>,
     commons: &[Common],

@@ -32,8 +32,8 @@ pub fn map_text(alloc: Global, program: &Module, options: &Options) -> Result<Ve
     Ok(text_of(alloc, program, &layout.segments)?)
 }
 
-/// The map of a program with its segments at these places: a line for each segment, and then one for each public
-/// name, by address.
+/// The map of a program with its segments at these places: a line for each segment, and then one for each public name,
+/// by address. Each segment's length must be below 65536.
 fn text_of(alloc: Global, program: &Module, segments: &[Placed]) -> Result<Vec<u8>, AllocError>
     requires { AllByRecursion (λ p. p.length < 65536) segments.now }
     ensures { IfOk result (λ text. IsMap segments.now program.now text.items) }

@@ -11,7 +11,7 @@ use place80::Placed;
 use std::alloc::AllocError;
 use text80::word_digits;
 
-/// Appends the line of each segment, in order.
+/// Appends the line of each segment, in order. Each segment's length must be below 65536.
 pub(crate) fn append_segments(
     text: &mut Vec<u8>,
     commons: &[Common],
@@ -27,7 +27,8 @@ pub(crate) fn append_segments(
 }
 
 /// Appends the line of a segment: its name, its first address, its length and, for a named common, the common's name,
-/// as `CODE 3000 009B`. An empty segment at the end of memory is shown at 0000, as regions have it.
+/// as `CODE 3000 009B`. An empty segment at the end of memory is shown at 0000, as regions have it. The segment's
+/// length must be below 65536.
 pub(crate) fn append_segment(
     text: &mut Vec<u8>,
     commons: &[Common],

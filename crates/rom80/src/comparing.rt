@@ -67,8 +67,8 @@ pub fn compare(
     }
 }
 
-/// Compares the image's memory, with `fill` at the addresses that no chunk covers, with a dump from `first` on that
-/// ends in memory. The only fault is `Memory`.
+/// Compares the image's memory, with `fill` at the addresses that no chunk covers, with a dump from `first` on, which
+/// must end in memory. The only fault is `Memory`.
 fn compare_in_memory(
     alloc: Global,
     image: &Image,
@@ -86,7 +86,8 @@ fn compare_in_memory(
     Ok(compare_bytes(alloc, first, &bytes, dump)?)
 }
 
-/// Compares an image's bytes from `first` on with a dump of the same length, and makes the ranges and the text.
+/// Compares an image's bytes from `first` on with a dump, which must have the same length and end in memory, and makes
+/// the ranges and the text.
 fn compare_bytes(
     alloc: Global,
     first: u16,
@@ -103,7 +104,8 @@ fn compare_bytes(
     Ok(Comparison { ranges, text })
 }
 
-/// The ranges of addresses, from `first` on, at which two lists of bytes of the same length differ.
+/// The ranges of addresses, from `first` on, at which two lists of bytes differ. Both must have the same length and end
+/// in memory.
 fn differences(
     alloc: Global,
     first: u16,
@@ -130,7 +132,8 @@ fn differences(
     Ok(ranges)
 }
 
-/// Appends the range of the `run` addresses right before `end`; nothing if `run` is 0.
+/// Appends the range of the `run` addresses right before `end`; nothing if `run` is 0. `run` must be at most `end`, and
+/// `end` at most 65536.
 fn push_run(ranges: &mut Vec<Difference>, end: u32, run: u32) -> Result<(), AllocError>
     requires run { run ≤ «end» }
     requires in_memory { «end» ≤ 65536 }
@@ -145,7 +148,8 @@ fn push_run(ranges: &mut Vec<Difference>, end: u32, run: u32) -> Result<(), Allo
     Ok(())
 }
 
-/// The text of a comparison: a `DIFFERS` line for each of these ranges, and the `SAME` line.
+/// The text of a comparison: a `DIFFERS` line for each of these ranges, and the `SAME` line. `bytes` and `dump` must
+/// have the same length and end in memory, and each range must lie among their addresses.
 fn text_of(
     alloc: Global,
     first: u16,
@@ -167,7 +171,8 @@ fn text_of(
 }
 
 /// Appends the `DIFFERS` line of a range, with its first bytes in the image and in the dump, whose addresses begin at
-/// `first`.
+/// `first`. `bytes` and `dump` must have the same length and end in memory, and the range must lie among their
+/// addresses.
 fn append_difference(
     text: &mut Vec<u8>,
     first: u16,
@@ -189,7 +194,8 @@ fn append_difference(
     Ok(())
 }
 
-/// Appends the beginning of a range's line: `DIFFERS`, its first address and its length.
+/// Appends the beginning of a range's line: `DIFFERS`, its first address and its length. The length must be at most
+/// 65536.
 fn append_range(text: &mut Vec<u8>, range: Difference) -> Result<(), AllocError>
     requires { range.length ≤ 65536 }
     ensures { OnOk result (text.new.items ≡ text.old.items ++ range_text range) }
@@ -200,7 +206,7 @@ fn append_range(text: &mut Vec<u8>, range: Difference) -> Result<(), AllocError>
     append_length(text, range.length)
 }
 
-/// Appends a length in four hexadecimal digits, or as `10000` if it is 65536.
+/// Appends a length, which must be at most 65536, in four hexadecimal digits, or as `10000` if it is 65536.
 fn append_length(text: &mut Vec<u8>, length: u32) -> Result<(), AllocError>
     requires { length ≤ 65536 }
     ensures { OnOk result (text.new.items ≡ text.old.items ++ length_text length) }
@@ -212,7 +218,8 @@ fn append_length(text: &mut Vec<u8>, length: u32) -> Result<(), AllocError>
     }
 }
 
-/// Appends the digits of a range's bytes, of the first eight at most; the first of `bytes` has the address `first`.
+/// Appends the digits of a range's bytes, of the first eight at most; the first of `bytes` has the address `first`. The
+/// range must lie among the addresses of `bytes`.
 fn append_shown(
     text: &mut Vec<u8>,
     first: u16,
@@ -227,7 +234,7 @@ fn append_shown(
     append_digits(&bytes[begin..begin + count], text)
 }
 
-/// The number of places at which two lists of the same length have the same byte.
+/// The number of places at which two lists, which must have the same length, have the same byte.
 fn count_same(bytes: &[u8], dump: &[u8]) -> usize
     requires { length bytes.now ≡ length dump.now }
     ensures { result ≡ same_count bytes.now dump.now }

@@ -102,7 +102,7 @@ impl Dumps {
     }
 }
 
-/// Whether one of the chunks covers one of the `count` addresses from `first` on.
+/// Whether one of the chunks covers one of the `count` addresses from `first` on. The addresses must lie in memory.
 fn share_an_address(chunks: &[Chunk], first: usize, count: usize) -> bool
     requires { first + count ≤ 65536 }
     ensures { result ≡ true ↔ ShareAnAddress chunks.now first count }
@@ -115,7 +115,7 @@ fn share_an_address(chunks: &[Chunk], first: usize, count: usize) -> bool
     false
 }
 
-/// Whether the chunk covers one of the `count` addresses from `first` on.
+/// Whether the chunk covers one of the `count` addresses from `first` on. The addresses must lie in memory.
 fn meets(chunk: &Chunk, first: usize, count: usize) -> bool
     requires { first + count ≤ 65536 }
     ensures { result ≡ true ↔ ((address : ℕ) × (covers chunk.now address ≡ true) × (is_among first count address ≡ true)) }

@@ -20,7 +20,8 @@ pub(crate) fn memory_of(alloc: Global, chunks: &[Chunk], fill: u8) -> Result<Vec
     Ok(memory)
 }
 
-/// Copies the chunk's bytes to their addresses in a memory of 65536 bytes, and leaves the other bytes unchanged.
+/// Copies the chunk's bytes to their addresses in the memory, which must have 65536 bytes, and leaves the other bytes
+/// unchanged.
 fn place(memory: &mut Vec<u8>, chunk: &Chunk)
     requires { length memory.old.items ≡ 65536 }
     ensures { Holds memory.old.items chunk.now memory.new.items }

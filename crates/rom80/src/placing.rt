@@ -39,7 +39,8 @@ pub(crate) fn chunks_of(alloc: Global, first: u16, bytes: &[u8]) -> Result<Vec<C
     Ok(chunks)
 }
 
-/// Appends a chunk of the bytes at an address, and none if there are no bytes.
+/// Appends a chunk of the bytes at an address; nothing if there are no bytes, and then the address may lie past memory.
+/// Otherwise the bytes must end in memory. They must fit one content record: 65531 at most.
 fn push_chunk(
     alloc: Global,
     chunks: &mut Vec<Chunk>,

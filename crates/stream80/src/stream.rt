@@ -25,7 +25,8 @@ pub trait Source {
 
     /// Reads at most `buffer.len()` of the bytes that are left into the front of `buffer`, which
     /// must not be empty, and returns their number; 0 means the end. A failed read takes no bytes
-    /// from the source; an interrupted read is a failure.
+    /// from the source; an interrupted read is a failure. The count of failures must be below the
+    /// greatest `u64`.
     fn read(&mut self, buffer: &mut [u8]) -> Result<usize, Failed>
         requires room { 0 < length buffer.old }
         requires countable { failed self.old < u64.MAX }
@@ -48,7 +49,7 @@ pub trait Sink {
 
     /// Writes some bytes from the front of `bytes`, which must not be empty, and returns their
     /// number; `Ok(0)` counts as a failed write too. A failed write writes nothing; an interrupted
-    /// write is a failure.
+    /// write is a failure. The count of failures must be below the greatest `u64`.
     fn write(&mut self, bytes: &[u8]) -> Result<usize, Failed>
         requires some { 0 < length bytes.now }
         requires countable { failed self.old < u64.MAX }

@@ -38,8 +38,8 @@ pub(crate) fn first_high(modules: &[&Module]) -> Option<HighByte>
     None
 }
 
-/// The first fixup in these contents of the module with index `number`, whose parts start at
-/// `starts`, that makes a [`HighByte`]; `None` if none does.
+/// The first fixup in these contents of the module with index `number` that makes a [`HighByte`];
+/// `None` if none does. `starts` must be the starts of that module's parts.
 fn high_of_module(
     starts: &PartStarts<'_, '_>,
     number: usize,
@@ -56,8 +56,8 @@ fn high_of_module(
     None
 }
 
-/// The first fixup in this content of the module with index `number`, whose parts start at
-/// `starts`, that makes a [`HighByte`]; `None` if none does.
+/// The first fixup in this content of the module with index `number` that makes a [`HighByte`];
+/// `None` if none does. `starts` must be the starts of that module's parts.
 fn high_of_content(
     starts: &PartStarts<'_, '_>,
     number: usize,
@@ -76,6 +76,7 @@ fn high_of_content(
 
 /// The [`HighByte`] that a fixup in a content of the module with index `number` makes; `None` if it
 /// isn't for a high byte of a segment, or the module's part of that starts at a multiple of 256.
+/// `starts` must be the starts of that module's parts.
 fn high_of_fixup(
     starts: &PartStarts<'_, '_>,
     number: usize,

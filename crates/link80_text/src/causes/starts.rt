@@ -40,7 +40,7 @@ impl<'a, 'b> Model for PartStarts<'a, 'b> {
 
 impl<'a, 'b> PartStarts<'a, 'b> {
     /// The starts of the parts of the module with index `number`; `ends` must be the ends of the
-    /// parts of the modules before it.
+    /// parts of the modules before it. `number` must be below the number of modules.
     pub(crate) fn new(
         modules: &'b [&'a Module],
         number: usize,
@@ -73,7 +73,9 @@ impl<'a, 'b> PartStarts<'a, 'b> {
 }
 
 /// The offset, modulo 65536, at which the part of segment `id` of the module with index `number`
-/// starts, if the part before it ends at offset `end`.
+/// starts, if the part before it ends at offset `end`. `number` must be below the number of
+/// modules, and `id` be that of CODE, DATA or STACK; `end` must be that end, and at most 65790
+/// times `number`.
 fn moved_start(modules: &[&Module], number: usize, id: u8, end: u128) -> u16
     requires number { number < length modules.now }
     requires laid { IsTrue (is_laid_out id) }
@@ -108,7 +110,8 @@ impl PartEnds {
     }
 
     /// The ends if the parts of `source` are laid after these; `number` is its index, the number of
-    /// modules before it.
+    /// modules before it. These ends must be at most 65790 times `number`, and the new ones keep
+    /// that limit with `source` counted.
     pub(crate) fn with(self, source: &Module, number: usize) -> PartEnds
         requires { AreNear number self }
         ensures near { AreNear (number + 1) result }
@@ -122,7 +125,7 @@ impl PartEnds {
 }
 
 /// The end of a part that is laid after offset `before`; a paged one starts at the next multiple of
-/// 256.
+/// 256. `before` must be so small that no `u128` overflows.
 fn end_with(before: u128, part: Segment) -> u128
     requires { before + 255 < 340282366920938463463374607431768145920 }
     ensures { result ≡ rounded part.paged before + part.length }
@@ -131,7 +134,7 @@ fn end_with(before: u128, part: Segment) -> u128
 }
 
 /// The start of a part that is laid after offset `before`: the next multiple of 256 for a paged
-/// one, `before` for others.
+/// one, `before` for others. `before` must be so small that no `u128` overflows.
 fn round_up(before: u128, paged: bool) -> u128
     requires { before + 255 < 340282366920938463463374607431768211456 }
     ensures { result ≡ rounded paged before }

@@ -21,8 +21,9 @@ use std::marker::Model;
 /// taken, a module that needs that name, and the path of its library, as
 /// `TAKEN @P0029 FOR @P0029 BY CALC FROM plm80.lib`. Of the modules that need it, the nearest to
 /// the roots is named, of several the first, with the first of its names that need it; so following
-/// BY leads to a root. `paths` has the path of each library; one without has an empty path. Returns
-/// `false`, and appends nothing, if the reasons aren't found.
+/// BY leads to a root. `taken` must be the modules that a link of these roots takes from these
+/// libraries, in order, as `link80::select` finds them. `paths` has the path of each library; one
+/// without has an empty path. Returns `false`, and appends nothing, if the reasons aren't found.
 ///
 /// # Errors
 /// `AllocError` only if memory runs out; the text may then have some of the lines.
@@ -75,7 +76,8 @@ impl<'a> Model for Reasons<'a> {
 
 impl<'a> Reasons<'a> {
     /// Finds why the modules `taken` from the libraries were taken for the roots; `None` if the
-    /// search doesn't find it. `Err` only if memory runs out.
+    /// search doesn't find it. `taken` must be all the modules that a link of the roots takes from
+    /// them, in order. `Err` only if memory runs out.
     fn find(
         alloc: Global,
         roots: &'a [Module],
@@ -98,8 +100,8 @@ impl<'a> Reasons<'a> {
         }
     }
 
-    /// Appends a line for each module that was taken; `paths` has the path of each library. `Err`
-    /// only if memory runs out.
+    /// Appends a line for each module that was taken; `paths` has the path of each library. `taken`
+    /// must be the modules whose reasons these are. `Err` only if memory runs out.
     fn append_lines(
         &self,
         text: &mut Vec<u8>,
@@ -115,8 +117,8 @@ impl<'a> Reasons<'a> {
         Ok(())
     }
 
-    /// Appends the line of the module at `place`, which has index `number` among those that were
-    /// taken. `Err` only if memory runs out.
+    /// Appends the line of the module at `place`, which must have index `number` among those that
+    /// were taken. `Err` only if memory runs out.
     fn append_line(
         &self,
         text: &mut Vec<u8>,

@@ -53,7 +53,7 @@ pub fn bundle<S: Source, K: Sink>(
 }
 
 /// Does with the three texts in a bundle's bytes what a session does. The fault is `BadBundle` if the bytes have no
-/// three texts, else that of the session.
+/// three texts, else that of the session. The count of failures of `out` must be below the greatest `u64`.
 fn answer_bundle<K: Sink>(
     alloc: Global,
     bytes: &[u8],

@@ -27,8 +27,9 @@ pub fn list_reached(alloc: Global, vouched: &Vouched) -> Result<Vec<u8>, AllocEr
     lines_of(alloc, vouched.image(), &reached, false, &[])
 }
 
-/// The lines of [`list_reached`], each instruction with how often a run began it by `counts`, or `-` if it didn't;
-/// and a last line `REACHED n OF m`: how many of the instructions were begun.
+/// The lines of [`list_reached`], each instruction with how often a run began it by `counts`, or `-` if it didn't; and
+/// a last line `REACHED n OF m`: how many of the instructions were begun. `counts` must have 65536 entries, one for
+/// each address.
 ///
 /// # Errors
 /// `AllocError` only if memory runs out.
@@ -42,7 +43,8 @@ pub fn cover(alloc: Global, vouched: &Vouched, counts: &[u64]) -> Result<Vec<u8>
     Ok(lines)
 }
 
-/// The lines of an image's code, by the instructions that walks reach; with counts if `shown`.
+/// The lines of an image's code, by the instructions that walks reach; with counts if `shown`. If `shown`, `counts`
+/// must have 65536 entries.
 fn lines_of(
     alloc: Global,
     image: &Image,
@@ -65,7 +67,8 @@ fn lines_of(
     Ok(lines)
 }
 
-/// Appends the lines that begin at all addresses, in order, with their counts if `shown`.
+/// Appends the lines that begin at all addresses, in order, with their counts if `shown`. If `shown`, `counts` must
+/// have 65536 entries.
 fn append_lines(
     alloc: Global,
     layout: &Layout<'_>,
@@ -86,7 +89,8 @@ fn append_lines(
     Ok(())
 }
 
-/// The count of an address if `shown`, otherwise 0.
+/// The count of an address if `shown`, otherwise 0. `at` must be below 65536 and, if `shown`, `counts` must have 65536
+/// entries.
 fn count_shown(shown: bool, counts: &[u64], at: usize) -> u64
     requires whole { shown ≡ true → length counts.now ≡ 65536 }
     requires inside { at < 65536 }
@@ -100,7 +104,7 @@ fn count_shown(shown: bool, counts: &[u64], at: usize) -> u64
 
 /// Appends the line that begins at an address: that of a reached instruction, or that of up to eight bytes of data if
 /// the address is the first of a run of data or a multiple of eight bytes behind it. Nothing is appended if no line
-/// begins there. `before` is the number of bytes of data right before the address.
+/// begins there. `before` must be the number of bytes of data right before the address.
 fn append_line(
     alloc: Global,
     layout: &Layout<'_>,
@@ -125,6 +129,7 @@ fn append_line(
 }
 
 /// Appends the last line, `REACHED n OF m`: how many of the reached instructions a run began, and how many there are.
+/// `counts` must have 65536 entries.
 fn append_sums(
     alloc: Global,
     reached: &Reached,
@@ -153,7 +158,7 @@ fn count_all(reached: &Reached) -> u64
     count
 }
 
-/// How many of the instructions that walks reach have a count above 0.
+/// How many of the instructions that walks reach have a count above 0. `counts` must have 65536 entries.
 fn count_begun(reached: &Reached, counts: &[u64]) -> u64
     requires { length counts.now ≡ 65536 }
     ensures { result ≡ tally (is_begun counts.now reached.now) 0 65536 }
@@ -165,7 +170,8 @@ fn count_begun(reached: &Reached, counts: &[u64]) -> u64
     count
 }
 
-/// Whether walks reach an instruction at the address, and its count is above 0.
+/// Whether walks reach an instruction at the address, and its count is above 0. `at` must be below 65536, and `counts`
+/// must have 65536 entries.
 fn is_begun(reached: &Reached, counts: &[u64], at: usize) -> bool
     requires whole { length counts.now ≡ 65536 }
     requires inside { at < 65536 }

@@ -57,7 +57,8 @@ fn append_filled(alloc: Global, instr: Instr, lines: &mut Vec<u8>) -> Result<(),
     Ok(())
 }
 
-/// Appends spaces until ten bytes stand from the place `before` on; none if there are that many already.
+/// Appends spaces until ten bytes stand from the place `before` on; none if there are that many already. The place must
+/// not lie behind the end of the lines.
 fn fill_from(before: usize, lines: &mut Vec<u8>) -> Result<(), AllocError>
     requires { before ≤ length lines.old.items }
     ensures { OnOk result (lines.new.items ≡ lines.old.items ++ drop (length lines.old.items - before) (codes "          ")) }

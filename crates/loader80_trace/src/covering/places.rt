@@ -29,7 +29,8 @@ pub(crate) fn is_data(layout: &Layout<'_>, at: usize) -> bool
     at < 65536 && layout.regions.in_code(at as u16) && !is_covered(layout.reached, at as u16)
 }
 
-/// How many bytes of data stand right before the address after `at`, if `before` of them stand right before `at`.
+/// How many bytes of data stand right before the address after `at`, of which `before` must stand right before `at`.
+/// `at` must be below 65536.
 pub(crate) fn data_behind(layout: &Layout<'_>, at: usize, before: usize) -> usize
     requires before { before ≡ data_before (is_data layout.now.regions.now layout.now.reached.now) at }
     requires few { before ≤ at }
