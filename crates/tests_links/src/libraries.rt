@@ -79,26 +79,26 @@ static PROVIDED: [(&[u8], Option<usize>); 4] = [
     (b"S", None),
 ];
 
-/// Whether a library finds the first provider of each name.
+/// Whether a library finds for each name of [`PROVIDED`] the module that is listed there, or none.
 fn library_has_first_providers(alloc: Global, library: &Library) -> Result<bool, NameFault> {
     let mut all = true;
-    for (name, place) in &PROVIDED {
+    for (name, index) in &PROVIDED {
         let name = Name::new(alloc, name)?;
-        all = all && library.provider(&name) == *place;
+        all = all && library.provider(&name) == *index;
     }
     Ok(all)
 }
 
-/// Whether a table of providers has the first provider of each name.
+/// Whether a table of providers has for each name of [`PROVIDED`] the index that is listed there, or none.
 fn has_first_providers(providers: &Providers<'_>) -> bool {
     let mut all = true;
-    for (name, place) in &PROVIDED {
-        all = all && providers.first(name) == *place;
+    for (name, index) in &PROVIDED {
+        all = all && providers.first(name) == *index;
     }
     all
 }
 
-/// Whether the table of a library's modules has the first provider of each name.
+/// Whether the table of a library's modules has for each name of [`PROVIDED`] the index that is listed there, or none.
 fn table_has_first_providers(alloc: Global, library: &Library) -> Result<bool, AllocError> {
     let mut list = Vec::new(alloc);
     for module in &library.modules {

@@ -45,8 +45,9 @@ fn append_line(
     }
 }
 
-/// Appends the line of a part of segment `id`, as `  CODE 4000 METER of meter.obj`; `number` and
-/// `name` are its module's index and name. `Err` only if memory runs out.
+/// Appends the line of a part of segment `id`, as `  CODE 4000 METER of meter.obj`: the part's length,
+/// ` PAGED` behind it if the part is paged, and its module, with index `number` and this name.
+/// `files` has the path of each module's file. `Err` only if memory runs out.
 fn append_used(
     text: &mut Vec<u8>,
     files: &[&[u8]],

@@ -29,8 +29,8 @@ pub(crate) fn is_data(layout: &Layout<'_>, at: usize) -> bool
     at < 65536 && layout.regions.in_code(at as u16) && !is_covered(layout.reached, at as u16)
 }
 
-/// How many bytes of data stand right before the address after `at`, of which `before` must stand right before `at`.
-/// `at` must be below 65536.
+/// How many bytes of code that are in no reached instruction lie one after another up to `at`, with it: one more than
+/// `before`, how many lie up to the address before it, or 0 if `at` has none. `at` must be below 65536.
 pub(crate) fn data_behind(layout: &Layout<'_>, at: usize, before: usize) -> usize
     requires before { before ≡ data_before (is_data layout.now.regions.now layout.now.reached.now) at }
     requires few { before ≤ at }
