@@ -153,21 +153,21 @@ values_agree m value by_name at_zero rules z = record {
 abbrev pub value_by : (ℕ → ℕ) → Resolved → ℕ
 value_by value r = (value (number_of r.target) + r.addend) % 65536
 
-abbrev place_of : Public → Resolved
-place_of p = record { target = target.Segment p.segment; addend = p.offset }
+abbrev place_of_public : Public → Resolved
+place_of_public p = record { target = target.Segment p.segment; addend = p.offset }
 
 module _ (m : ModuleValue) (bases : Bases) (value : ℕ → ℕ) (rules : RulesOf m) (a : Agrees m bases value) where
   declared : (name : List ℕ) (word : ℕ) (r : Resolved) → word % 65536 ≡ value_by value r
       → (ps : List Public) → AllByRecursion (λ (p : Public). has_segment m.commons p.segment ≡ true) ps
       → option_map_or (λ p. p.word) (find (λ p. pointwise nat_eq p.name name) (map (placed_public bases (m ∷ []) (0, m)) ps ++ [])) word % 65536
-      ≡ value_by value (option_map_or place_of (find (λ p. pointwise nat_eq p.name name) ps) r)
+      ≡ value_by value (option_map_or place_of_public (find (λ p. pointwise nat_eq p.name name) ps) r)
   declared name word r e [] has = e
   declared name word r e (p ∷ ps) has = go (declared name word r e ps has.1) (pointwise nat_eq p.name name)
     where
       go : option_map_or (λ p. p.word) (find (λ p. pointwise nat_eq p.name name) (map (placed_public bases (m ∷ []) (0, m)) ps ++ [])) word % 65536
-          ≡ value_by value (option_map_or place_of (find (λ p. pointwise nat_eq p.name name) ps) r)
+          ≡ value_by value (option_map_or place_of_public (find (λ p. pointwise nat_eq p.name name) ps) r)
           → (t : Bool) → option_map_or (λ p. p.word) (cond t (Some (placed_public bases (m ∷ []) (0, m) p)) (find (λ p. pointwise nat_eq p.name name) (map (placed_public bases (m ∷ []) (0, m)) ps ++ []))) word % 65536
-          ≡ value_by value (option_map_or place_of (cond t (Some p) (find (λ p. pointwise nat_eq p.name name) ps)) r)
+          ≡ value_by value (option_map_or place_of_public (cond t (Some p) (find (λ p. pointwise nat_eq p.name name) ps)) r)
       go rest true = a.places p.segment p.offset has.0
       go rest false = rest
 

@@ -17,7 +17,7 @@ use Rattle.rom80_find.specs.CodeBytes.{number_of, half_of, byte_by}
 use Rattle.rom80_find.specs.Dump.{DumpValue, dump_byte}
 use Rattle.rom80_find.specs.Marks.{bit_in}
 use Rattle.rom80_find.specs.Places.{LiesWith, LiesAt, AreBelow, ArePlaces, is_listed}
-use Rattle.rom80_find.specs.Differences.{is_more, has_more, has_difference, IsDifference, IsReduced, IsDifferenceRow}
+use Rattle.rom80_find.specs.Differences.{is_more, has_pair, has_difference, IsDifference, IsReduced, IsDifferenceRow}
 use Rattle.rom80_find.proofs.SolveLemmas.{each_at}
 
 -- bytes of one half of one value
@@ -226,9 +226,9 @@ same_row true y z = refl
 same_row false y z = refl
 
 -- one more address, whose bit stands twice
-module _ (dump : DumpValue) (distance more at : ℕ) (old new : List ℕ) (here : Bool) (below : at < 65536) (is : here ≡ has_more dump at distance more)
+module _ (dump : DumpValue) (distance more at : ℕ) (old new : List ℕ) (here : Bool) (below : at < 65536) (is : here ≡ has_pair dump at distance more)
     (step : (k : ℕ) → bit_in new k ≡ ((bit_in old k || (here && k == at)) || (here && k == at + 65536)))
-    (h : (k : ℕ) → k < 131072 → bit_in old k ≡ (nat_lt (k % 65536) at && has_more dump (k % 65536) distance more)) where
+    (h : (k : ℕ) → k < 131072 → bit_in old k ≡ (nat_lt (k % 65536) at && has_pair dump (k % 65536) distance more)) where
   and-none : (x : Bool) → (x && false) ≡ false
   and-none true = refl
   and-none false = refl
@@ -238,13 +238,13 @@ module _ (dump : DumpValue) (distance more at : ℕ) (old new : List ℕ) (here 
   or-none false = refl
 
   apart : (k : ℕ) → k < 131072 → k % 65536 ≢ at → nat_lt (k % 65536) at ≡ nat_lt (k % 65536) (at + 1)
-      → bit_in new k ≡ (nat_lt (k % 65536) (at + 1) && has_more dump (k % 65536) distance more)
+      → bit_in new k ≡ (nat_lt (k % 65536) (at + 1) && has_pair dump (k % 65536) distance more)
   apart k lt ne same =
       step k ∙ (ap (λ (t : Bool). (bit_in old k || (here && t)) || (here && k == at + 65536)) (ne_eqb k at (λ e. ne (omega (arith, e, below))))
       ∙ (ap (λ (t : Bool). (bit_in old k || (here && false)) || (here && t)) (ne_eqb k (at + 65536) (λ e. ne (omega (arith, e, below))))
       ∙ (ap (λ (t : Bool). (bit_in old k || t) || t) (and-none here)
       ∙ (or-none (bit_in old k || false) ∙ (or-none (bit_in old k)
-      ∙ (h k lt ∙ ap (λ (t : Bool). t && has_more dump (k % 65536) distance more) same))))))
+      ∙ (h k lt ∙ ap (λ (t : Bool). t && has_pair dump (k % 65536) distance more) same))))))
 
   either : (x y : Bool) → (x || y) ≡ true → ((false || (here && x)) || (here && y)) ≡ here
   either true y e = or-same here y
@@ -259,22 +259,22 @@ module _ (dump : DumpValue) (distance more at : ℕ) (old new : List ℕ) (here 
       or-only false y e = refl
 
   exact : (k : ℕ) → k < 131072 → k % 65536 ≡ at
-      → bit_in new k ≡ (nat_lt (k % 65536) (at + 1) && has_more dump (k % 65536) distance more)
+      → bit_in new k ≡ (nat_lt (k % 65536) (at + 1) && has_pair dump (k % 65536) distance more)
   exact k lt e =
       step k ∙ (ap (λ (t : Bool). (t || (here && k == at)) || (here && k == at + 65536))
-      (h k lt ∙ ap (λ (t : Bool). t && has_more dump (k % 65536) distance more) (le-ltb (k % 65536) at (omega (arith, e))))
+      (h k lt ∙ ap (λ (t : Bool). t && has_pair dump (k % 65536) distance more) (le-ltb (k % 65536) at (omega (arith, e))))
       ∙ (either (k == at) (k == at + 65536) (elim (cases_lt k 65536) [
         | inl less ↦ ap (λ (t : Bool). t || k == at + 65536) (eq-eqb k at (omega (arith, e, less)))
         | inr far ↦ or-right (k == at) (k == at + 65536) (eq-eqb k (at + 65536) (omega (arith, e, far, lt)))
       ])
-      ∙ (is ∙ (ap (λ (n : ℕ). has_more dump n distance more) (sym e)
-      ∙ ap (λ (t : Bool). t && has_more dump (k % 65536) distance more) (sym (lt-ltb (k % 65536) (at + 1) (omega (arith, e))))))))
+      ∙ (is ∙ (ap (λ (n : ℕ). has_pair dump n distance more) (sym e)
+      ∙ ap (λ (t : Bool). t && has_pair dump (k % 65536) distance more) (sym (lt-ltb (k % 65536) (at + 1) (omega (arith, e))))))))
     where
       or-right : (x y : Bool) → y ≡ true → (x || y) ≡ true
       or-right true y e = refl
       or-right false y e = e
 
-  pub row_more : (k : ℕ) → k < 131072 → bit_in new k ≡ (nat_lt (k % 65536) (at + 1) && has_more dump (k % 65536) distance more)
+  pub row_more : (k : ℕ) → k < 131072 → bit_in new k ≡ (nat_lt (k % 65536) (at + 1) && has_pair dump (k % 65536) distance more)
   row_more k lt = elim (cases_lt (k % 65536) at) [
     | inl less ↦ apart k lt (λ e. omega (arith, less, e)) (lt-ltb (k % 65536) at less ∙ sym (lt-ltb (k % 65536) (at + 1) (omega (arith, less))))
     | inr le ↦ elim (cases_lt at (k % 65536)) [
@@ -292,4 +292,4 @@ pub row_has : (dump : DumpValue) (d : Difference) (row words : List ℕ) (offset
     → row ≡ words → offset ≡ d.offset → a + offset < 131072 → bit_in row (a + offset) ≡ has_difference dump a d
 row_has dump d row words offset a h is at lt =
     ap (λ (l : List ℕ). bit_in l (a + offset)) is
-    ∙ (h.each (a + offset) lt ∙ ap (λ (o : ℕ). has_more dump ((a + o) % 65536) d.distance d.more) at)
+    ∙ (h.each (a + offset) lt ∙ ap (λ (o : ℕ). has_pair dump ((a + o) % 65536) d.distance d.more) at)

@@ -11,7 +11,7 @@ use Rattle.rom80_find.specs.declared.pattern.code_byte.CodeByte.{CodeByte}
 use Rattle.rom80_find.specs.CodeBytes.{number_of, byte_by, half_of, is_low}
 use Rattle.rom80_find.specs.declared.lone.Uses.{Uses}
 use Rattle.rom80_find.specs.declared.lone.Uses.TheVariants as kept
-use Rattle.rom80_find.specs.Lone.{bytes_with, AreOfOneWord, AreLone, IsUses, is_lone, is_crowded}
+use Rattle.rom80_find.specs.Lone.{bytes_with, AreOfOneWord, AreLone, IsUses, is_lone, is_repeated}
 use Rattle.rom80_find.specs.Marks.{has_row, is_in_row, passes}
 use Rattle.rom80_find.specs.Places.{LiesAt, fits, fits_if_plain, is_free, is_plain}
 use Rattle.rom80_find.proofs.CodeLieLemmas.{lies_plain}
@@ -157,13 +157,13 @@ all_head P q b bs e h = (rw e at h).0
 join_lone : (dump : DumpValue) (lone : List Bool) (address : ℕ) (value new : ℕ → ℕ) (bs : List CodeByte)
     → ((n : ℕ) → slice_index_or lone n false ≡ false → new n ≡ value n)
     → ((n : ℕ) → nat_le 2 n ≡ true → slice_index_or lone n false ≡ true → AllByRecursion (Fits dump address (new n)) (bytes_with n bs))
-    → HasAll dump address value (filter (is_crowded lone) bs) → HasAll dump address new (filter is_free bs)
+    → HasAll dump address value (filter (is_repeated lone) bs) → HasAll dump address new (filter is_free bs)
 join_lone dump lone address value new [] same fit crowded = tt
 join_lone dump lone address value new (b ∷ bs) same fit crowded =
     one (is_free b) (slice_index_or lone (number_of b.target) false) refl refl
     (join_lone dump lone address value new bs same
     (λ n two is. all_tail (Fits dump address (new n)) (λ b. number_of b.target == n) b bs (fit n two is))
-    (all_tail (Lies dump address value) (is_crowded lone) b bs crowded))
+    (all_tail (Lies dump address value) (is_repeated lone) b bs crowded))
   where
     one : (f l : Bool) → is_free b ≡ f → slice_index_or lone (number_of b.target) false ≡ l
         → HasAll dump address new (filter is_free bs) → HasAll dump address new (filter is_free (b ∷ bs))
@@ -172,7 +172,7 @@ join_lone dump lone address value new (b ∷ bs) same fit crowded =
       rest,
     )
     one true false ef el rest = rw ef (
-      all_head (Lies dump address value) (is_crowded lone) b bs (and_from (is_free b) (not (slice_index_or lone (number_of b.target) false)) ef (ap (λ (t : Bool). not t) el)) crowded
+      all_head (Lies dump address value) (is_repeated lone) b bs (and_from (is_free b) (not (slice_index_or lone (number_of b.target) false)) ef (ap (λ (t : Bool). not t) el)) crowded
           ∙ ap (λ (w : ℕ). Some (half_of b.half ((w + b.addend) % 65536))) (sym (same (number_of b.target) el)),
       rest,
     )
@@ -184,7 +184,7 @@ with_lone dump lone address code value n = if nat_le 2 n && slice_index_or lone 
 
 pub free_lies : (dump : DumpValue) (lone : List Bool) (code : List CodeByte) (address : ℕ) → AreLone code lone
     → list_all (passes dump lone address) code ≡ true
-    → LiesAt dump (filter (is_crowded lone) code) address → LiesAt dump (filter is_free code) address
+    → LiesAt dump (filter (is_repeated lone) code) address → LiesAt dump (filter is_free code) address
 free_lies dump lone code address are pass h = record {
   value = with_lone dump lone address code h.value;
   lies = record {

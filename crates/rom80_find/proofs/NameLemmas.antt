@@ -18,7 +18,7 @@ use Rattle.omf_model.specs.Rules.{has_target}
 use Rattle.omf_model.specs.ImageByte.{name_at}
 use Rattle.rom80_find.specs.declared.pattern.resolving.Resolved.{Resolved}
 use Rattle.rom80_find.specs.Modules.{first_with, resolved_external}
-use Rattle.rom80_find.specs.Names.{place_of, declared_at, word_at, index_in, meaning_in, AreNames, AddsName, AreExternals}
+use Rattle.rom80_find.specs.Names.{place_of_public, declared_at, word_of_external, index_in, meaning_in, AreNames, AddsName, AreExternals}
 
 -- a table with keys that stand for others
 pub meaning_mapped : {K : Type 0} (f : K → List ℕ) (name : List ℕ) (es : List (K × Resolved))
@@ -45,18 +45,18 @@ index_more (n ∷ ns) x name =
     later None false = refl
 
 pub externals_more : (publics : List Public) (ns : List (List ℕ)) (i : ℕ) (x : List ℕ) (old new : List (List ℕ × Resolved)) → i < length ns
-    → x ≡ get_or ns i x → AddsName x (word_at i) old new → AreNames publics (take i ns) old → AreNames publics (take (i + 1) ns) new
+    → x ≡ get_or ns i x → AddsName x (word_of_external i) old new → AreNames publics (take i ns) old → AreNames publics (take (i + 1) ns) new
 externals_more publics ns i x old new lt is adds are = record {
-  each = λ name. adds.added name ∙ ap (λ (o : Option Resolved). option_or o (if pointwise nat_eq x name then Some (word_at i) else None)) (are.each name)
+  each = λ name. adds.added name ∙ ap (λ (o : Option Resolved). option_or o (if pointwise nat_eq x name then Some (word_of_external i) else None)) (are.each name)
       ∙ or_more (declared_at publics name) (index_in (take i ns) name) (pointwise nat_eq x name)
-      ∙ ap (λ (o : Option ℕ). option_or (declared_at publics name) (option_map word_at o))
+      ∙ ap (λ (o : Option ℕ). option_or (declared_at publics name) (option_map word_of_external o))
       (sym (ap (λ (l : List (List ℕ)). index_in l name) (take_more ns i x lt ∙ ap (λ (y : List ℕ). take i ns ++ y ∷ []) (sym is)) ∙ index_more (take i ns) x name
       ∙ ap (λ (k : ℕ). option_or (index_in (take i ns) name) (if pointwise nat_eq x name then Some k else None)) (taken i ns lt)));
 }
   where
     or_more : (p : Option Resolved) (o : Option ℕ) (b : Bool)
-        → option_or (option_or p (option_map word_at o)) (if b then Some (word_at i) else None)
-        ≡ option_or p (option_map word_at (option_or o (if b then Some i else None)))
+        → option_or (option_or p (option_map word_of_external o)) (if b then Some (word_of_external i) else None)
+        ≡ option_or p (option_map word_of_external (option_or o (if b then Some i else None)))
     or_more (Some r) o b = refl
     or_more None (Some k) b = refl
     or_more None None true = refl
@@ -81,22 +81,22 @@ first_is (n ∷ ns) name =
     later None = refl
 
 pub external_is : (m : ModuleValue) (i : ℕ) (x : List ℕ) (names : List (List ℕ × Resolved)) → i < length m.externals → x ≡ get_or m.externals i x
-    → AreNames m.publics (take i m.externals) names → unwrap_or (meaning_in names x) (word_at i) ≡ resolved_external m i
+    → AreNames m.publics (take i m.externals) names → unwrap_or (meaning_in names x) (word_of_external i) ≡ resolved_external m i
 external_is m i x names lt is are =
-    ap (λ (o : Option Resolved). unwrap_or o (word_at i)) (are.each x)
+    ap (λ (o : Option Resolved). unwrap_or o (word_of_external i)) (are.each x)
     ∙ cases (find (λ p. pointwise nat_eq p.name x) m.publics) (index_in (take i m.externals) x)
     (first_is (take i m.externals) x ∙ ap (λ (n : ℕ). option_map_or (λ (k : ℕ). k) (index_in (take i m.externals) x) n) (omega (arith, length-take i m.externals)))
-    ∙ ap (λ (name : List ℕ). option_map_or place_of (find (λ p. pointwise nat_eq p.name name) m.publics) (word_at (first_with (take i m.externals) name))) named
+    ∙ ap (λ (name : List ℕ). option_map_or place_of_public (find (λ p. pointwise nat_eq p.name name) m.publics) (word_of_external (first_with (take i m.externals) name))) named
   where
     named : x ≡ name_at m.externals i
     named = sym (ap (λ (o : Option (List ℕ)). unwrap_or o []) (slice_get_read m.externals (length m.externals) i x refl lt is))
 
     cases : (p : Option Public) (o : Option ℕ) → first_with (take i m.externals) x ≡ option_map_or (λ (k : ℕ). k) o i
-        → unwrap_or (option_or (option_map place_of p) (option_map word_at o)) (word_at i)
-        ≡ option_map_or place_of p (word_at (first_with (take i m.externals) x))
+        → unwrap_or (option_or (option_map place_of_public p) (option_map word_of_external o)) (word_of_external i)
+        ≡ option_map_or place_of_public p (word_of_external (first_with (take i m.externals) x))
     cases (Some p) o e = refl
-    cases None (Some k) e = ap word_at (sym e)
-    cases None None e = ap word_at (sym e)
+    cases None (Some k) e = ap word_of_external (sym e)
+    cases None None e = ap word_of_external (sym e)
 
 -- one more of the list
 pub listed_more : (m : ModuleValue) (i : ℕ) (made : List Resolved) (next : Resolved) → length made ≡ i

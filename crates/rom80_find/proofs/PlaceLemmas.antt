@@ -11,7 +11,7 @@ use Rattle.std.proofs.lemmas.List.Quantifiers.{all_pairs_push}
 use Rattle.rom80_find.specs.Dump.{DumpValue}
 use Rattle.rom80_find.specs.declared.pattern.code_byte.CodeByte.{CodeByte}
 use Rattle.rom80_find.specs.Places.{LiesAt, place_if, is_known_fixup, ArePlaces, is_listed}
-use Rattle.rom80_find.specs.Lone.{AreLone, is_crowded}
+use Rattle.rom80_find.specs.Lone.{AreLone, is_repeated}
 use Rattle.rom80_find.specs.Marks.{AreSieved, IsSievedWord, has_bit, passes}
 use Rattle.rom80_find.specs.Search.{SearchValue, search_of}
 use Rattle.rom80_find.proofs.CodeLieLemmas.{parts_lie}
@@ -81,7 +81,7 @@ module _ (dump : DumpValue) (lone : List Bool) (code : List CodeByte) (at : ℕ)
   sieved_away e l = true≢false (sym (lies_passes dump lone code at l) ∙ (sym sieved ∙ e))
 
   -- its bytes lie there
-  lies_here : here ≡ true → LiesAt dump (filter is_known_fixup code) at → LiesAt dump (filter (is_crowded lone) code) at → LiesAt dump code at
+  lies_here : here ≡ true → LiesAt dump (filter is_known_fixup code) at → LiesAt dump (filter (is_repeated lone) code) at → LiesAt dump code at
   lies_here e known crowded =
       let pass = sym sieved ∙ e in
       parts_lie dump code at (all_plain dump lone at code pass) (rest_lies dump code at known (free_lies dump lone code at are pass crowded))
@@ -91,8 +91,8 @@ module _ (dump : DumpValue) (lone : List Bool) (code : List CodeByte) (at : ℕ)
     next : (lies : Bool) (new : List ℕ)
         → (lies ≡ true → here ≡ true)
         → (lies ≡ true → LiesAt dump (filter is_known_fixup code) at)
-        → (lies ≡ true → LiesAt dump (filter (is_crowded lone) code) at)
-        → (lies ≡ false → here ≡ true → LiesAt dump (filter is_known_fixup code) at → LiesAt dump (filter (is_crowded lone) code) at → ⊥)
+        → (lies ≡ true → LiesAt dump (filter (is_repeated lone) code) at)
+        → (lies ≡ false → here ≡ true → LiesAt dump (filter is_known_fixup code) at → LiesAt dump (filter (is_repeated lone) code) at → ⊥)
         → new ≡ places ++ place_if lies at
         → ArePlaces dump code (at + 1) new
     next true new alive known crowded none is = subst (λ (l : List ℕ). ArePlaces dump code (at + 1) l) (sym is)
@@ -101,7 +101,7 @@ module _ (dump : DumpValue) (lone : List Bool) (code : List CodeByte) (at : ℕ)
         (not_there dump code at places h (away here refl))
       where
         away : (t : Bool) → here ≡ t → LiesAt dump code at → ⊥
-        away true e l = none refl e (lies_some dump code at is_known_fixup l) (lies_some dump code at (is_crowded lone) l)
+        away true e l = none refl e (lies_some dump code at is_known_fixup l) (lies_some dump code at (is_repeated lone) l)
         away false e l = sieved_away e l
 
     pub next_places : (s : SearchValue) → s ≡ search_of dump lone code → (lies : Bool) (new : List ℕ)

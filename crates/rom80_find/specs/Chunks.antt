@@ -9,10 +9,11 @@ use Rattle.omf_model.specs.Modules.{ModuleValue}
 use Rattle.omf_model.specs.Place.{Bases}
 use Rattle.omf_model.specs.ImageByte.{ByteChunk, chunk_of, chunk_covers, byte_of}
 
--- the chunks of the module's contents in CODE alone, as they are if it has these bases
+-- the content is in CODE
 abbrev pub is_code : ContentValue → Bool
 is_code c = c.segment == code_id
 
+-- the chunks of the module's contents in CODE alone, if the module has these bases
 abbrev pub code_chunks : Bases → ModuleValue → List ByteChunk
 code_chunks bases m = map (chunk_of bases (m ∷ []) (0, m)) (filter is_code m.contents)
 

@@ -7,12 +7,12 @@ use Rattle.rom80_find.specs.declared.pattern.code_byte.Half.{Half}
 use Rattle.rom80_find.specs.declared.pattern.code_byte.Half.TheVariants.{Low, High}
 use Rattle.rom80_find.specs.declared.pattern.code_byte.CodeByte.{CodeByte}
 
--- the number by which a target's value goes: the id of a segment, and 256 plus the index of an external
+-- the number of a target, by which tables of values are indexed: a segment's id, and 256 plus an external's index
 abbrev pub number_of : Target → ℕ
 number_of (target.Segment id) = id
 number_of (target.External index) = 256 + index
 
--- it is a segment with an id below 256, or an external; of these no two have one number
+-- the target is a segment with an id below 256, or an external; no two of these have one number
 abbrev pub has_small_id : Target → Bool
 has_small_id (target.Segment id) = nat_lt id 256
 has_small_id (target.External index) = true
@@ -22,10 +22,11 @@ abbrev pub half_of : Half → ℕ → ℕ
 half_of Low word = word % 256
 half_of High word = word / 256 % 256
 
--- the byte, if the values go by their numbers
+-- the byte, if each target has the value of its number
 abbrev pub byte_by : (value : ℕ → ℕ) → CodeByte → ℕ
 byte_by value b = half_of b.half ((value (number_of b.target) + b.addend) % 65536)
 
+-- the half is the low byte
 abbrev pub is_low : Half → Bool
 is_low Low = true
 is_low High = false

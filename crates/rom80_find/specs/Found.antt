@@ -20,7 +20,7 @@ pub record IsPlaceText (dump : DumpValue) (m : ModuleValue) (address : ℕ) (tex
   pub ascending : AreAscending words
   pub text_is : text ≡ place_text m address words
 
--- the text of places: those of the first sixteen, and how many more there are
+-- the text of a module's places: the texts of the first sixteen, and how many more there are
 pub record IsPlacesText (dump : DumpValue) (m : ModuleValue) (places text : List ℕ) : Type 0 where
   pub texts : List (List ℕ)
   pub each : AllZip (IsPlaceText dump m) (take 16 places) texts
@@ -39,6 +39,7 @@ pub data IsFound (dump : DumpValue) (m : ModuleValue) : Finding → List ℕ →
 
 -- ---- the modules of an object file: the text of each, and whether none is missing
 
+-- the module was looked for and has no place
 abbrev pub is_missing : Finding → Bool
 is_missing Short = false
 is_missing Missing = true
@@ -50,8 +51,9 @@ pub record PrintsModules (dump : DumpValue) (modules : List ModuleValue) (are_th
   pub there_is : are_there ≡ not (list_any (λ f. is_missing f.0) findings)
   pub after_is : after ≡ before ++ flat_map (λ f. f.1) findings
 
--- ---- those of a library: the texts of those that have a place, and how many have none
+-- ---- the modules of a library: the texts of those that have a place, and how many have none
 
+-- the module has a place
 abbrev pub has_place : Finding → Bool
 has_place Short = false
 has_place Missing = false

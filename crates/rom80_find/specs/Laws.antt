@@ -18,14 +18,14 @@ PatternsLieAsModules =
     → IsTrue (is_sound m) → code_length m < 65536 → address < 65536
     → (0 < length (code_bytes m)) × LiesAt dump (code_bytes m) address ↔ HasModule dump m address
 
--- so the places of the one are those of the other
+-- the addresses at which the code lies are those at which the module lies
 abbrev pub PatternPlacesAreModulePlaces : Type 0
 PatternPlacesAreModulePlaces =
     (dump : DumpValue) (m : ModuleValue) (places : List ℕ)
     → IsTrue (is_sound m) → code_length m < 65536 → 0 < length (code_bytes m)
     → ArePlaces dump (code_bytes m) 65536 places → AreModulePlaces dump m places
 
--- and a value that can be one word only is a base, or the word of a name, that can be that one only
+-- a value that can be one word only is a base, or the word of a name, that can be that one only
 abbrev pub PatternWordsAreModuleWords : Type 0
 PatternWordsAreModuleWords =
     (dump : DumpValue) (m : ModuleValue) (address count : ℕ) (words : List Word)
@@ -33,7 +33,7 @@ PatternWordsAreModuleWords =
     → AreBelow count (code_bytes m) → AreOnlyWords dump (code_bytes m) address count words
     → AreModuleWords dump m address words
 
--- which is that of a target that may be listed
+-- a value that can be one word only is that of a target that may be listed
 abbrev pub PatternWordsMayBeListed : Type 0
 PatternWordsMayBeListed =
     (dump : DumpValue) (m : ModuleValue) (address count : ℕ) (words : List Word)

@@ -23,7 +23,7 @@ pub record LiesByBases (dump : DumpValue) (m : ModuleValue) (address : ℕ) (bas
   pub bytes : (a : ℕ) (c : ByteChunk) → last_over (code_chunks bases m) a ≡ Some c → dump_byte dump a ≡ Some (chunk_byte c a)
   pub some : (a : ℕ) × (is_covered (code_chunks bases m) a ≡ true)
 
--- it lies there: there are bases with which it does
+-- the module lies at the address: there are bases with which it does
 pub record HasModule (dump : DumpValue) (m : ModuleValue) (address : ℕ) : Type 0 where
   pub bases : Bases
   pub lies : LiesByBases dump m address bases

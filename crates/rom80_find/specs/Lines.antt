@@ -34,7 +34,7 @@ base_of commons (target.External index) word = []
 abbrev pub base_part : List Common → Word → List ℕ
 base_part commons w = base_of commons w.target w.word
 
--- and the top, if it is STACK
+-- a target with its word is the top, if it is STACK
 abbrev pub top_of : Target → (word : ℕ) → List ℕ
 top_of (target.Segment id) word = if id == stack_id then codes " TOP " ++ word_text word else []
 top_of (target.External index) word = []

@@ -33,7 +33,8 @@ abbrev pub OnlyCodeCovers : Bases → List ModuleValue → (address : ℕ) → �
 OnlyCodeCovers bases modules address e =
     AllByRecursion (λ c. chunk_covers address (chunk_of bases modules e c) ≡ true → is_code c ≡ true) e.1.contents
 
--- If all modules do, the dump has the byte that LINK and LOCATE give each address that contents cover, all of them in CODE.
+-- If all modules of a link lie in the dump so, the dump has the byte that LINK and LOCATE give each address that contents cover, all of them in
+-- CODE.
 abbrev pub LinkHasTheBytes : Type 0
 LinkHasTheBytes =
     (dump : DumpValue) (bases : Bases) (modules : List ModuleValue) (address : ℕ)

@@ -8,14 +8,15 @@ use Rattle.rom80_find.specs.declared.pattern.code_byte.CodeByte.{CodeByte}
 use Rattle.rom80_find.specs.Places.{is_plain}
 use Rattle.rom80_find.specs.Lone.{is_lone}
 
--- a bit of a word, and a bit of words that have 64 each
+-- the bit of a word with this number is set
 abbrev pub has_bit : (word index : ℕ) → Bool
 has_bit word index = bit_at word index == 1
 
+-- the bit with this number is set in words that have 64 bits each
 abbrev pub bit_in : List ℕ → (index : ℕ) → Bool
 bit_in words index = has_bit (slice_index_or words (index / 64) 0) (index % 64)
 
--- the rows: of the bytes, and the last one of all of them
+-- the byte is in the row: rows 0 to 255 are of one byte each, row 256 of any
 abbrev pub is_in_row : (row byte : ℕ) → Bool
 is_in_row row byte = (row == byte || row == 256) && nat_lt byte 256
 
@@ -23,12 +24,12 @@ is_in_row row byte = (row == byte || row == 256) && nat_lt byte 256
 abbrev pub has_row : DumpValue → (row address : ℕ) → Bool
 has_row dump row address = option_map_or (is_in_row row) (dump_byte dump address) false
 
--- the addresses of a row, twice
+-- a row: a bit for each address, and then the same bits again
 pub record IsRow (dump : DumpValue) (row : ℕ) (words : List ℕ) : Type 0 where
   pub whole : length words ≡ 2048
   pub each : (at : ℕ) → at < 131072 → bit_in words at ≡ has_row dump row (at % 65536)
 
--- the rows one after another, up to an address
+-- the 257 rows one after another, with the bits of the addresses below one
 pub record AreMarks (dump : DumpValue) (stop : ℕ) (words : List ℕ) : Type 0 where
   pub whole : length words ≡ 526336
   pub each : (row at : ℕ) → row < 257 → at < 131072 → bit_in words (row * 131072 + at) ≡ (nat_lt at stop && has_row dump row (at % 65536))
@@ -38,18 +39,19 @@ abbrev pub is_mark : (found : Option ℕ) (at index : ℕ) → Bool
 is_mark None at index = false
 is_mark (Some byte) at index = (index == byte * 131072 + at || index == 33554432 + at) && nat_lt byte 256
 
--- the row that has a byte of code, if one decides: that of a byte outside fixups, or the last one if its value is met nowhere else
+-- the row in which a byte of code is looked up, if there is one: the byte's own outside fixups, the last one for a byte of a lone value
 abbrev pub row_of : (lone : List Bool) → CodeByte → Option ℕ
 row_of lone b = if is_plain b then Some (b.addend % 256) else if is_lone lone b then Some 256 else None
 
+-- the row of the byte, if there is one, has the address at which the byte would be with CODE at this one
 abbrev pub passes : DumpValue → (lone : List Bool) (address : ℕ) → CodeByte → Bool
 passes dump lone address b = option_map_or (λ row. has_row dump row ((address + b.offset) % 65536)) (row_of lone b) true
 
--- of each address whether all bytes of the code for which a row decides are there with CODE at it
+-- a bit for each address, set if with CODE there all bytes of the code that have a row are in it
 pub record AreSieved (dump : DumpValue) (lone : List Bool) (code : List CodeByte) (alive : List ℕ) : Type 0 where
   pub whole : length alive ≡ 1024
   pub each : (address : ℕ) → address < 65536 → bit_in alive address ≡ list_all (passes dump lone address) code
 
--- the same of the 64 addresses of a word
+-- the bits of the 64 addresses from this one on, in one word
 pub record IsSievedWord (dump : DumpValue) (lone : List Bool) (code : List CodeByte) (first word : ℕ) : Type 0 where
   pub each : (i : ℕ) → i < 64 → has_bit word i ≡ list_all (passes dump lone (first + i)) code

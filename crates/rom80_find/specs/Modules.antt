@@ -33,6 +33,7 @@ resolved_external m index = option_map_or
     (find (λ p. same_name p.name (name_at m.externals index)) m.publics)
     (record { target = target.External (first_with (take index m.externals) (name_at m.externals index)); addend = 0 })
 
+-- what a fixup's target stands for
 abbrev pub resolved : ModuleValue → Target → Resolved
 resolved m (target.Segment id) = record { target = target.Segment id; addend = 0 }
 resolved m (target.External index) = resolved_external m index
@@ -56,6 +57,7 @@ field_byte field.Both r c at i = record {
   addend = (r.addend + word_in_bytes c.bytes at) % 65536;
 }
 
+-- the byte of a fixup, by its index in the content
 abbrev pub fixup_byte : ModuleValue → ContentValue → ℕ → Fixup → CodeByte
 fixup_byte m c i f = field_byte f.field (resolved m f.target) c (f.offset - c.offset) i
 
@@ -63,6 +65,7 @@ fixup_byte m c i f = field_byte f.field (resolved m f.target) c (f.offset - c.of
 abbrev pub byte_by_fixups : ModuleValue → ContentValue → ℕ → List Fixup → CodeByte
 byte_by_fixups m c i fixups = option_map_or (fixup_byte m c i) (find (has_byte c i) fixups) (plain_byte c i)
 
+-- the byte of a content at an offset in CODE
 abbrev pub byte_in : ModuleValue → (offset : ℕ) → ContentValue → CodeByte
 byte_in m offset c = byte_by_fixups m c (offset - c.offset) c.fixups
 
@@ -70,7 +73,7 @@ byte_in m offset c = byte_by_fixups m c (offset - c.offset) c.fixups
 abbrev pub covers : ℕ → ContentValue → Bool
 covers offset c = nat_le c.offset offset && nat_lt (offset - c.offset) (length c.bytes)
 
--- it has one at this offset in CODE
+-- the content is in CODE and has a byte at this offset
 abbrev pub covers_code : ℕ → ContentValue → Bool
 covers_code offset c = c.segment == code_id && covers offset c
 
@@ -78,10 +81,11 @@ covers_code offset c = c.segment == code_id && covers offset c
 abbrev pub code_byte_at : ModuleValue → (offset : ℕ) → Option CodeByte
 code_byte_at m offset = last_or None (map (byte_in m offset) (filter (covers_code offset) m.contents))
 
+-- the length of CODE
 abbrev pub code_length : ModuleValue → ℕ
 code_length m = (segment_in m.segments code_id).length
 
--- all of them, in ascending order of offsets
+-- the bytes that the contents define in CODE, in ascending order of offsets
 abbrev pub code_bytes : ModuleValue → List CodeByte
 code_bytes m = filter_map (code_byte_at m) (range_with_len 0 (code_length m))
 
@@ -90,7 +94,7 @@ pub record IsWithin (c : ContentValue) (f : Fixup) : Type 0 where
   pub begin : c.offset ≤ f.offset
   pub inside : IsTrue (is_inside_bytes (length c.bytes) (patch_with (λ _. 0) c.offset f))
 
--- of each offset in CODE the byte there
+-- the table has for each offset in CODE the byte there
 pub record IsTable (m : ModuleValue) (table : List (Option CodeByte)) : Type 0 where
   pub whole : length table ≡ code_length m
   pub each : (o : ℕ) → o < code_length m → slice_index_or table o None ≡ code_byte_at m o

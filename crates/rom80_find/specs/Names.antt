@@ -9,16 +9,17 @@ use Rattle.omf_model.specs.Modules.{ModuleValue}
 use Rattle.rom80_find.specs.declared.pattern.resolving.Resolved.{Resolved}
 use Rattle.rom80_find.specs.Modules.{resolved_external}
 
--- the place of the first of these publics that has the name
-abbrev pub place_of : Public → Resolved
-place_of p = record { target = target.Segment p.segment; addend = p.offset }
+-- the place of a public
+abbrev pub place_of_public : Public → Resolved
+place_of_public p = record { target = target.Segment p.segment; addend = p.offset }
 
+-- the place of the first of these publics that has the name
 abbrev pub declared_at : List Public → List ℕ → Option Resolved
-declared_at publics name = option_map place_of (find (λ p. same_name p.name name) publics)
+declared_at publics name = option_map place_of_public (find (λ p. same_name p.name name) publics)
 
 -- the word of an external
-abbrev pub word_at : ℕ → Resolved
-word_at index = record { target = target.External index; addend = 0 }
+abbrev pub word_of_external : ℕ → Resolved
+word_of_external index = record { target = target.External index; addend = 0 }
 
 -- the index of the first of these names that is this one
 abbrev pub index_in : List (List ℕ) → List ℕ → Option ℕ
@@ -29,9 +30,9 @@ index_in (n ∷ ns) name = if same_name n name then Some 0 else option_map suc (
 abbrev pub meaning_in : List (List ℕ × Resolved) → List ℕ → Option Resolved
 meaning_in meanings name = lookup (same_name name) meanings
 
--- a table has the places of these publics by their names, and of these externals that aren't declared their words
+-- a table has the places of these publics by their names, and the words of those of these externals that aren't declared
 pub record AreNames (publics : List Public) (externals : List (List ℕ)) (meanings : List (List ℕ × Resolved)) : Type 0 where
-  pub each : (name : List ℕ) → meaning_in meanings name ≡ option_or (declared_at publics name) (option_map word_at (index_in externals name))
+  pub each : (name : List ℕ) → meaning_in meanings name ≡ option_or (declared_at publics name) (option_map word_of_external (index_in externals name))
 
 -- the name has this meaning in the new table, and every other name what it had
 pub record SetsName (name : List ℕ) (meaning : Resolved) (old new : List (List ℕ × Resolved)) : Type 0 where

@@ -5,7 +5,7 @@ use Rattle.omf_model.specs.Rules.{IsModule}
 use Rattle.rom80_find.specs.declared.pattern.code_byte.CodeByte.{CodeByte}
 use Rattle.rom80_find.specs.Modules.{code_bytes, code_length}
 
--- these are the bytes of the module's code, which keeps its rules
+-- the bytes are those of the module's code, and the module keeps the rules of modules
 pub record IsCodeOf (m : ModuleValue) (code : List CodeByte) : Type 0 where
   pub bytes : code ≡ code_bytes m
   pub short : code_length m ≤ 65535

@@ -15,12 +15,12 @@ pub record LiesWith (dump : DumpValue) (code : List CodeByte) (address : ℕ) (v
   pub here : value 1 ≡ address
   pub bytes : AllByRecursion (λ b. dump_byte dump ((address + b.offset) % 65536) ≡ Some (byte_by value b)) code
 
--- With some values it does.
+-- With some values the dump has each byte of the code, with CODE at this address.
 pub record LiesAt (dump : DumpValue) (code : List CodeByte) (address : ℕ) : Type 0 where
   pub value : ℕ → ℕ
   pub lies : LiesWith dump code address value
 
--- Whatever values it does with, that of this number is the word, modulo 65536.
+-- Whatever values the code lies at the address with, that of this number is the word, modulo 65536.
 abbrev pub IsOnly : (dump : DumpValue) (code : List CodeByte) (address number word : ℕ) → Type 0
 IsOnly dump code address number word =
     (value : ℕ → ℕ) → LiesWith dump code address value → value number % 65536 ≡ word
@@ -32,11 +32,11 @@ abbrev pub fits : DumpValue → (address : ℕ) → CodeByte → (word : ℕ) �
 fits dump address b word =
     option_map_or (λ d. is_half b.half b.addend d word) (dump_byte dump ((address + b.offset) % 65536)) false
 
--- absolute bytes are at 0, and CODE at the address
+-- the word may be the value with this number, as far as two values are known: absolute 0 is 0, and CODE's base is the address
 abbrev pub is_known : (address number word : ℕ) → Bool
 is_known address number word = if number == 0 then word == 0 else if number == 1 then word == address else true
 
--- as far as the byte is one of the value with this number
+-- the dump has the byte if the value with this number is the word, unless the byte is of another value
 abbrev pub fits_for : DumpValue → (address number word : ℕ) → CodeByte → Bool
 fits_for dump address number word b = not (number_of b.target == number) || fits dump address b word
 
@@ -45,10 +45,11 @@ abbrev pub allows : DumpValue → (code : List CodeByte) → (address number wor
 allows dump code address number word =
     is_known address number word && list_all (fits_for dump address number word) code
 
--- a table of the words that each value may be
+-- the word is a candidate for the value with this number in the table
 abbrev pub in_table : List Candidates → (number word : ℕ) → Bool
 in_table table number word = is_candidate (slice_index_or table number Any) word
 
+-- the table has for each number the words that the value may be
 pub record Describes (dump : DumpValue) (code : List CodeByte) (address : ℕ) (table : List Candidates) : Type 0 where
   pub each : (number word : ℕ) → number < length table → word < 65536 →
       in_table table number word ≡ allows dump code address number word
@@ -71,10 +72,11 @@ AreBelow count code = AllByRecursion (λ b. number_of b.target < count) code
 abbrev pub is_plain : CodeByte → Bool
 is_plain b = is_low b.half && number_of b.target == 0
 
--- a byte in a fixup of another value than that of absolute bytes or of CODE; and one of these two, whose words are known
+-- a byte in a fixup of a value other than the two known ones, absolute 0 and CODE's base
 abbrev pub is_free : CodeByte → Bool
 is_free b = nat_le 2 (number_of b.target)
 
+-- a byte in a fixup of one of the two known values, absolute 0 and CODE's base
 abbrev pub is_known_fixup : CodeByte → Bool
 is_known_fixup b = not (is_plain b) && not (is_free b)
 
@@ -82,10 +84,11 @@ is_known_fixup b = not (is_plain b) && not (is_free b)
 abbrev pub fits_if_plain : DumpValue → (address : ℕ) → CodeByte → Bool
 fits_if_plain dump address b = not (is_plain b) || fits dump address b 0
 
--- the places before an address are in the list, in ascending order
+-- the address is in the list
 abbrev pub is_listed : List ℕ → ℕ → Bool
 is_listed places address = list_any (λ p. p == address) places
 
+-- the list has, in ascending order, exactly the addresses below one at which the code lies
 pub record ArePlaces (dump : DumpValue) (code : List CodeByte) (stop : ℕ) (places : List ℕ) : Type 0 where
   pub lies : (address : ℕ) → is_listed places address ≡ true → (address < stop) × LiesAt dump code address
   pub all : (address : ℕ) → address < stop → LiesAt dump code address → is_listed places address ≡ true

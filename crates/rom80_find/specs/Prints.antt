@@ -6,31 +6,31 @@ use Rattle.rom80_find.specs.Dump.{DumpValue}
 use Rattle.rom80_find.specs.declared.lines.finding.Finding.{Finding}
 use Rattle.rom80_find.specs.Found.{IsPlaceText, IsPlacesText, IsFound, is_missing, has_place}
 
--- the text of a place
+-- the text of a place is appended
 pub record PrintsPlace (dump : DumpValue) (m : ModuleValue) (address : ℕ) (before after : List ℕ) : Type 0 where
   pub text : List ℕ
   pub is : IsPlaceText dump m address text
   pub after_is : after ≡ before ++ text
 
--- those of these places
+-- the texts of these places are appended
 pub record PrintsEach (dump : DumpValue) (m : ModuleValue) (places before after : List ℕ) : Type 0 where
   pub texts : List (List ℕ)
   pub each : AllZip (IsPlaceText dump m) places texts
   pub after_is : after ≡ before ++ concat texts
 
--- the text of a module's places
+-- the text of a module's places is appended
 pub record PrintsPlaces (dump : DumpValue) (m : ModuleValue) (places before after : List ℕ) : Type 0 where
   pub text : List ℕ
   pub is : IsPlacesText dump m places text
   pub after_is : after ≡ before ++ text
 
--- what is found of a module, and its text, if it has a place
+-- the finding is what is found of a module, and its text is appended if the module has a place
 pub record FindsModule (dump : DumpValue) (m : ModuleValue) (finding : Finding) (before after : List ℕ) : Type 0 where
   pub text : List ℕ
   pub is : IsFound dump m finding text
   pub after_is : after ≡ before ++ (if has_place finding then text else [])
 
--- the text of what is found of a module
+-- the text of what is found of a module is appended
 pub record PrintsModule (dump : DumpValue) (m : ModuleValue) (missing : Bool) (before after : List ℕ) : Type 0 where
   pub finding : Finding
   pub text : List ℕ
@@ -38,7 +38,7 @@ pub record PrintsModule (dump : DumpValue) (m : ModuleValue) (missing : Bool) (b
   pub missing_is : missing ≡ is_missing finding
   pub after_is : after ≡ before ++ text
 
--- the texts of the modules that have a place, and how many have none
+-- the texts of the modules that have a place are appended, and the number is of those that have none
 pub record PrintsFound (dump : DumpValue) (modules : List ModuleValue) (missing : ℕ) (before after : List ℕ) : Type 0 where
   pub findings : List (Finding × List ℕ)
   pub each : AllZip (λ m f. IsFound dump m f.0 f.1) modules findings

@@ -5,9 +5,9 @@ use Rattle.rom80_find.specs.declared.candidates.Candidates.{Candidates}
 use Rattle.rom80_find.specs.declared.fixup_bytes.FixupBytes.{FixupBytes}
 use Rattle.rom80_find.specs.Dump.{DumpValue}
 use Rattle.rom80_find.specs.Places.{AreBelow, IsClearBut, LiesAt, is_known_fixup}
-use Rattle.rom80_find.specs.Lone.{is_crowded}
+use Rattle.rom80_find.specs.Lone.{is_repeated}
 
--- the dump, and the bytes in fixups of values that are known, and of others that aren't of one word
+-- the dump, and the code's bytes in fixups: those of the two known values, and those of others that aren't lone
 pub record SearchValue : Type 0 where
   pub dump : DumpValue
   pub known : List CodeByte
@@ -15,7 +15,7 @@ pub record SearchValue : Type 0 where
 
 -- the search for code
 abbrev pub search_of : DumpValue → (lone : List Bool) → List CodeByte → SearchValue
-search_of dump lone code = record { dump = dump; known = filter is_known_fixup code; free = filter (is_crowded lone) code }
+search_of dump lone code = record { dump = dump; known = filter is_known_fixup code; free = filter (is_repeated lone) code }
 
 -- the table has an entry for each value of these bytes, which may be every word
 pub record IsSearch (bytes : FixupBytes) (table : List Candidates) : Type 0 where

@@ -28,7 +28,7 @@ AreAscending words = AllPairs (λ (v w : Word). number_of v.target < number_of w
 abbrev pub IsOfATarget : Word → Type 0
 IsOfATarget w = has_small_id w.target ≡ true
 
--- so do these, all with numbers below one
+-- the words come by ascending numbers of their targets, all below one
 pub record AreAscendingBelow (stop : ℕ) (words : List Word) : Type 0 where
   pub below : All (λ (w : Word). number_of w.target < stop) words
   pub ascending : AreAscending words
@@ -39,6 +39,6 @@ is_single Any word = false
 is_single (Low low) word = false
 is_single (Window first more) word = more == 0 && first % 65536 == word
 
--- the single ones of a table, from 2 up to a number
+-- the words are the single candidates of a table, for the numbers from 2 up to one
 pub record AreSingle (table : List Candidates) (stop : ℕ) (words : List Word) : Type 0 where
   pub each : (number word : ℕ) → has_word words number word ≡ (nat_le 2 number && (nat_lt number stop && is_single (slice_index_or table number Any) word))

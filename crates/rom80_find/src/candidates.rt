@@ -1,23 +1,23 @@
-//! The values that a target may have, as bytes of a dump leave them.
+//! The words that the value of a target may be, given bytes of a dump.
 
 ghost use Rattle.std.specs.Prelude.{◌≡◌, ◌<◌, ◌+◌, ◌%◌, ◌==◌, ◌&&◌, ℕ, false, IfSome, IfNone};
 ghost use Rattle.rom80_find.specs.Candidates.{is_candidate, is_half, is_in_window};
 
 use crate::pattern::Half;
 
-/// The values that a target may have. There is always one.
+/// The words that the value of a target may be: at least one.
 #[derive(Clone, Copy)]
 pub(crate) enum Candidates {
-    /// Every word.
+    /// All words.
     Any,
-    /// The words with this low byte.
+    /// The 256 words with this low byte.
     Low(u8),
-    /// The words from the first on, and the number of those after it; 0000 comes after FFFF.
+    /// The first of some words in a row, and how many follow it; 0000 follows FFFF.
     Window(u16, u8),
 }
 
 impl Candidates {
-    /// Returns the candidates with which the half of their sum with the addend is this byte, if there are any.
+    /// Returns the candidates whose sum with `addend`, modulo 65536, has `byte` as its `half`; `None` if there are none.
     pub(crate) fn narrow(self, half: Half, addend: u16, byte: u8) -> Option<Candidates>
         ensures some { IfSome result (λ narrowed. (word : ℕ) → word < 65536 →
             is_candidate narrowed word ≡ (is_candidate self word && is_half half addend byte word)) }
@@ -25,13 +25,13 @@ impl Candidates {
             (is_candidate self word && is_half half addend byte word) ≡ false) }
     {
         match half {
-            Half::Low => self.with_low(byte.wrapping_sub((addend % 256) as u8)),
-            Half::High => self.within(u16::from_be_bytes([byte, 0]).wrapping_sub(addend)),
+            Half::Low => self.with_low_byte(byte.wrapping_sub((addend % 256) as u8)),
+            Half::High => self.within_page(u16::from_be_bytes([byte, 0]).wrapping_sub(addend)),
         }
     }
 
-    /// Returns the candidates with this low byte.
-    fn with_low(self, low: u8) -> Option<Candidates>
+    /// Returns the candidates with the low byte `low`; `None` if there are none.
+    fn with_low_byte(self, low: u8) -> Option<Candidates>
         ensures some { IfSome result (λ narrowed. (word : ℕ) → word < 65536 →
             is_candidate narrowed word ≡ (is_candidate self word && (word % 256 == low))) }
         ensures none { IfNone result ((word : ℕ) → word < 65536 →
@@ -44,8 +44,8 @@ impl Candidates {
         }
     }
 
-    /// Returns the candidates among the 256 words from this one on.
-    fn within(self, start: u16) -> Option<Candidates>
+    /// Returns the candidates among the 256 words from `start` on; `None` if there are none.
+    fn within_page(self, start: u16) -> Option<Candidates>
         ensures some { IfSome result (λ narrowed. (word : ℕ) → word < 65536 →
             is_candidate narrowed word ≡ (is_candidate self word && is_in_window start 255 word)) }
         ensures none { IfNone result ((word : ℕ) → word < 65536 →
@@ -59,7 +59,7 @@ impl Candidates {
     }
 }
 
-/// The word of a window with this low byte, if there is one.
+/// The only candidate with the low byte `low` among the word `first` and the `more` words that follow it; `None` if they have none.
 fn low_in_window(first: u16, more: u8, low: u8) -> Option<Candidates>
     ensures some { IfSome result (λ narrowed. (word : ℕ) → word < 65536 →
         is_candidate narrowed word ≡ (is_in_window first more word && (word % 256 == low))) }
@@ -74,7 +74,8 @@ fn low_in_window(first: u16, more: u8, low: u8) -> Option<Candidates>
     }
 }
 
-/// What a window and the 256 words from `start` on have in common.
+/// The candidates that the word `first` and the `more` words that follow it have in common with the 256 words from `start` on; `None` if
+/// there are none.
 fn common_window(first: u16, more: u8, start: u16) -> Option<Candidates>
     ensures some { IfSome result (λ narrowed. (word : ℕ) → word < 65536 →
         is_candidate narrowed word ≡ (is_in_window first more word && is_in_window start 255 word)) }

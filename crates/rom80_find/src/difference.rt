@@ -1,4 +1,4 @@
-//! Differences of two bytes of code that don't depend on values.
+//! Differences between two bytes of a module's code that don't depend on the values of its targets.
 
 ghost use Rattle.std.specs.Prelude.{◌≡◌, ℕ, ◌+◌, ◌%◌, IfSome};
 ghost use Rattle.rom80_find.specs.CodeBytes.{half_of};
@@ -6,18 +6,21 @@ ghost use Rattle.rom80_find.specs.Differences.{IsDifference};
 
 use crate::pattern::{CodeByte, Half};
 
-/// A difference of two bytes of code: the byte `distance` behind the one at `offset` is that one plus `more`, modulo 256. Offsets and
-/// distances are modulo 65536.
+/// A difference between two bytes of a module's code: whatever the values of its targets are, the byte `distance` behind the one at
+/// `offset` is that byte plus `more`, modulo 256.
 #[derive(Clone, Copy)]
 pub(crate) struct Difference {
+    /// The offset of the first byte in CODE.
     pub offset: u16,
+    /// The offset of the second byte less that of the first one, modulo 65536.
     pub distance: u16,
+    /// The second byte less the first one, modulo 256.
     pub more: u8,
 }
 
 impl Difference {
-    /// The difference of the second byte from the first one, if they have one whatever the values are: they are the same half of
-    /// one value plus addends, and if they are high halves, the addends have the same low byte.
+    /// The difference of the byte `second` from the byte `first`; `None` if it depends on the values of targets. It doesn't if the
+    /// bytes are the same half of one target's value plus addends, and, if they are high halves, the addends have the same low byte.
     pub(crate) fn of(first: CodeByte, second: CodeByte) -> Option<Difference>
         ensures { IfSome result (IsDifference first second) }
     {
@@ -27,7 +30,7 @@ impl Difference {
         if first.target != second.target {
             return None;
         }
-        match more_of(first.half, second.addend.wrapping_sub(first.addend)) {
+        match growth_of(first.half, second.addend.wrapping_sub(first.addend)) {
             Some(more) => Some(Difference {
                 offset: first.offset,
                 distance: second.offset.wrapping_sub(first.offset),
@@ -38,8 +41,9 @@ impl Difference {
     }
 }
 
-/// How much more the half of a sum is, modulo 256, once the addend is added, if that doesn't depend on the sum.
-fn more_of(half: Half, addend: u16) -> Option<u8>
+/// By how much the `half` of a word grows, modulo 256, if `addend` is added to the word; `None` if that depends on the word, as that of
+/// a high half does unless the addend's low byte is 0.
+fn growth_of(half: Half, addend: u16) -> Option<u8>
     ensures { IfSome result (λ more. (sum : ℕ) → (half_of half (sum % 65536) + more) % 256 ≡ half_of half ((sum + addend) % 65536)) }
 {
     match half {

@@ -1,28 +1,33 @@
-//! The addresses at which a dump has a byte and, at a distance, that byte plus a number.
+//! The addresses at which a dump has a byte and, at a distance behind it, that byte plus a number.
 
-ghost use Rattle.std.specs.Prelude.{◌≡◌, ◌+◌, ◌%◌, IfOk, OnOk};
+ghost use Rattle.std.specs.Prelude.{◌≡◌, ℕ, ◌+◌, ◌%◌, length, slice_index_or, IfOk, OnOk};
 ghost use Rattle.rom80_find.specs.Dump.{dump_of};
-ghost use Rattle.rom80_find.specs.Differences.{has_more, IsDifferenceRow};
+ghost use Rattle.rom80_find.specs.Differences.{has_pair, IsDifferenceRow};
 
 use crate::difference::Difference;
 use crate::dump::Dump;
 use crate::indexed_dump::ADDRESSES;
+use crate::marks::set_bit;
 use crate::table::table;
 use std::alloc::{AllocError, Global};
 
-/// How many words of 64 bits have a bit for each address, all addresses twice, so that an address plus an offset is one.
+/// The number of 64-bit words in a row. A row has a bit for each address, and then the same bits again, so that the bit of an address
+/// plus an offset is in it.
 const WORDS: usize = 2 * ADDRESSES / 64;
 
-/// The addresses at which a dump has a byte and, `distance` behind it, that byte plus `more`, as bits.
+/// The addresses at which a dump has a byte and, `distance` behind it, that byte plus `more`, modulo 256.
 #[derive(Drop)]
 pub(crate) struct DifferenceRow {
+    /// How far behind an address the second byte stands, modulo 65536.
     pub distance: u16,
+    /// The second byte less the first one, modulo 256.
     pub more: u8,
+    /// A bit for each address, set if the dump has the two bytes there; then the same bits again.
     pub bits: Vec<u64>,
 }
 
 impl DifferenceRow {
-    /// The row of a distance and a number.
+    /// Finds the addresses at which a dump has a byte and, `distance` behind it, that byte plus `more`, modulo 256.
     pub(crate) fn of(
         alloc: Global,
         dump: Dump<'_>,
@@ -34,13 +39,7 @@ impl DifferenceRow {
         ensures more { IfOk result (λ row. row.more ≡ more) }
     {
         let mut bits = table(alloc, 0, WORDS)?;
-        for at in 0..ADDRESSES {
-            if has_more(dump, at as u16, distance, more) {
-                let bit = 1 << (at % 64) as u32;
-                bits[at / 64] = bits[at / 64] | bit;
-                bits[(at + ADDRESSES) / 64] = bits[(at + ADDRESSES) / 64] | bit;
-            }
-        }
+        mark_pairs(&mut bits, dump, distance, more);
         Ok(DifferenceRow {
             distance,
             more,
@@ -48,8 +47,8 @@ impl DifferenceRow {
         })
     }
 
-    /// Makes it the row of a difference, unless it is.
-    pub(crate) fn turn_to(
+    /// Replaces the row by that of a difference's distance and number in the same dump, unless it is for these already.
+    pub(crate) fn change_to(
         &mut self,
         alloc: Global,
         dump: Dump<'_>,
@@ -67,9 +66,23 @@ impl DifferenceRow {
     }
 }
 
-/// Whether the dump has a byte at the address and, at the distance behind it, that byte plus a number.
-pub(crate) fn has_more(dump: Dump<'_>, address: u16, distance: u16, more: u8) -> bool
-    ensures { result ≡ has_more (dump_of dump.entry) address distance more }
+/// Sets in an empty row the bits of all addresses at which a dump has a byte and, `distance` behind it, that byte plus `more`, modulo 256.
+fn mark_pairs(bits: &mut [u64], dump: Dump<'_>, distance: u16, more: u8)
+    requires whole { length bits.old ≡ 2048 }
+    requires none { (k : ℕ) → slice_index_or bits.old k 0 ≡ 0 }
+    ensures { IsDifferenceRow (dump_of dump.entry) distance more bits.new }
+{
+    for at in 0..ADDRESSES {
+        if has_pair(dump, at as u16, distance, more) {
+            set_bit(bits, at);
+            set_bit(bits, at + ADDRESSES);
+        }
+    }
+}
+
+/// Whether the dump has a byte at `address` and, `distance` behind it, that byte plus `more`, modulo 256.
+pub(crate) fn has_pair(dump: Dump<'_>, address: u16, distance: u16, more: u8) -> bool
+    ensures { result ≡ has_pair (dump_of dump.entry) address distance more }
 {
     match (
         dump.byte_at(address),

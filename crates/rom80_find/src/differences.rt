@@ -1,4 +1,4 @@
-//! The places at which a dump has differences of bytes.
+//! The addresses at which a dump has the differences between the bytes of a module's code.
 
 ghost use Rattle.std.specs.Prelude.{◌≡◌, ℕ, ◌<◌, ◌&&◌, length, filter, IfOk, OnOk};
 ghost use Rattle.std.specs.List.{list_all};
@@ -7,44 +7,24 @@ ghost use Rattle.rom80_find.specs.Differences.{has_difference};
 ghost use Rattle.rom80_find.specs.Marks.{bit_in};
 
 use crate::difference::Difference;
-use crate::difference_row::{DifferenceRow, has_more};
+use crate::difference_row::{DifferenceRow, has_pair};
 use crate::dump::Dump;
-use crate::sieve::{WORDS, all_addresses, keep_marked};
+use crate::sieve::{WORDS, all_addresses, keep_in_row};
 use std::alloc::{AllocError, Global};
 
-/// Those of a few places at which a dump has all differences.
-pub(crate) fn keep_each(
-    alloc: Global,
-    dump: Dump<'_>,
-    differences: &[Difference],
-    places: &[u16],
-) -> Result<Vec<u16>, AllocError>
-    ensures { IfOk result (λ kept. kept.items ≡ filter (λ a. list_all (has_difference (dump_of dump.entry) a) differences.now) places.now) }
-{
-    let mut kept = Vec::new(alloc);
-    for place in places {
-        if has_all(dump, differences, *place) {
-            kept.push(*place)?;
-        }
-    }
-    Ok(kept)
-}
-
-/// Whether the dump has all differences with CODE at the address.
-fn has_all(dump: Dump<'_>, differences: &[Difference], address: u16) -> bool
+/// Whether a dump has all `differences` if CODE begins at `address`.
+pub(crate) fn has_differences(dump: Dump<'_>, differences: &[Difference], address: u16) -> bool
     ensures { result ≡ list_all (has_difference (dump_of dump.entry) address) differences.now }
 {
-    for difference in differences {
+    differences.iter().all(|difference| {
         let first = address.wrapping_add(difference.offset);
-        if !has_more(dump, first, difference.distance, difference.more) {
-            return false;
-        }
-    }
-    true
+        has_pair(dump, first, difference.distance, difference.more)
+    })
 }
 
-/// Those of many places at which a dump has all differences, found for 64 addresses at once.
-pub(crate) fn keep_sieved(
+/// Returns the addresses among `places` at which a dump has all `differences` with CODE there. All addresses are compared, 64 at once,
+/// which is faster than one by one if the places are many.
+pub(crate) fn keep_by_rows(
     alloc: Global,
     dump: Dump<'_>,
     differences: &[Difference],
@@ -64,7 +44,7 @@ pub(crate) fn keep_sieved(
     Ok(kept)
 }
 
-/// Drops the addresses at which the dump lacks a difference, and stops once none is left.
+/// Clears the bit in `alive` of each address at which a dump lacks one of the `differences`. If an error comes, some are cleared.
 fn sieve_by_differences(
     alloc: Global,
     alive: &mut [u64],
@@ -81,8 +61,8 @@ fn sieve_by_differences(
     let first = differences[0];
     let mut row = DifferenceRow::of(alloc, dump, first.distance, first.more)?;
     for difference in differences {
-        row.turn_to(alloc, dump, *difference)?;
-        if !keep_marked(alive, &row.bits, usize::from(difference.offset)) {
+        row.change_to(alloc, dump, *difference)?;
+        if !keep_in_row(alive, &row.bits, usize::from(difference.offset)) {
             return Ok(());
         }
     }

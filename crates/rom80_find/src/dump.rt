@@ -6,12 +6,14 @@ ghost use Rattle.rom80_find.specs.Dump.{dump_of, dump_byte};
 /// A dump of a read-only memory: the bytes of the addresses from `first` on.
 #[derive(Clone, Copy, Debug)]
 pub struct Dump<'a> {
+    /// The address of the first byte.
     pub first: u16,
+    /// The bytes, each at the address after that of the one before it.
     pub bytes: &'a [u8],
 }
 
 impl Dump<'_> {
-    /// The byte at an address, if it is one of the dump's.
+    /// Returns the byte at an address; `None` if the dump has none there.
     pub fn byte_at(self, address: u16) -> Option<u8>
         ensures { result ≡ dump_byte (dump_of self.entry) address }
     {

@@ -1,64 +1,43 @@
 //! The bytes of a module's code in fixups.
 
 ghost use Rattle.std.specs.Prelude.{◌≡◌, filter, IfOk};
-ghost use Rattle.rom80_find.specs.CodeBytes.{number_of};
-ghost use Rattle.rom80_find.specs.Lone.{is_crowded};
+ghost use Rattle.rom80_find.specs.Lone.{is_repeated};
 ghost use Rattle.rom80_find.specs.Places.{is_known_fixup};
 
-use crate::lone::is_crowded;
-use crate::pattern::{CodeByte, number_of};
+use crate::lone::is_repeated;
+use crate::pattern::CodeByte;
 use std::alloc::{AllocError, Global};
 
-/// The bytes of code in fixups: those of absolute values and of CODE, which are known, and those of other values, but
-/// for lone ones.
+/// The bytes of a module's code in fixups, but for those of lone values.
 #[derive(Drop)]
 pub(crate) struct FixupBytes {
+    /// The bytes of the two values that are known at each address: absolute 0 and CODE's base.
     pub known: Vec<CodeByte>,
+    /// The bytes of other values that aren't lone.
     pub free: Vec<CodeByte>,
 }
 
 impl FixupBytes {
-    /// The bytes of the code in fixups, but for those of `lone` values.
+    /// Takes from a module's code the bytes in fixups, but for those of lone values. `lone` says for each number of a target whether its
+    /// value is lone.
     pub(crate) fn of(
         alloc: Global,
         code: &[CodeByte],
         lone: &[bool],
     ) -> Result<FixupBytes, AllocError>
         ensures known { IfOk result (λ bytes. bytes.known.items ≡ filter is_known_fixup code.now) }
-        ensures free { IfOk result (λ bytes. bytes.free.items ≡ filter (is_crowded lone.now) code.now) }
+        ensures free { IfOk result (λ bytes. bytes.free.items ≡ filter (is_repeated lone.now) code.now) }
     {
-        let known = known_bytes(alloc, code)?;
-        let free = crowded_bytes(alloc, code, lone)?;
+        let known = code
+            .iter()
+            .copied()
+            .filter(|byte| byte.is_known_fixup())
+            .collect(alloc)?;
+        let free = code
+            .iter()
+            .copied()
+            .filter(|byte| is_repeated(byte, lone))
+            .collect(alloc)?;
         Ok(FixupBytes { known, free })
     }
-}
-
-/// Returns the bytes of absolute values and of CODE.
-fn known_bytes(alloc: Global, code: &[CodeByte]) -> Result<Vec<CodeByte>, AllocError>
-    ensures { IfOk result (λ bytes. bytes.items ≡ filter is_known_fixup code.now) }
-{
-    let mut bytes = Vec::new(alloc);
-    for byte in code {
-        if !byte.is_plain() && number_of(byte.target) < 2 {
-            bytes.push(*byte)?;
-        }
-    }
-    Ok(bytes)
-}
-
-/// Returns the bytes of other values that aren't lone.
-fn crowded_bytes(
-    alloc: Global,
-    code: &[CodeByte],
-    lone: &[bool],
-) -> Result<Vec<CodeByte>, AllocError>
-    ensures { IfOk result (λ bytes. bytes.items ≡ filter (is_crowded lone.now) code.now) }
-{
-    let mut bytes = Vec::new(alloc);
-    for byte in code {
-        if is_crowded(byte, lone) {
-            bytes.push(*byte)?;
-        }
-    }
-    Ok(bytes)
 }

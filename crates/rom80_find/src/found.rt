@@ -1,4 +1,4 @@
-//! Where modules lie in a dump of a read-only memory, by LOCATE's own definition of the bytes that their contents define.
+//! The addresses at which modules lie in a dump, by LOCATE's own definition of the bytes that their contents define.
 
 mod laws;
 mod module_pattern;

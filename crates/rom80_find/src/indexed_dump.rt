@@ -1,15 +1,15 @@
-//! A dump with the table by which code is looked for in it.
+//! A dump with the addresses of each byte, by which code is looked for in it.
 
 ghost use Rattle.std.specs.Prelude.{◌≡◌, ◌<◌, IfOk};
 ghost use Rattle.rom80_find.specs.Dump.{dump_of};
 ghost use Rattle.rom80_find.specs.Marks.{IsRow};
 
 use crate::dump::Dump;
-use crate::marks::{marks_of, row_in};
+use crate::marks::{marks_of, row_of_marks};
 use std::alloc::{AllocError, Global};
 use std::marker::Model;
 
-/// How many addresses there are.
+/// The number of addresses of an 8080.
 pub(crate) const ADDRESSES: usize = 65536;
 
 /// A dump with the addresses of each byte, which are listed once, for however many modules are looked for. A contract sees the dump.
@@ -31,7 +31,7 @@ impl<'a> Model for IndexedDump<'a> {
 }
 
 impl<'a> IndexedDump<'a> {
-    /// The dump with its table.
+    /// Lists the addresses of each byte of a dump.
     pub(crate) fn of(alloc: Global, dump: Dump<'a>) -> Result<IndexedDump<'a>, AllocError>
         ensures { IfOk result (λ indexed. indexed ≡ dump_of dump.entry) }
     {
@@ -39,18 +39,18 @@ impl<'a> IndexedDump<'a> {
         Ok(IndexedDump { dump, marks })
     }
 
-    /// The dump.
+    /// Returns the dump, without its list.
     pub(crate) fn dump(&self) -> Dump<'a>
         ensures { dump_of result ≡ self.now }
     {
         self.dump
     }
 
-    /// The addresses of a byte, or of all of them in row 256, as bits.
+    /// Returns a bit for each address, set if the dump has the byte `row` there, or for row 256 if it has any; then the same bits again.
     pub(crate) fn row(&self, row: usize) -> &[u64]
         requires { row < 257 }
         ensures { IsRow self.now row result.now }
     {
-        row_in(&self.marks, row)
+        row_of_marks(&self.marks, row)
     }
 }

@@ -1,5 +1,4 @@
-//! What is found of modules in a dump, line by line. The lines are defined in `specs/Lines.antt`, and which there are in
-//! `specs/Found.antt`.
+//! The lines about modules in a dump. `specs/Lines.antt` defines the lines, and `specs/Found.antt` which of them there are.
 
 mod finding;
 mod members;

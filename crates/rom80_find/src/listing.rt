@@ -1,4 +1,4 @@
-//! The addresses at which a module's code lies.
+//! The addresses at which a module's code lies in a dump.
 
 ghost use Rattle.std.specs.Prelude.{◌≡◌, ◌<◌, ◌≤◌, ◌+◌, ◌++◌, Bool, List, IfOk, OnOk};
 ghost use Rattle.rom80_find.specs.Dump.{DumpValue};
@@ -8,7 +8,7 @@ ghost use Rattle.rom80_find.specs.Marks.{IsSievedWord};
 ghost use Rattle.rom80_find.specs.Places.{AreBelow, ArePlaces, place_if};
 ghost use Rattle.rom80_find.specs.Search.{search_of};
 
-use crate::differences::{keep_each, keep_sieved};
+use crate::differences::{has_differences, keep_by_rows};
 use crate::indexed_dump::{ADDRESSES, IndexedDump};
 use crate::lone::lone_values;
 use crate::pattern::{CodeByte, number_of};
@@ -17,12 +17,12 @@ use crate::search::Search;
 use crate::sieve::{WORDS, sieve};
 use std::alloc::{AllocError, Global};
 
-/// About how many steps it takes to make a row of the addresses with a difference, and to keep places by it. If all differences at all
-/// places are fewer steps, they are looked for at each place by itself.
+/// About how many comparisons it takes to make one row of the addresses at which a dump has a difference. If comparing each difference at
+/// each place takes fewer, no row is made.
 const ROW_STEPS: usize = 2 * ADDRESSES;
 
-/// The addresses at which the code lies in a dump, in ascending order: those for which there are values of its targets with which
-/// the dump has all its bytes. The targets have numbers below `count`.
+/// Returns the addresses at which a module's code lies in a dump, in ascending order: those for which there are values of its targets with
+/// which the dump has all its bytes. The targets have numbers below `count`.
 ///
 /// The time grows with the number of bytes of the code times 1,024, in steps of 64 addresses at once, and with the number of
 /// different distances and numbers by which bytes give others, times 65,536. Where the bytes outside fixups fit, it grows with the
@@ -41,23 +41,22 @@ pub(crate) fn places(
     ensures { IfOk result (λ places. ArePlaces dump.now code.now 65536 places.items) }
 {
     let mut reduced = ReducedCode::of(alloc, code, count)?;
-    let places = places_of_bytes(alloc, dump, &reduced.bytes, count)?;
-    if reduced.differences.is_empty() {
-        return Ok(places);
-    }
+    let mut places = places_by_search(alloc, dump, &reduced.bytes, count)?;
+    let dump = dump.dump();
     if places.len() < ROW_STEPS / reduced.differences.len().max(1) {
-        let kept = keep_each(alloc, dump.dump(), &reduced.differences, &places)?;
-        return Ok(kept);
+        places.retain(|place| has_differences(dump, &reduced.differences, *place));
+        return Ok(places);
     }
     reduced
         .differences
         .sort_by_key(|difference| (difference.distance, difference.more))?;
-    let kept = keep_sieved(alloc, dump.dump(), &reduced.differences, &places)?;
+    let kept = keep_by_rows(alloc, dump, &reduced.differences, &places)?;
     Ok(kept)
 }
 
-/// The addresses at which the code lies, found without differences.
-fn places_of_bytes(
+/// Returns the addresses at which a module's code lies in a dump, in ascending order, found from each of its bytes rather than from
+/// differences. The targets have numbers below `count`.
+fn places_by_search(
     alloc: Global,
     dump: &IndexedDump<'_>,
     code: &[CodeByte],
@@ -72,14 +71,14 @@ fn places_of_bytes(
     let mut search = Search::of(alloc, dump, code, &lone)?;
     let mut places = Vec::new(alloc);
     for word in 0..WORDS {
-        push_places(&mut search, alive[word], (64 * word) as u16, &mut places)?;
+        push_places_of_word(&mut search, alive[word], (64 * word) as u16, &mut places)?;
     }
     Ok(places)
 }
 
-/// Appends those of the 64 addresses from the first on at which the code lies. `alive` says of each whether the dump has the bytes
-/// that the search passes over.
-fn push_places(
+/// Appends those of the 64 addresses from `first` on at which the code of a search lies. `alive` has a bit for each, set if the dump has
+/// the bytes that the search leaves out.
+fn push_places_of_word(
     search: &mut Search<'_>,
     alive: u64,
     first: u16,
@@ -101,7 +100,7 @@ fn push_places(
     Ok(())
 }
 
-/// Appends the address, if the code lies there.
+/// Appends an address to a list, if `lies` is true.
 fn push_place(places: &mut Vec<u16>, address: u16, lies: bool) -> Result<(), AllocError>
     ensures { OnOk result (places.new.items ≡ places.old.items ++ place_if lies address) }
 {
@@ -111,8 +110,9 @@ fn push_place(places: &mut Vec<u16>, address: u16, lies: bool) -> Result<(), All
     Ok(())
 }
 
-/// One more than the greatest number of a target in the code, and at least 2, for absolute bytes and CODE.
-pub(crate) fn count_of(code: &[CodeByte]) -> usize
+/// Returns the length of a table that has an entry for each number of a target in the code, and for absolute 0 and CODE, the numbers 0 and
+/// 1.
+pub(crate) fn count_of_values(code: &[CodeByte]) -> usize
     ensures two { 2 ≤ result }
     ensures few { result ≤ 65792 }
     ensures below { AreBelow result code.now }

@@ -1,8 +1,9 @@
-//! Values of which code has no more than a low and a high byte: whatever bytes the dump has there, one word goes with them.
+//! Lone values: those of which code has at most one low and one high byte. Whatever bytes a dump has in their place, there is a value with
+//! which they are the code's.
 
 ghost use Rattle.std.specs.Prelude.{◌≡◌, ℕ, ◌++◌, List, [], ◌∷◌, length, slice_index_or, IfOk, true, false};
 ghost use Rattle.rom80_find.specs.CodeBytes.{number_of};
-ghost use Rattle.rom80_find.specs.Lone.{AreLone, AreOfOneWord, IsUses, is_lone, is_crowded};
+ghost use Rattle.rom80_find.specs.Lone.{AreLone, AreOfOneWord, IsUses, is_lone, is_repeated};
 ghost use Rattle.rom80_find.specs.Places.{AreBelow};
 ghost use Rattle.rom80_find.specs.declared.lone.Uses.TheVariants as kept;
 ghost use Rattle.rom80_find.specs.declared.pattern.code_byte.CodeByte.{CodeByte};
@@ -11,29 +12,32 @@ use crate::pattern::{CodeByte, number_of};
 use crate::table::table;
 use std::alloc::{AllocError, Global};
 
-/// What is kept of a value's bytes.
+/// How many bytes of a value a module's code has, as far as that says whether the value is lone.
 #[derive(Clone, Copy)]
 pub(crate) enum Uses {
+    /// No byte.
     Unused,
+    /// One byte, which is kept to be compared with a second one.
     Once(CodeByte),
-    /// A low and a high byte, in either order.
+    /// One low and one high byte, in either order.
     Word,
+    /// Two low bytes, two high ones, or more.
     Many,
 }
 
 impl Uses {
-    /// With one more byte.
-    fn with(self, byte: CodeByte) -> Uses
+    /// Counts one more byte of the value.
+    fn with_byte(self, byte: CodeByte) -> Uses
         ensures { (bytes : List CodeByte) → IsUses self bytes → IsUses result (bytes ++ byte ∷ []) }
     {
         match self {
             Uses::Unused => Uses::Once(byte),
-            Uses::Once(first) if is_word(first, byte) => Uses::Word,
+            Uses::Once(first) if are_low_and_high(first, byte) => Uses::Word,
             _ => Uses::Many,
         }
     }
 
-    /// Whether the bytes are no more than a low and a high one.
+    /// Whether the value is lone: the code has at most one low and one high byte of it.
     fn is_lone(self) -> bool
         ensures { result ≡ true → (bytes : List CodeByte) → IsUses self bytes → AreOfOneWord bytes }
     {
@@ -44,14 +48,15 @@ impl Uses {
     }
 }
 
-/// Whether the bytes are a low and a high one.
-fn is_word(first: CodeByte, second: CodeByte) -> bool
+/// Whether one of the two bytes is a low half and the other one a high half.
+fn are_low_and_high(first: CodeByte, second: CodeByte) -> bool
     ensures { result ≡ true → AreOfOneWord (first ∷ second ∷ []) }
 {
     first.half != second.half
 }
 
-/// For each number below `count` whether the code has no more than a low and a high byte of the value with it.
+/// Returns for each number below `count` whether the value with that number is lone: whether the code has at most one low and one high byte
+/// of it.
 pub(crate) fn lone_values(
     alloc: Global,
     code: &[CodeByte],
@@ -64,14 +69,14 @@ pub(crate) fn lone_values(
     let mut uses = table(alloc, Uses::Unused, count)?;
     for byte in code {
         let number = number_of(byte.target);
-        uses[number] = uses[number].with(*byte);
+        uses[number] = uses[number].with_byte(*byte);
     }
-    let lone = lone_ones(alloc, &uses)?;
+    let lone = lone_of_uses(alloc, &uses)?;
     Ok(lone)
 }
 
-/// Which of them are of no more than a low and a high byte.
-fn lone_ones(alloc: Global, uses: &[Uses]) -> Result<Vec<bool>, AllocError>
+/// Returns for each of some values, given by their uses, whether it is lone.
+fn lone_of_uses(alloc: Global, uses: &[Uses]) -> Result<Vec<bool>, AllocError>
     ensures whole { IfOk result (λ lone. length lone.items ≡ length uses.now) }
     ensures each { IfOk result (λ lone. (n : ℕ) → slice_index_or lone.items n false ≡ true → (bytes : List CodeByte) →
         IsUses (slice_index_or uses.now n kept.Many) bytes → AreOfOneWord bytes) }
@@ -83,7 +88,8 @@ fn lone_ones(alloc: Global, uses: &[Uses]) -> Result<Vec<bool>, AllocError>
     Ok(lone)
 }
 
-/// Whether the byte is of such a value, but not of absolute bytes or CODE.
+/// Whether a byte is of a lone value other than the two known ones, absolute 0 and CODE's base. `lone` says of each number whether its
+/// value is lone.
 pub(crate) fn is_lone(byte: &CodeByte, lone: &[bool]) -> bool
     ensures { result ≡ is_lone lone.now byte.now }
 {
@@ -91,9 +97,10 @@ pub(crate) fn is_lone(byte: &CodeByte, lone: &[bool]) -> bool
     2 <= number && number < lone.len() && lone[number]
 }
 
-/// Whether a byte is of another value than the three that stand alone.
-pub(crate) fn is_crowded(byte: &CodeByte, lone: &[bool]) -> bool
-    ensures { result ≡ is_crowded lone.now byte.now }
+/// Whether a byte is of a value that isn't lone, other than the two known ones, absolute 0 and CODE's base. `lone` says of each number
+/// whether its value is lone.
+pub(crate) fn is_repeated(byte: &CodeByte, lone: &[bool]) -> bool
+    ensures { result ≡ is_repeated lone.now byte.now }
 {
     let number = number_of(byte.target);
     2 <= number && !(number < lone.len() && lone[number])

@@ -9,16 +9,18 @@ use crate::indexed_dump::ADDRESSES;
 use crate::table::table;
 use std::alloc::{AllocError, Global};
 
-/// How many bits a row has: all addresses, twice, so that an address plus an offset is one.
+/// The number of bits in a row. A row has a bit for each address, and then the same bits again, so that the bit of an address plus an
+/// offset is in it.
 const ROW: usize = 2 * ADDRESSES;
 
-/// How many words of 64 bits these are.
+/// The number of 64-bit words in a row.
 const WORDS: usize = ROW / 64;
 
-/// The row of all addresses that have a byte, behind those of the 256 bytes.
+/// The number of the last row, of the addresses at which the dump has any byte; rows 0 to 255 are of one byte each.
 pub(crate) const ANY: usize = 256;
 
-/// The rows of all bytes, one after another.
+/// Returns the 257 rows of a dump, one after another: for each byte the addresses at which the dump has it, and last those at which it has
+/// any.
 pub(crate) fn marks_of(alloc: Global, dump: Dump<'_>) -> Result<Vec<u64>, AllocError>
     ensures { IfOk result (λ marks. AreMarks (dump_of dump.entry) 131072 marks.items) }
 {
@@ -27,19 +29,20 @@ pub(crate) fn marks_of(alloc: Global, dump: Dump<'_>) -> Result<Vec<u64>, AllocE
     Ok(marks)
 }
 
-/// Sets the bits of all bytes of a dump; before, none is set.
+/// Sets in 257 empty rows the bits of all addresses at which a dump has a byte.
 fn mark_all(marks: &mut [u64], dump: Dump<'_>)
     requires whole { length marks.old ≡ 526336 }
     requires none { (k : ℕ) → slice_index_or marks.old k 0 ≡ 0 }
     ensures { AreMarks (dump_of dump.entry) 131072 marks.new }
 {
     for at in 0..2 * ADDRESSES {
-        mark(marks, dump.byte_at((at % ADDRESSES) as u16), at);
+        mark_address(marks, dump.byte_at((at % ADDRESSES) as u16), at);
     }
 }
 
-/// Sets the bits of an address with this byte.
-fn mark(marks: &mut [u64], found: Option<u8>, at: usize)
+/// Sets in the rows the bits for the byte `found` at position `at` of a row: one in the byte's row and one in the last row. Without a byte
+/// no bit is set.
+fn mark_address(marks: &mut [u64], found: Option<u8>, at: usize)
     requires whole { length marks.old ≡ 526336 }
     requires below { at < 131072 }
     ensures whole { length marks.new ≡ length marks.old }
@@ -51,8 +54,8 @@ fn mark(marks: &mut [u64], found: Option<u8>, at: usize)
     }
 }
 
-/// Sets a bit.
-fn set_bit(words: &mut [u64], bit: usize)
+/// Sets the bit with a number in a list of 64-bit words; the lowest bit of the first word is number 0.
+pub(crate) fn set_bit(words: &mut [u64], bit: usize)
     requires { bit < 64 * length words.old }
     ensures whole { length words.new ≡ length words.old }
     ensures each { (k : ℕ) → bit_in words.new k ≡ (bit_in words.old k || k == bit) }
@@ -60,8 +63,8 @@ fn set_bit(words: &mut [u64], bit: usize)
     words[bit / 64] = words[bit / 64] | (1 << (bit % 64) as u32);
 }
 
-/// A row of them.
-pub(crate) fn row_in(marks: &[u64], row: usize) -> &[u64]
+/// Returns the row with this number among the 257 rows of a dump.
+pub(crate) fn row_of_marks(marks: &[u64], row: usize) -> &[u64]
     requires whole { length marks.now ≡ 526336 }
     requires row { row < 257 }
     ensures { (dump : DumpValue) → AreMarks dump 131072 marks.now → IsRow dump row result.now }
@@ -69,7 +72,7 @@ pub(crate) fn row_in(marks: &[u64], row: usize) -> &[u64]
     &marks[row * WORDS..(row + 1) * WORDS]
 }
 
-/// The 64 bits from this one on.
+/// Returns the 64 bits from number `first` on of a list of 64-bit words.
 pub(crate) fn bits_from(words: &[u64], first: usize) -> u64
     requires { first / 64 + 1 < length words.now }
     ensures { (i : ℕ) → i < 64 → has_bit result i ≡ bit_in words.now (first + i) }

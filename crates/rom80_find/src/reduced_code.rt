@@ -1,4 +1,4 @@
-//! Code without the bytes that others of it give.
+//! A module's code without the bytes that follow from others by a difference.
 
 ghost use Rattle.std.specs.Prelude.{◌≡◌, ◌<◌, ◌++◌, ◌∷◌, [], ℕ, List, IfOk, OnOk, IfSome};
 ghost use Rattle.std.specs.List.{Contains};
@@ -11,18 +11,20 @@ use crate::difference::Difference;
 use crate::pattern::{CodeByte, Half, number_of};
 use std::alloc::{AllocError, Global};
 
-/// Bytes of code, and the differences that give its other bytes from them: it lies where these bytes do, if the dump has the
-/// differences there.
+/// A module's code as some of its bytes and the differences of the others from bytes before them. The code lies at an address exactly if
+/// these bytes do and the dump has all the differences there.
 #[derive(Drop)]
 pub(crate) struct ReducedCode {
+    /// The bytes for which there is no difference.
     pub bytes: Vec<CodeByte>,
+    /// A difference for each other byte of the code.
     pub differences: Vec<Difference>,
 }
 
 impl ReducedCode {
-    /// The code with a difference in place of each byte in a fixup that has one from an earlier byte. Bytes with differences from one
-    /// another are low halves of one value, or high halves whose addends have the same low byte; they are sorted by that. The targets
-    /// have numbers below `count`.
+    /// Reduces a module's code: each byte in a fixup that differs from an earlier one by a constant is replaced by the difference. Bytes
+    /// are sorted before by target and half, high halves also by the low byte of the addend, since only bytes that are alike in these
+    /// differ by a constant. The targets have numbers below `count`.
     pub(crate) fn of(
         alloc: Global,
         code: &[CodeByte],
@@ -51,8 +53,8 @@ impl ReducedCode {
         Ok(reduced)
     }
 
-    /// Appends a byte, or its difference from a byte before it, if the byte is in a fixup and there is one. The result is the byte to
-    /// compare a later one with.
+    /// Appends a byte of the code, or, if it is in a fixup and differs by a constant from `before`, the difference. Returns the last byte
+    /// in a fixup so far, with which the next one is to be compared; `None` if there is none yet.
     fn push(
         &mut self,
         before: Option<CodeByte>,

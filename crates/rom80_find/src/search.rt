@@ -1,8 +1,8 @@
-//! A search for code in a dump, from one address to the next.
+//! A search for a module's code in a dump, address by address.
 
 ghost use Rattle.std.specs.Prelude.{◌≡◌, ◌≤◌, true, false, length, IfOk};
 ghost use Rattle.rom80_find.specs.Places.{AreBelow, LiesAt};
-ghost use Rattle.rom80_find.specs.Search.{IsAnswer, search_of};
+ghost use Rattle.rom80_find.specs.Search.{search_of};
 
 use crate::candidates::Candidates;
 use crate::fixup_bytes::FixupBytes;
@@ -13,8 +13,8 @@ use crate::table::table;
 use std::alloc::{AllocError, Global};
 use std::marker::Model;
 
-/// A search for the bytes of code in fixups, but for lone ones, in a dump. In its table every value may be every word. A contract sees the
-/// dump and the bytes.
+/// A search in a dump for the bytes of a module's code in fixups, but for those of lone values. Its table, in which every value may be
+/// every word between two calls, is made once for all addresses. A contract sees the dump and the bytes.
 #[derive(Drop)]
 pub(crate) struct Search<'a> {
     dump: &'a IndexedDump<'a>,
@@ -33,8 +33,8 @@ impl<'a> Model for Search<'a> {
 }
 
 impl<'a> Search<'a> {
-    /// The search for code whose targets have numbers below the length of `lone`, which says of each whether the code has no more than
-    /// a low and a high byte of its value.
+    /// Makes a search for a module's code. `lone` says for each number of a target whether its value is lone: whether the code has at most
+    /// one low and one high byte of it.
     pub(crate) fn of(
         alloc: Global,
         dump: &'a IndexedDump<'a>,
@@ -50,8 +50,8 @@ impl<'a> Search<'a> {
         Ok(Search { dump, bytes, table })
     }
 
-    /// Whether there are values with which the dump has these bytes with CODE at the address, and the others, of which `alive` says
-    /// whether it has them.
+    /// Whether the code lies at `address`: whether there are values of its targets with which the dump has all its bytes. `alive` says
+    /// whether the dump has those that this search leaves out, outside fixups and of lone values.
     pub(crate) fn lies(&mut self, address: u16, alive: bool) -> bool
         ensures same { self.new ≡ self.old }
         ensures alive { result ≡ true → alive ≡ true }
@@ -59,36 +59,13 @@ impl<'a> Search<'a> {
         ensures free { result ≡ true → LiesAt self.old.dump self.old.free address }
         ensures no { result ≡ false → alive ≡ true → LiesAt self.old.dump self.old.known address → LiesAt self.old.dump self.old.free address → ⊥ }
     {
-        if !alive || !self.has_known(address) {
+        if !alive {
             return false;
         }
-        self.has_free(address)
-    }
-
-    /// Whether the dump has the bytes of known values with CODE at the address.
-    fn has_known(&mut self, address: u16) -> bool
-        ensures same { self.new ≡ self.old }
-        ensures lies { IsAnswer self.old.dump self.old.known address result }
-    {
-        if self.bytes.known.is_empty() {
-            return true;
+        let dump = self.dump.dump();
+        if !lies_at(dump, address, &self.bytes.known, &mut self.table) {
+            return false;
         }
-        lies_at(
-            self.dump.dump(),
-            address,
-            &self.bytes.known,
-            &mut self.table,
-        )
-    }
-
-    /// Whether there are values with which it has those of unknown values there.
-    fn has_free(&mut self, address: u16) -> bool
-        ensures same { self.new ≡ self.old }
-        ensures lies { IsAnswer self.old.dump self.old.free address result }
-    {
-        if self.bytes.free.is_empty() {
-            return true;
-        }
-        lies_at(self.dump.dump(), address, &self.bytes.free, &mut self.table)
+        lies_at(dump, address, &self.bytes.free, &mut self.table)
     }
 }

@@ -1,4 +1,4 @@
-//! The addresses at which a dump has the bytes of code for which a row decides.
+//! The addresses at which a dump has the bytes of a module's code that can be compared for 64 addresses at once.
 
 ghost use Rattle.std.specs.Prelude.{◌≡◌, ℕ, ◌+◌, ◌*◌, ◌<◌, ◌&&◌, true, false, length, IfOk, IfSome};
 ghost use Rattle.std.specs.List.{list_all};
@@ -11,10 +11,11 @@ use crate::pattern::CodeByte;
 use crate::table::table;
 use std::alloc::{AllocError, Global};
 
-/// How many words of 64 bits have a bit for each address.
+/// The number of 64-bit words that have a bit for each address.
 pub(crate) const WORDS: usize = 1024;
 
-/// For each address whether the dump has, with CODE there, all bytes outside fixups, and any bytes where those of `lone` values are.
+/// Returns a bit for each address, set if with CODE there the dump has the code's bytes outside fixups, and has any bytes in place of those
+/// of `lone` values.
 pub(crate) fn sieve(
     alloc: Global,
     dump: &IndexedDump<'_>,
@@ -24,11 +25,11 @@ pub(crate) fn sieve(
     ensures { IfOk result (λ alive. AreSieved dump.now lone.now code.now alive.items) }
 {
     let mut alive = all_addresses(alloc, WORDS)?;
-    sieve_by_all(&mut alive, dump, code, lone);
+    sieve_by_bytes(&mut alive, dump, code, lone);
     Ok(alive)
 }
 
-/// The bits of `count` words, all set.
+/// Returns `count` 64-bit words with all bits set.
 pub(crate) fn all_addresses(alloc: Global, count: usize) -> Result<Vec<u64>, AllocError>
     ensures whole { IfOk result (λ alive. length alive.items ≡ count) }
     ensures each { IfOk result (λ alive. (a : ℕ) → a < 64 * count → bit_in alive.items a ≡ true) }
@@ -37,33 +38,36 @@ pub(crate) fn all_addresses(alloc: Global, count: usize) -> Result<Vec<u64>, All
     Ok(alive)
 }
 
-/// Drops the addresses at which the dump lacks a byte, and stops once none is left.
-fn sieve_by_all(alive: &mut [u64], dump: &IndexedDump<'_>, code: &[CodeByte], lone: &[bool])
+/// Clears the bit in `alive` of each address at which, with CODE there, the dump lacks a byte outside fixups or has no byte in place of one
+/// of a `lone` value.
+fn sieve_by_bytes(alive: &mut [u64], dump: &IndexedDump<'_>, code: &[CodeByte], lone: &[bool])
     requires all { length alive.old ≡ 1024 }
     ensures whole { length alive.new ≡ 1024 }
     ensures each { (a : ℕ) → a < 65536 → bit_in alive.new a ≡ (bit_in alive.old a && list_all (passes dump.now lone.now a) code.now) }
 {
     for byte in code {
-        if !sieve_by(alive, dump, *byte, lone) {
+        if !sieve_by_byte(alive, dump, *byte, lone) {
             return;
         }
     }
 }
 
-/// Drops the addresses at which the dump lacks this byte, if a row decides for it, and answers whether any may be left.
-fn sieve_by(alive: &mut [u64], dump: &IndexedDump<'_>, byte: CodeByte, lone: &[bool]) -> bool
+/// Clears the bit in `alive` of each address at which, with CODE there, the dump lacks `byte`, if it is outside fixups, or has no byte in
+/// its place, if it is of a `lone` value. Answers false only if no bit is left.
+fn sieve_by_byte(alive: &mut [u64], dump: &IndexedDump<'_>, byte: CodeByte, lone: &[bool]) -> bool
     requires all { length alive.old ≡ 1024 }
     ensures whole { length alive.new ≡ 1024 }
     ensures each { (a : ℕ) → a < 65536 → bit_in alive.new a ≡ (bit_in alive.old a && passes dump.now lone.now a byte) }
     ensures none { result ≡ false → (a : ℕ) → a < 65536 → bit_in alive.new a ≡ false }
 {
     match row_of(&byte, lone) {
-        Some(row) => keep_marked(alive, dump.row(row), usize::from(byte.offset)),
+        Some(row) => keep_in_row(alive, dump.row(row), usize::from(byte.offset)),
         None => true,
     }
 }
 
-/// The row that has the byte, if one decides for it.
+/// The number of the row of a dump in which `byte` is looked up: its own row if it is outside fixups, the row of any byte if it is of a
+/// `lone` value; otherwise `None`.
 fn row_of(byte: &CodeByte, lone: &[bool]) -> Option<usize>
     ensures row { result ≡ row_of lone.now byte.now }
     ensures few { IfSome result (λ row. row < 257) }
@@ -77,8 +81,8 @@ fn row_of(byte: &CodeByte, lone: &[bool]) -> Option<usize>
     }
 }
 
-/// Drops the addresses `offset` after which the row has no bit, and answers whether any is left.
-pub(crate) fn keep_marked(alive: &mut [u64], row: &[u64], offset: usize) -> bool
+/// Clears the bit in `alive` of each address `offset` before one whose bit in `row` is clear, and answers whether any bit is left.
+pub(crate) fn keep_in_row(alive: &mut [u64], row: &[u64], offset: usize) -> bool
     requires all { length alive.old ≡ 1024 }
     requires row { length row.now ≡ 2048 }
     requires near { offset < 65536 }

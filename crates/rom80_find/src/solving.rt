@@ -1,4 +1,4 @@
-//! The values that the targets of a module may have at one address.
+//! The values that a module's targets may have if its code lies at an address.
 
 ghost use Rattle.std.specs.Prelude.{◌≡◌, ◌≢◌, ℕ, ◌<◌, ◌≤◌, ◌&&◌, ◌||◌, ◌==◌, not, true, false, [], length, IfSome, IfNone, slice_index_or, take};
 ghost use Rattle.rom80_find.specs.Dump.{DumpValue, dump_of};
@@ -11,8 +11,8 @@ use crate::candidates::Candidates;
 use crate::dump::Dump;
 use crate::pattern::{CodeByte, number_of};
 
-/// Leaves in the table the words that each value may be with CODE at the address, and answers the number of bytes that it read: all
-/// of them exactly if each value has a word left. In the table that it takes every value may be every word.
+/// Narrows a table, in which each target's value may be every word, to the words with which the dump has the code's bytes if CODE begins
+/// at `address`. Returns how many bytes were read before one left a value no word: all of them exactly if the code lies there.
 pub(crate) fn solve(
     dump: Dump<'_>,
     address: u16,
@@ -28,17 +28,17 @@ pub(crate) fn solve(
     ensures no { result < length code.now → HasNone (dump_of dump.entry) code.now address }
     ensures clear { IsClearBut (take result code.now) table.new }
 {
-    set_known(address, table);
+    set_known_values(address, table);
     for (index, byte) in code.iter().enumerate() {
-        if !narrow(dump, address, *byte, table) {
+        if !narrow_to_byte(dump, address, *byte, table) {
             return index;
         }
     }
     code.len()
 }
 
-/// Whether there are values with which the dump has all these bytes with CODE at the address. Before and after, every value may be
-/// every word in the table.
+/// Whether there are values of targets with which the dump has all these bytes if CODE begins at `address`. In the table, which is scratch
+/// space, every value may be every word before and after the call.
 pub(crate) fn lies_at(
     dump: Dump<'_>,
     address: u16,
@@ -56,16 +56,16 @@ pub(crate) fn lies_at(
     if code.is_empty() {
         return true;
     }
-    if !reaches(dump, address, code) {
+    if !reaches_last_byte(dump, address, code) {
         return false;
     }
     let fitting = solve(dump, address, code, table);
-    clear(&code[..fitting], table);
+    clear_values(&code[..fitting], table);
     fitting == code.len()
 }
 
-/// Whether the dump reaches as far as the last byte would lie.
-fn reaches(dump: Dump<'_>, address: u16, code: &[CodeByte]) -> bool
+/// Whether the dump has a byte where the last byte of the code would lie if CODE began at `address`; true if the code has no byte.
+fn reaches_last_byte(dump: Dump<'_>, address: u16, code: &[CodeByte]) -> bool
     ensures { result ≡ false → LiesAt (dump_of dump.entry) code.now address → ⊥ }
 {
     match code.last() {
@@ -74,8 +74,8 @@ fn reaches(dump: Dump<'_>, address: u16, code: &[CodeByte]) -> bool
     }
 }
 
-/// Gives every word back to the values of these bytes.
-fn clear(code: &[CodeByte], table: &mut [Candidates])
+/// Lets the values of these bytes' targets be every word again in a table of candidates.
+fn clear_values(code: &[CodeByte], table: &mut [Candidates])
     requires below { AreBelow (length table.old) code.now }
     requires others { IsClearBut code.now table.old }
     ensures whole { length table.new ≡ length table.old }
@@ -86,8 +86,9 @@ fn clear(code: &[CodeByte], table: &mut [Candidates])
     }
 }
 
-/// Sets the values of absolute bytes and of CODE, which are known.
-fn set_known(address: u16, table: &mut [Candidates])
+/// Sets in a table of candidates the two values that are known if CODE begins at `address`: absolute 0 is 0, and CODE's base is the
+/// address.
+fn set_known_values(address: u16, table: &mut [Candidates])
     requires two { 2 ≤ length table.old }
     requires clear { IsClearBut [] table.old }
     ensures whole { length table.new ≡ length table.old }
@@ -98,8 +99,9 @@ fn set_known(address: u16, table: &mut [Candidates])
     table[1] = Candidates::Window(address, 0);
 }
 
-/// Drops the words with which the dump doesn't have this byte, and answers whether any are left.
-fn narrow(dump: Dump<'_>, address: u16, byte: CodeByte, table: &mut [Candidates]) -> bool
+/// Narrows in a table the candidates of a byte's target to those with which the dump has the byte if CODE begins at `address`, and answers
+/// true; answers false and leaves the table unchanged if there are none.
+fn narrow_to_byte(dump: Dump<'_>, address: u16, byte: CodeByte, table: &mut [Candidates]) -> bool
     requires { number_of byte.target < length table.old }
     ensures whole { length table.new ≡ length table.old }
     ensures yes { result ≡ true → (number word : ℕ) → number < length table.old → word < 65536 →
@@ -110,7 +112,7 @@ fn narrow(dump: Dump<'_>, address: u16, byte: CodeByte, table: &mut [Candidates]
     ensures unchanged { result ≡ false → table.new ≡ table.old }
 {
     let number = number_of(byte.target);
-    match narrowed_by(dump, address, byte, table[number]) {
+    match narrowed_candidates(dump, address, byte, table[number]) {
         Some(candidates) => {
             table[number] = candidates;
             true
@@ -119,8 +121,8 @@ fn narrow(dump: Dump<'_>, address: u16, byte: CodeByte, table: &mut [Candidates]
     }
 }
 
-/// Returns the candidates with which the dump has this byte, if there are any.
-fn narrowed_by(
+/// Returns the candidates with which the dump has a byte of code if CODE begins at `address`; `None` if there are none.
+fn narrowed_candidates(
     dump: Dump<'_>,
     address: u16,
     byte: CodeByte,

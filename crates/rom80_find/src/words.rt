@@ -1,4 +1,4 @@
-//! The values of a module's targets at a place.
+//! The words that a dump leaves for the values of a module's targets if the module lies at an address.
 
 ghost use Rattle.std.specs.Prelude.{◌≡◌, ℕ, ◌<◌, ◌≤◌, ◌+◌, ◌&&◌, ◌==◌, ◌||◌, List, [], length, true, IfOk, OnOk, IfSome, IfNone, slice_index_or};
 ghost use Rattle.std.specs.List.{AllByRecursion};
@@ -16,16 +16,18 @@ use crate::table::table;
 use omf_model::Target;
 use std::alloc::{AllocError, Global};
 
-/// The word of a target: the base of a segment, the top of STACK, or what an external stands for.
+/// A target with its word: the base of a segment, the top of STACK, or what an external stands for.
 #[derive(Clone, Copy)]
 pub(crate) struct Word {
+    /// The segment or the external.
     pub target: Target,
+    /// The value of the target.
     pub word: u16,
 }
 
-/// The words of the targets whose bytes in the dump leave only one, with CODE at the address, by ascending numbers; `None`
-/// exactly if the code doesn't lie there. A target without a byte in the code has more than one. The targets have numbers below
-/// `count`, and the first two, of absolute bytes and of CODE, aren't listed.
+/// Returns each target whose bytes in the dump, with CODE at `address`, leave only one word as its value, with that word, by ascending
+/// numbers; `None` exactly if the code doesn't lie there. A target without a byte in the code has more than one. The targets have numbers
+/// below `count`, and the first two, absolute 0 and CODE, aren't listed.
 ///
 /// # Errors
 /// `AllocError` only if memory ran out.
@@ -45,34 +47,14 @@ pub(crate) fn words_at(
     ensures none { IfOk result (λ found. IfNone found (LiesAt (dump_of dump.entry) code.now address → ⊥)) }
 {
     let mut table = table(alloc, Candidates::Any, count)?;
-    words_by(alloc, dump, code, address, &mut table)
-}
-
-/// The words of the targets, found in a table of their candidates.
-fn words_by(
-    alloc: Global,
-    dump: Dump<'_>,
-    code: &[CodeByte],
-    address: u16,
-    table: &mut [Candidates],
-) -> Result<Option<Vec<Word>>, AllocError>
-    requires two { 2 ≤ length table.old }
-    requires few { length table.old ≤ 65792 }
-    requires below { AreBelow (length table.old) code.now }
-    requires clear { IsClearBut [] table.old }
-    ensures some { IfOk result (λ found. IfSome found (λ words. AreOnlyWords (dump_of dump.entry) code.now address (length table.old) words.items)) }
-    ensures ascending { IfOk result (λ found. IfSome found (λ words. AreAscending words.items)) }
-    ensures targets { IfOk result (λ found. IfSome found (λ words. AllByRecursion IsOfATarget words.items)) }
-    ensures none { IfOk result (λ found. IfNone found (LiesAt (dump_of dump.entry) code.now address → ⊥)) }
-{
-    if solve(dump, address, code, table) < code.len() {
+    if solve(dump, address, code, &mut table) < code.len() {
         return Ok(None);
     }
-    let words = single_words(alloc, table)?;
+    let words = single_words(alloc, &table)?;
     Ok(Some(words))
 }
 
-/// The values that have one candidate.
+/// Returns the targets with only one candidate in the table, but for absolute 0 and CODE, each with that word.
 fn single_words(alloc: Global, table: &[Candidates]) -> Result<Vec<Word>, AllocError>
     requires { length table.now ≤ 65792 }
     ensures single { IfOk result (λ words. AreSingle table.now (length table.now) words.items) }
@@ -86,7 +68,7 @@ fn single_words(alloc: Global, table: &[Candidates]) -> Result<Vec<Word>, AllocE
     Ok(words)
 }
 
-/// Appends the word of a value that has one candidate.
+/// Appends the target with this number and its word, if it has only one candidate.
 fn push_single(
     words: &mut Vec<Word>,
     number: usize,

@@ -3,7 +3,6 @@
 //! | Module | What it tests |
 //! |---|---|
 //! | `vouching` | `verify80` and `loader80`: an image that is verified, vouched for and run |
-//! | `accepted` | `loader80`: programs that are accepted, run over a memory in one piece |
 //! | `sessions` | `loader80`: sessions, over readers and writers that give and take a byte at a time |
 //! | `failures` | `loader80` and `loader80_bundle`: sessions and bundles whose readers or writers fail, or never end |
 //! | `faults` | `loader80` and `loader80_bundle`: faults as they are shown |
@@ -13,8 +12,6 @@
 //! What the program shows of texts, images, refusals and transcripts stands in the tables of `tests/commands`.
 #![tactic(auto)]
 
-#[cfg(test)]
-mod accepted;
 #[cfg(test)]
 mod failures;
 #[cfg(test)]

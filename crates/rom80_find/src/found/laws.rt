@@ -9,8 +9,8 @@ use omf_model::relocation_laws::{
     commons_are_found_by_name, parts_of_one_start_at_zero, sound_modules_keep_rules,
 };
 
-/// There are values with which a module's code lies at an address, and it has a byte, exactly if there are bases with which the
-/// dump has the last byte of the module's contents in CODE at each address that they cover, and there is one.
+/// A law: there are values of targets with which a module's code lies at an address and isn't empty, exactly if there are bases with which
+/// the dump has, at each address that the module's contents in CODE cover, the byte of the last of them, and there is such an address.
 pub(crate) fn patterns_lie_as_modules()
     ensures { PatternsLieAsModules }
 {
@@ -19,14 +19,15 @@ pub(crate) fn patterns_lie_as_modules()
     parts_of_one_start_at_zero();
 }
 
-/// The places of a module's code are those of the module.
+/// A law: the addresses at which the code of a module lies are those at which the module lies.
 pub(crate) fn pattern_places_are_module_places()
     ensures { PatternPlacesAreModulePlaces }
 {
     patterns_lie_as_modules();
 }
 
-/// The words that the values of a module's targets can only be are those that its bases and names can only have.
+/// A law: a target's value has only one word with which the code lies at an address, exactly if bases with which the module lies there
+/// can give the target only that word.
 pub(crate) fn pattern_words_are_module_words()
     ensures { PatternWordsAreModuleWords }
 {
@@ -35,16 +36,16 @@ pub(crate) fn pattern_words_are_module_words()
     parts_of_one_start_at_zero();
 }
 
-/// Words of a pattern are those of targets that the module has, but for absolute bytes and CODE, and of externals of one name
-/// of the first.
+/// A law: the targets of which the code leaves only one word are targets of the module, none of them absolute 0 or CODE, and of externals
+/// with one name only the first.
 pub(crate) fn pattern_words_may_be_listed()
     ensures { PatternWordsMayBeListed }
 {
     sound_modules_keep_rules();
 }
 
-/// If each module of a link lies in a dump with bases that go with those of the link, the dump has, at each address that only
-/// contents in CODE cover, the byte that LINK and LOCATE give it.
+/// A law: if each module of a link lies in a dump with bases that go with those of the link, the dump has, at each address that contents
+/// cover, all of them in CODE, the byte that LINK and LOCATE give it.
 pub fn link_of_found_modules_has_the_bytes()
     ensures { LinkHasTheBytes }
 {

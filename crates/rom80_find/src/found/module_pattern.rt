@@ -1,6 +1,6 @@
-//! A module to look for in dumps.
+//! Modules to look for in dumps.
 
-ghost use Rattle.std.specs.Prelude.{◌≡◌, ◌≤◌, ◌==◌, length, IfOk, IfSome, IfNone};
+ghost use Rattle.std.specs.Prelude.{◌≡◌, ◌≤◌, IfOk, IfSome, IfNone};
 ghost use Rattle.std.specs.List.{AllByRecursion};
 ghost use Rattle.omf_model.specs.Rules.{IsModule};
 ghost use Rattle.rom80_find.specs.Dump.{dump_of};
@@ -14,14 +14,14 @@ use crate::found::laws::{
     patterns_lie_as_modules,
 };
 use crate::indexed_dump::IndexedDump;
-use crate::listing::{count_of, places};
+use crate::listing::{count_of_values, places};
 use crate::pattern::{CodeByte, code_bytes};
 use crate::words::{Word, words_at};
 use omf_model::Module;
 use std::alloc::{AllocError, Global};
 use std::marker::Model;
 
-/// A module with the bytes of its code, which are taken once, however often it is looked for. A contract sees the module.
+/// A module with the bytes of its code, which are read from its contents once, however often it is looked for. A contract sees the module.
 #[derive(Drop)]
 pub(crate) struct ModulePattern<'a> {
     source: &'a Module,
@@ -40,7 +40,7 @@ impl<'a> Model for ModulePattern<'a> {
 }
 
 impl<'a> ModulePattern<'a> {
-    /// The module with its code.
+    /// Reads the code of a module.
     ///
     /// # Errors
     /// `AllocError` only if memory ran out.
@@ -51,14 +51,14 @@ impl<'a> ModulePattern<'a> {
         Ok(ModulePattern { source, code })
     }
 
-    /// The module.
+    /// Returns the module that is looked for.
     pub(crate) fn source(&self) -> &'a Module
         ensures { result.now ≡ self.now }
     {
         self.source
     }
 
-    /// The bytes that its contents define in CODE, in ascending order of their offsets.
+    /// Returns the bytes that the module's contents define in CODE, in ascending order of their offsets.
     pub(crate) fn code(&self) -> &[CodeByte]
         ensures bytes { result.now ≡ code_bytes self.now }
         ensures short { code_length self.now ≤ 65535 }
@@ -67,9 +67,9 @@ impl<'a> ModulePattern<'a> {
         &self.code
     }
 
-    /// The addresses at which the module lies in a dump, in ascending order: those for
-    /// which there are bases such that the dump has, at each address that the module's contents in CODE cover, the byte of the
-    /// last of them, relocated so. CODE's own base is the address. A module without a byte in CODE lies nowhere.
+    /// Returns the addresses at which the module lies in a dump, in ascending order: those for which there are bases such that the dump
+    /// has, at each address that the module's contents in CODE cover, the byte of the last of them, relocated by the bases. CODE's own
+    /// base is the address. A module without a byte in CODE lies nowhere.
     ///
     /// # Errors
     /// `AllocError` only if memory ran out.
@@ -83,16 +83,16 @@ impl<'a> ModulePattern<'a> {
         patterns_lie_as_modules();
         pattern_places_are_module_places();
         let code = self.code();
-        if has_none(code) {
+        if code.is_empty() {
             return Ok(Vec::new(alloc));
         }
-        places(alloc, dump, code, count_of(code))
+        places(alloc, dump, code, count_of_values(code))
     }
 
-    /// The words of the module's targets if it lies at the address, by ascending numbers: of a segment its base, of STACK its
-    /// top, of an external what its name stands for. A target is listed exactly if whatever bases the module lies there with
-    /// give it the same word; absolute bytes and CODE aren't listed, and of externals of one name only the first is. `None`
-    /// exactly if the module doesn't lie there.
+    /// Returns the words of the module's targets if it lies at `address`, by ascending numbers: of a segment its base, of STACK its top,
+    /// of an external what its name stands for. A target is listed exactly if all bases with which the module lies there give it the
+    /// same word; absolute 0 and CODE aren't listed, and of externals with one name only the first is. `None` exactly if the module
+    /// doesn't lie there.
     ///
     /// # Errors
     /// `AllocError` only if memory ran out.
@@ -111,20 +111,13 @@ impl<'a> ModulePattern<'a> {
         pattern_words_are_module_words();
         pattern_words_may_be_listed();
         let code = self.code();
-        if has_none(code) {
+        if code.is_empty() {
             return Ok(None);
         }
-        let found = words_at(alloc, dump, code, count_of(code), address)?;
+        let found = words_at(alloc, dump, code, count_of_values(code), address)?;
         match found {
             Some(words) => Ok(Some(words)),
             None => Ok(None),
         }
     }
-}
-
-/// Whether there is no byte in the code.
-fn has_none(code: &[CodeByte]) -> bool
-    ensures { result ≡ (length code.now == 0) }
-{
-    code.is_empty()
 }

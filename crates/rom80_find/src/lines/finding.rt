@@ -1,4 +1,4 @@
-//! What is found of a module.
+//! Whether a module is found in a dump, with the lines of its places.
 
 ghost use Rattle.std.specs.Prelude.{◌≡◌, IfOk, length, filter};
 ghost use Rattle.rom80_find.specs.Places.{is_plain};
@@ -12,17 +12,19 @@ use crate::pattern::CodeByte;
 use omf_model::Module;
 use std::alloc::{AllocError, Global};
 
-/// What is found of a module.
+/// What comes of looking for a module in a dump.
 #[derive(Clone, Copy)]
 pub(crate) enum Finding {
-    /// The module has too few bytes to be looked for.
+    /// The module has too few bytes outside fixups to be looked for.
     Short,
+    /// The module lies nowhere in the dump.
     Missing,
+    /// The module lies at one place in the dump, or at several.
     There,
 }
 
 impl Finding {
-    /// Whether the module has a place.
+    /// Whether the module lies somewhere in the dump.
     pub(crate) fn has_place(self) -> bool
         ensures { result ≡ has_place self }
     {
@@ -33,11 +35,12 @@ impl Finding {
     }
 }
 
-/// A module with fewer bytes outside fixups would be found by chance.
+/// The fewest bytes outside fixups of a module that is looked for. With fewer it would be found by chance.
 const FEWEST: usize = 4;
 
-/// Appends the lines of a module's places, and says what is found of it.
-pub(crate) fn append_found(
+/// Looks for a module in a dump, appends the lines of its places, and returns what came of it. Nothing is appended for a module that is
+/// missing or short.
+pub(crate) fn append_module_places(
     alloc: Global,
     dump: &IndexedDump<'_>,
     source: &Module,
@@ -61,18 +64,12 @@ pub(crate) fn append_found(
 fn is_short(pattern: &ModulePattern<'_>) -> bool
     ensures { result ≡ is_short pattern.now }
 {
-    count_plain(pattern.code()) < FEWEST
+    count_plain_bytes(pattern.code()) < FEWEST
 }
 
-/// How many of the bytes are outside fixups.
-fn count_plain(code: &[CodeByte]) -> usize
+/// Counts the bytes of a module's code that are outside fixups.
+fn count_plain_bytes(code: &[CodeByte]) -> usize
     ensures { result ≡ length (filter is_plain code.now) }
 {
-    let mut count = 0;
-    for byte in code {
-        if byte.is_plain() {
-            count += 1;
-        }
-    }
-    count
+    code.iter().filter(|byte| byte.is_plain()).count()
 }

@@ -1,4 +1,4 @@
-//! The lines of a library's modules.
+//! The lines about a library's modules in a dump.
 
 ghost use Rattle.std.specs.Prelude.{◌≡◌, ◌++◌, IfOk, OnOk};
 ghost use Rattle.rom80_find.specs.Dump.{dump_of};
@@ -8,13 +8,12 @@ ghost use Rattle.rom80_find.specs.Prints.{PrintsFound};
 
 use crate::dump::Dump;
 use crate::indexed_dump::IndexedDump;
-use crate::lines::finding::append_found;
+use crate::lines::finding::append_module_places;
 use omf_model::Module;
 use std::alloc::{AllocError, Global};
 
-/// Appends the lines of those of a library's modules that are found in a dump that stands from the address `first` on, as
-/// [`append_modules`](crate::lines::append_modules) does, and then how many have no place, short ones among them, as
-/// `MISSING 3 OF 4`, in decimal.
+/// Appends the lines of a library's modules that are found in a dump, as [`append_modules`](crate::lines::append_modules) does, and then
+/// how many have no place, short ones among them, as `MISSING 3 OF 4`, in decimal.
 ///
 /// # Errors
 /// `AllocError` only if memory runs out; the text may then have some of the lines.
@@ -27,12 +26,12 @@ pub fn append_members(
     ensures { OnOk result (PrintsMembers (dump_of dump.entry) members.now text.old.items text.new.items) }
 {
     let dump = IndexedDump::of(alloc, dump)?;
-    let missing = append_found_ones(alloc, &dump, members, text)?;
-    append_count(alloc, text, missing, members.len())
+    let missing = append_found_members(alloc, &dump, members, text)?;
+    append_missing_count(alloc, text, missing, members.len())
 }
 
-/// Appends the lines of the modules that are found, and says how many aren't.
-fn append_found_ones(
+/// Appends the lines of a library's modules that are found in a dump, and returns how many aren't, short ones among them.
+fn append_found_members(
     alloc: Global,
     dump: &IndexedDump<'_>,
     members: &[Module],
@@ -42,7 +41,7 @@ fn append_found_ones(
 {
     let mut missing = 0;
     for source in members {
-        let finding = append_found(alloc, dump, source, text)?;
+        let finding = append_module_places(alloc, dump, source, text)?;
         if !finding.has_place() {
             missing += 1;
         }
@@ -50,8 +49,8 @@ fn append_found_ones(
     Ok(missing)
 }
 
-/// Appends the last line.
-fn append_count(
+/// Appends the line that says how many modules of a library are missing, as `MISSING 3 OF 4`.
+fn append_missing_count(
     alloc: Global,
     text: &mut Vec<u8>,
     missing: usize,

@@ -1,4 +1,4 @@
-//! The lines of an object file's modules.
+//! The lines about an object file's modules in a dump.
 
 ghost use Rattle.std.specs.Prelude.{◌≡◌, ◌++◌, IfOk, OnOk};
 ghost use Rattle.rom80_find.specs.Dump.{dump_of};
@@ -8,17 +8,16 @@ ghost use Rattle.rom80_find.specs.Prints.{PrintsModule};
 
 use crate::dump::Dump;
 use crate::indexed_dump::IndexedDump;
-use crate::lines::finding::{Finding, append_found};
+use crate::lines::finding::{Finding, append_module_places};
 use omf_core::Name;
 use omf_model::Module;
 use std::alloc::{AllocError, Global};
 
-/// Appends what is found of each of these modules in a dump that stands from the address `first` on, and says whether none is
-/// missing. For each place at which the dump has all bytes of a module's code there is a line such as
-/// `MODULE 0040 0064 METER DATA 2000 COMMON 3100 TABLE TOP 2100`: its address, the length of CODE, the name, and the bases of
-/// segments, of STACK the address after it, each if it can have only one; and below it the names that the module needs, as
-/// `  00A4 GETKEY`. After sixteen places `MORE 3` has the number of the others, in decimal. A module that has none is
-/// `MISSING METER`. One with fewer than four bytes outside fixups is `SHORT METER`: it isn't looked for, and isn't missing.
+/// Appends the lines about an object file's modules in a dump, and answers whether none is missing. For each place at which the dump has
+/// all bytes of a module's code there is a line such as `MODULE 0040 0064 METER DATA 2000 COMMON 3100 TABLE TOP 2100`: its address, the
+/// length of CODE, the name, and the bases of segments, of STACK the address after it, each if it can have only one; and below it the
+/// names that the module needs, as `  00A4 GETKEY`. After sixteen places `MORE 3` has the number of the others, in decimal. A module that
+/// has none is `MISSING METER`. One with fewer than four bytes outside fixups is `SHORT METER`: it isn't looked for, and isn't missing.
 ///
 /// # Errors
 /// `AllocError` only if memory runs out; the text may then have some of the lines.
@@ -40,7 +39,7 @@ pub fn append_modules(
     Ok(are_there)
 }
 
-/// Appends the lines of a module, and says whether it is missing.
+/// Appends the lines about one module in a dump, and answers whether it is missing.
 fn append_module(
     alloc: Global,
     dump: &IndexedDump<'_>,
@@ -49,7 +48,7 @@ fn append_module(
 ) -> Result<bool, AllocError>
     ensures { IfOk result (λ missing. PrintsModule dump.now source.now missing text.old.items text.new.items) }
 {
-    match append_found(alloc, dump, source, text)? {
+    match append_module_places(alloc, dump, source, text)? {
         Finding::There => Ok(false),
         Finding::Short => {
             append_short(text, source.name())?;
@@ -62,7 +61,7 @@ fn append_module(
     }
 }
 
-/// Appends the line of a module that isn't looked for.
+/// Appends the line of a module that is too short to be looked for, as `SHORT METER`.
 fn append_short(text: &mut Vec<u8>, name: &Name) -> Result<(), AllocError>
     ensures { OnOk result (text.new.items ≡ text.old.items ++ short_line name.now) }
 {
@@ -72,7 +71,7 @@ fn append_short(text: &mut Vec<u8>, name: &Name) -> Result<(), AllocError>
     Ok(())
 }
 
-/// Appends the line of a module that has no place.
+/// Appends the line of a module that lies nowhere in a dump, as `MISSING METER`.
 fn append_missing(text: &mut Vec<u8>, name: &Name) -> Result<(), AllocError>
     ensures { OnOk result (text.new.items ≡ text.old.items ++ missing_line name.now) }
 {

@@ -1,19 +1,19 @@
-//! The lines of one place.
+//! The lines about a module at one place in a dump.
 
 ghost use Rattle.std.specs.Prelude.{◌≡◌, ◌++◌, OnOk};
 ghost use Rattle.std.specs.List.{flat_map};
-ghost use Rattle.rom80_find.specs.Modules.{code_length};
 ghost use Rattle.rom80_find.specs.Lines.{extent_words, heading, base_words, base_part, top_part, place_line, name_line, needed_line, place_text};
 
+use crate::pattern::code_length;
 use crate::words::Word;
 use omf_core::Name;
-use omf_core::segment_id::{CODE, STACK};
+use omf_core::segment_id::STACK;
 use omf_model::{Common, Module, Target};
 use omf_text::append_place;
 use std::alloc::AllocError;
 use text80::word_digits;
 
-/// Appends the line of a place, and those of the names that the module needs.
+/// Appends the lines of a module at an address: that of the place, and those of the names that the module needs.
 pub(crate) fn append_place_lines(
     text: &mut Vec<u8>,
     source: &Module,
@@ -23,10 +23,10 @@ pub(crate) fn append_place_lines(
     ensures { OnOk result (text.new.items ≡ text.old.items ++ place_text source.now address words.now) }
 {
     append_line(text, source, address, words)?;
-    append_needed(text, source.externals(), words)
+    append_needed_names(text, source.externals(), words)
 }
 
-/// Appends the line of a place.
+/// Appends the line of a module at an address, as `MODULE 0040 0064 METER DATA 2000 TOP 2100`.
 fn append_line(
     text: &mut Vec<u8>,
     source: &Module,
@@ -37,12 +37,12 @@ fn append_line(
 {
     append_heading(text, source, address)?;
     append_bases(text, source.commons(), words)?;
-    append_tops(text, words)?;
+    append_top_of_stack(text, words)?;
     text.push(b'\n')?;
     Ok(())
 }
 
-/// Appends the address, the length of CODE and the name.
+/// Appends the beginning of a module's line: the address, the length of CODE and the module's name, as `MODULE 0040 0064 METER`.
 fn append_heading(text: &mut Vec<u8>, source: &Module, address: u16) -> Result<(), AllocError>
     ensures { OnOk result (text.new.items ≡ text.old.items ++ heading source.now address) }
 {
@@ -51,7 +51,7 @@ fn append_heading(text: &mut Vec<u8>, source: &Module, address: u16) -> Result<(
     text.extend_from_slice(source.name().bytes())
 }
 
-/// Appends an address and a length.
+/// Appends the words for an address and a length, as `MODULE 0040 0064`.
 fn append_extent(text: &mut Vec<u8>, address: u16, length: u16) -> Result<(), AllocError>
     ensures { OnOk result (text.new.items ≡ text.old.items ++ extent_words address length) }
 {
@@ -61,61 +61,46 @@ fn append_extent(text: &mut Vec<u8>, address: u16, length: u16) -> Result<(), Al
     text.extend_from_slice(&word_digits(length))
 }
 
-/// The length of a module's CODE.
-fn code_length(source: &Module) -> u16
-    ensures { result ≡ code_length source.now }
-{
-    match source.segment(CODE) {
-        Some(code) => code.length,
-        None => 0,
-    }
-}
-
-/// Appends the bases of the segments but STACK.
+/// Appends each word in the list that is the base of a segment other than STACK, with the segment, as ` DATA 2000`.
 fn append_bases(text: &mut Vec<u8>, commons: &[Common], words: &[Word]) -> Result<(), AllocError>
     ensures { OnOk result (text.new.items ≡ text.old.items ++ flat_map (base_part commons.now) words.now) }
 {
     for word in words {
-        append_base(text, commons, *word)?;
+        append_if_base(text, commons, *word)?;
     }
     Ok(())
 }
 
-/// Appends a word, if it is the base of a segment but STACK.
-fn append_base(text: &mut Vec<u8>, commons: &[Common], word: Word) -> Result<(), AllocError>
+/// Appends a word with its segment, as ` DATA 2000`, if it is the base of a segment other than STACK.
+fn append_if_base(text: &mut Vec<u8>, commons: &[Common], word: Word) -> Result<(), AllocError>
     ensures { OnOk result (text.new.items ≡ text.old.items ++ base_part commons.now word) }
 {
     match word.target {
         Target::Segment(STACK) | Target::External(_) => Ok(()),
-        Target::Segment(id) => append_base_words(text, commons, id, word.word),
+        Target::Segment(id) => append_base(text, commons, id, word.word),
     }
 }
 
-/// Appends a segment, its base, and a named common's name.
-fn append_base_words(
-    text: &mut Vec<u8>,
-    commons: &[Common],
-    id: u8,
-    base: u16,
-) -> Result<(), AllocError>
+/// Appends a segment with its base, and with its name if it is a named common, as ` COMMON 3100 TABLE`.
+fn append_base(text: &mut Vec<u8>, commons: &[Common], id: u8, base: u16) -> Result<(), AllocError>
     ensures { OnOk result (text.new.items ≡ text.old.items ++ base_words commons.now id base) }
 {
     text.push(b' ')?;
     append_place(text, commons, id, base)
 }
 
-/// Appends the top of STACK.
-fn append_tops(text: &mut Vec<u8>, words: &[Word]) -> Result<(), AllocError>
+/// Appends the top of STACK, as ` TOP 2100`, if it is in a list of words.
+fn append_top_of_stack(text: &mut Vec<u8>, words: &[Word]) -> Result<(), AllocError>
     ensures { OnOk result (text.new.items ≡ text.old.items ++ flat_map top_part words.now) }
 {
     for word in words {
-        append_top(text, *word)?;
+        append_if_top(text, *word)?;
     }
     Ok(())
 }
 
-/// Appends a word, if it is the top of STACK.
-fn append_top(text: &mut Vec<u8>, word: Word) -> Result<(), AllocError>
+/// Appends a word, as ` TOP 2100`, if it is the top of STACK.
+fn append_if_top(text: &mut Vec<u8>, word: Word) -> Result<(), AllocError>
     ensures { OnOk result (text.new.items ≡ text.old.items ++ top_part word) }
 {
     match word.target {
@@ -127,31 +112,35 @@ fn append_top(text: &mut Vec<u8>, word: Word) -> Result<(), AllocError>
     }
 }
 
-/// Appends the lines of the names that the module needs.
-fn append_needed(text: &mut Vec<u8>, externals: &[Name], words: &[Word]) -> Result<(), AllocError>
+/// Appends for each word in the list that an external stands for a line with it and the external's name, as `  00A4 GETKEY`.
+fn append_needed_names(
+    text: &mut Vec<u8>,
+    externals: &[Name],
+    words: &[Word],
+) -> Result<(), AllocError>
     ensures { OnOk result (text.new.items ≡ text.old.items ++ flat_map (needed_line externals.now) words.now) }
 {
     for word in words {
-        append_needed_one(text, externals, *word)?;
+        append_if_needed(text, externals, *word)?;
     }
     Ok(())
 }
 
-/// Appends the line of a name, if the word is that of one.
-fn append_needed_one(text: &mut Vec<u8>, externals: &[Name], word: Word) -> Result<(), AllocError>
+/// Appends a line with a word and an external's name, as `  00A4 GETKEY`, if the word is what an external stands for.
+fn append_if_needed(text: &mut Vec<u8>, externals: &[Name], word: Word) -> Result<(), AllocError>
     ensures { OnOk result (text.new.items ≡ text.old.items ++ needed_line externals.now word) }
 {
     let Target::External(index) = word.target else {
         return Ok(());
     };
     match externals.get(usize::from(index)) {
-        Some(name) => append_name(text, word.word, name),
+        Some(name) => append_name_line(text, word.word, name),
         None => Ok(()),
     }
 }
 
-/// Appends the line of a name with its address.
-fn append_name(text: &mut Vec<u8>, address: u16, name: &Name) -> Result<(), AllocError>
+/// Appends a line with an address and the name that stands for it, as `  00A4 GETKEY`.
+fn append_name_line(text: &mut Vec<u8>, address: u16, name: &Name) -> Result<(), AllocError>
     ensures { OnOk result (text.new.items ≡ text.old.items ++ name_line address name.now) }
 {
     text.extend_from_slice(b"  ".as_slice())?;

@@ -1,4 +1,4 @@
-//! The lines of a module's places.
+//! The lines of the places at which a module lies in a dump.
 
 ghost use Rattle.std.specs.Prelude.{◌≡◌, ◌++◌, OnOk, take};
 ghost use Rattle.std.specs.List.{AllByRecursion};
@@ -12,10 +12,10 @@ use crate::found::ModulePattern;
 use crate::lines::place::append_place_lines;
 use std::alloc::{AllocError, Global};
 
-/// The most places of a module that are printed.
+/// The number of a module's places that are printed; the others are counted.
 const SHOWN: usize = 16;
 
-/// Appends the lines of the first places, and how many there are more.
+/// Appends the lines of a module at the first sixteen of its places in a dump, and how many places there are beyond these.
 pub(crate) fn append_places(
     alloc: Global,
     dump: Dump<'_>,
@@ -26,12 +26,12 @@ pub(crate) fn append_places(
     requires { AreModulePlaces (dump_of dump) pattern.now places.now }
     ensures { OnOk result (PrintsPlaces (dump_of dump.entry) pattern.now places.now text.old.items text.new.items) }
 {
-    append_each(alloc, dump, pattern, first_of(places), text)?;
-    append_more(alloc, text, places.len())
+    append_each_place(alloc, dump, pattern, shown_places(places), text)?;
+    append_more_count(alloc, text, places.len())
 }
 
-/// The first places, as many as are shown.
-fn first_of(places: &[u16]) -> &[u16]
+/// Returns the places that are printed: the first sixteen, or all if there are fewer.
+fn shown_places(places: &[u16]) -> &[u16]
     ensures { result.now ≡ take 16 places.now }
 {
     if places.len() <= SHOWN {
@@ -41,8 +41,8 @@ fn first_of(places: &[u16]) -> &[u16]
     }
 }
 
-/// Appends the lines of each of these places.
-fn append_each(
+/// Appends the lines of a module at each of these places in a dump.
+fn append_each_place(
     alloc: Global,
     dump: Dump<'_>,
     pattern: &ModulePattern<'_>,
@@ -53,13 +53,13 @@ fn append_each(
     ensures { OnOk result (PrintsEach (dump_of dump.entry) pattern.now places.now text.old.items text.new.items) }
 {
     for address in places {
-        append_at(alloc, dump, pattern, *address, text)?;
+        append_place_at(alloc, dump, pattern, *address, text)?;
     }
     Ok(())
 }
 
-/// Appends the lines of the place at an address.
-fn append_at(
+/// Appends the lines of a module at one address of a dump, at which it lies.
+fn append_place_at(
     alloc: Global,
     dump: Dump<'_>,
     pattern: &ModulePattern<'_>,
@@ -75,8 +75,8 @@ fn append_at(
     }
 }
 
-/// Appends how many places there are more, if there are any.
-fn append_more(alloc: Global, text: &mut Vec<u8>, count: usize) -> Result<(), AllocError>
+/// Appends the number of places beyond sixteen, as `MORE 3`, if `count` places are more than that.
+fn append_more_count(alloc: Global, text: &mut Vec<u8>, count: usize) -> Result<(), AllocError>
     ensures { OnOk result (text.new.items ≡ text.old.items ++ more_line count) }
 {
     if count <= SHOWN {

@@ -1,25 +1,32 @@
-//! The bytes of a module's code, each a half of a value that isn't known yet.
+//! The bytes of a module's code, each a half of a target's value, which isn't known yet, plus an addend.
 
 ghost use Rattle.std.specs.Prelude.{◌≡◌};
-ghost use Rattle.rom80_find.specs.Places.{is_plain};
+ghost use Rattle.rom80_find.specs.Places.{is_known_fixup, is_plain};
 
+use crate::pattern::number::number_of;
 use omf_model::Target;
 
-/// One of the two bytes of a word.
+/// Which byte of a word: the low or the high one.
 #[derive(Clone, Copy, PartialEq, Eq)]
 pub(crate) enum Half {
+    /// The low byte.
     Low,
+    /// The high byte.
     High,
 }
 
-/// A byte of a module's code, by its offset in CODE: a half of the word that is the value of a target plus an addend, modulo
-/// 65536. The value of a segment is its base, that of STACK its top, that of absolute bytes 0; that of an external is the word
-/// that it stands for. So a byte outside fixups is the low half of absolute 0 plus the byte.
+/// A byte of a module's code: a half of the word that is the value of a target plus an addend, modulo 65536. The value of a segment is
+/// its base, that of STACK its top, that of the absolute segment 0; that of an external is the word that it stands for. So a byte outside
+/// fixups is the low half of absolute 0 plus the byte.
 #[derive(Clone, Copy)]
 pub(crate) struct CodeByte {
+    /// The byte's offset in CODE.
     pub offset: u16,
+    /// Which half of the word the byte is.
     pub half: Half,
+    /// The segment or external whose value the word has.
     pub target: Target,
+    /// The word less the target's value, modulo 65536.
     pub addend: u16,
 }
 
@@ -29,5 +36,12 @@ impl CodeByte {
         ensures { result ≡ is_plain self.now }
     {
         self.half == Half::Low && self.target == Target::Segment(0)
+    }
+
+    /// Whether the byte is in a fixup of one of the two values that are known at each address: absolute 0 and CODE's base.
+    pub(crate) fn is_known_fixup(&self) -> bool
+        ensures { result ≡ is_known_fixup self.now }
+    {
+        !self.is_plain() && number_of(self.target) < 2
     }
 }

@@ -1,7 +1,7 @@
-//! What the names of a module stand for.
+//! The names of a module's publics and externals with what they stand for.
 
 ghost use Rattle.std.specs.Prelude.{◌≡◌, ◌≤◌, [], length, min, take, unwrap_or, Some, IfOk, OnOk};
-ghost use Rattle.rom80_find.specs.Names.{place_of, word_at, meaning_in, AreNames, SetsName, AddsName};
+ghost use Rattle.rom80_find.specs.Names.{place_of_public, word_of_external, meaning_in, AreNames, SetsName, AddsName};
 
 use crate::pattern::resolving::Resolved;
 use indexmap::IndexMap;
@@ -11,8 +11,8 @@ use omf_model::{Module, Public, Target};
 use std::alloc::{AllocError, Global};
 use std::marker::Model;
 
-/// What names stand for: the places of a module's publics, and the words of externals. No name is copied. A contract sees the
-/// names with what they stand for.
+/// A table of names with what they stand for: a public's place, or the word of an external. No name is copied. A contract sees the names
+/// with what they stand for.
 #[derive(Drop)]
 pub(crate) struct Names<'a> {
     meanings: IndexMap<&'a [u8], Resolved, NameHashes>,
@@ -28,7 +28,7 @@ impl<'a> Model for Names<'a> {
 }
 
 impl<'a> Names<'a> {
-    /// The names of the module's publics.
+    /// Makes a table of the names of a module's publics, each with the public's place; of publics with one name the first counts.
     pub(crate) fn of_publics(alloc: Global, source: &'a Module) -> Result<Names<'a>, AllocError>
         ensures { IfOk result (AreNames source.now.publics []) }
     {
@@ -39,52 +39,58 @@ impl<'a> Names<'a> {
         Ok(names)
     }
 
-    /// Sets the names of the publics, the last one first, so that of several with one name the first is kept.
+    /// Adds to an empty table the names of publics, each with the public's place. The last comes first, so that of publics with one name
+    /// the first counts.
     fn set_publics(&mut self, publics: &'a [Public]) -> Result<(), AllocError>
         requires { self.old ≡ [] }
         ensures { OnOk result (AreNames publics.now [] self.new) }
     {
         for done in 0..publics.len() {
             let public = &publics[publics.len() - 1 - done];
-            self.set(&public.name, place_of(public))?;
+            self.set_meaning(&public.name, place_of_public(public))?;
         }
         Ok(())
     }
 
-    /// The name has this meaning from then on.
-    fn set(&mut self, name: &'a Name, meaning: Resolved) -> Result<(), AllocError>
+    /// Sets what a name stands for, also if it stood for something else before.
+    fn set_meaning(&mut self, name: &'a Name, meaning: Resolved) -> Result<(), AllocError>
         ensures { OnOk result (SetsName name.now meaning self.old self.new) }
     {
         self.meanings.insert(name.bytes(), meaning)?;
         Ok(())
     }
 
-    /// What an external stands for: what its name does, and a new name for the external's word.
-    pub(crate) fn external(&mut self, name: &'a Name, index: u16) -> Result<Resolved, AllocError>
-        ensures value { IfOk result (λ meaning. meaning ≡ unwrap_or (meaning_in self.old name.now) (word_at index)) }
-        ensures added { OnOk result (AddsName name.now (word_at index) self.old self.new) }
+    /// Returns what the external with this name and index stands for: what the name does, or the external's own word for a name that
+    /// isn't in the table. The name is added then.
+    pub(crate) fn resolve_external(
+        &mut self,
+        name: &'a Name,
+        index: u16,
+    ) -> Result<Resolved, AllocError>
+        ensures value { IfOk result (λ meaning. meaning ≡ unwrap_or (meaning_in self.old name.now) (word_of_external index)) }
+        ensures added { OnOk result (AddsName name.now (word_of_external index) self.old self.new) }
     {
-        match self.get(name.bytes()) {
+        match self.meaning_of(name.bytes()) {
             Some(meaning) => Ok(meaning),
             None => {
-                let word = word_at(index);
-                self.set(name, word)?;
+                let word = word_of_external(index);
+                self.set_meaning(name, word)?;
                 Ok(word)
             }
         }
     }
 
-    /// What a name stands for, if it is there.
-    fn get(&self, name: &[u8]) -> Option<Resolved>
+    /// Returns what a name stands for; `None` if it isn't in the table.
+    fn meaning_of(&self, name: &[u8]) -> Option<Resolved>
         ensures { result ≡ meaning_in self.now name.now }
     {
         self.meanings.get(name).copied()
     }
 }
 
-/// The place of a public.
-fn place_of(public: &Public) -> Resolved
-    ensures { result ≡ place_of public.now }
+/// Returns the place of a public: the base of its segment plus its offset.
+fn place_of_public(public: &Public) -> Resolved
+    ensures { result ≡ place_of_public public.now }
 {
     Resolved {
         target: Target::Segment(public.segment),
@@ -92,9 +98,9 @@ fn place_of(public: &Public) -> Resolved
     }
 }
 
-/// The word of an external.
-fn word_at(index: u16) -> Resolved
-    ensures { result ≡ word_at index }
+/// Returns the word that the external with this index stands for, which isn't known yet.
+fn word_of_external(index: u16) -> Resolved
+    ensures { result ≡ word_of_external index }
 {
     Resolved {
         target: Target::External(index),
@@ -102,7 +108,7 @@ fn word_at(index: u16) -> Resolved
     }
 }
 
-/// The hashes of a table of the names of a module's publics and externals.
+/// Chooses a hash function for the names of a module's publics and externals.
 fn hashes_of(source: &Module) -> NameHashes {
     let mut hashes = NameHashes::new();
     for public in source.publics() {

@@ -1,11 +1,11 @@
-//! The numbers by which the values of targets go.
+//! The numbers of targets, by which tables of their values are indexed.
 
 ghost use Rattle.std.specs.Prelude.{◌≡◌, ◌<◌, true};
 ghost use Rattle.rom80_find.specs.CodeBytes.{number_of, has_small_id};
 
 use omf_model::Target;
 
-/// The number by which a target's value goes: the id of a segment, and 256 plus the index of an external.
+/// Returns the number of a target, by which tables of values are indexed: a segment's id, and 256 plus an external's index.
 pub(crate) fn number_of(target: Target) -> usize
     ensures number { result ≡ number_of target }
     ensures few { result < 65792 }
@@ -16,7 +16,7 @@ pub(crate) fn number_of(target: Target) -> usize
     }
 }
 
-/// The target with this number.
+/// Returns the target with a number: the segment with that id, or from 256 on an external.
 pub(crate) fn target_of(number: usize) -> Target
     requires { number < 65792 }
     ensures number { number_of result ≡ number }

@@ -1,4 +1,4 @@
-//! The bytes of a module's code.
+//! The bytes of a module's code, read from its contents.
 
 ghost use Rattle.omf_body.specs.declared.field.Field.TheVariants as field;
 ghost use Rattle.omf_model.specs.Patches.{word_in_bytes};
@@ -17,8 +17,8 @@ use omf_model::relocation_laws::sound_modules_keep_rules;
 use omf_model::{Content, Field, Fixup, Module, Target};
 use std::alloc::{AllocError, Global};
 
-/// The bytes that the module's contents define in CODE, in ascending order of their offsets. If two contents cover an offset
-/// the byte is the later one's.
+/// Returns the bytes that a module's contents define in CODE, in ascending order of their offsets. If two contents cover an offset, the
+/// byte is the later one's.
 ///
 /// # Errors
 /// `AllocError` only if memory ran out.
@@ -29,40 +29,45 @@ pub(crate) fn code_bytes(alloc: Global, source: &Module) -> Result<Vec<CodeByte>
 {
     let resolved = ResolvedModule::of(alloc, source)?;
     let table = code_table(alloc, &resolved)?;
-    bytes_of(alloc, &table)
+    defined_bytes(alloc, &table)
 }
 
-/// The byte at each offset in CODE, if a content covers it.
+/// Returns for each offset in CODE the byte that the module's contents define there; `None` if none of them covers it.
 fn code_table(alloc: Global, source: &ResolvedModule) -> Result<Vec<Option<CodeByte>>, AllocError>
     ensures table { IfOk result (λ table. IsTable source.now table.items) }
     ensures short { OnOk result (code_length source.now ≤ 65535) }
     ensures rules { OnOk result (IsModule source.now) }
 {
     sound_modules_keep_rules();
-    let mut table = table(alloc, None, source.code_length())?;
-    for content in source.contents() {
+    let module = source.source();
+    let mut table = table(alloc, None, usize::from(code_length(module)))?;
+    for content in module.contents() {
         if content.segment == CODE {
-            place(&mut table, source, content);
+            write_content(&mut table, source, content);
         }
     }
     Ok(table)
 }
 
-/// The bytes that are there.
-fn bytes_of(alloc: Global, table: &[Option<CodeByte>]) -> Result<Vec<CodeByte>, AllocError>
-    ensures { IfOk result (λ bytes. bytes.items ≡ filter_map (λ b. b) table.now) }
+/// Returns the length of a module's CODE; 0 without such a segment.
+pub(crate) fn code_length(source: &Module) -> u16
+    ensures { result ≡ code_length source.now }
 {
-    let mut bytes = Vec::new(alloc);
-    for byte in table {
-        if let Some(byte) = byte {
-            bytes.push(*byte)?;
-        }
+    match source.segment(CODE) {
+        Some(code) => code.length,
+        None => 0,
     }
-    Ok(bytes)
 }
 
-/// Writes the content's bytes to their offsets.
-fn place(table: &mut [Option<CodeByte>], source: &ResolvedModule, content: &Content)
+/// Returns the bytes of a table of offsets, without those offsets that have none.
+fn defined_bytes(alloc: Global, table: &[Option<CodeByte>]) -> Result<Vec<CodeByte>, AllocError>
+    ensures { IfOk result (λ bytes. bytes.items ≡ filter_map (λ b. b) table.now) }
+{
+    table.iter().filter_map(|byte| *byte).collect(alloc)
+}
+
+/// Writes the bytes of a content to a table, each at its offset in CODE.
+fn write_content(table: &mut [Option<CodeByte>], source: &ResolvedModule, content: &Content)
     requires short { length table.old ≤ 65535 }
     requires fits { content.now.offset + length content.now.bytes ≤ length table.old }
     requires fixups { HasItsFixups source.now content.now }
@@ -70,12 +75,12 @@ fn place(table: &mut [Option<CodeByte>], source: &ResolvedModule, content: &Cont
     ensures each { (o : ℕ) → o < length table.old → slice_index_or table.new o None ≡
         (if covers o content.now then Some (byte_in source.now o content.now) else slice_index_or table.old o None) }
 {
-    place_plain(table, content);
-    place_fixups(table, source, content, &content.fixups);
+    write_plain_bytes(table, content);
+    write_fixups(table, source, content, &content.fixups);
 }
 
-/// Writes the bytes of the content's fixups over its others.
-fn place_fixups(
+/// Writes the bytes of a content's fixups over its other bytes in a table, the first fixup's last.
+fn write_fixups(
     table: &mut [Option<CodeByte>],
     source: &ResolvedModule,
     content: &Content,
@@ -91,12 +96,12 @@ fn place_fixups(
         slice_index_or table.new o None ≡ (if covers o content.now then Some (byte_in source.now o content.now) else first) }
 {
     for done in 0..fixups.len() {
-        place_fixup(table, source, content, fixups[fixups.len() - 1 - done]);
+        write_fixup(table, source, content, fixups[fixups.len() - 1 - done]);
     }
 }
 
-/// Writes the content's bytes, as if there were no fixups.
-fn place_plain(table: &mut [Option<CodeByte>], content: &Content)
+/// Writes the bytes of a content to a table, each at its offset in CODE, as if the content had no fixups.
+fn write_plain_bytes(table: &mut [Option<CodeByte>], content: &Content)
     requires short { length table.old ≤ 65535 }
     requires fits { content.now.offset + length content.now.bytes ≤ length table.old }
     ensures whole { length table.new ≡ length table.old }
@@ -114,8 +119,8 @@ fn place_plain(table: &mut [Option<CodeByte>], content: &Content)
     }
 }
 
-/// Writes a fixup's bytes to their offsets.
-fn place_fixup(
+/// Writes the byte or the two bytes of a fixup to a table, each at its offset in CODE.
+fn write_fixup(
     table: &mut [Option<CodeByte>],
     source: &ResolvedModule,
     content: &Content,
@@ -132,14 +137,19 @@ fn place_fixup(
 {
     let resolved = source.resolve(fixup.target);
     match fixup.field {
-        Field::Low => place_low(table, content, fixup.offset, resolved),
-        Field::High => place_high(table, content, fixup.offset, resolved),
-        Field::Both => place_both(table, content, fixup.offset, resolved),
+        Field::Low => write_low_byte(table, content, fixup.offset, resolved),
+        Field::High => write_high_byte(table, content, fixup.offset, resolved),
+        Field::Both => write_word(table, content, fixup.offset, resolved),
     }
 }
 
-/// Writes the byte of a fixup of a low byte.
-fn place_low(table: &mut [Option<CodeByte>], content: &Content, offset: u16, resolved: Resolved)
+/// Writes the byte of a fixup of a low byte to a table, at its offset in CODE.
+fn write_low_byte(
+    table: &mut [Option<CodeByte>],
+    content: &Content,
+    offset: u16,
+    resolved: Resolved,
+)
     requires fits { content.now.offset + length content.now.bytes ≤ length table.old }
     requires begin { content.now.offset ≤ offset }
     requires within { offset < content.now.offset + length content.now.bytes }
@@ -156,8 +166,13 @@ fn place_low(table: &mut [Option<CodeByte>], content: &Content, offset: u16, res
     });
 }
 
-/// Writes the byte of a fixup of a high byte.
-fn place_high(table: &mut [Option<CodeByte>], content: &Content, offset: u16, resolved: Resolved)
+/// Writes the byte of a fixup of a high byte to a table, at its offset in CODE. The content's byte is 256 times an addend.
+fn write_high_byte(
+    table: &mut [Option<CodeByte>],
+    content: &Content,
+    offset: u16,
+    resolved: Resolved,
+)
     requires fits { content.now.offset + length content.now.bytes ≤ length table.old }
     requires begin { content.now.offset ≤ offset }
     requires within { offset < content.now.offset + length content.now.bytes }
@@ -174,8 +189,8 @@ fn place_high(table: &mut [Option<CodeByte>], content: &Content, offset: u16, re
     });
 }
 
-/// Writes the bytes of a fixup of a word.
-fn place_both(table: &mut [Option<CodeByte>], content: &Content, offset: u16, resolved: Resolved)
+/// Writes the two bytes of a fixup of a word to a table, at their offsets in CODE.
+fn write_word(table: &mut [Option<CodeByte>], content: &Content, offset: u16, resolved: Resolved)
     requires short { length table.old ≤ 65535 }
     requires fits { content.now.offset + length content.now.bytes ≤ length table.old }
     requires begin { content.now.offset ≤ offset }
@@ -202,7 +217,7 @@ fn place_both(table: &mut [Option<CodeByte>], content: &Content, offset: u16, re
     });
 }
 
-/// A word in the bytes, low byte first.
+/// Returns the word at index `at` of some bytes, low byte first.
 fn word_at(bytes: &[u8], at: usize) -> u16
     requires { at + 1 < length bytes.now }
     ensures { result ≡ word_in_bytes bytes.now at }

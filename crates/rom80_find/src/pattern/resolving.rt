@@ -1,20 +1,21 @@
-//! What the targets of fixups stand for.
+//! The targets of a module's fixups with what they stand for.
 
-ghost use Rattle.std.specs.Prelude.{◌≡◌, ◌≤◌, length, IsTrue, IfOk};
+ghost use Rattle.std.specs.Prelude.{◌≡◌, length, IsTrue, IfOk};
 ghost use Rattle.omf_model.specs.Rules.{has_target, IsModule};
-ghost use Rattle.rom80_find.specs.Modules.{code_length, resolved};
+ghost use Rattle.rom80_find.specs.Modules.{resolved};
 ghost use Rattle.rom80_find.specs.Names.{AreExternals};
 
 use crate::pattern::names::Names;
-use omf_core::segment_id::CODE;
-use omf_model::{Content, Module, Target};
+use omf_model::{Module, Target};
 use std::alloc::{AllocError, Global};
 use std::marker::Model;
 
-/// What a target stands for: the value of a target plus an addend.
+/// A value of a target plus an addend: what a fixup's target stands for once the names of the module's own publics are looked up.
 #[derive(Clone, Copy)]
 pub(crate) struct Resolved {
+    /// A segment, or an external that the module doesn't declare.
     pub target: Target,
+    /// The number to be added to the target's value, modulo 65536.
     pub addend: u16,
 }
 
@@ -37,35 +38,23 @@ impl<'a> Model for ResolvedModule<'a> {
 }
 
 impl<'a> ResolvedModule<'a> {
-    /// The module, of which each name is looked up once.
+    /// Looks up each external's name among a module's publics, and the other externals by their names.
     pub(crate) fn of(alloc: Global, source: &'a Module) -> Result<ResolvedModule<'a>, AllocError>
         ensures { IfOk result (λ resolved. resolved ≡ source.now) }
     {
-        let externals = resolved_externals(alloc, source)?;
+        let externals = resolve_externals(alloc, source)?;
         Ok(ResolvedModule { source, externals })
     }
 
-    /// The module's contents.
-    pub(crate) fn contents(&self) -> &'a [Content]
-        ensures value { result.now ≡ self.now.contents }
-        ensures rules { IsModule self.now }
+    /// Returns the module whose targets are resolved.
+    pub(crate) fn source(&self) -> &'a Module
+        ensures { result.now ≡ self.now }
     {
-        self.source.contents()
+        self.source
     }
 
-    /// The length of the module's CODE.
-    pub(crate) fn code_length(&self) -> usize
-        ensures value { result ≡ code_length self.now }
-        ensures short { result ≤ 65535 }
-    {
-        match self.source.segment(CODE) {
-            Some(segment) => usize::from(segment.length),
-            None => 0,
-        }
-    }
-
-    /// What a target of a fixup in the module stands for. A segment stands for its base; an external that the module itself
-    /// declares for the public's place, and another one for the word of the first external of that name.
+    /// Returns what the target of a fixup in the module stands for. A segment stands for its base; an external that the module itself
+    /// declares stands for the public's place, and another one for the word of the first external with its name.
     pub(crate) fn resolve(&self, target: Target) -> Resolved
         requires { IsTrue (has_target self.now.commons (length self.now.externals) target) }
         ensures { result ≡ resolved self.now target }
@@ -77,15 +66,15 @@ impl<'a> ResolvedModule<'a> {
     }
 }
 
-/// What the module's externals stand for, up to the greatest index that a fixup can have.
-fn resolved_externals(alloc: Global, source: &Module) -> Result<Vec<Resolved>, AllocError>
+/// Returns what each external of a module stands for, up to the greatest index that a fixup can have.
+fn resolve_externals(alloc: Global, source: &Module) -> Result<Vec<Resolved>, AllocError>
     ensures { IfOk result (λ externals. AreExternals source.now externals.items) }
 {
     let mut names = Names::of_publics(alloc, source)?;
     let names_of_externals = source.externals();
     let mut externals = Vec::new(alloc);
     for index in 0..names_of_externals.len().min(65536) {
-        let resolved = names.external(&names_of_externals[index], index as u16)?;
+        let resolved = names.resolve_external(&names_of_externals[index], index as u16)?;
         externals.push(resolved)?;
     }
     Ok(externals)

@@ -7,5 +7,5 @@ loop-at-init c = no_marks (dump_of c.args.dump) c.args.marks.now c.requires.whol
 
 pub loop-at-preserved : goal.loop-at-preserved
 loop-at-preserved c =
-    marked_more (dump_of c.args.dump) c.loop-at.at c.loop-at.marks c.mark.new.marks c.byte_at.result c.loop-at-test.true c.byte_at.ensures
-    c.loop-at.invariant c.mark.ensures.whole c.mark.ensures.each
+    marked_more (dump_of c.args.dump) c.loop-at.at c.loop-at.marks c.mark_address.new.marks c.byte_at.result c.loop-at-test.true c.byte_at.ensures
+    c.loop-at.invariant c.mark_address.ensures.whole c.mark_address.ensures.each

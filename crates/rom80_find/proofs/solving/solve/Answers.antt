@@ -6,8 +6,8 @@ use Rattle.rom80_find.specs.Places.{is_known, in_table, fits_for, fits}
 use Rattle.rom80_find.proofs.SolveLemmas.{all_fail, each_at, some_byte}
 use Rattle.rom80_find.proofs.solving.solve.Goals as goal
 
-pub returns-then-not-narrow-clause-no : goal.returns-then-not-narrow-clause-no
-returns-then-not-narrow-clause-no c = λ _.
+pub returns-then-not-narrow_to_byte-clause-no : goal.returns-then-not-narrow_to_byte-clause-no
+returns-then-not-narrow_to_byte-clause-no c = λ _.
     let code = c.args.code.now in
     let i = c.loop-index.index in
     let b = get_or code i some_byte in
@@ -18,5 +18,5 @@ returns-then-not-narrow-clause-no c = λ _.
       none = λ word w. all_fail (is_known c.args.address n word) (fits_for (dump_of c.args.dump) c.args.address n word) code i some_byte c.loop-index-test.true
           (ap (λ (x : Bool). (x && (not (n == n) || fits (dump_of c.args.dump) c.args.address b word))) (sym (c.loop-index.invariant.table.each n word below w))
           ∙ ap (λ (x : Bool). in_table c.loop-index.table n word && (not x || fits (dump_of c.args.dump) c.args.address b word)) (eq-eqb n n refl)
-          ∙ c.narrow.ensures.no c.if-not-narrow.true word w);
+          ∙ c.narrow_to_byte.ensures.no c.if-not-narrow_to_byte.true word w);
     }

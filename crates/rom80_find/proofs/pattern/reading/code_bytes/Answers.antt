@@ -14,4 +14,4 @@ returns-clause-bytes c =
     let are = subst (λ (m : ModuleValue). IsTable m t) c.in_ok-resolved.ensures c.in_ok-table.ensures.table in
     let all : filter_map (λ b. b) t ≡ code_bytes m =
     given (code_byte_at m) t 0 (λ o lt. let zero-o : o ≡ 0 + o = omega arith in are.each o (omega (arith, lt, are.whole)) ∙ ap (code_byte_at m) zero-o) ∙ ap (λ (n : ℕ). filter_map (code_byte_at m) (range_with_len 0 n)) are.whole in
-    subst (λ (l : List CodeByte). IfOk c.bytes_of.result (λ bytes. bytes.items ≡ l)) (ap (λ l. filter_map (λ b. b) l) c.deref.ensures.value ∙ all) c.bytes_of.ensures
+    subst (λ (l : List CodeByte). IfOk c.defined_bytes.result (λ bytes. bytes.items ≡ l)) (ap (λ l. filter_map (λ b. b) l) c.deref.ensures.value ∙ all) c.defined_bytes.ensures

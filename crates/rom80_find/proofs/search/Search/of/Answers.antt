@@ -1,6 +1,6 @@
 use Rattle.std.proofs.Common.{◌≡◌, ℕ, List, arith, length, sym, subst}
 use Rattle.rom80_find.specs.declared.pattern.code_byte.CodeByte.{CodeByte}
-use Rattle.rom80_find.specs.Lone.{is_crowded}
+use Rattle.rom80_find.specs.Lone.{is_repeated}
 use Rattle.rom80_find.specs.Places.{AreBelow, is_known_fixup}
 use Rattle.rom80_find.proofs.CodeLieLemmas.{below_filter}
 use Rattle.rom80_find.proofs.search.Search.of.Goals as goal
@@ -16,6 +16,6 @@ invariant_of-result c =
       known = subst (λ (n : ℕ). AreBelow n bytes.known.items) (sym whole)
           (subst (λ (l : List CodeByte). AreBelow (length lone) l) (sym c.in_ok-bytes.ensures.known) (below_filter (length lone) is_known_fixup code c.requires.below));
       below = subst (λ (n : ℕ). AreBelow n bytes.free.items) (sym whole)
-          (subst (λ (l : List CodeByte). AreBelow (length lone) l) (sym c.in_ok-bytes.ensures.free) (below_filter (length lone) (is_crowded lone) code c.requires.below));
+          (subst (λ (l : List CodeByte). AreBelow (length lone) l) (sym c.in_ok-bytes.ensures.free) (below_filter (length lone) (is_repeated lone) code c.requires.below));
       clear = λ number two all. c.in_ok-table.ensures.each number;
     }
