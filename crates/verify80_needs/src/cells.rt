@@ -2,7 +2,7 @@
 
 use verify80_states::{Cell, Cells};
 
-/// The cell at a place from 0 to 7.
+/// The cell at a place from 0 to 7; the last one for a greater number.
 pub(crate) fn cell_at(cells: Cells, place: usize) -> Cell {
     match place {
         0 => cells.first,
@@ -16,7 +16,7 @@ pub(crate) fn cell_at(cells: Cells, place: usize) -> Cell {
     }
 }
 
-/// Cells, each of them changed, given its place.
+/// Cells, each of them changed by a function of its place and of the cell.
 pub(crate) fn change_cells<F: Fn(usize, Cell) -> Cell>(cells: Cells, change: F) -> Cells
     requires { F.IsAlwaysCallable change }
 {

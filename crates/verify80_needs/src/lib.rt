@@ -6,7 +6,7 @@
 //! |---|---|
 //! | [`ReachedProgram`] | a program, and where each instruction leads from a state |
 //! | [`Needs`] | what is needed of a state at each address: a later store, jump by HL or condition may depend on it |
-//! | [`Units`], [`are_alike`], [`value_of`] | the parts of a state |
+//! | [`Units`], [`are_alike`], [`values_of`] | the parts of a state |
 //! | [`Landmarks`] | the numbers to which spans grow: ends of data, of pages, and what the program names |
 //! | [`Variables`], [`stored_bytes`], [`widened_cells`] | bytes of memory that are to stay inside a span |
 //! | [`mark`] | marks an address |
@@ -27,5 +27,5 @@ pub use marks::mark;
 pub use needs::Needs;
 pub use program::ReachedProgram;
 pub use slots::widened_cells;
-pub use units::{PARTS, Units, are_alike, value_of};
+pub use units::{PARTS, Units, are_alike, values_of};
 pub use variables::{Variables, stored_bytes};

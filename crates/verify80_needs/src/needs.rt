@@ -3,8 +3,8 @@
 use crate::moving::parts_before;
 use crate::program::ReachedProgram;
 use crate::slots::{
-    SLOTS, Slots, cell_parts, find_places, find_pointers, placed_cells, pointer_at, slots_before,
-    stored_parts, stored_slots,
+    SLOTS, Slots, find_places, find_pointers, parts_stored, placed_cells, pointer_at, slots_before,
+    slots_stored,
 };
 use crate::units::{Units, reduce};
 use crate::variables::Variables;
@@ -28,7 +28,7 @@ impl Need {
         slots: Slots::NONE,
     };
 
-    /// What either needs.
+    /// What either of two needs names.
     fn and(self, other: Need) -> Need {
         Need {
             parts: self.parts.union(other.parts),
@@ -36,10 +36,21 @@ impl Need {
         }
     }
 
-    /// The need of these parts too.
+    /// A need with these parts too.
     fn with(self, parts: Units) -> Need {
         Need {
             parts: self.parts.union(parts),
+            slots: self.slots,
+        }
+    }
+
+    /// What is needed before a call, given what its callee needs.
+    fn before_call(self) -> Need {
+        Need {
+            parts: self
+                .parts
+                .difference(Units::WORDS)
+                .union(self.parts.shallower()),
             slots: self.slots,
         }
     }
@@ -74,11 +85,11 @@ impl Needs {
         let mut needs = vec![in alloc; Need::NONE; 65_536]?;
         let mut behind = vec![in alloc; Need::NONE; 65_536]?;
         for _ in 0..SWEEPS {
-            if !sweep(reading, &mut needs, &mut behind) {
+            if !reading.sweep(&mut needs, &mut behind) {
                 break;
             }
         }
-        let named = named_by(alloc, reading, &needs)?;
+        let named = reading.find_named(alloc, &needs)?;
         Ok(Needs { needs, named })
     }
 
@@ -118,15 +129,17 @@ impl Needs {
     }
 
     /// The bytes of memory that a state at an address names.
-    pub fn names(&self, at: u16) -> Slots {
-        match self.named.get(usize::from(at)) {
-            Some(slots) => *slots,
-            None => Slots::NONE,
-        }
+    fn names(&self, at: u16) -> Slots {
+        self.named
+            .get(usize::from(at))
+            .copied()
+            .unwrap_or(Slots::NONE)
     }
 
-    /// A state at an address with what is needed of it alone.
-    pub fn cut(&self, at: u16, state: State, variables: &Variables) -> State {
+    /// A state at an address with only what is needed there; nothing is known of the rest. It also names each variable, once that has
+    /// grown, whose byte its cells show to be one of the variable's. Its cells are at the addresses that states there name; a byte for
+    /// which it has no cell is known by a variable that it names, if there is one.
+    pub fn needed_part(&self, at: u16, state: State, variables: &Variables) -> State {
         let need = need_at(&self.needs, at);
         let named = self.names(at);
         let set = variables.set_in(state);
@@ -139,154 +152,13 @@ impl Needs {
             },
             ..state
         };
-        reduce(placed, need.parts.union(cell_parts(need.slots)))
-    }
-}
-
-/// By address the bytes that a state names: those that are needed before the instruction, and at free places those that are needed after
-/// it, since it may store them.
-fn named_by(alloc: Global, reading: Reading<'_>, needs: &[Need]) -> Result<Vec<Slots>, AllocError> {
-    let mut named = vec![in alloc; Slots::NONE; 65_536]?;
-    for number in 0..65_536_u32 {
-        let at = number as u16;
-        if let Some(found) = reading.program.at(at) {
-            let after = match found.instr.flow() {
-                _ if reading.is_local => reading.slots_stored(at, found.instr),
-                Flow::Continues | Flow::Pushes | Flow::Pops | Flow::Exchanges => {
-                    need_at(needs, found.next).slots
-                }
-                _ => Slots::NONE,
-            };
-            if let Some(place) = named.get_mut(number as usize) {
-                *place = need_at(needs, at).slots.and(after);
-            }
-        }
-    }
-    Ok(named)
-}
-
-/// Goes through the program once, from its end, and says whether something changed. `behind` has for each group what is needed behind the
-/// calls of its procedures, if these know where they return to.
-fn sweep(reading: Reading<'_>, needs: &mut [Need], behind: &mut [Need]) -> bool {
-    let program = reading.program;
-    let mut is_changed = false;
-    for below in 0..65_536_u32 {
-        let at = (65_535 - below) as u16;
-        if let Some(found) = program.at(at) {
-            if let Flow::Calls(entry) | Flow::CallsIf(_, entry) = found.instr.flow() {
-                is_changed |= note_behind(program, behind, entry, need_at(needs, found.next));
-            }
-            let need = need_before(reading, needs, behind, at, found);
-            if let Some(place) = needs.get_mut(usize::from(at)) {
-                if *place != need {
-                    *place = need;
-                    is_changed = true;
-                }
-            }
-        }
-    }
-    is_changed
-}
-
-/// Notes what is needed behind a call of the procedure at `entry`, and says whether that is more.
-fn note_behind(program: ReachedProgram<'_>, behind: &mut [Need], entry: u16, need: Need) -> bool {
-    match behind.get_mut(usize::from(program.group(entry))) {
-        Some(place) if program.returns.know_return(entry) => {
-            let before = *place;
-            *place = before.and(need);
-            *place != before
-        }
-        _ => false,
-    }
-}
-
-/// What is needed before a return that is taken.
-fn before_return(program: ReachedProgram<'_>, behind: &[Need], at: u16) -> Need {
-    if !program.returns.know_return(at) {
-        return Need::NONE;
-    }
-    let need = need_at(behind, program.group(at));
-    let parts = need.parts;
-    Need {
-        parts: parts
-            .difference(Units::WORDS)
-            .union(parts.deeper())
-            .union(Units::FIRST),
-        slots: need.slots,
+        reduce(placed, need.parts.union(need.slots.parts()))
     }
 }
 
 /// What is needed at an address so far.
 fn need_at(needs: &[Need], at: u16) -> Need {
-    match needs.get(usize::from(at)) {
-        Some(need) => *need,
-        None => Need::NONE,
-    }
-}
-
-/// What is needed before an instruction.
-fn need_before(
-    reading: Reading<'_>,
-    needs: &[Need],
-    behind: &[Need],
-    at: u16,
-    found: Fetched,
-) -> Need {
-    let need = need_of_ways(reading, needs, behind, at, found);
-    match found.instr.flow() {
-        Flow::Continues | Flow::Pushes | Flow::Pops | Flow::Exchanges => need,
-        _ if reading.is_local => Need {
-            parts: need.parts,
-            slots: Slots::NONE,
-        },
-        _ => need,
-    }
-}
-
-/// What is needed before an instruction by what its ways need.
-fn need_of_ways(
-    reading: Reading<'_>,
-    needs: &[Need],
-    behind: &[Need],
-    at: u16,
-    found: Fetched,
-) -> Need {
-    let program = reading.program;
-    let Fetched { instr, next } = found;
-    match instr.flow() {
-        Flow::Halts => Need::NONE,
-        Flow::Returns => before_return(program, behind, at),
-        Flow::Continues | Flow::Pushes | Flow::Pops | Flow::Exchanges => {
-            reading.through(at, instr, need_at(needs, next))
-        }
-        Flow::Jumps(to) => need_at(needs, to),
-        Flow::JumpsIf(condition, to) => need_at(needs, next)
-            .and(need_at(needs, to))
-            .with(Units::of_condition(condition)),
-        Flow::ReturnsIf(condition) => need_at(needs, next)
-            .and(before_return(program, behind, at))
-            .with(Units::of_condition(condition)),
-        Flow::Calls(to) => before_call(need_at(needs, to)),
-        Flow::CallsIf(condition, to) => before_call(need_at(needs, to))
-            .and(need_at(needs, next))
-            .with(Units::of_condition(condition)),
-        Flow::JumpsToHl => {
-            let mut need = Need::NONE.with(Units::HL);
-            for to in program.targets(at) {
-                need = need.and(need_at(needs, *to));
-            }
-            need
-        }
-    }
-}
-
-/// What is needed before a call, given what its callee needs.
-fn before_call(need: Need) -> Need {
-    let parts = need.parts;
-    Need {
-        parts: parts.difference(Units::WORDS).union(parts.shallower()),
-        slots: need.slots,
-    }
+    needs.get(usize::from(at)).copied().unwrap_or(Need::NONE)
 }
 
 /// How a program's memory is read.
@@ -302,9 +174,62 @@ struct Reading<'a> {
 }
 
 impl Reading<'_> {
-    /// The bytes that the instruction at an address stores.
-    fn slots_stored(self, at: u16, instr: Instr) -> Slots {
-        stored_slots(self.places, instr, pointer_at(self.pointers, at))
+    /// Goes through the program once, from its end, and says whether something changed. `behind` has for each group what is needed behind
+    /// the calls of its procedures, if these know where they return to.
+    fn sweep(self, needs: &mut [Need], behind: &mut [Need]) -> bool {
+        let program = self.program;
+        let mut is_changed = false;
+        for below in 0..65_536_u32 {
+            let at = (65_535 - below) as u16;
+            if let Some(found) = program.at(at) {
+                if let Flow::Calls(entry) | Flow::CallsIf(_, entry) = found.instr.flow() {
+                    is_changed |= note_behind(program, behind, entry, need_at(needs, found.next));
+                }
+                let need = self.need_before(needs, behind, at, found);
+                if let Some(place) = needs.get_mut(usize::from(at)) {
+                    is_changed |= *place != need;
+                    *place = need;
+                }
+            }
+        }
+        is_changed
+    }
+
+    /// What is needed before an instruction, by what is needed where it leads.
+    fn need_before(self, needs: &[Need], behind: &[Need], at: u16, found: Fetched) -> Need {
+        let program = self.program;
+        let Fetched { instr, next } = found;
+        let need = match instr.flow() {
+            Flow::Halts => Need::NONE,
+            Flow::Returns => before_return(program, behind, at),
+            Flow::Continues | Flow::Pushes | Flow::Pops | Flow::Exchanges => {
+                return self.through(at, instr, need_at(needs, next));
+            }
+            Flow::Jumps(to) => need_at(needs, to),
+            Flow::JumpsIf(condition, to) => need_at(needs, next)
+                .and(need_at(needs, to))
+                .with(Units::of_condition(condition)),
+            Flow::ReturnsIf(condition) => need_at(needs, next)
+                .and(before_return(program, behind, at))
+                .with(Units::of_condition(condition)),
+            Flow::Calls(to) => need_at(needs, to).before_call(),
+            Flow::CallsIf(condition, to) => need_at(needs, to)
+                .before_call()
+                .and(need_at(needs, next))
+                .with(Units::of_condition(condition)),
+            Flow::JumpsToHl => {
+                let mut need = Need::NONE.with(Units::HL);
+                for to in program.targets(at) {
+                    need = need.and(need_at(needs, *to));
+                }
+                need
+            }
+        };
+        if self.is_local {
+            Need::NONE.with(need.parts)
+        } else {
+            need
+        }
     }
 
     /// What is needed before an instruction that goes on, given what is needed after it.
@@ -315,21 +240,69 @@ impl Reading<'_> {
             Storing::Through(pair) => Units::of_index_pair(pair),
             Storing::Nowhere | Storing::Byte(_) | Storing::Word(_) => Units::NONE,
         };
-        let (after, kept) = if self.is_local {
-            let stored = self.slots_stored(at, instr);
-            let counted = match instr {
-                Instr::InrMemory | Instr::DcrMemory => stored,
-                _ => Slots::NONE,
-            };
-            (stored, counted)
-        } else {
-            (need.slots, need.slots)
+        let stored = slots_stored(self.places, instr, pointer);
+        let (after, kept) = match instr {
+            _ if !self.is_local => (need.slots, need.slots),
+            Instr::InrMemory | Instr::DcrMemory => (stored, stored),
+            _ => (stored, Slots::NONE),
         };
         Need {
             parts: parts_before(instr, need.parts)
                 .union(pointed)
-                .union(stored_parts(instr, pointer, after)),
+                .union(parts_stored(instr, pointer, after)),
             slots: slots_before(self.places, instr, pointer, need.parts, kept),
         }
+    }
+
+    /// By address the bytes that a state names: those that are needed before the instruction, and at free places those that are needed
+    /// after it, since it may store them.
+    fn find_named(self, alloc: Global, needs: &[Need]) -> Result<Vec<Slots>, AllocError> {
+        let mut named = vec![in alloc; Slots::NONE; 65_536]?;
+        for number in 0..65_536_u32 {
+            let at = number as u16;
+            if let Some(Fetched { instr, next }) = self.program.at(at) {
+                let after = match instr.flow() {
+                    _ if self.is_local => {
+                        slots_stored(self.places, instr, pointer_at(self.pointers, at))
+                    }
+                    Flow::Continues | Flow::Pushes | Flow::Pops | Flow::Exchanges => {
+                        need_at(needs, next).slots
+                    }
+                    _ => Slots::NONE,
+                };
+                if let Some(place) = named.get_mut(number as usize) {
+                    *place = need_at(needs, at).slots.and(after);
+                }
+            }
+        }
+        Ok(named)
+    }
+}
+
+/// Notes what is needed behind a call of the procedure at `entry`, if it knows where it returns to, and says whether that is more than
+/// before.
+fn note_behind(program: ReachedProgram<'_>, behind: &mut [Need], entry: u16, need: Need) -> bool {
+    match behind.get_mut(usize::from(program.group(entry))) {
+        Some(place) if program.must_know_return(entry) => {
+            let before = *place;
+            *place = before.and(need);
+            *place != before
+        }
+        _ => false,
+    }
+}
+
+/// What is needed before a return that is taken: nothing if its group doesn't know where it goes.
+fn before_return(program: ReachedProgram<'_>, behind: &[Need], at: u16) -> Need {
+    if !program.must_know_return(at) {
+        return Need::NONE;
+    }
+    let Need { parts, slots } = need_at(behind, program.group(at));
+    Need {
+        parts: parts
+            .difference(Units::WORDS)
+            .union(parts.deeper())
+            .union(Units::FIRST),
+        slots,
     }
 }

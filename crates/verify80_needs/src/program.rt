@@ -1,8 +1,8 @@
 //! The program that states are proposed for, and its ways.
 
 use decode80::{Fetched, Flow, Instr};
-use image80::Regions;
-use verify80_states::{CallReturns, PairSpan, State, given, state_after};
+use image80::{Image, Regions};
+use verify80_states::{PairSpan, State, given, is_marked, state_after};
 
 /// A program: its code, its instructions that may be reached, and which of its procedures return.
 #[derive(Clone, Copy)]
@@ -11,8 +11,10 @@ pub struct ReachedProgram<'a> {
     pub code: &'a [Option<u8>],
     /// The instruction at each address that the program may reach, and the address after it: by address, 65,536 places.
     pub instructions: &'a [Option<Fetched>],
-    /// Whether the procedure that runs at an address may return, and whether its states know where to.
-    pub returns: &'a CallReturns,
+    /// By address whether the procedure that runs there may return.
+    pub may_return: &'a [bool],
+    /// By address whether the states at the returns of the procedure that runs there are to know where to.
+    pub know_return: &'a [bool],
     /// The group of each address: by address, 65,536 places.
     pub groups: &'a [u16],
     /// The address of the first instruction.
@@ -24,32 +26,69 @@ pub struct ReachedProgram<'a> {
 }
 
 impl<'a> ReachedProgram<'a> {
-    /// The instruction at an address.
-    pub fn at(self, address: u16) -> Option<Fetched> {
-        match self.instructions.get(usize::from(address)) {
-            Some(found) => *found,
-            None => None,
+    /// The program of an image, of whose groups and returns nothing is known yet.
+    pub fn new(
+        image: &'a Image,
+        instructions: &'a [Option<Fetched>],
+        code: &'a [Option<u8>],
+        quiet: &'a [bool],
+    ) -> ReachedProgram<'a> {
+        ReachedProgram {
+            code,
+            instructions,
+            may_return: &[],
+            know_return: &[],
+            groups: &[],
+            start: image.start,
+            regions: &image.regions,
+            quiet,
         }
+    }
+
+    /// Whether each state at a return of the procedure that runs at an address is to know where that return goes.
+    pub fn must_know_return(self, at: u16) -> bool {
+        is_marked(self.know_return, at)
+    }
+
+    /// The instruction at an address and the address behind it, if the program may reach it.
+    pub fn at(self, address: u16) -> Option<Fetched> {
+        self.instructions
+            .get(usize::from(address))
+            .copied()
+            .flatten()
+    }
+
+    /// The instruction at an address alone, if the program may reach it.
+    pub fn instr(self, address: u16) -> Option<Instr> {
+        let Fetched { instr, .. } = self.at(address)?;
+        Some(instr)
     }
 
     /// The number of the group at an address.
     pub fn group(self, address: u16) -> u16 {
-        match self.groups.get(usize::from(address)) {
-            Some(number) => *number,
-            None => 0,
-        }
+        self.groups.get(usize::from(address)).copied().unwrap_or(0)
     }
 
     /// The targets that are declared for the PCHL at an address.
     pub fn targets(self, address: u16) -> &'a [u16] {
         let regions = self.regions;
-        match regions.targets(address) {
-            Some(targets) => targets,
-            None => &[],
+        regions.targets(address).unwrap_or(&[])
+    }
+
+    /// Where the instruction at an address leads inside its procedure: past a CALL that is taken it leads nowhere. The second list has the
+    /// targets of a PCHL.
+    pub fn ways_inside(self, at: u16, found: Fetched) -> ([Option<u16>; 2], &'a [u16]) {
+        let next = Some(found.next);
+        match found.instr.flow() {
+            Flow::Jumps(to) => ([Some(to), None], &[]),
+            Flow::JumpsIf(_, to) => ([next, Some(to)], &[]),
+            Flow::JumpsToHl => ([None, None], self.targets(at)),
+            Flow::Calls(_) | Flow::Returns | Flow::Halts => ([None, None], &[]),
+            _ => ([next, None], &[]),
         }
     }
 
-    /// How many ways an instruction has, each with a hint of its own.
+    /// How many ways the instruction at an address has, each with a hint of its own.
     pub fn count_ways(self, at: u16, instr: Instr) -> usize {
         match instr.flow() {
             Flow::Halts => 0,
@@ -65,7 +104,7 @@ impl<'a> ReachedProgram<'a> {
         }
     }
 
-    /// Where the way of a number leads from a state, and with what; `None` if that way isn't gone.
+    /// Where the way with this number leads from a state, and with what; `None` if the state can't go that way.
     pub fn way(self, at: u16, found: Fetched, state: State, number: usize) -> Option<(u16, State)> {
         let Fetched { instr, next } = found;
         match instr.flow() {
@@ -112,26 +151,27 @@ impl<'a> ReachedProgram<'a> {
         }
     }
 
-    /// Where a callee returns to, if it may return and its states don't know where to: then its variables alone are known there.
+    /// The way behind a call, with nothing but the variables known there; `None` unless the callee may return and its states don't know
+    /// where to.
     fn way_behind_call(self, entry: u16, next: u16, set: u64) -> Option<(u16, State)> {
-        if self.returns.may_return(entry) && !self.returns.know_return(entry) {
+        if is_marked(self.may_return, entry) && !self.must_know_return(entry) {
             Some((next, State { set, ..State::ANY }))
         } else {
             None
         }
     }
 
-    /// Where a return goes, and with what, if the states there are to know it, and this one does.
+    /// Where a return goes, and with what; `None` unless the states there are to know that, and this one does.
     fn back(self, at: u16, found: Fetched, state: State) -> Option<(u16, State)> {
         let PairSpan { words, .. } = state.words.first?;
-        if self.returns.know_return(at) && words.is_alone() {
+        if self.must_know_return(at) && words.is_alone() {
             Some((words.first, self.after(found, true, state)))
         } else {
             None
         }
     }
 
-    /// Whether each way of the return at an address is known to a state.
+    /// Whether a state knows where a return goes; so does each that doesn't return.
     pub fn knows_return(self, instr: Instr, state: State) -> bool {
         let left = match instr.flow() {
             Flow::Returns => Some(state),
@@ -147,7 +187,7 @@ impl<'a> ReachedProgram<'a> {
         }
     }
 
-    /// What an instruction makes of a state.
+    /// The state after an instruction, given whether its condition holds.
     fn after(self, found: Fetched, taken: bool, state: State) -> State {
         state_after(self.code, found.instr, taken, found.next, state)
     }

@@ -12,7 +12,7 @@ use verify80_states::{Cell, Cells, is_marked};
 
 /// How many bytes a state may know.
 pub const SLOTS: usize = 8;
-/// No address.
+/// What stands at a place without an address.
 const NONE: u16 = u16::MAX;
 
 /// The addresses of the bytes that are known, or are to be known: one for each place.
@@ -20,6 +20,7 @@ const NONE: u16 = u16::MAX;
 pub struct Slots([u16; SLOTS]);
 
 impl Slots {
+    /// Slots without an address.
     pub const NONE: Slots = Slots([NONE; SLOTS]);
 
     /// The address at a place, if it has one.
@@ -35,18 +36,16 @@ impl Slots {
         address != NONE && self.0.contains(&address)
     }
 
-    /// The slots with an address at a place, if that is free or has a greater one.
+    /// These slots with an address at a place, if that is free or has a greater address.
     fn with(self, place: usize, address: u16) -> Slots {
         let Slots(mut slots) = self;
         if let Some(slot) = slots.get_mut(place) {
-            if address < *slot {
-                *slot = address;
-            }
+            *slot = address.min(*slot);
         }
         Slots(slots)
     }
 
-    /// The slots without an address.
+    /// These slots without one address.
     fn without(self, address: u16) -> Slots {
         let Slots(mut slots) = self;
         for slot in &mut slots {
@@ -57,7 +56,7 @@ impl Slots {
         Slots(slots)
     }
 
-    /// The slots of both: of two at a place the lower.
+    /// The addresses of two slots: at each place the lower one.
     pub fn and(self, other: Slots) -> Slots {
         let mut both = self;
         for place in 0..SLOTS {
@@ -67,9 +66,55 @@ impl Slots {
         }
         both
     }
+
+    /// The parts of a state that are the cells of these addresses.
+    pub fn parts(self) -> Units {
+        let mut parts = Units::NONE;
+        for place in 0..SLOTS {
+            if self.at(place).is_some() {
+                parts = parts.union(Units::of_cell(place));
+            }
+        }
+        parts
+    }
 }
 
-/// By address the place of each quiet byte that the program reads by name, in turn; that of others is none of them.
+/// The bytes of memory that an instruction reads, or stores, by name or through a known pointer: of each its address, if there is one, and
+/// the parts of a state to which it goes, or from which it comes.
+type Bytes = [(Option<u16>, Units); 2];
+
+/// The bytes that an instruction reads, given the word that HL is known to be.
+fn bytes_read(instr: Instr, pointer: Option<u16>) -> Bytes {
+    let (address, parts) = match instr {
+        Instr::Lhld(address) => {
+            let next = address.wrapping_add(1);
+            return [(Some(address), Units::L), (Some(next), Units::H)];
+        }
+        Instr::Lda(address) => (Some(address), Units::A.union(Units::TEST)),
+        Instr::Load(to) => (pointer, Units::of(to)),
+        Instr::InrMemory | Instr::DcrMemory => (pointer, Units::ZERO.union(Units::SIGN)),
+        Instr::Operate(_, Operand::Memory) => (pointer, Units::A.union(Units::ALL_FLAGS)),
+        _ => (None, Units::NONE),
+    };
+    [(address, parts), (None, Units::NONE)]
+}
+
+/// The bytes that an instruction stores, given the word that HL is known to be.
+fn bytes_stored(instr: Instr, pointer: Option<u16>) -> Bytes {
+    let (address, parts) = match instr {
+        Instr::Shld(address) => {
+            let next = address.wrapping_add(1);
+            return [(Some(address), Units::L), (Some(next), Units::H)];
+        }
+        Instr::Sta(address) => (Some(address), Units::A),
+        Instr::Store(register) => (pointer, Units::of(register)),
+        Instr::MviMemory(_) | Instr::InrMemory | Instr::DcrMemory => (pointer, Units::NONE),
+        _ => (None, Units::NONE),
+    };
+    [(address, parts), (None, Units::NONE)]
+}
+
+/// By address the place, in turn, of each quiet byte that the program reads by name or through a known pointer; `SLOTS` for others.
 ///
 /// # Errors
 /// `AllocError` if memory runs out.
@@ -80,8 +125,9 @@ pub fn find_places(
 ) -> Result<Vec<usize>, AllocError> {
     let mut is_read = vec![in alloc; false; 65_536]?;
     for number in 0..65_536_u32 {
-        if let Some(found) = program.at(number as u16) {
-            for address in &bytes_read(found.instr, pointer_at(pointers, number as u16)) {
+        let at = number as u16;
+        if let Some(instr) = program.instr(at) {
+            for (address, _) in &bytes_read(instr, pointer_at(pointers, at)) {
                 if let Some(address) = address {
                     mark(&mut is_read, *address);
                 }
@@ -101,37 +147,7 @@ pub fn find_places(
     Ok(places)
 }
 
-/// The bytes of memory that an instruction stores by name, or through a known pointer, at their places.
-pub fn stored_slots(places: &[usize], instr: Instr, pointer: Option<u16>) -> Slots {
-    let (first, second) = match instr {
-        Instr::Sta(address) => (Some(address), None),
-        Instr::Shld(address) => (Some(address), Some(address.wrapping_add(1))),
-        Instr::Store(_) | Instr::MviMemory(_) | Instr::InrMemory | Instr::DcrMemory => {
-            (pointer, None)
-        }
-        _ => (None, None),
-    };
-    let mut slots = Slots::NONE;
-    for address in &[first, second] {
-        if let Some(address) = address {
-            slots = slots.with(place_at(places, *address), *address);
-        }
-    }
-    slots
-}
-
-/// The bytes of memory that an instruction reads by name, or through a known pointer: the low one first.
-fn bytes_read(instr: Instr, pointer: Option<u16>) -> [Option<u16>; 2] {
-    match instr {
-        Instr::Lda(address) => [Some(address), None],
-        Instr::Lhld(address) => [Some(address), Some(address.wrapping_add(1))],
-        Instr::Load(_) | Instr::InrMemory | Instr::DcrMemory | Instr::Operate(_, Operand::Memory) =>
-            { [pointer, None] }
-        _ => [None, None],
-    }
-}
-
-/// The word that HL is known to be before the instruction at each address, where an LXI H stands before it in one piece of code.
+/// By address the word that HL is known to be before the instruction there; `None` unless an LXI H stands before it in one piece of code.
 ///
 /// # Errors
 /// `AllocError` if memory runs out.
@@ -153,15 +169,13 @@ pub fn find_pointers(
     Ok(pointers)
 }
 
-/// The word that HL is known to be before an address.
+/// The word that HL is known to be before an address, if it is known.
 pub fn pointer_at(pointers: &[Option<u16>], at: u16) -> Option<u16> {
-    match pointers.get(usize::from(at)) {
-        Some(pointer) => *pointer,
-        None => None,
-    }
+    pointers.get(usize::from(at)).copied().flatten()
 }
 
-/// The word that HL is known to be behind an instruction that goes on.
+/// The word that HL is known to be behind an instruction, given the one before it; `None` if it isn't known, or the instruction doesn't go
+/// on to the next one.
 fn pointer_after(found: Fetched, before: Option<u16>) -> Option<u16> {
     let facts = found.instr.facts();
     match (found.instr, facts.flow) {
@@ -174,7 +188,16 @@ fn pointer_after(found: Fetched, before: Option<u16>) -> Option<u16> {
     }
 }
 
-/// The bytes that are to be known before an instruction, given those that are to be known after it, and which parts of a state.
+/// The bytes that an instruction stores, at their places.
+pub fn slots_stored(places: &[usize], instr: Instr, pointer: Option<u16>) -> Slots {
+    let mut slots = Slots::NONE;
+    for (address, _) in &bytes_stored(instr, pointer) {
+        slots = with_placed(slots, places, *address);
+    }
+    slots
+}
+
+/// The bytes that are to be known before an instruction, given the bytes and the parts of a state that are to be known after it.
 pub fn slots_before(
     places: &[usize],
     instr: Instr,
@@ -182,80 +205,47 @@ pub fn slots_before(
     parts: Units,
     after: Slots,
 ) -> Slots {
-    let stored = match (instr, pointer) {
-        (Instr::Sta(address), _) | (Instr::Store(_) | Instr::MviMemory(_), Some(address)) => {
-            after.without(address)
-        }
-        (Instr::Shld(address), _) => after.without(address).without(address.wrapping_add(1)),
-        _ => after,
-    };
-    let mut before = stored;
-    let [low, high] = bytes_read(instr, pointer);
-    for (address, read) in &[(low, parts_read(instr)), (high, Units::H)] {
-        if let Some(address) = address {
-            if parts.intersects(*read) {
-                before = before.with(place_at(places, *address), *address);
+    let mut before = after;
+    // INR M and DCR M store the byte that they read.
+    if !matches!(instr, Instr::InrMemory | Instr::DcrMemory) {
+        for (address, _) in &bytes_stored(instr, pointer) {
+            if let Some(address) = address {
+                before = before.without(*address);
             }
+        }
+    }
+    for (address, to) in &bytes_read(instr, pointer) {
+        if parts.intersects(*to) {
+            before = with_placed(before, places, *address);
         }
     }
     before
 }
 
-/// The place of an address, if it has one.
-fn place_at(places: &[usize], address: u16) -> usize {
-    match places.get(usize::from(address)) {
-        Some(place) => *place,
-        None => SLOTS,
-    }
-}
-
-/// The parts of a state to which the byte comes that an instruction reads: the low one, if it reads two.
-fn parts_read(instr: Instr) -> Units {
-    match instr {
-        Instr::Lda(_) => Units::A.union(Units::TEST),
-        Instr::Lhld(_) => Units::L,
-        Instr::Load(to) => Units::of(to),
-        Instr::InrMemory | Instr::DcrMemory => Units::ZERO.union(Units::SIGN),
-        _ => Units::A.union(Units::ALL_FLAGS),
-    }
-}
-
-/// The registers of which an instruction stores a byte that is to be known after it.
-pub fn stored_parts(instr: Instr, pointer: Option<u16>, after: Slots) -> Units {
-    match instr {
-        Instr::Sta(address) if after.has(address) => Units::A,
-        Instr::Shld(address) => {
-            let low = if after.has(address) {
-                Units::L
-            } else {
-                Units::NONE
-            };
-            if after.has(address.wrapping_add(1)) {
-                low.union(Units::H)
-            } else {
-                low
-            }
+/// Slots with an address at its place, if it has one.
+fn with_placed(slots: Slots, places: &[usize], address: Option<u16>) -> Slots {
+    match address {
+        Some(address) => {
+            let place = places.get(usize::from(address)).copied().unwrap_or(SLOTS);
+            slots.with(place, address)
         }
-        Instr::Store(register) => match pointer {
-            Some(address) if after.has(address) => Units::of(register),
-            _ => Units::NONE,
-        },
-        _ => Units::NONE,
+        None => slots,
     }
 }
 
-/// The bits of the cells that have an address.
-pub fn cell_parts(slots: Slots) -> Units {
+/// The registers of which an instruction stores a byte that is among the slots after it.
+pub fn parts_stored(instr: Instr, pointer: Option<u16>, after: Slots) -> Units {
     let mut parts = Units::NONE;
-    for place in 0..SLOTS {
-        if slots.at(place).is_some() {
-            parts = parts.union(Units::of_cell(place));
+    for (address, from) in &bytes_stored(instr, pointer) {
+        match address {
+            Some(address) if after.has(*address) => parts = parts.union(*from),
+            _ => {}
         }
     }
     parts
 }
 
-/// The cells of these addresses, by cells and variables: what is known of others is forgotten.
+/// The cells of the addresses of slots, from cells or else from variables. What is known of other addresses is forgotten.
 pub fn placed_cells(cells: Cells, slots: Slots, variables: &Variables, set: u64) -> Cells {
     change_cells(cells, |place, cell| match slots.at(place) {
         None => Cell::ANY,
@@ -267,7 +257,7 @@ pub fn placed_cells(cells: Cells, slots: Slots, variables: &Variables, set: u64)
     })
 }
 
-/// Cells of which that of an address may be these bytes too.
+/// Cells, of which the one of an address may be these bytes too.
 pub fn widened_cells(cells: Cells, address: u16, bytes: ByteSpan) -> Cells {
     change_cells(cells, |_, cell| {
         if cell.at == address {

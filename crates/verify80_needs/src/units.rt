@@ -1,6 +1,6 @@
 //! The parts of a state, by which it is cut down, and distinguished from others.
 
-use crate::cells::{cell_at, change_cells};
+use crate::cells::change_cells;
 use bitflags::{Flags, bitflags};
 use decode80::{Condition, IndexPair, Pair, Register, StackPair};
 use verify80_states::{ByteSpan, Cell, PairSpan, State, Words};
@@ -47,21 +47,21 @@ bitflags! {
 }
 
 impl Units {
-    /// The part of a number below 23.
-    pub fn of_number(part: usize) -> Units {
+    /// The one part with this bit, counted from 0; the last part for a greater number.
+    pub fn of_bit(number: usize) -> Units {
         let mut bit = 1_u32;
-        for _ in 0..part.min(22) {
+        for _ in 0..number.min(PARTS - 1) {
             bit = bit.wrapping_mul(2);
         }
         Units(bit)
     }
 
-    /// The byte of memory that a place has.
+    /// The byte of memory at a place from 0 to 7.
     pub fn of_cell(place: usize) -> Units {
-        Units::of_number(place.min(7) + FIRST_CELL)
+        Units::of_bit(place.min(7) + FIRST_CELL)
     }
 
-    /// A register.
+    /// The part that is a register.
     pub fn of(register: Register) -> Units {
         match register {
             Register::A => Units::A,
@@ -74,7 +74,7 @@ impl Units {
         }
     }
 
-    /// The halves of a pair.
+    /// The halves of a pair; none of SP.
     pub fn of_pair(pair: Pair) -> Units {
         match pair {
             Pair::Bc => Units::BC,
@@ -84,7 +84,7 @@ impl Units {
         }
     }
 
-    /// The registers of a pair that is pushed.
+    /// The registers of a pair that is pushed or popped that are followed: of PSW A alone.
     pub fn of_stack_pair(pair: StackPair) -> Units {
         match pair {
             StackPair::Bc => Units::BC,
@@ -94,7 +94,7 @@ impl Units {
         }
     }
 
-    /// The registers of a pair that points.
+    /// The halves of a pair by which LDAX and STAX go.
     pub fn of_index_pair(pair: IndexPair) -> Units {
         match pair {
             IndexPair::Bc => Units::BC,
@@ -102,7 +102,7 @@ impl Units {
         }
     }
 
-    /// What a condition asks.
+    /// The parts by which a condition is decided.
     pub fn of_condition(condition: Condition) -> Units {
         match condition {
             Condition::Zero | Condition::NonZero => Units::ZERO.union(Units::TEST),
@@ -112,18 +112,18 @@ impl Units {
         }
     }
 
-    /// The words when one is popped: those that were below it before.
+    /// The words among these parts, each a word deeper, as before a POP.
     pub fn deeper(self) -> Units {
         Units(self.intersection(Units::WORDS).0.wrapping_mul(2)).intersection(Units::WORDS)
     }
 
-    /// The words when one is pushed.
+    /// The words among these parts, each a word less deep, as before a PUSH.
     pub fn shallower(self) -> Units {
         Units(self.intersection(Units::WORDS).0 / 2).intersection(Units::WORDS)
     }
 }
 
-/// Whether two states agree in these parts.
+/// Whether two states say the same of these parts, and their cells have the same addresses.
 pub fn are_alike(one: State, other: State, parts: Units) -> bool {
     reduce(one, parts)
         == State {
@@ -132,7 +132,7 @@ pub fn are_alike(one: State, other: State, parts: Units) -> bool {
         }
 }
 
-/// A state of which only these parts are known; each cell keeps its address.
+/// A state cut to these parts: nothing is known of the others. Each cell keeps its address.
 pub fn reduce(state: State, parts: Units) -> State {
     let keeps_a = parts.intersects(Units::A.union(Units::TEST));
     State {
@@ -167,12 +167,12 @@ pub fn reduce(state: State, parts: Units) -> State {
     }
 }
 
-/// What is known of a part, if it is to be.
+/// What is known of a part if that is kept, otherwise nothing.
 fn known_if<T: Copy>(is_kept: bool, known: Option<T>) -> Option<T> {
     if is_kept { known } else { None }
 }
 
-/// A pair of which those halves are known that are among these parts.
+/// A pair of which only the halves are known whose bits, `high` and `low`, are among these parts.
 fn reduced_pair(pair: PairSpan, parts: Units, high: Units, low: Units) -> PairSpan {
     match (parts.intersects(high), parts.intersects(low)) {
         (true, true) => pair,
@@ -187,43 +187,46 @@ pub const PARTS: usize = 23;
 /// The number of the first of the bytes of memory.
 const FIRST_CELL: usize = 15;
 
-/// A part of a state as a number, by which states are distinguished; parts are numbered as their bits are.
-pub fn value_of(state: State, part: usize) -> u32 {
-    match part {
-        0 => byte_value(state.a),
-        1 => byte_value(state.bc.high()),
-        2 => byte_value(state.bc.low),
-        3 => byte_value(state.de.high()),
-        4 => byte_value(state.de.low),
-        5 => byte_value(state.hl.high()),
-        6 => byte_value(state.hl.low),
-        7 => flag_value(state.zero),
-        8 => flag_value(state.carry),
-        9 => flag_value(state.sign),
-        10 => match state.compared {
-            Some(byte) => u32::from(byte),
-            None => 256,
-        },
-        11 => word_value(state.words.first),
-        12 => word_value(state.words.second),
-        13 => word_value(state.words.third),
-        14 => word_value(state.words.fourth),
-        _ => byte_value(cell_at(state.cells, part.saturating_sub(FIRST_CELL)).bytes),
-    }
+/// The parts of a state as numbers, by which states are distinguished, in the order of their bits.
+pub fn values_of(state: State) -> [u32; PARTS] {
+    [
+        byte_value(state.a),
+        byte_value(state.bc.high()),
+        byte_value(state.bc.low),
+        byte_value(state.de.high()),
+        byte_value(state.de.low),
+        byte_value(state.hl.high()),
+        byte_value(state.hl.low),
+        flag_value(state.zero),
+        flag_value(state.carry),
+        flag_value(state.sign),
+        state.compared.map_or(256, |byte| u32::from(byte)),
+        word_value(state.words.first),
+        word_value(state.words.second),
+        word_value(state.words.third),
+        word_value(state.words.fourth),
+        byte_value(state.cells.first.bytes),
+        byte_value(state.cells.second.bytes),
+        byte_value(state.cells.third.bytes),
+        byte_value(state.cells.fourth.bytes),
+        byte_value(state.cells.fifth.bytes),
+        byte_value(state.cells.sixth.bytes),
+        byte_value(state.cells.seventh.bytes),
+        byte_value(state.cells.eighth.bytes),
+    ]
 }
 
+/// A span of bytes as a number.
 fn byte_value(span: ByteSpan) -> u32 {
     256 * u32::from(span.first) + u32::from(span.last)
 }
 
+/// A flag as a number: 2 if it isn't known.
 fn flag_value(flag: Option<bool>) -> u32 {
-    match flag {
-        None => 2,
-        Some(true) => 1,
-        Some(false) => 0,
-    }
+    flag.map_or(2, |flag| u32::from(flag))
 }
 
+/// A word on the stack as a number.
 fn word_value(word: Option<PairSpan>) -> u32 {
     match word {
         None => 65535,

@@ -6,10 +6,10 @@ use std::alloc::{AllocError, Global};
 use verify80_spans::{ByteSpan, Span};
 use verify80_states::{State, Variable, index_words, is_bit};
 
-/// How many there are, at most: a state has a bit for each.
+/// How many variables a program has, at most: a state has a bit for each.
 const MOST: usize = 64;
 
-/// The variables of a program, as far as they have grown.
+/// The variables of a program, as far as their spans have grown.
 #[derive(Drop)]
 pub struct Variables {
     list: Vec<Variable>,
@@ -18,54 +18,57 @@ pub struct Variables {
 }
 
 impl Variables {
-    /// One for each of these addresses, of the first 64.
+    /// A variable for each of these addresses, of the first 64.
     ///
     /// # Errors
     /// `AllocError` if memory runs out.
     pub fn new(alloc: Global, addresses: &[u16]) -> Result<Variables, AllocError> {
         let mut list = Vec::new(alloc);
-        let mut growths = Vec::new(alloc);
         for at in addresses {
             if list.len() < MOST {
                 list.push(Variable {
                     at: *at,
                     bytes: ByteSpan::ANY,
                 })?;
-                growths.push(0)?;
             }
         }
+        let growths = vec![in alloc; 0; list.len()]?;
         Ok(Variables { list, growths })
     }
 
-    /// The variables that something was stored in.
+    /// The variables in the order of their bits.
     pub fn list(&self) -> &[Variable] {
         &self.list
     }
 
-    /// The variables alone.
+    /// The list of the variables, without how often each has grown.
     pub fn into_list(self) -> Vec<Variable> {
         self.list
     }
 
-    /// What the byte at an address may be, if a state says that it is one of a variable's bytes.
-    pub fn bytes_at(&self, set: u64, at: u16) -> ByteSpan {
-        for number in 0..self.list.len() {
-            if let Some(variable) = self.list.get(number) {
-                if variable.at == at && is_bit(set, number) {
-                    return variable.bytes;
-                }
-            }
-        }
-        ByteSpan::ANY
+    /// The number of the variable at an address, if there is one.
+    fn number_at(&self, at: u16) -> Option<usize> {
+        self.list.iter().position(|variable| variable.at == at)
     }
 
-    /// The variables of which a state says that they have one of their bytes, or whose cells do.
+    /// The bytes that may be at an address: those of the variable there, if its bit is set, otherwise any.
+    pub fn bytes_at(&self, set: u64, at: u16) -> ByteSpan {
+        match self.number_at(at) {
+            Some(number) if is_bit(set, number) => match self.list.get(number) {
+                Some(variable) => variable.bytes,
+                None => ByteSpan::ANY,
+            },
+            _ => ByteSpan::ANY,
+        }
+    }
+
+    /// A bit for each variable that has one of its bytes in a state: by the state's bits, or by its cells.
     pub fn set_in(&self, state: State) -> u64 {
         let mut set = 0_u64;
         let mut bit = 1_u64;
         for number in 0..self.list.len() {
             if let Some(variable) = self.list.get(number) {
-                let is_known = self.has_grown(number)
+                let is_known = self.growths.get(number).is_some_and(|growths| *growths > 0)
                     && state.cells.bytes_at(variable.at).is_inside(variable.bytes);
                 if is_known || is_bit(state.set, number) {
                     set = set | bit;
@@ -76,45 +79,32 @@ impl Variables {
         set
     }
 
-    fn has_grown(&self, number: usize) -> bool {
-        match self.growths.get(number) {
-            Some(growths) => *growths > 0,
-            None => false,
-        }
-    }
-
-    /// One of these bytes is stored at an address: whether the variable there has more bytes now.
+    /// Notes that one of these bytes is stored at an address, and says whether the span of a variable has grown by that.
     pub fn grow(&mut self, landmarks: &Landmarks, at: u16, bytes: ByteSpan) -> bool {
-        for number in 0..self.list.len() {
-            if let (Some(variable), Some(growths)) = (
-                self.list.get_mut(number),
-                self.growths.get_mut(number),
-            ) {
-                if variable.at == at {
-                    if *growths == 0 {
-                        variable.bytes = bytes;
-                    } else if bytes.is_inside(variable.bytes) {
-                        return false;
+        let Some(number) = self.number_at(at) else {
+            return false;
+        };
+        match (self.list.get_mut(number), self.growths.get_mut(number)) {
+            (Some(variable), Some(growths)) if *growths == 0 || !bytes.is_inside(variable.bytes) =>
+                {
+                    variable.bytes = if *growths == 0 {
+                        bytes
                     } else {
-                        variable.bytes = landmarks.grown_bytes(variable.bytes, bytes, *growths);
-                    }
+                        landmarks.grown_bytes(variable.bytes, bytes, *growths)
+                    };
                     *growths = growths.saturating_add(1);
-                    return true;
+                    true
                 }
-            }
+            _ => false,
         }
-        false
     }
 
-    /// Marks of the variables that may take a byte that isn't theirs, if one of these is stored at one of these addresses, that they aren't
-    /// steady.
+    /// Takes the marks of the variables that aren't steady: a store of one of these bytes to one of these addresses may put a byte there
+    /// that is outside their span. Says whether there is one.
     pub fn unmark_unsteady(&self, is_steady: &mut [bool], at: Span, bytes: ByteSpan) -> bool {
         let mut is_changed = false;
         for variable in &self.list {
-            if at.first <= variable.at
-                && variable.at <= at.last
-                && !bytes.is_inside(variable.bytes)
-            {
+            if Span::alone(variable.at).is_inside(at) && !bytes.is_inside(variable.bytes) {
                 if let Some(mark) = is_steady.get_mut(usize::from(variable.at)) {
                     *mark = false;
                     is_changed = true;
@@ -125,7 +115,7 @@ impl Variables {
     }
 }
 
-/// Where an instruction stores a byte, and which: one, or two if it stores a word.
+/// Where an instruction stores a byte in a state, and which: one, or two if it stores a word.
 pub fn stored_bytes(instr: Instr, state: State) -> [Option<(Span, ByteSpan)>; 2] {
     let pointed = state.hl.words;
     let held = if pointed.is_alone() {
@@ -133,17 +123,18 @@ pub fn stored_bytes(instr: Instr, state: State) -> [Option<(Span, ByteSpan)>; 2]
     } else {
         ByteSpan::ANY
     };
-    match instr {
-        Instr::Store(register) => [Some((pointed, state.byte(register))), None],
-        Instr::MviMemory(byte) => [Some((pointed, ByteSpan::alone(byte))), None],
-        Instr::InrMemory => [Some((pointed, held.next())), None],
-        Instr::DcrMemory => [Some((pointed, held.previous())), None],
-        Instr::Stax(pair) => [Some((index_words(state, pair), state.a)), None],
-        Instr::Sta(address) => [Some((Span::alone(address), state.a)), None],
-        Instr::Shld(address) => [
-            Some((Span::alone(address), state.hl.low)),
-            Some((Span::alone(address.wrapping_add(1)), state.hl.high())),
-        ],
-        _ => [None, None],
-    }
+    let stored = match instr {
+        Instr::Store(register) => (pointed, state.byte(register)),
+        Instr::MviMemory(byte) => (pointed, ByteSpan::alone(byte)),
+        Instr::InrMemory => (pointed, held.next()),
+        Instr::DcrMemory => (pointed, held.previous()),
+        Instr::Stax(pair) => (index_words(state, pair), state.a),
+        Instr::Sta(address) => (Span::alone(address), state.a),
+        Instr::Shld(address) => {
+            let high = (Span::alone(address.wrapping_add(1)), state.hl.high());
+            return [Some((Span::alone(address), state.hl.low)), Some(high)];
+        }
+        _ => return [None, None],
+    };
+    [Some(stored), None]
 }

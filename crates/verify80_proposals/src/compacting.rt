@@ -6,14 +6,6 @@ use std::alloc::{AllocError, Global};
 use verify80_needs::ReachedProgram;
 use verify80_states::{APART, CallReturns, Placed};
 
-/// The place that a list of places has at an index.
-fn place_at(places: &[u32], index: usize) -> u32 {
-    match places.get(index) {
-        Some(place) => *place,
-        None => NOWHERE,
-    }
-}
-
 /// Puts together the states that none has taken in, and their hints.
 ///
 /// # Errors
@@ -26,6 +18,11 @@ pub(crate) fn compact(
     start: u32,
 ) -> Result<Proposal, AllocError> {
     let places = number_states(alloc, nodes)?;
+    let compacting = Compacting {
+        nodes,
+        hints,
+        places: &places,
+    };
     let mut proposal = Proposal {
         table: Vec::new(alloc),
         hints: Vec::new(alloc),
@@ -36,86 +33,94 @@ pub(crate) fn compact(
         variables: Vec::new(alloc),
         crowded: nodes.crowded(alloc)?,
     };
-    proposal
-        .hints
-        .push(place_at(&places, nodes.holder(start) as usize))?;
+    proposal.hints.push(compacting.new_place(start))?;
     for number in 0..nodes.len() {
         let place = place_of(number);
         if let Some(node) = nodes.get(place) {
             if node.taken_by == place {
-                append_state(&mut proposal, nodes, hints, program, &places, *node)?;
+                compacting.append_state(&mut proposal, program, *node)?;
             }
         }
     }
     Ok(proposal)
 }
 
-/// The place that each state has when those are left out that were taken in.
+/// By place the place of each state when those are left out that were taken in.
 fn number_states(alloc: Global, nodes: &Nodes) -> Result<Vec<u32>, AllocError> {
     let mut places = Vec::with_capacity(alloc, nodes.len())?;
     let mut count = 0_u32;
     for number in 0..nodes.len() {
         places.push(count)?;
         if let Some(node) = nodes.get(place_of(number)) {
-            if node.taken_by == place_of(number) {
-                count = count.saturating_add(1);
-            }
+            count = count.saturating_add(u32::from(node.taken_by == place_of(number)));
         }
     }
     Ok(places)
 }
 
-/// Appends a state and its hints.
-fn append_state(
-    proposal: &mut Proposal,
-    nodes: &Nodes,
-    hints: &[u32],
-    program: ReachedProgram<'_>,
-    places: &[u32],
-    node: Node,
-) -> Result<(), AllocError> {
-    let first = proposal.hints.len();
-    let ways = match program.at(node.at) {
-        Some(found) => program.count_ways(node.at, found.instr),
-        None => 0,
-    };
-    for _ in 0..ways {
-        proposal.hints.push(NOWHERE)?;
-    }
-    for number in 0..ways {
-        let hint = place_at(hints, (node.hint as usize).saturating_add(number));
-        let new = if hint < APART || hint == NOWHERE {
-            place_at(places, nodes.holder(hint) as usize)
-        } else {
-            append_apart(proposal, nodes, hints, places, hint - APART)?
-        };
-        if let Some(place) = proposal.hints.get_mut(first.saturating_add(number)) {
-            *place = new;
-        }
-    }
-    proposal.table.push(Placed {
-        at: node.at,
-        state: node.state,
-        hint: place_of(first),
-    })?;
-    Ok(())
+/// What the table is put together from.
+#[derive(Clone, Copy)]
+struct Compacting<'a> {
+    nodes: &'a Nodes,
+    hints: &'a [u32],
+    /// By place the place that the state has in the table.
+    places: &'a [u32],
 }
 
-/// Appends the places of states that tell A's bytes apart, and answers the hint of them.
-fn append_apart(
-    proposal: &mut Proposal,
-    nodes: &Nodes,
-    hints: &[u32],
-    places: &[u32],
-    from: u32,
-) -> Result<u32, AllocError> {
-    let first = proposal.hints.len();
-    let from = from as usize;
-    for number in 0..place_at(hints, from) as usize {
-        let hint = place_at(hints, from.saturating_add(number).saturating_add(1));
-        proposal
-            .hints
-            .push(place_at(places, nodes.holder(hint) as usize))?;
+impl Compacting<'_> {
+    /// The place in the table of the state that has taken in the one at a place; `NOWHERE` if there is none.
+    fn new_place(self, place: u32) -> u32 {
+        let holder = self.nodes.holder(place) as usize;
+        self.places.get(holder).copied().unwrap_or(NOWHERE)
     }
-    Ok(APART.saturating_add(place_of(first)))
+
+    /// The hint with a number; `NOWHERE` if there are fewer.
+    fn hint(self, number: usize) -> u32 {
+        self.hints.get(number).copied().unwrap_or(NOWHERE)
+    }
+
+    /// Appends a state and its hints.
+    fn append_state(
+        self,
+        proposal: &mut Proposal,
+        program: ReachedProgram<'_>,
+        node: Node,
+    ) -> Result<(), AllocError> {
+        let first = proposal.hints.len();
+        let ways = match program.instr(node.at) {
+            Some(instr) => program.count_ways(node.at, instr),
+            None => 0,
+        };
+        for _ in 0..ways {
+            proposal.hints.push(NOWHERE)?;
+        }
+        for number in 0..ways {
+            let hint = self.hint((node.hint as usize).saturating_add(number));
+            let new = if hint < APART || hint == NOWHERE {
+                self.new_place(hint)
+            } else {
+                self.append_apart(proposal, (hint - APART) as usize)?
+            };
+            if let Some(place) = proposal.hints.get_mut(first.saturating_add(number)) {
+                *place = new;
+            }
+        }
+        proposal.table.push(Placed {
+            at: node.at,
+            state: node.state,
+            hint: place_of(first),
+        })?;
+        Ok(())
+    }
+
+    /// Appends the places of the states that distinguish A's bytes, whose count stands among the hints at `from`, and answers the hint of
+    /// these places.
+    fn append_apart(self, proposal: &mut Proposal, from: usize) -> Result<u32, AllocError> {
+        let first = proposal.hints.len();
+        for number in 0..self.hint(from) as usize {
+            let hint = self.hint(from.saturating_add(number).saturating_add(1));
+            proposal.hints.push(self.new_place(hint))?;
+        }
+        Ok(APART.saturating_add(place_of(first)))
+    }
 }

@@ -2,7 +2,7 @@
 //!
 //! Instructions that may follow one another without a call or a return are a group: a procedure, or several that share a piece of code.
 
-use decode80::Flow;
+use decode80::{Flow, Instr};
 use std::alloc::{AllocError, Global};
 use verify80::ProcRow;
 use verify80_needs::{ReachedProgram, mark};
@@ -14,11 +14,11 @@ const SWEEPS: usize = 64;
 /// The groups of a program's instructions.
 #[derive(Drop)]
 pub struct Groups {
-    /// By address the number of its group; that of an address that isn't reached is 0. 65,536 places.
+    /// By address the number of its group, which is an address of that group: 65,536 places.
     pub(crate) numbers: Vec<u16>,
-    /// Whether each group may return.
+    /// By number whether a group may return.
     returns: Vec<bool>,
-    /// The group of each call, and that of its callee.
+    /// The group of each callee, and the address behind the call: ascending.
     calls: Vec<(u16, u16)>,
 }
 
@@ -33,16 +33,16 @@ impl Groups {
         rows: &[ProcRow],
     ) -> Result<Groups, AllocError> {
         let mut joined = Joined::new(alloc)?;
-        join_all(alloc, &mut joined, program, rows)?;
-        let numbers = number_groups(alloc, &mut joined, program)?;
+        joined.join_all(alloc, program, rows)?;
         let mut groups = Groups {
             returns: vec![in alloc; false; 65_536]?,
             calls: Vec::new(alloc),
-            numbers,
+            numbers: joined.into_numbers(alloc)?,
         };
         for number in 0..65_536_u32 {
             groups.note(program, number as u16)?;
         }
+        groups.calls.sort_unstable();
         Ok(groups)
     }
 
@@ -51,29 +51,28 @@ impl Groups {
         let Some(found) = program.at(at) else {
             return Ok(());
         };
+        let group = self.number(at);
         match found.instr.flow() {
-            Flow::Returns | Flow::ReturnsIf(_) => {
-                let group = self.number(at);
-                if let Some(returns) = self.returns.get_mut(usize::from(group)) {
-                    *returns = true;
-                }
-                Ok(())
-            }
+            Flow::Returns | Flow::ReturnsIf(_) => mark(&mut self.returns, group),
             Flow::Calls(entry) | Flow::CallsIf(_, entry) => {
-                let call = (self.number(at), self.number(entry));
-                self.calls.push(call)?;
-                Ok(())
+                let callee = self.number(entry);
+                self.calls.push((callee, found.next))?;
             }
-            _ => Ok(()),
+            _ => {}
         }
+        Ok(())
     }
 
     /// The number of the group at an address.
     pub fn number(&self, at: u16) -> u16 {
-        match self.numbers.get(usize::from(at)) {
-            Some(number) => *number,
-            None => 0,
-        }
+        self.numbers.get(usize::from(at)).copied().unwrap_or(at)
+    }
+
+    /// The calls of the procedures of a group, each as the group's number and the address behind the call.
+    pub fn calls(&self, group: u16) -> &[(u16, u16)] {
+        let first = self.calls.partition_point(|call| call.0 < group);
+        let end = self.calls.partition_point(|call| call.0 <= group);
+        self.calls.get(first..end).unwrap_or(&[])
     }
 
     /// Marks for the groups that are called and may return.
@@ -82,7 +81,7 @@ impl Groups {
     /// `AllocError` if memory runs out.
     pub fn marks_of_called(&self, alloc: Global) -> Result<Vec<bool>, AllocError> {
         let mut marks = vec![in alloc; false; 65_536]?;
-        for (_, callee) in &self.calls {
+        for (callee, _) in &self.calls {
             if is_marked(&self.returns, *callee) {
                 mark(&mut marks, *callee);
             }
@@ -99,12 +98,12 @@ impl Groups {
     ) -> bool {
         let mut is_changed = false;
         for placed in table {
-            if let Some(found) = program.at(placed.at) {
-                let group = self.number(placed.at);
-                if is_marked(marks, group) && !program.knows_return(found.instr, placed.state) {
-                    if let Some(mark) = marks.get_mut(usize::from(group)) {
-                        *mark = false;
-                    }
+            if let (Some(instr), Some(mark)) = (
+                program.instr(placed.at),
+                marks.get_mut(usize::from(self.number(placed.at))),
+            ) {
+                if *mark && !program.knows_return(instr, placed.state) {
+                    *mark = false;
                     is_changed = true;
                 }
             }
@@ -112,38 +111,36 @@ impl Groups {
         is_changed
     }
 
-    /// By address whether the groups return, and whether they know where to: the marked ones.
+    /// By address whether its group returns, and whether it knows where to, as the marked groups do.
     ///
     /// # Errors
     /// `AllocError` if memory runs out.
     pub fn returns(&self, alloc: Global, knows: &[bool]) -> Result<CallReturns, AllocError> {
-        let mut may_return = vec![in alloc; false; 65_536]?;
-        let mut know_return = vec![in alloc; false; 65_536]?;
-        for number in 0..65_536_u32 {
-            let group = self.number(number as u16);
-            if is_marked(&self.returns, group) {
-                mark(&mut may_return, number as u16);
-            }
-            if is_marked(knows, group) {
-                mark(&mut know_return, number as u16);
-            }
-        }
         Ok(CallReturns {
-            may_return,
-            know_return,
+            may_return: self.by_address(alloc, &self.returns)?,
+            know_return: self.by_address(alloc, knows)?,
         })
+    }
+
+    /// Marks of groups as marks of their addresses.
+    fn by_address(&self, alloc: Global, marks: &[bool]) -> Result<Vec<bool>, AllocError> {
+        let mut by_address = Vec::with_capacity(alloc, self.numbers.len())?;
+        for group in &self.numbers {
+            by_address.push(is_marked(marks, *group))?;
+        }
+        Ok(by_address)
     }
 }
 
 /// Addresses, some of which are joined.
 #[derive(Drop)]
 struct Joined {
-    /// By address one that it is joined with: itself, if it stands for its group.
+    /// By address another one that it is joined with; the same one, if it stands for its group.
     others: Vec<u16>,
 }
 
 impl Joined {
-    /// No address is joined with another.
+    /// All addresses, none of them joined with another.
     fn new(alloc: Global) -> Result<Joined, AllocError> {
         let mut others = Vec::with_capacity(alloc, 65_536)?;
         for number in 0..65_536_u32 {
@@ -152,7 +149,19 @@ impl Joined {
         Ok(Joined { others })
     }
 
-    /// The address that stands for the group of one.
+    /// An address that this one is joined with; the same one, if it stands for its group.
+    fn other(&self, at: u16) -> u16 {
+        self.others.get(usize::from(at)).copied().unwrap_or(at)
+    }
+
+    /// Sets the address that another one is joined with.
+    fn set_other(&mut self, at: u16, other: u16) {
+        if let Some(place) = self.others.get_mut(usize::from(at)) {
+            *place = other;
+        }
+    }
+
+    /// The address that stands for the group of an address.
     fn find(&mut self, at: u16) -> u16 {
         let mut here = at;
         for _ in 0..65_536_u32 {
@@ -161,145 +170,102 @@ impl Joined {
                 break;
             }
             let further = self.other(other);
-            if let Some(place) = self.others.get_mut(usize::from(here)) {
-                *place = further;
-            }
+            self.set_other(here, further);
             here = further;
         }
         here
     }
 
-    fn other(&self, at: u16) -> u16 {
-        match self.others.get(usize::from(at)) {
-            Some(other) => *other,
-            None => at,
-        }
-    }
-
-    /// Joins two groups, and says whether they were apart.
+    /// Joins the groups of two addresses, and says whether they were apart.
     fn join(&mut self, one: u16, other: u16) -> bool {
         let one = self.find(one);
         let other = self.find(other);
-        if one == other {
-            return false;
-        }
-        if let Some(place) = self.others.get_mut(usize::from(one)) {
-            *place = other;
-        }
-        true
+        self.set_other(one, other);
+        one != other
     }
-}
 
-/// Joins each instruction with those that may come after it before a return, and none of a callee.
-fn join_all(
-    alloc: Global,
-    joined: &mut Joined,
-    program: ReachedProgram<'_>,
-    rows: &[ProcRow],
-) -> Result<(), AllocError> {
-    for number in 0..65_536_u32 {
-        join_ways(joined, program, number as u16);
+    /// Joins each instruction with those that may come after it before a return, and none of a callee.
+    fn join_all(
+        &mut self,
+        alloc: Global,
+        program: ReachedProgram<'_>,
+        rows: &[ProcRow],
+    ) -> Result<(), AllocError> {
+        for number in 0..65_536_u32 {
+            self.join_ways(program, number as u16);
+        }
+        for _ in 0..SWEEPS {
+            let returns = self.find_returning(alloc, program, rows)?;
+            if !self.join_behind(program, &returns) {
+                return Ok(());
+            }
+        }
+        for number in 0..65_536_u32 {
+            self.join(number as u16, program.start);
+        }
+        Ok(())
     }
-    let mut returns = vec![in alloc; false; 65_536]?;
-    for row in rows {
-        if row.returns {
-            mark(&mut returns, row.entry);
+
+    /// Joins an instruction with those to which it leads inside its procedure.
+    fn join_ways(&mut self, program: ReachedProgram<'_>, at: u16) {
+        if let Some(found) = program.at(at) {
+            let (direct, targets) = program.ways_inside(at, found);
+            for to in &direct {
+                if let Some(to) = to {
+                    self.join(at, *to);
+                }
+            }
+            for to in targets {
+                self.join(at, *to);
+            }
         }
     }
-    join_behind(joined, program, &returns);
-    // Where procedures share code, one that doesn't return may be in a group that does.
-    for _ in 0..SWEEPS {
+
+    /// Marks for the addresses that stand for groups that return. Where procedures share code, one that doesn't return may be in a group
+    /// that does.
+    fn find_returning(
+        &mut self,
+        alloc: Global,
+        program: ReachedProgram<'_>,
+        rows: &[ProcRow],
+    ) -> Result<Vec<bool>, AllocError> {
+        let mut returns = vec![in alloc; false; 65_536]?;
+        for row in rows {
+            if row.returns {
+                mark(&mut returns, self.find(row.entry));
+            }
+        }
+        for number in 0..65_536_u32 {
+            let at = number as u16;
+            if let Some(Flow::Returns | Flow::ReturnsIf(_)) = program.instr(at).map(Instr::flow) {
+                mark(&mut returns, self.find(at));
+            }
+        }
+        Ok(returns)
+    }
+
+    /// Joins each call with what comes behind it, if its callee is in a marked group, and says whether some were apart.
+    fn join_behind(&mut self, program: ReachedProgram<'_>, returns: &[bool]) -> bool {
+        let mut is_changed = false;
         for number in 0..65_536_u32 {
             if let Some(found) = program.at(number as u16) {
-                if let Flow::Returns | Flow::ReturnsIf(_) = found.instr.flow() {
-                    mark(&mut returns, joined.find(number as u16));
+                if let Flow::Calls(entry) = found.instr.flow() {
+                    let callee = self.find(entry);
+                    if is_marked(returns, callee) {
+                        is_changed |= self.join(number as u16, found.next);
+                    }
                 }
             }
         }
-        let mut by_entry = vec![in alloc; false; 65_536]?;
+        is_changed
+    }
+
+    /// By address the address that stands for its group.
+    fn into_numbers(mut self, alloc: Global) -> Result<Vec<u16>, AllocError> {
+        let mut numbers = Vec::with_capacity(alloc, 65_536)?;
         for number in 0..65_536_u32 {
-            let group = joined.find(number as u16);
-            if is_marked(&returns, group) {
-                mark(&mut by_entry, number as u16);
-            }
+            numbers.push(self.find(number as u16))?;
         }
-        if !join_behind(joined, program, &by_entry) {
-            return Ok(());
-        }
+        Ok(numbers)
     }
-    for number in 0..65_536_u32 {
-        joined.join(number as u16, program.start);
-    }
-    Ok(())
-}
-
-/// Joins an instruction with those that may come next.
-fn join_ways(joined: &mut Joined, program: ReachedProgram<'_>, at: u16) {
-    let Some(found) = program.at(at) else {
-        return;
-    };
-    match found.instr.flow() {
-        Flow::Continues
-        | Flow::Pushes
-        | Flow::Pops
-        | Flow::Exchanges
-        | Flow::CallsIf(_, _)
-        | Flow::ReturnsIf(_) => {
-            joined.join(at, found.next);
-        }
-        Flow::Jumps(to) => {
-            joined.join(at, to);
-        }
-        Flow::JumpsIf(_, to) => {
-            joined.join(at, to);
-            joined.join(at, found.next);
-        }
-        Flow::JumpsToHl => {
-            for to in program.targets(at) {
-                joined.join(at, *to);
-            }
-        }
-        Flow::Calls(_) | Flow::Returns | Flow::Halts => {}
-    }
-}
-
-/// Joins each call with what comes behind it, if its callee is marked, and says whether some were apart.
-fn join_behind(joined: &mut Joined, program: ReachedProgram<'_>, returns: &[bool]) -> bool {
-    let mut is_changed = false;
-    for number in 0..65_536_u32 {
-        if let Some(found) = program.at(number as u16) {
-            if let Flow::Calls(entry) = found.instr.flow() {
-                if is_marked(returns, entry) {
-                    is_changed |= joined.join(number as u16, found.next);
-                }
-            }
-        }
-    }
-    is_changed
-}
-
-/// By address the number of its group, from 1 on.
-fn number_groups(
-    alloc: Global,
-    joined: &mut Joined,
-    program: ReachedProgram<'_>,
-) -> Result<Vec<u16>, AllocError> {
-    let mut of_group = vec![in alloc; 0_u16; 65_536]?;
-    let mut numbers = vec![in alloc; 0_u16; 65_536]?;
-    let mut count = 0_u16;
-    for number in 0..65_536_u32 {
-        if program.at(number as u16).is_some() {
-            let group = usize::from(joined.find(number as u16));
-            if let Some(place) = of_group.get_mut(group) {
-                if *place == 0 {
-                    count = count.saturating_add(1);
-                    *place = count;
-                }
-                if let Some(to) = numbers.get_mut(number as usize) {
-                    *to = *place;
-                }
-            }
-        }
-    }
-    Ok(numbers)
 }

@@ -5,8 +5,8 @@ use std::alloc::{AllocError, Global};
 use verify80_needs::{PARTS, Units};
 
 impl Nodes {
-    /// No longer tells apart the states at an address by those parts that tell the most of them apart, as many as it takes until there are
-    /// few enough.
+    /// Joins states at an address: they are no longer distinguished by those parts that distinguish the most of them, as many as it takes
+    /// until there are few enough.
     pub fn join_some(&mut self, alloc: Global, at: u16) -> Result<(), AllocError> {
         let places = self.places_at(alloc, at)?;
         let joined = self.parts_to_join(alloc, at, &places)?;
@@ -42,40 +42,38 @@ impl Nodes {
         Ok(places)
     }
 
-    /// The parts by which states at an address are no longer told apart, with those of which they have the most values.
+    /// The parts by which states at an address are no longer distinguished, with those of which they have the most values.
     fn parts_to_join(&self, alloc: Global, at: u16, places: &[u32]) -> Result<Units, AllocError> {
         let most = self.most_joined() as usize;
         let mut joined = self.group(at).joined;
         let mut counted = Vec::new(alloc);
-        for part in 0..PARTS {
-            if !joined.intersects(Units::of_number(part)) {
-                let count = self.count_apart(
-                    alloc,
-                    places,
-                    Units::ALL.difference(Units::of_number(part)),
-                )?;
-                counted.push((count, PARTS.saturating_sub(part)))?;
+        for number in 0..PARTS {
+            let part = Units::of_bit(number);
+            if !joined.intersects(part) {
+                let others = Units::ALL.difference(part);
+                let count = self.count_distinct(alloc, places, others)?;
+                counted.push((count, PARTS.saturating_sub(number)))?;
             }
         }
         counted.sort_unstable();
         for _ in 0..PARTS {
-            let Some((_, part)) = counted.pop() else {
+            let Some((_, above)) = counted.pop() else {
                 break;
             };
-            joined = joined.union(Units::of_number(PARTS.saturating_sub(part)));
+            joined = joined.union(Units::of_bit(PARTS.saturating_sub(above)));
             if joined.intersects(Units::A) {
-                // What A was compared with tells states apart by A too.
+                // What A was compared with distinguishes states by A too.
                 joined = joined.union(Units::TEST);
             }
-            if self.count_apart(alloc, places, joined)? < most {
+            if self.count_distinct(alloc, places, joined)? < most {
                 return Ok(joined);
             }
         }
         Ok(Units::ALL)
     }
 
-    /// How many of these states are told apart, if these parts are joined.
-    fn count_apart(
+    /// How many of these states are distinguished if these parts are joined.
+    fn count_distinct(
         &self,
         alloc: Global,
         places: &[u32],

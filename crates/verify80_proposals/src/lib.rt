@@ -3,15 +3,15 @@
 //! Proved: nothing rests on it.
 //!
 //! States are followed from the start, several at an address: a loop with constant bounds is walked through. A state keeps only what is
-//! needed (`verify80_needs`). Where an address has too many, those registers that tell the most of them apart are no longer distinguished
-//! there: their states are joined, and joined spans grow to landmarks before they grow to any word.
+//! needed (`verify80_needs`). Where an address has too many, they are no longer distinguished by those registers that distinguish the most
+//! of them: such states are joined, and joined spans grow to landmarks before they grow to any word.
 //!
 //! | Item | What it is |
 //! |---|---|
 //! | [`propose_table`] | one table after the other |
 //! | [`crowded_states`] | where states are joined, since there are too many |
 //! | [`Proposal`] | a table of states, and its hints |
-//! | [`ReachedProgram`] | the program that they are proposed for |
+//! | [`ReachedProgram`], [`mark`] | the program that they are proposed for; marks an address |
 //! | [`Groups`] | which of its procedures return |
 #![tactic(auto)]
 
@@ -21,8 +21,9 @@ mod joining;
 mod nodes;
 mod proposals;
 mod proposing;
+mod storing;
 
 pub use groups::Groups;
 pub use proposals::{crowded_states, propose_table};
 pub use proposing::Proposal;
-pub use verify80_needs::ReachedProgram;
+pub use verify80_needs::{ReachedProgram, mark};

@@ -1,30 +1,23 @@
 //! The states that are known so far, by address.
 
-use decode80::Instr;
 use std::alloc::{AllocError, Global};
-use verify80_needs::{
-    Landmarks, Needs, PARTS, ReachedProgram, Units, Variables, are_alike, stored_bytes, value_of,
-    widened_cells,
-};
-use verify80_spans::ByteSpan;
+use verify80_needs::{Landmarks, Needs, Units, Variables, are_alike, values_of};
 use verify80_states::{State, Variable};
 
-/// No state.
+/// The place of no state.
 pub(crate) const NOWHERE: u32 = u32::MAX;
-/// How many it has, at most, once some of them are no longer distinguished.
+/// How many states an address has, at most, once some of them are no longer distinguished.
 const JOINED: u32 = 256;
 /// How many lists the states are in, by what they say.
 const LISTS: usize = 524_288;
-/// How many of the states that came to an address last are looked at for one that says no more than another.
-const NEWEST: usize = 32;
 /// How many states there are in all before each address has fewer.
 const MANY: usize = 200_000;
-/// How many it has then.
+/// How many states an address has then, at most.
 const FEWER: u32 = 16;
 /// How many states there are in all before each address has one.
 const TOO_MANY: usize = 300_000;
 
-/// The place of a number.
+/// A number as a place of a list of states.
 pub(crate) fn place_of(number: usize) -> u32 {
     u32::try_from(number).unwrap_or(NOWHERE)
 }
@@ -34,16 +27,17 @@ pub(crate) fn place_of(number: usize) -> u32 {
 pub(crate) struct Node {
     pub at: u16,
     pub state: State,
-    /// How often it has taken in another.
+    /// How often the state has taken in another.
     pub growths: u32,
-    /// The next state at this address.
+    /// The place of the next state at this address.
     pub next: u32,
-    /// The next state in the same list.
+    /// The place of the next state in the same list.
     pub next_listed: u32,
-    /// The state that has taken this one in: itself, if none has.
+    /// The place of the state that has taken this one in: its own, if none has.
     pub taken_by: u32,
+    /// Whether others have still to be followed from this state.
     pub is_waiting: bool,
-    /// Where its hints begin, once it has any.
+    /// Where the hints of this state begin, once it has any.
     pub hint: u32,
 }
 
@@ -52,24 +46,24 @@ pub(crate) struct Node {
 pub(crate) struct Group {
     pub first: u32,
     pub count: u32,
-    /// The parts by which they are no longer distinguished.
+    /// The parts by which states are no longer distinguished there.
     pub joined: Units,
 }
 
 /// The states that are known so far, and those from which others have still to be followed.
 #[derive(Drop)]
 pub(crate) struct Nodes {
-    nodes: Vec<Node>,
+    pub(crate) nodes: Vec<Node>,
     groups: Vec<Group>,
     /// The first state of each list.
     lists: Vec<u32>,
-    waiting: Vec<u32>,
+    pub(crate) waiting: Vec<u32>,
     needs: Needs,
-    landmarks: Landmarks,
-    variables: Variables,
-    /// Which addresses of instructions name each byte.
-    readers: Vec<(u16, u16)>,
-    /// The parts by which states are never told apart.
+    pub(crate) landmarks: Landmarks,
+    pub(crate) variables: Variables,
+    /// Each byte of memory that states name, with an address at which they do.
+    pub(crate) readers: Vec<(u16, u16)>,
+    /// The parts by which states are never distinguished.
     never: Units,
     /// Whether each address is to have one state from now on.
     is_late: bool,
@@ -78,7 +72,7 @@ pub(crate) struct Nodes {
 }
 
 impl Nodes {
-    /// No states, of which an address is to have so many, at most.
+    /// A table without states, for at most `most` of them at an address.
     ///
     /// # Errors
     /// `AllocError` if memory runs out.
@@ -125,12 +119,12 @@ impl Nodes {
         self.is_late = true;
     }
 
-    /// A state, if there is one at a place.
+    /// The state at a place; `None` if the list ends before.
     pub fn get(&self, place: u32) -> Option<&Node> {
         self.nodes.get(place as usize)
     }
 
-    /// A state is taken in by another, which begins to grow anew.
+    /// Notes that one state is taken in by another, which begins to grow anew.
     pub fn hand_over(&mut self, place: u32, holder: u32) {
         if let Some(node) = self.nodes.get_mut(holder as usize) {
             node.growths = 0;
@@ -147,8 +141,9 @@ impl Nodes {
         }
     }
 
-    /// A state from which others have still to be followed.
-    pub fn next_waiting(&mut self) -> Option<u32> {
+    /// Takes out the state that was noted last of those from which others have still to be followed, and returns its place; `None` if
+    /// there is none.
+    pub fn take_waiting(&mut self) -> Option<u32> {
         let place = self.waiting.pop()?;
         if let Some(node) = self.nodes.get_mut(place as usize) {
             node.is_waiting = false;
@@ -156,7 +151,18 @@ impl Nodes {
         Some(place)
     }
 
-    /// The state that has a state now.
+    /// Notes that others have to be followed from a state.
+    pub fn wait(&mut self, place: u32) -> Result<(), AllocError> {
+        if let Some(node) = self.nodes.get_mut(place as usize) {
+            if !node.is_waiting {
+                node.is_waiting = true;
+                self.waiting.push(place)?;
+            }
+        }
+        Ok(())
+    }
+
+    /// The place of the state that has taken in the one at a place, maybe by others: its own, if none has.
     pub fn holder(&self, place: u32) -> u32 {
         let mut holder = place;
         for _ in 0..self.nodes.len() {
@@ -173,8 +179,8 @@ impl Nodes {
     /// # Errors
     /// `AllocError` if memory runs out.
     pub fn enter(&mut self, alloc: Global, at: u16, state: State) -> Result<u32, AllocError> {
-        let state = self.needs.cut(at, state, &self.variables);
-        if let Some(place) = self.find_around(at, state) {
+        let state = self.needs.needed_part(at, state, &self.variables);
+        if let Some(place) = self.find_covering(at, state) {
             return Ok(place);
         }
         let group = self.group(at);
@@ -184,7 +190,7 @@ impl Nodes {
         self.put(at, state)
     }
 
-    /// Puts a state at its address: into one from which only joined parts tell it apart, or as one of its own.
+    /// Puts a state at its address: into one that differs from it in joined parts alone, or as one of its own. Answers the place.
     pub fn put(&mut self, at: u16, state: State) -> Result<u32, AllocError> {
         match self.find_alike(at, state) {
             Some(place) => {
@@ -204,7 +210,7 @@ impl Nodes {
         }
     }
 
-    /// How many it has, at most, once some of them are no longer told apart.
+    /// How many states an address has, at most, once some of them are no longer distinguished.
     pub fn most_joined(&self) -> u32 {
         if self.is_late || self.nodes.len() >= TOO_MANY {
             1
@@ -217,14 +223,11 @@ impl Nodes {
 
     /// The states at an address.
     pub fn group(&self, at: u16) -> Group {
-        match self.groups.get(usize::from(at)) {
-            Some(group) => *group,
-            None => Group {
-                first: NOWHERE,
-                count: 0,
-                joined: Units::NONE,
-            },
-        }
+        self.groups.get(usize::from(at)).copied().unwrap_or(Group {
+            first: NOWHERE,
+            count: 0,
+            joined: Units::NONE,
+        })
     }
 
     /// Sets the states at an address.
@@ -234,30 +237,20 @@ impl Nodes {
         }
     }
 
-    /// A state at an address that says no more than this one, if one is found: in its list, or among those that came last.
-    fn find_around(&self, at: u16, state: State) -> Option<u32> {
+    /// The place of a state at an address, of the same list, that says no more than this one; `None` if none is found.
+    fn find_covering(&self, at: u16, state: State) -> Option<u32> {
         let mut place = self.first_listed(at, state);
         for _ in 0..self.nodes.len() {
-            let Some(node) = self.get(place) else {
-                break;
-            };
+            let node = self.get(place)?;
             if node.at == at && state.is_inside(node.state, self.variables.list()) {
                 return Some(self.holder(place));
             }
             place = node.next_listed;
         }
-        let mut place = self.group(at).first;
-        for _ in 0..NEWEST {
-            let node = self.get(place)?;
-            if state.is_inside(node.state, self.variables.list()) {
-                return Some(place);
-            }
-            place = node.next;
-        }
         None
     }
 
-    /// A state at an address that differs from this one in none but the joined parts.
+    /// The place of a state at an address that differs from this one in none but the joined parts.
     fn find_alike(&self, at: u16, state: State) -> Option<u32> {
         let parts = Units::ALL.difference(self.group(at).joined);
         let mut place = self.first_listed(at, state);
@@ -271,15 +264,13 @@ impl Nodes {
         None
     }
 
-    /// The first state of the list in which a state is, by the parts that tell states apart at its address.
+    /// The place of the first state of the list in which a state is, by the parts that distinguish states at its address.
     fn first_listed(&self, at: u16, state: State) -> u32 {
-        match self.lists.get(list_of(at, state, self.group(at).joined)) {
-            Some(first) => *first,
-            None => NOWHERE,
-        }
+        let list = list_of(at, state, self.group(at).joined);
+        self.lists.get(list).copied().unwrap_or(NOWHERE)
     }
 
-    /// Appends a state, from which others have to be followed.
+    /// Appends a state, from which others have to be followed, and answers its place.
     fn append(&mut self, at: u16, state: State) -> Result<u32, AllocError> {
         let place = place_of(self.nodes.len());
         let group = self.group(at);
@@ -294,7 +285,7 @@ impl Nodes {
             next: group.first,
             next_listed,
             taken_by: place,
-            is_waiting: true,
+            is_waiting: false,
             hint: NOWHERE,
         })?;
         self.set_group(
@@ -305,129 +296,54 @@ impl Nodes {
                 joined: group.joined,
             },
         );
-        self.waiting.push(place)?;
+        self.wait(place)?;
         Ok(place)
     }
 
-    /// Notes what an instruction stores in a state: variables grow, and so do the states that name them.
-    pub fn note_stored(&mut self, instr: Instr, state: State) -> Result<(), AllocError> {
-        for stored in &stored_bytes(instr, state) {
-            if let Some((at, bytes)) = stored {
-                if at.is_alone() && self.variables.grow(&self.landmarks, at.first, *bytes) {
-                    self.widen(at.first)?;
-                }
-            }
+    /// Lets the state at a place take in another, so that others have to be followed from it again.
+    fn grow(&mut self, place: u32, state: State) -> Result<(), AllocError> {
+        if let Some(node) = self.nodes.get_mut(place as usize) {
+            let growths = if self.is_late { u32::MAX } else { node.growths };
+            node.state = self.landmarks.grown(node.state, state, growths);
+            node.growths = node.growths.saturating_add(1);
         }
-        Ok(())
+        self.wait(place)
     }
 
-    /// Widens the states that name a variable.
-    fn widen(&mut self, address: u16) -> Result<(), AllocError> {
-        for number in 0..self.readers.len() {
-            match self.readers.get(number) {
-                Some((read, at)) if *read == address => {
-                    let at = *at;
-                    self.widen_at(at, address)?;
-                }
-                _ => {}
-            }
-        }
-        Ok(())
-    }
-
-    /// Widens the states at an address.
-    fn widen_at(&mut self, at: u16, address: u16) -> Result<(), AllocError> {
-        let mut place = self.group(at).first;
-        for _ in 0..self.nodes.len() {
-            let Some(node) = self.nodes.get_mut(place as usize) else {
-                break;
-            };
-            let set = node.state.set;
-            let bytes = self.variables.bytes_at(set, address);
-            let cells = widened_cells(node.state.cells, address, bytes);
-            if bytes != ByteSpan::ANY && cells != node.state.cells {
-                node.state.cells = cells;
-                if !node.is_waiting {
-                    node.is_waiting = true;
-                    self.waiting.push(place)?;
-                }
-            }
-            place = node.next;
-        }
-        Ok(())
-    }
-
-    /// Takes the marks of the variables that aren't steady, and says whether one had it.
-    pub fn unmark_unsteady(&self, program: ReachedProgram<'_>, is_steady: &mut [bool]) -> bool {
-        let mut is_changed = false;
-        for number in 0..self.nodes.len() {
-            if let Some(node) = self.get(place_of(number)) {
-                if let (Some(found), true) = (
-                    program.at(node.at),
-                    node.taken_by == place_of(number),
-                ) {
-                    for stored in &stored_bytes(found.instr, node.state) {
-                        if let Some((at, bytes)) = stored {
-                            is_changed |= self.variables.unmark_unsteady(is_steady, *at, *bytes);
-                        }
-                    }
-                }
-            }
-        }
-        is_changed
-    }
-
-    /// The addresses at which states were joined, unless each has one from some time on.
+    /// By address whether it had too many states, so that some parts no longer distinguish them there; `None` once the search hurries,
+    /// when each address has one state.
     ///
     /// # Errors
     /// `AllocError` if memory runs out.
-    pub fn crowded(&self, alloc: Global) -> Result<Option<Vec<u16>>, AllocError> {
+    pub fn crowded(&self, alloc: Global) -> Result<Option<Vec<bool>>, AllocError> {
         if self.is_late {
             return Ok(None);
         }
-        let mut crowded = Vec::new(alloc);
-        for number in 0..65_536_u32 {
-            if self.group(number as u16).joined != self.never {
-                crowded.push(number as u16)?;
-            }
+        let mut marks = Vec::with_capacity(alloc, self.groups.len())?;
+        for group in &self.groups {
+            marks.push(group.joined != self.never)?;
         }
-        Ok(Some(crowded))
+        Ok(Some(marks))
     }
 
-    /// The variables.
+    /// The variables alone.
     pub fn into_variables(self) -> Vec<Variable> {
         self.variables.into_list()
     }
-
-    /// A state takes in another, and others have to be followed from it again.
-    fn grow(&mut self, place: u32, state: State) -> Result<(), AllocError> {
-        let Some(node) = self.nodes.get_mut(place as usize) else {
-            return Ok(());
-        };
-        let growths = if self.is_late { u32::MAX } else { node.growths };
-        node.state = self.landmarks.grown(node.state, state, growths);
-        node.growths = node.growths.saturating_add(1);
-        let was_waiting = node.is_waiting;
-        node.is_waiting = true;
-        if !was_waiting {
-            self.waiting.push(place)?;
-        }
-        Ok(())
-    }
 }
 
-/// The list of a state, of which these parts tell it apart from none.
+/// The list of a state at an address, by its parts without the joined ones.
 fn list_of(at: u16, state: State, joined: Units) -> usize {
     (sum_of(u32::from(at), state, joined) / 8192) as usize % LISTS
 }
 
-/// A sum over the parts of a state without these.
+/// A checksum of the parts of a state without the joined ones, begun with a first number.
 pub(crate) fn sum_of(first: u32, state: State, joined: Units) -> u32 {
     let mut sum = first;
     let mut bits = joined.bits();
-    for part in 0..PARTS {
+    for value in &values_of(state) {
         if bits % 2 == 0 {
-            sum = sum.wrapping_mul(0x9E37_79B1) ^ value_of(state, part);
+            sum = sum.wrapping_mul(0x9E37_79B1) ^ *value;
         }
         bits = bits / 2;
     }

@@ -3,25 +3,26 @@
 use crate::groups::Groups;
 use crate::proposing::{Limits, Proposal, propose};
 use std::alloc::{AllocError, Global};
-use verify80_needs::{ReachedProgram, mark};
+use verify80_needs::ReachedProgram;
 
 /// How many states an address has, at most: a loop of 4,096 turns is walked through.
 const MOST_STATES: u32 = 4352;
-/// How many it has in one trial after the other.
+/// How many states an address has, at most, in one trial after the other.
 const STATES: [u32; 4] = [MOST_STATES, 256, 32, 8];
 /// How often it is tried which procedures know where they return to.
 const TRIALS: usize = 3;
 /// How many ways are followed on trial, each as often as its state grows.
 const TRIAL_WAYS: usize = 120_000;
-/// How many are followed in all trials of a table.
+/// How many ways are followed in all trials of a table.
 const TRIALS_WAYS: usize = 480_000;
-/// How many are followed if calls aren't told apart, before the search hurries.
+/// How many ways are followed if calls aren't distinguished, before the search hurries.
 const WAYS: usize = 400_000;
-/// How many are followed then, at most.
+/// How many ways are followed then, at most.
 const LATE_WAYS: usize = 1_000_000;
 
-/// The table of a number from 0 to 5, if there is one: calls told apart or joined, then both once more as if no address were quiet, and both
-/// with variables.
+/// The table with a number from 0 to 5: 0 with calls distinguished, 1 with calls joined, 2 and 3 these two as if no address were quiet,
+/// 4 and 5 these two with variables. `None` if too many ways would have to be followed; for 0, 2 and 4 also if no calls can be
+/// distinguished; for 2 to 5 also if no address is quiet.
 ///
 /// # Errors
 /// `AllocError` only if memory runs out.
@@ -36,17 +37,17 @@ pub fn propose_table(
         ..program
     };
     match number {
-        0 => propose_told_apart(alloc, program, groups, false),
+        0 => propose_distinguished(alloc, program, groups, false),
         1 => propose_joined(alloc, program, groups, false),
         _ if !program.quiet.contains(&true) => Ok(None),
-        2 => propose_told_apart(alloc, unquiet, groups, false),
+        2 => propose_distinguished(alloc, unquiet, groups, false),
         3 => propose_joined(alloc, unquiet, groups, false),
-        4 => propose_told_apart(alloc, program, groups, true),
+        4 => propose_distinguished(alloc, program, groups, true),
         _ => propose_joined(alloc, program, groups, true),
     }
 }
 
-/// Marks for the addresses at which states are joined in the first table, since there are too many; `None` if there are too many ways.
+/// By address whether states are joined there in the first table, since there are too many; `None` if there are too many ways.
 ///
 /// # Errors
 /// `AllocError` only if memory runs out.
@@ -57,36 +58,28 @@ pub fn crowded_states(
 ) -> Result<Option<Vec<bool>>, AllocError> {
     for number in 0..2_usize {
         if let Some(proposal) = propose_table(alloc, program, groups, number)? {
-            return marks_at(alloc, &proposal.crowded);
+            return Ok(proposal.crowded);
         }
     }
     Ok(None)
 }
 
-/// Marks for these addresses, if there are any.
-fn marks_at(alloc: Global, addresses: &Option<Vec<u16>>) -> Result<Option<Vec<bool>>, AllocError> {
-    match addresses {
-        Some(addresses) => {
-            let mut marks = vec![in alloc; false; 65_536]?;
-            for at in addresses {
-                mark(&mut marks, *at);
-            }
-            Ok(Some(marks))
-        }
-        None => Ok(None),
-    }
-}
-
-/// A table in which calls are told apart, with as many states at an address as can be followed; `None` if none can be told apart.
-fn propose_told_apart(
+/// A table in which calls are distinguished, with as many states at an address as can be followed; `None` if no calls can be.
+fn propose_distinguished(
     alloc: Global,
     program: ReachedProgram<'_>,
     groups: &Groups,
     keeps_variables: bool,
 ) -> Result<Option<Proposal>, AllocError> {
     let mut left = TRIALS_WAYS;
-    for most in &STATES {
-        let found = try_told_apart(alloc, program, groups, keeps_variables, *most, &mut left)?;
+    for states in &STATES {
+        let limits = Limits {
+            states: *states,
+            ways: TRIAL_WAYS,
+            late_ways: 0,
+            keeps_variables,
+        };
+        let found = try_distinguished(alloc, program, groups, limits, &mut left)?;
         if found.is_some() {
             return Ok(found);
         }
@@ -94,25 +87,18 @@ fn propose_told_apart(
     Ok(None)
 }
 
-/// The same with at most so many states at an address.
+/// A table in which calls are distinguished, within these limits; `None` if no calls can be.
 ///
-/// At first each procedure is to know where it returns to, so that what its callers know is told apart. If states were joined, or words
+/// At first each procedure is to know where it returns to, so that what its callers know is distinguished. If states were joined, or words
 /// are too deep on the stack, some don't: nothing is known behind their calls.
-fn try_told_apart(
+fn try_distinguished(
     alloc: Global,
     program: ReachedProgram<'_>,
     groups: &Groups,
-    keeps_variables: bool,
-    most: u32,
+    limits: Limits,
     left: &mut usize,
 ) -> Result<Option<Proposal>, AllocError> {
     let mut knows = groups.marks_of_called(alloc)?;
-    let limits = Limits {
-        states: most,
-        ways: TRIAL_WAYS,
-        late_ways: 0,
-        keeps_variables,
-    };
     for _ in 0..TRIALS {
         if !knows.contains(&true) {
             break;
@@ -127,7 +113,7 @@ fn try_told_apart(
     Ok(None)
 }
 
-/// A table in which calls aren't told apart: each procedure is followed by itself.
+/// A table in which calls aren't distinguished: each procedure is followed by itself.
 fn propose_joined(
     alloc: Global,
     program: ReachedProgram<'_>,
@@ -154,17 +140,13 @@ fn propose_with(
     left: &mut usize,
 ) -> Result<Option<Proposal>, AllocError> {
     let returns = groups.returns(alloc, knows)?;
-    let found = propose(
-        alloc,
-        ReachedProgram {
-            returns: &returns,
-            groups: &groups.numbers,
-            ..program
-        },
-        limits,
-        left,
-    )?;
-    match found {
+    let grouped = ReachedProgram {
+        may_return: &returns.may_return,
+        know_return: &returns.know_return,
+        groups: &groups.numbers,
+        ..program
+    };
+    match propose(alloc, grouped, limits, left)? {
         Some(proposal) => Ok(Some(Proposal {
             returns,
             ..proposal

@@ -16,11 +16,11 @@ pub struct Proposal {
     pub hints: Vec<u32>,
     pub returns: CallReturns,
     pub variables: Vec<Variable>,
-    /// The addresses at which states were joined, since there were too many; `None` if all were.
-    pub crowded: Option<Vec<u16>>,
+    /// By address whether states were joined there, since there were too many; `None` if there were too many everywhere.
+    pub crowded: Option<Vec<bool>>,
 }
 
-/// How many bytes of A are told apart, at most.
+/// How many bytes of A are distinguished, at most.
 const MOST_APART: usize = 16;
 
 /// How often the search begins anew without variables that aren't steady.
@@ -33,7 +33,7 @@ pub(crate) struct Limits {
     pub states: u32,
     /// How many ways are followed from states, each as often as the state grows.
     pub ways: usize,
-    /// How many are followed then, if each address has one state.
+    /// How many ways are followed after that, when each address has one state.
     pub late_ways: usize,
     /// Whether bytes of memory are variables.
     pub keeps_variables: bool,
@@ -113,7 +113,7 @@ fn follow_all(
     let mut waiting = most.min(*left);
     *left = left.saturating_sub(waiting);
     for _ in 0..most {
-        let Some(place) = nodes.next_waiting() else {
+        let Some(place) = nodes.take_waiting() else {
             *left = left.saturating_add(waiting);
             return Ok(true);
         };
@@ -134,19 +134,16 @@ fn follow(
     program: ReachedProgram<'_>,
     place: u32,
 ) -> Result<usize, AllocError> {
-    let Some(
-        Node {
-            at,
-            state,
-            hint,
-            taken_by,
-            ..
-        },
-    ) = nodes.get(place)
-    else {
+    let Some(node) = nodes.get(place) else {
         return Ok(0);
     };
-    let (at, state, hint, taken_by) = (*at, *state, *hint, *taken_by);
+    let Node {
+        at,
+        state,
+        hint,
+        taken_by,
+        ..
+    } = *node;
     let found = match program.at(at) {
         Some(found) if taken_by == place => found,
         _ => return Ok(0),
@@ -166,7 +163,7 @@ fn follow(
     let mut followed = ways;
     for number in 0..ways {
         let to = match program.way(at, found, state, number) {
-            Some((to, after)) if tells_apart(found.instr, state, after) => {
+            Some((to, after)) if distinguishes(found.instr, state, after) => {
                 followed = followed.saturating_add(MOST_APART);
                 enter_apart(alloc, nodes, hints, to, after)?
             }
@@ -180,8 +177,8 @@ fn follow(
     Ok(followed)
 }
 
-/// Whether the bytes of A are told apart on a way: few are left by ANI, or by a jump behind a comparison.
-fn tells_apart(instr: Instr, before: State, after: State) -> bool {
+/// Whether the bytes of A are distinguished on a way: few are left by ANI, or by a jump behind a comparison.
+fn distinguishes(instr: Instr, before: State, after: State) -> bool {
     let count = usize::from(after.a.last.saturating_sub(after.a.first));
     let asks = match instr {
         Instr::Operate(Operation::And, Operand::Immediate(_)) => true,

@@ -36,6 +36,13 @@ any_word = record { first = 0; last = 65535 }
 abbrev pub any_byte : ByteSpan
 any_byte = record { first = 0; last = 255 }
 
+-- the words, and the bytes, from a first to a last one
+abbrev pub words_between : (first last : ℕ) → Span
+words_between first last = record { first = first; last = last }
+
+abbrev pub bytes_between : (first last : ℕ) → ByteSpan
+bytes_between first last = record { first = first; last = last }
+
 -- one word alone, and one byte
 abbrev pub word_alone : ℕ → Span
 word_alone n = record { first = n; last = n }

@@ -12,7 +12,7 @@ pub struct ByteSpan {
     pub last: u8,
 }
 
-/// What an operation makes: its bytes, and the carry, as far as it is known.
+/// What an operation may make: bytes, and the carry, `None` if it may be set or not.
 #[derive(Clone, Copy)]
 pub struct Outcome {
     pub value: ByteSpan,
@@ -22,7 +22,7 @@ pub struct Outcome {
 impl Outcome {
     ghost use Rattle.verify80_spans.specs.Span.{uncarried};
 
-    /// Bytes without a carry.
+    /// The outcome with these bytes, and CY cleared.
     pub fn uncarried(value: ByteSpan) -> Outcome
         ensures { result ≡ uncarried value }
     {
@@ -32,7 +32,7 @@ impl Outcome {
         }
     }
 
-    /// Any byte, with a carry or without.
+    /// The outcome of which nothing is known: any byte, with a carry or without.
     pub const ANY: Outcome = Outcome {
         value: ByteSpan::ANY,
         carry: None,
@@ -41,57 +41,55 @@ impl Outcome {
 
 impl ByteSpan {
     ghost use Rattle.std.specs.Prelude.{◌≡◌, ◌↔◌, true};
-    ghost use Rattle.verify80_spans.specs.Span.{any_byte, byte_alone, is_byte_alone, meet_bytes, next_byte, previous_byte, sum_of, difference_of, and_of, or_of, exclusive_or_of, doubled, complemented, zero_of, sign_of, only, without, below, from, IsByteInside};
+    ghost use Rattle.verify80_spans.specs.Span.{bytes_between, byte_alone, is_byte_alone, meet_bytes, next_byte, previous_byte, sum_of, difference_of, and_of, or_of, exclusive_or_of, doubled, complemented, zero_of, sign_of, only, without, below, from, IsByteInside};
 
-    /// Any byte.
+    /// The span of all bytes.
     pub const ANY: ByteSpan = ByteSpan {
         first: 0,
         last: u8::MAX,
     };
 
-    /// One byte alone.
+    /// The span of the bytes from `first` to `last`, both among them; it has none, if `last` is below `first`.
+    pub fn new(first: u8, last: u8) -> ByteSpan
+        ensures { result ≡ bytes_between first last }
+    {
+        ByteSpan { first, last }
+    }
+
+    /// The span of one byte.
     pub fn alone(byte: u8) -> ByteSpan
         ensures { result ≡ byte_alone byte }
     {
-        ByteSpan {
-            first: byte,
-            last: byte,
-        }
+        ByteSpan::new(byte, byte)
     }
 
-    /// Whether it is one byte.
+    /// Whether the span has one byte alone.
     pub fn is_alone(self) -> bool
         ensures { result ≡ is_byte_alone self }
     {
         self.first == self.last
     }
 
-    /// Whether each of these bytes is one of the other span.
+    /// Whether each byte of this span is one of another.
     pub fn is_inside(self, other: ByteSpan) -> bool
         ensures { (result ≡ true) ↔ IsByteInside self other }
     {
         other.first <= self.first && self.last <= other.last
     }
 
-    /// The bytes that both have.
+    /// The bytes that this span shares with another; a span without bytes, if there are none.
     pub fn meet(self, other: ByteSpan) -> ByteSpan
         ensures { result ≡ meet_bytes self other }
     {
-        ByteSpan {
-            first: self.first.max(other.first),
-            last: self.last.min(other.last),
-        }
+        ByteSpan::new(self.first.max(other.first), self.last.min(other.last))
     }
 
-    /// What becomes of these bytes by adding 1: any byte, if one of several may wrap.
+    /// The bytes of this span plus 1, as INR makes them: any byte, if 255 is one of several.
     pub fn next(self) -> ByteSpan
         ensures { result ≡ next_byte self }
     {
         if self.last < u8::MAX {
-            ByteSpan {
-                first: self.first.wrapping_add(1),
-                last: self.last.wrapping_add(1),
-            }
+            ByteSpan::new(self.first.wrapping_add(1), self.last.wrapping_add(1))
         } else if self.first == u8::MAX {
             ByteSpan::alone(0)
         } else {
@@ -99,15 +97,12 @@ impl ByteSpan {
         }
     }
 
-    /// What becomes of these bytes by subtracting 1: any byte, if one of several may wrap.
+    /// The bytes of this span less 1, as DCR makes them: any byte, if 0 is one of several.
     pub fn previous(self) -> ByteSpan
         ensures { result ≡ previous_byte self }
     {
         if self.first > 0 {
-            ByteSpan {
-                first: self.first - 1,
-                last: self.last.saturating_sub(1),
-            }
+            ByteSpan::new(self.first - 1, self.last.saturating_sub(1))
         } else if self.last == 0 {
             ByteSpan::alone(u8::MAX)
         } else {
@@ -115,7 +110,7 @@ impl ByteSpan {
         }
     }
 
-    /// The sums of one of these bytes, one of the others and a carry.
+    /// The sums of a byte of this span, one of another and a carry: nothing is known, if some of them wrap and others don't.
     pub fn plus(self, other: ByteSpan, carry: ByteSpan) -> Outcome
         ensures { result ≡ sum_of self other carry }
     {
@@ -123,18 +118,12 @@ impl ByteSpan {
         let last = u16::from(self.last) + u16::from(other.last) + u16::from(carry.last);
         if last < 256 && first < 256 {
             Outcome {
-                value: ByteSpan {
-                    first: first as u8,
-                    last: last as u8,
-                },
+                value: ByteSpan::new(first as u8, last as u8),
                 carry: Some(false),
             }
         } else if first >= 256 && last >= 256 && last < 512 && first < 512 {
             Outcome {
-                value: ByteSpan {
-                    first: (first - 256) as u8,
-                    last: (last - 256) as u8,
-                },
+                value: ByteSpan::new((first - 256) as u8, (last - 256) as u8),
                 carry: Some(true),
             }
         } else {
@@ -142,7 +131,7 @@ impl ByteSpan {
         }
     }
 
-    /// The differences of one of these bytes and one of the others with a borrow.
+    /// A byte of this span less one of another and a borrow: nothing is known, if some of the differences wrap and others don't.
     pub fn minus(self, other: ByteSpan, borrow: ByteSpan) -> Outcome
         ensures { result ≡ difference_of self other borrow }
     {
@@ -152,18 +141,12 @@ impl ByteSpan {
         let most = u16::from(other.last) + u16::from(borrow.last);
         if most <= first && least <= last {
             Outcome {
-                value: ByteSpan {
-                    first: (first - most) as u8,
-                    last: (last - least) as u8,
-                },
+                value: ByteSpan::new((first - most) as u8, (last - least) as u8),
                 carry: Some(false),
             }
         } else if last < least && first < most && most <= 256 && least <= 256 {
             Outcome {
-                value: ByteSpan {
-                    first: (256 + first - most) as u8,
-                    last: (256 + last - least) as u8,
-                },
+                value: ByteSpan::new((256 + first - most) as u8, (256 + last - least) as u8),
                 carry: Some(true),
             }
         } else {
@@ -171,73 +154,62 @@ impl ByteSpan {
         }
     }
 
-    /// What ANA makes of one of these bytes and one of the others.
+    /// The bytes that ANA makes of a byte of this span and one of another: at most the last of either span.
     pub fn and(self, other: ByteSpan) -> ByteSpan
         ensures { result ≡ and_of self other }
     {
         if self.is_alone() && other.is_alone() {
             ByteSpan::alone(self.first & other.first)
         } else {
-            ByteSpan {
-                first: 0,
-                last: self.last.min(other.last),
-            }
+            ByteSpan::new(0, self.last.min(other.last))
         }
     }
 
-    /// What XRA makes of them: no more than their sum.
+    /// The bytes that XRA makes of a byte of this span and one of another: at most the sum of the last ones.
     pub fn exclusive_or(self, other: ByteSpan) -> ByteSpan
         ensures { result ≡ exclusive_or_of self other }
     {
         if self.is_alone() && other.is_alone() {
             ByteSpan::alone(self.first ^ other.first)
         } else {
-            ByteSpan {
-                first: 0,
-                last: self.last.saturating_add(other.last),
-            }
+            ByteSpan::new(0, self.last.saturating_add(other.last))
         }
     }
 
-    /// What ORA makes of them: no less than either, and no more than their sum.
+    /// The bytes that ORA makes of a byte of this span and one of another: at least the first of either span, and at most the sum of the
+    /// last ones.
     pub fn or(self, other: ByteSpan) -> ByteSpan
         ensures { result ≡ or_of self other }
     {
         if self.is_alone() && other.is_alone() {
             ByteSpan::alone(self.first | other.first)
         } else {
-            ByteSpan {
-                first: self.first.max(other.first),
-                last: self.last.saturating_add(other.last),
-            }
+            ByteSpan::new(
+                self.first.max(other.first),
+                self.last.saturating_add(other.last),
+            )
         }
     }
 
-    /// These bytes doubled: any byte, if one of them may be too large.
+    /// The bytes of this span doubled: any byte, if a double may be above 255.
     fn doubled(self) -> ByteSpan
         ensures { result ≡ doubled self }
     {
         if self.last < 128 && self.first < 128 {
-            ByteSpan {
-                first: 2 * self.first,
-                last: 2 * self.last,
-            }
+            ByteSpan::new(2 * self.first, 2 * self.last)
         } else {
             ByteSpan::ANY
         }
     }
 
-    /// These bytes with each bit complemented.
+    /// The bytes of this span with each bit complemented, as CMA makes them.
     pub fn complemented(self) -> ByteSpan
         ensures { result ≡ complemented self }
     {
-        ByteSpan {
-            first: u8::MAX - self.last,
-            last: u8::MAX - self.first,
-        }
+        ByteSpan::new(u8::MAX - self.last, u8::MAX - self.first)
     }
 
-    /// Whether a result of these bytes is 0, as far as it is known.
+    /// Whether a byte of this span is 0; `None` if some are and others aren't.
     pub fn zero(self) -> Option<bool>
         ensures { result ≡ zero_of self }
     {
@@ -250,7 +222,7 @@ impl ByteSpan {
         }
     }
 
-    /// Whether bit 7 of a result of these bytes is set, as far as it is known.
+    /// Whether bit 7 of a byte of this span is set; `None` if it is in some and not in others.
     pub fn sign(self) -> Option<bool>
         ensures { result ≡ sign_of self }
     {
@@ -263,7 +235,7 @@ impl ByteSpan {
         }
     }
 
-    /// One of these bytes alone, if it is among them.
+    /// The span of `byte` alone; `None` if this span doesn't have it.
     pub fn only(self, byte: u8) -> Option<ByteSpan>
         ensures { result ≡ only byte self }
     {
@@ -274,25 +246,19 @@ impl ByteSpan {
         }
     }
 
-    /// These bytes without one, if others are left; a byte between them can't be left out.
+    /// This span without `byte`, if that is its first or last one, and else as it is; `None` if no byte is left.
     pub fn without(self, byte: u8) -> Option<ByteSpan>
         ensures { result ≡ without byte self }
     {
         if self.first == byte {
             if byte < self.last {
-                Some(ByteSpan {
-                    first: byte + 1,
-                    last: self.last,
-                })
+                Some(ByteSpan::new(byte + 1, self.last))
             } else {
                 None
             }
         } else if self.last == byte {
             if self.first < byte {
-                Some(ByteSpan {
-                    first: self.first,
-                    last: byte - 1,
-                })
+                Some(ByteSpan::new(self.first, byte - 1))
             } else {
                 None
             }
@@ -301,47 +267,41 @@ impl ByteSpan {
         }
     }
 
-    /// Those of these bytes that are below a number, if there are any.
+    /// The bytes of this span below `byte`; `None` if there are none.
     pub fn below(self, byte: u8) -> Option<ByteSpan>
         ensures { result ≡ below byte self }
     {
         if self.first < byte {
-            Some(ByteSpan {
-                first: self.first,
-                last: self.last.min(byte - 1),
-            })
+            Some(ByteSpan::new(self.first, self.last.min(byte - 1)))
         } else {
             None
         }
     }
 
-    /// Those of these bytes that are not below a number, if there are any.
+    /// The bytes of this span from `byte` on; `None` if there are none.
     pub fn from(self, byte: u8) -> Option<ByteSpan>
         ensures { result ≡ from byte self }
     {
         if byte <= self.last {
-            Some(ByteSpan {
-                first: self.first.max(byte),
-                last: self.last,
-            })
+            Some(ByteSpan::new(self.first.max(byte), self.last))
         } else {
             None
         }
     }
 }
 
-/// A carry as a number.
+/// The carry as a number: 0 or 1, and either if it isn't known.
 fn carry_span(carry: Option<bool>) -> ByteSpan
     ensures { result ≡ carry_span carry }
 {
     match carry {
-        None => ByteSpan { first: 0, last: 1 },
+        None => ByteSpan::new(0, 1),
         Some(true) => ByteSpan::alone(1),
         Some(false) => ByteSpan::alone(0),
     }
 }
 
-/// What an operation makes of the accumulator and a byte, given the carry before it; a comparison makes the difference.
+/// What an operation may make of the accumulator's bytes and an operand's, given the carry before it. A comparison makes the difference.
 pub fn operated(operation: Operation, a: ByteSpan, byte: ByteSpan, carry: Option<bool>) -> Outcome
     ensures { result ≡ operated operation a byte carry }
 {
@@ -356,7 +316,7 @@ pub fn operated(operation: Operation, a: ByteSpan, byte: ByteSpan, carry: Option
     }
 }
 
-/// What a rotation makes of the accumulator, given the carry before it.
+/// The bytes that a rotation makes of the accumulator's, given the carry before it.
 pub fn rotated(rotation: Rotation, a: ByteSpan, carry: Option<bool>) -> ByteSpan
     ensures { result ≡ rotated rotation a carry }
 {
@@ -381,19 +341,13 @@ pub fn rotated(rotation: Rotation, a: ByteSpan, carry: Option<bool>) -> ByteSpan
         },
         Rotation::RightThroughCarry => match carry {
             None => ByteSpan::ANY,
-            Some(false) => ByteSpan {
-                first: a.first / 2,
-                last: a.last / 2,
-            },
-            Some(true) => ByteSpan {
-                first: a.first / 2 + 128,
-                last: a.last / 2 + 128,
-            },
+            Some(false) => ByteSpan::new(a.first / 2, a.last / 2),
+            Some(true) => ByteSpan::new(a.first / 2 + 128, a.last / 2 + 128),
         },
     }
 }
 
-/// What RAL makes of the accumulator.
+/// The bytes that RAL makes of the accumulator's, if the carry before it is known.
 fn rotated_left(a: ByteSpan, carry: bool) -> ByteSpan
     ensures { result ≡ rotated Rotation.LeftThroughCarry a (Some carry) }
 {

@@ -1,6 +1,5 @@
 -- Memory and waiting inputs of bytes, read and written.
-use Rattle.verify80_states.proofs.Names.{◌≡◌, ℕ, List, [], ◌∷◌, Some, All, length, drop, slice_get, slice_index, slice_set, refl, ◌∙◌, arith, subst, zero, suc, length-set, All-nil, All-head, All-tail, All-set, All-drop, byte_in, word_in, stored, waiting, next_input, without_next, ahead, IsByte, IsWord, HasBytes}
-use Rattle.verify80_states.proofs.ArithmeticBounds.{word_of_bytes}
+use Rattle.verify80_states.proofs.Names.{All-cons, ◌≡◌, ℕ, List, [], ◌∷◌, Some, All, length, drop, slice_get, slice_index, slice_set, refl, ◌∙◌, arith, subst, zero, suc, length-set, All-nil, All-head, All-tail, All-set, All-drop, stored, waiting, next_input, without_next, IsByte, HasBytes}
 
 -- read; past its end a memory reads as 0
 pub byte_at : (memory : List ℕ) (address : ℕ) → HasBytes memory → IsByte (slice_index memory address)
@@ -8,18 +7,25 @@ byte_at [] address bytes = omega arith
 byte_at (x ∷ xs) zero bytes = All-head IsByte x xs bytes
 byte_at (x ∷ xs) (suc i) bytes = byte_at xs i (All-tail IsByte x xs bytes)
 
-pub word_at : (memory : List ℕ) (address : ℕ) → HasBytes memory → IsWord (word_in memory address)
-word_at memory address bytes = word_of_bytes (byte_in memory (ahead address 1)) (byte_in memory address) (byte_at memory (ahead address 1) bytes) (byte_at memory address bytes)
+-- what holds of each of one and of two
+pub one_each : {A : Type 0} (P : A → Type 0) (x : A) → P x → All P (x ∷ [])
+one_each P x is = All-cons P x [] is (All-nil P)
+
+pub two_each : {A : Type 0} (P : A → Type 0) (x y : A) → P x → P y → All P (x ∷ y ∷ [])
+two_each P x y is are = All-cons P x (y ∷ []) is (one_each P y are)
 
 -- each byte of a list of stores is one
-abbrev pub StoresBytes : List (ℕ × ℕ) → Type 0
-StoresBytes bytes = All (λ (b : ℕ × ℕ). IsByte b.1) bytes
+abbrev pub StoresByte : ℕ × ℕ → Type 0
+StoresByte b = IsByte b.1
 
-pub stored_bytes : (bytes : List (ℕ × ℕ)) (memory : List ℕ) → StoresBytes bytes → HasBytes memory → HasBytes (stored memory bytes)
-stored_bytes [] memory small held = held
-stored_bytes (b ∷ bs) memory small held =
-    stored_bytes bs (slice_set memory b.0 b.1) (All-tail (λ (x : ℕ × ℕ). IsByte x.1) b bs small)
-    (All-set IsByte memory b.0 b.1 (All-head (λ (x : ℕ × ℕ). IsByte x.1) b bs small) held)
+abbrev pub StoresBytes : List (ℕ × ℕ) → Type 0
+StoresBytes bytes = All StoresByte bytes
+
+pub stored_are_bytes : (bytes : List (ℕ × ℕ)) (memory : List ℕ) → StoresBytes bytes → HasBytes memory → HasBytes (stored memory bytes)
+stored_are_bytes [] memory small held = held
+stored_are_bytes (b ∷ bs) memory small held =
+    stored_are_bytes bs (slice_set memory b.0 b.1) (All-tail StoresByte b bs small)
+    (All-set IsByte memory b.0 b.1 (All-head StoresByte b bs small) held)
 
 pub stored_length : (bytes : List (ℕ × ℕ)) (memory : List ℕ) → length (stored memory bytes) ≡ length memory
 stored_length [] memory = refl

@@ -12,18 +12,13 @@ abbrev BoundedIfFetched : Result Fetched FetchFault → Type 0
 BoundedIfFetched (Ok found) = IsBounded found
 BoundedIfFetched (Err fault) = Unit {0}
 
-admitted_bounded : (t : Bool) (address : ℕ) (found : Instr × ℕ) → HasOperandInRange found.0 →
-    BoundedIfFetched (if t then Ok (record { instr = found.0; next = ahead address found.1 }) else Err Outside)
-admitted_bounded true address found small = record { operand = small; next = ahead_is_word address found.1 }
-admitted_bounded false address found small = tt
-
-used_bounded : (code : ℕ → Bool) (address : ℕ) (o : Option (Instr × ℕ)) → ((i : Instr) (n : ℕ) → o ≡ Some (i, n) → HasOperandInRange i) → BoundedIfFetched (admitted_if_used code address o)
-used_bounded code address None small = tt
-used_bounded code address (Some found) small = admitted_bounded (all_code code address found.1) address found (small found.0 found.1 refl)
-
 code_bounded : (t : Bool) (r : Result Fetched FetchFault) → BoundedIfFetched r → BoundedIfFetched (if t then r else Err Outside)
 code_bounded true r bounded = bounded
 code_bounded false r bounded = tt
+
+used_bounded : (code : ℕ → Bool) (address : ℕ) (o : Option (Instr × ℕ)) → ((i : Instr) (n : ℕ) → o ≡ Some (i, n) → HasOperandInRange i) → BoundedIfFetched (admitted_if_used code address o)
+used_bounded code address None small = tt
+used_bounded code address (Some found) small = code_bounded (all_code code address found.1) (Ok (record { instr = found.0; next = ahead address found.1 })) (record { operand = small found.0 found.1 refl; next = ahead_is_word address found.1 })
 
 fetched_bounded : DecodesInRange → (code : ℕ → Bool) (held : ℕ → ℕ) → ((a : ℕ) → IsByte (held a)) → (address : ℕ) → BoundedIfFetched (fetch_in code held address)
 unfolding fetch_in

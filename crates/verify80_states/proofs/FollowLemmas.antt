@@ -1,12 +1,12 @@
 -- Registers and flags at each kind of instruction.
-use Rattle.verify80_states.proofs.Names.{◌≡◌, ◌<◌, ◌==◌, [], ℕ, ◌+◌, ◌-◌, ◌*◌, ◌/◌, ◌%◌, Bool, true, false, not, List, Option, None, Some, nat_lt, bit_and, bit_or, bit_xor, refl, arith, sym, ap, nat_tests, and_self, or_self, xor_self, Register, Pair, IndexPair, IndexBc, IndexDe, A, H, L, Bc, De, Hl, Sp, StackBc, StackDe, StackHl, Psw, Instr, Operation, Operand, Rotation, Mov, Load, Mvi, Lxi, Dad, Inx, Dcx, Inr, InrMemory, Dcr, DcrMemory, Operate, Pop, Ldax, Lhld, Lda, Rotate, Daa, Cma, Stc, Cmc, Xthl, Xchg, In, Add, AddCarry, Subtract, SubtractBorrow, And, ExclusiveOr, Or, Compare, InRegister, Memory, Immediate, Left, Right, LeftThroughCarry, RightThroughCarry, HasOperandInRange, Areas, Flags, Registers, Cpu, flags_from, byte_in, operand_of, changed, decimal_answer, word, register_of, with_register, hl_of, pair_of, with_pair, index_pair_of, Span, ByteSpan, Outcome, PairSpan, State, Cells, HasBytes, AreBytes, ReadsCode, HoldsCells, Within, ByteWithin, any_byte, word_alone, byte_alone, is_alone, is_byte_alone, next_byte, previous_byte, operated, doubled, rotated, complemented, uncarried, HoldsPair, HoldsRegisters, HoldsWord, HoldsWords, Compares, any_pair, pair_of_words, next_pair, previous_pair, sum_pair, compared_with, byte_of, span_of, with_byte, with_span, with_outcome, known_pair, loaded_at, loaded, moved, counted, resulted, tested, is_accumulator, operand_bytes, after_operation, added_carry, turned, exchanged, index_words, registers_after}
+use Rattle.verify80_states.proofs.Names.{◌≡◌, ◌<◌, ◌==◌, [], ℕ, ◌+◌, ◌-◌, ◌*◌, ◌/◌, ◌%◌, Bool, true, false, not, List, Option, None, Some, nat_lt, bit_and, bit_or, bit_xor, refl, arith, sym, ap, nat_tests, and_self, or_self, xor_self, Register, Pair, IndexPair, IndexBc, IndexDe, A, H, L, Bc, De, Hl, Sp, StackBc, StackDe, StackHl, Psw, Instr, Operation, Operand, Mov, Load, Mvi, Lxi, Dad, Inx, Dcx, Inr, InrMemory, Dcr, DcrMemory, Operate, Pop, Ldax, Lhld, Lda, Rotate, Daa, Cma, Stc, Cmc, Xthl, Xchg, In, Subtract, And, ExclusiveOr, Or, Compare, InRegister, Memory, Immediate, Left, Right, LeftThroughCarry, RightThroughCarry, HasOperandInRange, Areas, Registers, Cpu, flags_from, byte_in, operand_of, changed, decimal_answer, word, register_of, with_register, hl_of, pair_of, with_pair, index_pair_of, Span, ByteSpan, Outcome, PairSpan, State, Cells, HasBytes, AreBytes, ReadsCode, HoldsCells, Within, ByteWithin, any_byte, word_alone, byte_alone, is_alone, is_byte_alone, next_byte, previous_byte, operated, rotated, complemented, uncarried, HoldsPair, HoldsRegisters, HoldsWord, HoldsWords, Compares, any_pair, pair_of_words, next_pair, previous_pair, sum_pair, compared_with, byte_of, span_of, with_byte, with_span, with_outcome, known_pair, loaded_at, loaded, moved, counted, resulted, tested, is_accumulator, operand_bytes, after_operation, added_carry, turned, exchanged, index_words, registers_after}
 use Rattle.verify80_spans.specs.Span.{IsKnown, high_of}
 use Rattle.decode80.specs.{Fetch.ahead, Fetch.behind}
 use Rattle.machine80.specs.{Flags.bit_of, Flags.flags_of_result}
 use Rattle.machine80.specs.Arithmetic.{byte_answer, sum_answer, difference_answer, operation_answer, increment_answer, decrement_answer, rotation_answer, pair_sum, pair_sum_flags, complement_of, carry_set, carry_turned}
-use Rattle.verify80_states.proofs.{CellReads.read_within, ByteLemmas.byte_at as memory_byte, ArithmeticBounds.decimal_is_byte, RegisterBytes.register_is_byte, RegisterBytes.register_written}
+use Rattle.verify80_states.proofs.{CellReads.read_within, StepBytes.operand_is_byte, ByteLemmas.byte_at as memory_byte, ArithmeticBounds.decimal_is_byte, RegisterBytes.register_is_byte, RegisterBytes.register_written}
 use Rattle.verify80_states.proofs.SpanLemmas.{any_byte_within, alone_within, next_byte_within, previous_byte_within, carries}
-use Rattle.verify80_states.proofs.OutcomeLemmas.{Makes, result_of, carry_of, operated_makes, is_first, by_span}
+use Rattle.verify80_states.proofs.OutcomeLemmas.{Makes, result_of, carry_of, operated_makes, is_first}
 use Rattle.verify80_states.proofs.StateLemmas.{split_holds, high_holds, byte_holds, with_byte_holds, bc_written_holds, de_written_holds, hl_written_holds, with_span_holds, outcome_holds, carry_holds, any_flags_hold, compared_holds, copy_holds, next_holds, previous_holds, sum_holds, any_pair_holds, any_sum_holds}
 
 -- what is read
@@ -14,11 +14,8 @@ pub word_first : (s : Span) (n : ℕ) → is_alone s ≡ true → Within s n →
 word_first s n alone inside = grind (arith, nat_tests)
 
 loaded_go : (code : List (Option ℕ)) (cells : Cells) (memory : List ℕ) (s : Span) (n : ℕ) (b : Bool) → is_alone s ≡ b → ReadsCode code memory → HoldsCells cells memory → HasBytes memory → Within s n → ByteWithin (loaded code cells s) (byte_in memory n)
-loaded_go code cells memory s n true alone reads holds bytes inside =
-    by_span (loaded code cells s) (loaded_at code cells s.first) (byte_in memory n) (rw alone refl)
-    (rw (word_first s n alone inside) (read_within code cells memory n reads holds bytes))
-loaded_go code cells memory s n false alone reads holds bytes inside =
-    by_span (loaded code cells s) any_byte (byte_in memory n) (rw alone refl) (any_byte_within (byte_in memory n) (memory_byte memory n bytes))
+loaded_go code cells memory s n true alone reads holds bytes inside = rw alone (rw (word_first s n alone inside) (read_within code cells memory n reads holds bytes))
+loaded_go code cells memory s n false alone reads holds bytes inside = rw alone (any_byte_within (byte_in memory n) (memory_byte memory n bytes))
 
 pub loaded_within : (code : List (Option ℕ)) (cells : Cells) (memory : List ℕ) (s : Span) (n : ℕ) → ReadsCode code memory → HoldsCells cells memory → HasBytes memory → Within s n → ByteWithin (loaded code cells s) (byte_in memory n)
 loaded_within code cells memory s n reads holds bytes inside = loaded_go code cells memory s n (is_alone s) refl reads holds bytes inside
@@ -45,29 +42,10 @@ counted_holds s r to span byte half bytes holds inside =
     outcome_holds (with_byte s to span) (with_register r to byte) (record { value = span; carry = s.carry }) byte half r.flags.carry
     (with_byte_holds s r to span byte bytes holds inside) (record { value = inside; carry = holds.flags.carry })
 
-counts_up : (s : State) (r : Registers) (to : Register) → AreBytes r → HoldsRegisters s r → (let answer = increment_answer (register_of r to) r.flags in
-    HoldsRegisters (counted to (next_byte (byte_of s to)) s) (record (with_register r to answer.value) { flags = answer.flags }))
-unfolding increment_answer byte_answer
-counts_up s r to bytes holds = counted_holds s r to (next_byte (byte_of s to)) ((register_of r to + 1) % 256) _ bytes holds
-    (next_byte_within (byte_of s to) (register_of r to) (register_is_byte r to bytes) (byte_holds s r to bytes holds))
-
-counts_down : (s : State) (r : Registers) (to : Register) → AreBytes r → HoldsRegisters s r → (let answer = decrement_answer (register_of r to) r.flags in
-    HoldsRegisters (counted to (previous_byte (byte_of s to)) s) (record (with_register r to answer.value) { flags = answer.flags }))
-unfolding decrement_answer byte_answer
-counts_down s r to bytes holds = counted_holds s r to (previous_byte (byte_of s to)) ((register_of r to + 255) % 256) _ bytes holds
-    (previous_byte_within (byte_of s to) (register_of r to) (register_is_byte r to bytes) (byte_holds s r to bytes holds))
-
-memory_up : (s : State) (r : Registers) (span : ByteSpan) (byte : ℕ) → HoldsRegisters s r → byte < 256 → ByteWithin span byte →
-    HoldsRegisters (with_outcome s (record { value = next_byte span; carry = s.carry })) (record r { flags = (increment_answer byte r.flags).flags })
-unfolding increment_answer byte_answer
-memory_up s r span byte holds small inside = outcome_holds s r (record { value = next_byte span; carry = s.carry }) ((byte + 1) % 256) _ r.flags.carry holds
-    (record { value = next_byte_within span byte small inside; carry = holds.flags.carry })
-
-memory_down : (s : State) (r : Registers) (span : ByteSpan) (byte : ℕ) → HoldsRegisters s r → byte < 256 → ByteWithin span byte →
-    HoldsRegisters (with_outcome s (record { value = previous_byte span; carry = s.carry })) (record r { flags = (decrement_answer byte r.flags).flags })
-unfolding decrement_answer byte_answer
-memory_down s r span byte holds small inside = outcome_holds s r (record { value = previous_byte span; carry = s.carry }) ((byte + 255) % 256) _ r.flags.carry holds
-    (record { value = previous_byte_within span byte small inside; carry = holds.flags.carry })
+-- Z and S are those of a byte, and CY stays
+flags_counted : (s : State) (r : Registers) (span : ByteSpan) (byte : ℕ) (half : Bool) → HoldsRegisters s r → ByteWithin span byte →
+    HoldsRegisters (with_outcome s (record { value = span; carry = s.carry })) (record r { flags = flags_of_result byte half r.flags.carry })
+flags_counted s r span byte half holds inside = outcome_holds s r (record { value = span; carry = s.carry }) byte half r.flags.carry holds (record { value = inside; carry = holds.flags.carry })
 
 -- operations on A
 resulted_holds : (s : State) (r : Registers) (out : Outcome) (byte : ℕ) (half full : Bool) → AreBytes r → HoldsRegisters s r → Makes out byte full →
@@ -75,12 +53,9 @@ resulted_holds : (s : State) (r : Registers) (out : Outcome) (byte : ℕ) (half 
 resulted_holds s r out byte half full bytes holds makes =
     outcome_holds (with_byte s A out.value) (record r { a = byte }) out byte half full (with_byte_holds s r A out.value byte bytes holds makes.value) makes
 
-none_below : (n : ℕ) → false ≡ nat_lt n 0
-none_below n = grind (arith, nat_tests)
-
 tested_holds : (s : State) (r : Registers) (half : Bool) → HoldsRegisters s (record r { flags = flags_of_result r.a half false }) → HoldsRegisters (tested s) (record r { flags = flags_of_result r.a half false })
 unfolding flags_of_result
-tested_holds s r half holds = compared_holds s (record r { flags = flags_of_result r.a half false }) (Some 0) holds (refl, none_below r.a)
+tested_holds s r half holds = compared_holds s (record r { flags = flags_of_result r.a half false }) (Some 0) holds (refl, grind (arith, nat_tests))
 
 logical_holds : (s : State) (r : Registers) (out : Outcome) (byte : ℕ) (half : Bool) → AreBytes r → HoldsRegisters s r → Makes out byte false →
     HoldsRegisters (tested (resulted out s)) (record r { a = byte; flags = flags_of_result byte half false })
@@ -108,62 +83,24 @@ module _ (s : State) (r : Registers) (t : ByteSpan) (v : ℕ) (bytes : AreBytes 
   plain : (o : Operation) → Makes (operated o s.a t s.carry) (result_of o r.a v r.flags) (carry_of o r.a v r.flags)
   plain o = operated_makes o s.a t s.carry r.a v r.flags bytes.a small holds.a inside holds.flags.carry
 
-  add_holds : (itself : Bool) → Done Add itself
-  unfolding operation_answer sum_answer byte_answer
-  add_holds itself = resulted_holds s r (operated Add s.a t s.carry) ((r.a + v + 0) % 256) _ (nat_lt 255 (r.a + v + 0)) bytes holds (plain Add)
-
-  add_carry_holds : (itself : Bool) → Done AddCarry itself
-  unfolding operation_answer sum_answer byte_answer
-  add_carry_holds itself =
-      resulted_holds s r (operated AddCarry s.a t s.carry) ((r.a + v + bit_of r.flags.carry) % 256) _ (nat_lt 255 (r.a + v + bit_of r.flags.carry)) bytes holds (plain AddCarry)
-
-  subtract_holds : Done Subtract false
-  unfolding operation_answer difference_answer byte_answer
-  subtract_holds = resulted_holds s r (operated Subtract s.a t s.carry) ((256 + r.a - (v + 0)) % 256) _ (nat_lt r.a (v + 0)) bytes holds (plain Subtract)
-
-  borrow_holds : (itself : Bool) → Done SubtractBorrow itself
-  unfolding operation_answer difference_answer byte_answer
-  borrow_holds itself =
-      resulted_holds s r (operated SubtractBorrow s.a t s.carry) ((256 + r.a - (v + bit_of r.flags.carry)) % 256) _ (nat_lt r.a (v + bit_of r.flags.carry)) bytes holds (plain SubtractBorrow)
-
-  and_holds : Done And false
-  unfolding operation_answer byte_answer
-  and_holds = logical_holds s r (operated And s.a t s.carry) (bit_and r.a v) _ bytes holds (plain And)
-
-  or_holds : Done Or false
-  unfolding operation_answer byte_answer
-  or_holds = logical_holds s r (operated Or s.a t s.carry) (bit_or r.a v) _ bytes holds (plain Or)
-
-  xor_holds : Done ExclusiveOr false
-  unfolding operation_answer byte_answer
-  xor_holds = logical_holds s r (operated ExclusiveOr s.a t s.carry) (bit_xor r.a v) _ bytes holds (plain ExclusiveOr)
-
-  compare_holds : (itself : Bool) → Done Compare itself
-  unfolding operation_answer difference_answer byte_answer
-  compare_holds itself =
+  operated_holds : (o : Operation) → Done o false
+  unfolding operation_answer sum_answer difference_answer byte_answer
+  operated_holds And = logical_holds s r (operated And s.a t s.carry) (bit_and r.a v) _ bytes holds (plain And)
+  operated_holds Or = logical_holds s r (operated Or s.a t s.carry) (bit_or r.a v) _ bytes holds (plain Or)
+  operated_holds ExclusiveOr = logical_holds s r (operated ExclusiveOr s.a t s.carry) (bit_xor r.a v) _ bytes holds (plain ExclusiveOr)
+  operated_holds Compare =
       compared_holds _ (record r { flags = flags_of_result ((256 + r.a - (v + 0)) % 256) _ (nat_lt r.a (v + 0)) }) (compared_with t)
       (outcome_holds s r (operated Compare s.a t s.carry) ((256 + r.a - (v + 0)) % 256) _ (nat_lt r.a (v + 0)) holds (plain Compare))
       (compares t r v _ (is_byte_alone t) refl bytes.a small inside)
+  operated_holds o = resulted_holds s r (operated o s.a t s.carry) (result_of o r.a v r.flags) _ (carry_of o r.a v r.flags) bytes holds (plain o)
 
 -- an operation on A and itself
 module _ (s : State) (r : Registers) (t : ByteSpan) (bytes : AreBytes r) (holds : HoldsRegisters s r) where
   same_a : (half : Bool) → HoldsRegisters (after_operation And true t s) (record r { a = r.a; flags = flags_of_result r.a half false })
   same_a half = tested_holds _ r half (outcome_holds s r (uncarried s.a) r.a half false holds (record { value = holds.a; carry = refl }))
 
-  itself_and : (let answer = operation_answer And r.a r.a r.flags in HoldsRegisters (after_operation And true t s) (record r { a = answer.value; flags = answer.flags }))
-  unfolding operation_answer byte_answer
-  itself_and = rw (and_self r.a) (same_a _)
-
-  itself_or : (let answer = operation_answer Or r.a r.a r.flags in HoldsRegisters (after_operation Or true t s) (record r { a = answer.value; flags = answer.flags }))
-  unfolding operation_answer byte_answer
-  itself_or = rw (or_self r.a) (same_a _)
-
   cleared : (half : Bool) → HoldsRegisters (after_operation ExclusiveOr true t s) (record r { a = 0; flags = flags_of_result 0 half false })
   cleared half = logical_holds s r (uncarried (byte_alone 0)) 0 half bytes holds (record { value = alone_within 0; carry = refl })
-
-  itself_xor : (let answer = operation_answer ExclusiveOr r.a r.a r.flags in HoldsRegisters (after_operation ExclusiveOr true t s) (record r { a = answer.value; flags = answer.flags }))
-  unfolding operation_answer byte_answer
-  itself_xor = rw (xor_self r.a) (cleared _)
 
   nothing_left : (256 + r.a - (r.a + 0)) % 256 ≡ 0
   nothing_left = omega arith
@@ -171,64 +108,32 @@ module _ (s : State) (r : Registers) (t : ByteSpan) (bytes : AreBytes r) (holds 
   nothing_borrowed : nat_lt r.a (r.a + 0) ≡ false
   nothing_borrowed = grind (arith, nat_tests)
 
-  itself_subtract : (let answer = operation_answer Subtract r.a r.a r.flags in HoldsRegisters (after_operation Subtract true t s) (record r { a = answer.value; flags = answer.flags }))
-  unfolding operation_answer difference_answer byte_answer
-  itself_subtract = rw (nothing_left, nothing_borrowed) (cleared _)
-
 operates : (o : Operation) (itself : Bool) (s : State) (r : Registers) (t : ByteSpan) (v : ℕ) → AreBytes r → v < 256 → HoldsRegisters s r → ByteWithin t v → (itself ≡ true → v ≡ r.a) →
     (let answer = operation_answer o r.a v r.flags in HoldsRegisters (after_operation o itself t s) (record r { a = answer.value; flags = answer.flags }))
-operates Compare itself s r t v bytes small holds inside same = compare_holds s r t v bytes small holds inside itself
-operates Add itself s r t v bytes small holds inside same = add_holds s r t v bytes small holds inside itself
-operates AddCarry itself s r t v bytes small holds inside same = add_carry_holds s r t v bytes small holds inside itself
-operates SubtractBorrow itself s r t v bytes small holds inside same = borrow_holds s r t v bytes small holds inside itself
-operates And false s r t v bytes small holds inside same = and_holds s r t v bytes small holds inside
-operates Or false s r t v bytes small holds inside same = or_holds s r t v bytes small holds inside
-operates ExclusiveOr false s r t v bytes small holds inside same = xor_holds s r t v bytes small holds inside
-operates Subtract false s r t v bytes small holds inside same = subtract_holds s r t v bytes small holds inside
-operates And true s r t v bytes small holds inside same = rw (same refl) (itself_and s r t bytes holds)
-operates Or true s r t v bytes small holds inside same = rw (same refl) (itself_or s r t bytes holds)
-operates ExclusiveOr true s r t v bytes small holds inside same = rw (same refl) (itself_xor s r t bytes holds)
-operates Subtract true s r t v bytes small holds inside same = rw (same refl) (itself_subtract s r t bytes holds)
+unfolding operation_answer difference_answer byte_answer
+operates And true s r t v bytes small holds inside same = rw (same refl) (rw (and_self r.a) (same_a s r t bytes holds _))
+operates Or true s r t v bytes small holds inside same = rw (same refl) (rw (or_self r.a) (same_a s r t bytes holds _))
+operates ExclusiveOr true s r t v bytes small holds inside same = rw (same refl) (rw (xor_self r.a) (cleared s r t bytes holds _))
+operates Subtract true s r t v bytes small holds inside same = rw (same refl) (rw (nothing_left s r t bytes holds, nothing_borrowed s r t bytes holds) (cleared s r t bytes holds _))
+operates o itself s r t v bytes small holds inside same = operated_holds s r t v bytes small holds inside o
 
 pub is_itself : (operand : Operand) (memory : List ℕ) (r : Registers) → is_accumulator operand ≡ true → operand_of operand memory r ≡ r.a
 is_itself (InRegister A) memory r is = refl
 is_itself operand memory r is = cc
 
 -- rotations
-doubled_within : (s : ByteSpan) (a : ℕ) (b : Bool) → ByteWithin s a → a < 256 → (nat_lt s.last 128 ≡ b) → ByteWithin (doubled s) (a * 2 % 256 + a / 128)
-doubled_within s a b inside small is = record { above = grind (arith, nat_tests); below = grind (arith, nat_tests) }
+left_within : (s : ByteSpan) (a : ℕ) (known : Option Bool) → ByteWithin s a → a < 256 → ByteWithin (rotated Left s known) (a * 2 % 256 + a / 128)
+left_within s a known inside small = record { above = grind (arith, nat_tests); below = grind (arith, nat_tests) }
 
-doubled_plain : (s : ByteSpan) (a : ℕ) → ByteWithin s a → a < 256 → ByteWithin (doubled s) (a * 2 % 256)
-doubled_plain s a inside small = record { above = grind (arith, nat_tests); below = grind (arith, nat_tests) }
-
-left_go : (s : ByteSpan) (a : ℕ) (f : Flags) (known : Option Bool) (b : Bool) → is_byte_alone s ≡ b → ByteWithin s a → a < 256 → ByteWithin (rotated Left s known) (a * 2 % 256 + a / 128)
-left_go s a f known true alone inside small =
-    by_span (rotated Left s known) (byte_alone (s.first * 2 % 256 + s.first / 128)) _ (rw alone refl) (rw (is_first s a alone inside) (alone_within (a * 2 % 256 + a / 128)))
-left_go s a f known false alone inside small = by_span (rotated Left s known) (doubled s) _ (rw alone refl) (doubled_within s a (nat_lt s.last 128) inside small refl)
-
-right_go : (s : ByteSpan) (a : ℕ) (known : Option Bool) (b : Bool) → is_byte_alone s ≡ b → ByteWithin s a → a < 256 → ByteWithin (rotated Right s known) (a / 2 + a % 2 * 128)
-right_go s a known true alone inside small =
-    by_span (rotated Right s known) (byte_alone (s.first / 2 + s.first % 2 * 128)) _ (rw alone refl) (rw (is_first s a alone inside) (alone_within (a / 2 + a % 2 * 128)))
-right_go s a known false alone inside small = by_span (rotated Right s known) any_byte _ (rw alone refl) (any_byte_within (a / 2 + a % 2 * 128) (omega arith))
-
-through_clear : (s : ByteSpan) (a : ℕ) (b : Bool) → is_byte_alone s ≡ b → ByteWithin s a → a < 256 → ByteWithin (rotated LeftThroughCarry s (Some false)) (a * 2 % 256 + 0)
-through_clear s a true alone inside small =
-    by_span (rotated LeftThroughCarry s (Some false)) (byte_alone (s.first * 2 % 256)) _ (rw alone refl) (rw (is_first s a alone inside) (record { above = omega arith; below = omega arith }))
-through_clear s a false alone inside small =
-    let twice = doubled_plain s a inside small in
-    by_span (rotated LeftThroughCarry s (Some false)) (doubled s) _ (rw alone refl) (record { above = (let h = twice.above in omega (arith, h)); below = (let h = twice.below in omega (arith, h)) })
-
-through_set : (s : ByteSpan) (a : ℕ) (b : Bool) → is_byte_alone s ≡ b → ByteWithin s a → a < 256 → ByteWithin (rotated LeftThroughCarry s (Some true)) (a * 2 % 256 + 1)
-through_set s a true alone inside small =
-    by_span (rotated LeftThroughCarry s (Some true)) (byte_alone (s.first * 2 % 256 + 1)) _ (rw alone refl) (rw (is_first s a alone inside) (alone_within (a * 2 % 256 + 1)))
-through_set s a false alone inside small = by_span (rotated LeftThroughCarry s (Some true)) any_byte _ (rw alone refl) (any_byte_within (a * 2 % 256 + 1) (omega arith))
+right_within : (s : ByteSpan) (a : ℕ) (known : Option Bool) → ByteWithin s a → a < 256 → ByteWithin (rotated Right s known) (a / 2 + a % 2 * 128)
+right_within s a known inside small = record { above = grind (arith, nat_tests); below = grind (arith, nat_tests) }
 
 through_left : (s : ByteSpan) (a : ℕ) (known : Option Bool) (carry : Bool) → IsKnown known carry → ByteWithin s a → a < 256 → ByteWithin (rotated LeftThroughCarry s known) (a * 2 % 256 + bit_of carry)
 unfolding bit_of
 through_left s a None true is inside small = any_byte_within (a * 2 % 256 + 1) (omega arith)
 through_left s a None false is inside small = any_byte_within (a * 2 % 256 + 0) (omega arith)
-through_left s a (Some true) true is inside small = through_set s a (is_byte_alone s) refl inside small
-through_left s a (Some false) false is inside small = through_clear s a (is_byte_alone s) refl inside small
+through_left s a (Some true) true is inside small = record { above = grind (arith, nat_tests); below = grind (arith, nat_tests) }
+through_left s a (Some false) false is inside small = record { above = grind (arith, nat_tests); below = grind (arith, nat_tests) }
 through_left s a (Some true) false is inside small = cc
 through_left s a (Some false) true is inside small = cc
 
@@ -241,16 +146,6 @@ through_right s a (Some false) false is inside small = record { above = omega ar
 through_right s a (Some true) false is inside small = cc
 through_right s a (Some false) true is inside small = cc
 
-rotates : (n : Rotation) (s : State) (r : Registers) → AreBytes r → HoldsRegisters s r → (let answer = rotation_answer n r.a r.flags in
-    HoldsRegisters (registers_after [] (Rotate n) s) (record r { a = answer.value; flags = answer.flags }))
-unfolding rotation_answer
-rotates Left s r bytes holds = carry_holds _ (record r { a = r.a * 2 % 256 + r.a / 128 }) None _ (with_byte_holds s r A _ _ bytes holds (left_go s.a r.a r.flags s.carry (is_byte_alone s.a) refl holds.a bytes.a)) tt
-rotates Right s r bytes holds = carry_holds _ (record r { a = r.a / 2 + r.a % 2 * 128 }) None _ (with_byte_holds s r A _ _ bytes holds (right_go s.a r.a s.carry (is_byte_alone s.a) refl holds.a bytes.a)) tt
-rotates LeftThroughCarry s r bytes holds =
-    carry_holds _ (record r { a = r.a * 2 % 256 + bit_of r.flags.carry }) None _ (with_byte_holds s r A _ _ bytes holds (through_left s.a r.a s.carry r.flags.carry holds.flags.carry holds.a bytes.a)) tt
-rotates RightThroughCarry s r bytes holds =
-    carry_holds _ (record r { a = r.a / 2 + bit_of r.flags.carry * 128 }) None _ (with_byte_holds s r A _ _ bytes holds (through_right s.a r.a s.carry r.flags.carry holds.flags.carry holds.a bytes.a)) tt
-
 -- the other kinds
 adjusts : (s : State) (r : Registers) → AreBytes r → HoldsRegisters s r → (let answer = decimal_answer r.a r.flags in HoldsRegisters (registers_after [] Daa s) (record r { a = answer.value; flags = answer.flags }))
 adjusts s r bytes holds =
@@ -258,23 +153,9 @@ adjusts s r bytes holds =
     any_flags_hold (with_byte s A any_byte) (record r { a = byte }) (decimal_answer r.a r.flags).flags
     (with_byte_holds s r A any_byte byte bytes holds (any_byte_within byte (decimal_is_byte r.a r.flags)))
 
-complements : (s : State) (r : Registers) → AreBytes r → HoldsRegisters s r → HoldsRegisters (registers_after [] Cma s) (record r { a = complement_of r.a })
-unfolding complement_of
-complements s r bytes holds =
-    let inside = holds.a in
-    with_byte_holds s r A (complemented s.a) (255 - r.a) bytes holds (record { above = omega (arith, inside.above, inside.below); below = omega (arith, inside.above, inside.below) })
-
-sets_carry : (s : State) (r : Registers) → HoldsRegisters s r → HoldsRegisters (registers_after [] Stc s) (record r { flags = carry_set r.flags })
-unfolding carry_set
-sets_carry s r holds = carry_holds s r (Some true) true holds refl
-
 turn : (o : Option Bool) (b : Bool) → IsKnown o b → IsKnown (turned o) (not b)
 turn None b is = tt
 turn (Some known) b is = ap (λ (x : Bool). not x) is
-
-turns_carry : (s : State) (r : Registers) → HoldsRegisters s r → HoldsRegisters (registers_after [] Cmc s) (record r { flags = carry_turned r.flags })
-unfolding carry_turned
-turns_carry s r holds = carry_holds s r (turned s.carry) (not r.flags.carry) holds (turn s.carry r.flags.carry holds.flags.carry)
 
 exchanges_copy : (copy : Register) (r : Registers) → register_of r copy ≡ r.a → register_of (record r { d = r.h; e = r.l; h = r.d; l = r.e }) (exchanged copy) ≡ r.a
 exchanges_copy A r same = same
@@ -287,14 +168,6 @@ index_within s r IndexDe holds = holds.de.words
 
 abbrev Counts : (PairSpan → PairSpan) → (ℕ → ℕ) → Type 0
 Counts count step = (p : PairSpan) (h l : ℕ) → h < 256 → l < 256 → HoldsPair p h l → (let n = step (word h l) in HoldsPair (count p) (n / 256) (n % 256))
-
-up_holds : Counts next_pair (λ n. ahead n 1)
-unfolding ahead
-up_holds = next_holds
-
-down_holds : Counts previous_pair (λ n. behind n 1)
-unfolding behind
-down_holds = previous_holds
 
 counts : (count : PairSpan → PairSpan) (step : ℕ → ℕ) (s : State) (cpu : Cpu) (pair : Pair) → Counts count step → AreBytes cpu.registers → HoldsRegisters s cpu.registers →
     HoldsRegisters (with_span s pair (count (span_of s pair))) (with_pair cpu pair (step (pair_of cpu pair))).registers
@@ -322,27 +195,27 @@ module _ (code : List (Option ℕ)) (memory : List ℕ) (reads : ReadsCode code 
   operand_within Memory s r bytes holds cells = loaded_within code s.cells memory s.hl.words (hl_of r) reads cells held holds.hl.words
   operand_within (Immediate byte) s r bytes holds cells = alone_within byte
 
-  operand_small : (o : Operation) (operand : Operand) (r : Registers) → HasOperandInRange (Operate o operand) → AreBytes r → operand_of operand memory r < 256
-  operand_small o (InRegister register) r small bytes = register_is_byte r register bytes
-  operand_small o Memory r small bytes = memory_byte memory (hl_of r) held
-  operand_small o (Immediate byte) r small bytes = small
-
   pub changed_registers : (regions : Areas) (i : Instr) (cpu : Cpu) (s : State) → HasOperandInRange i → AreBytes cpu.registers → HoldsRegisters s cpu.registers → HoldsWords regions s.words memory cpu.sp → HoldsCells s.cells memory →
       HoldsRegisters (registers_after code i s) (changed i memory cpu).registers
+  unfolding ahead behind increment_answer decrement_answer byte_answer rotation_answer complement_of carry_set carry_turned
   changed_registers regions (Mov to from) cpu s small bytes holds words cells = moved_holds s cpu.registers to from bytes holds
   changed_registers regions (Load to) cpu s small bytes holds words cells = loads s cpu.registers to s.hl.words (hl_of cpu.registers) bytes holds cells holds.hl.words
   changed_registers regions (Mvi to byte) cpu s small bytes holds words cells = with_byte_holds s cpu.registers to (byte_alone byte) byte bytes holds (alone_within byte)
-  changed_registers regions (Inr to) cpu s small bytes holds words cells = counts_up s cpu.registers to bytes holds
-  changed_registers regions (Dcr to) cpu s small bytes holds words cells = counts_down s cpu.registers to bytes holds
+  changed_registers regions (Inr to) cpu s small bytes holds words cells = counted_holds s cpu.registers to (next_byte (byte_of s to)) ((register_of cpu.registers to + 1) % 256) _ bytes holds
+      (next_byte_within (byte_of s to) (register_of cpu.registers to) (register_is_byte cpu.registers to bytes) (byte_holds s cpu.registers to bytes holds))
+  changed_registers regions (Dcr to) cpu s small bytes holds words cells = counted_holds s cpu.registers to (previous_byte (byte_of s to)) ((register_of cpu.registers to + 255) % 256) _ bytes holds
+      (previous_byte_within (byte_of s to) (register_of cpu.registers to) (register_is_byte cpu.registers to bytes) (byte_holds s cpu.registers to bytes holds))
   changed_registers regions InrMemory cpu s small bytes holds words cells =
-      memory_up s cpu.registers (loaded code s.cells s.hl.words) (byte_in memory (hl_of cpu.registers)) holds (memory_byte memory (hl_of cpu.registers) held)
-      (loaded_within code s.cells memory s.hl.words (hl_of cpu.registers) reads cells held holds.hl.words)
+      let inside = loaded_within code s.cells memory s.hl.words (hl_of cpu.registers) reads cells held holds.hl.words in
+      flags_counted s cpu.registers (next_byte (loaded code s.cells s.hl.words)) ((byte_in memory (hl_of cpu.registers) + 1) % 256) _ holds
+      (next_byte_within (loaded code s.cells s.hl.words) (byte_in memory (hl_of cpu.registers)) (memory_byte memory (hl_of cpu.registers) held) inside)
   changed_registers regions DcrMemory cpu s small bytes holds words cells =
-      memory_down s cpu.registers (loaded code s.cells s.hl.words) (byte_in memory (hl_of cpu.registers)) holds (memory_byte memory (hl_of cpu.registers) held)
-      (loaded_within code s.cells memory s.hl.words (hl_of cpu.registers) reads cells held holds.hl.words)
+      let inside = loaded_within code s.cells memory s.hl.words (hl_of cpu.registers) reads cells held holds.hl.words in
+      flags_counted s cpu.registers (previous_byte (loaded code s.cells s.hl.words)) ((byte_in memory (hl_of cpu.registers) + 255) % 256) _ holds
+      (previous_byte_within (loaded code s.cells s.hl.words) (byte_in memory (hl_of cpu.registers)) (memory_byte memory (hl_of cpu.registers) held) inside)
   changed_registers regions (Lxi pair n) cpu s small bytes holds words cells = with_span_holds s cpu pair (pair_of_words (word_alone n)) n holds (split_holds (word_alone n) n (record { above = omega arith; below = omega arith }))
-  changed_registers regions (Inx pair) cpu s small bytes holds words cells = counts next_pair (λ n. ahead n 1) s cpu pair up_holds bytes holds
-  changed_registers regions (Dcx pair) cpu s small bytes holds words cells = counts previous_pair (λ n. behind n 1) s cpu pair down_holds bytes holds
+  changed_registers regions (Inx pair) cpu s small bytes holds words cells = counts next_pair (λ n. ahead n 1) s cpu pair next_holds bytes holds
+  changed_registers regions (Dcx pair) cpu s small bytes holds words cells = counts previous_pair (λ n. behind n 1) s cpu pair previous_holds bytes holds
   changed_registers regions (Dad Bc) cpu s small bytes holds words cells = adds s cpu s.bc _ (added_carry s Bc) holds
       (sum_holds s.hl s.bc _ _ _ _ bytes.h bytes.l bytes.b bytes.c holds.hl holds.bc)
       (carries s.hl.words s.bc.words _ _ holds.hl.words holds.bc.words)
@@ -354,13 +227,24 @@ module _ (code : List (Option ℕ)) (memory : List ℕ) (reads : ReadsCode code 
       (carries s.hl.words s.hl.words _ _ holds.hl.words holds.hl.words)
   changed_registers regions (Dad Sp) cpu s small bytes holds words cells = adds s cpu any_pair cpu.sp None holds (any_sum_holds s.hl _ _ cpu.sp bytes.h bytes.l holds.hl) tt
   changed_registers regions (Operate o operand) cpu s small bytes holds words cells =
-      operates o (is_accumulator operand) s cpu.registers (operand_bytes code operand s) (operand_of operand memory cpu.registers) bytes (operand_small o operand cpu.registers small bytes) holds
+      operates o (is_accumulator operand) s cpu.registers (operand_bytes code operand s) (operand_of operand memory cpu.registers) bytes (operand_is_byte o operand memory cpu.registers small held bytes) holds
       (operand_within operand s cpu.registers bytes holds cells) (is_itself operand memory cpu.registers)
-  changed_registers regions (Rotate rotation) cpu s small bytes holds words cells = rotates rotation s cpu.registers bytes holds
+  changed_registers regions (Rotate Left) cpu s small bytes holds words cells =
+      carry_holds _ (record cpu.registers { a = cpu.registers.a * 2 % 256 + cpu.registers.a / 128 }) None _ (with_byte_holds s cpu.registers A _ _ bytes holds (left_within s.a cpu.registers.a s.carry holds.a bytes.a)) tt
+  changed_registers regions (Rotate Right) cpu s small bytes holds words cells =
+      carry_holds _ (record cpu.registers { a = cpu.registers.a / 2 + cpu.registers.a % 2 * 128 }) None _ (with_byte_holds s cpu.registers A _ _ bytes holds (right_within s.a cpu.registers.a s.carry holds.a bytes.a)) tt
+  changed_registers regions (Rotate LeftThroughCarry) cpu s small bytes holds words cells =
+      let carry = cpu.registers.flags.carry in
+      carry_holds _ (record cpu.registers { a = cpu.registers.a * 2 % 256 + bit_of carry }) None _ (with_byte_holds s cpu.registers A _ _ bytes holds (through_left s.a cpu.registers.a s.carry carry holds.flags.carry holds.a bytes.a)) tt
+  changed_registers regions (Rotate RightThroughCarry) cpu s small bytes holds words cells =
+      let carry = cpu.registers.flags.carry in
+      carry_holds _ (record cpu.registers { a = cpu.registers.a / 2 + bit_of carry * 128 }) None _ (with_byte_holds s cpu.registers A _ _ bytes holds (through_right s.a cpu.registers.a s.carry carry holds.flags.carry holds.a bytes.a)) tt
   changed_registers regions Daa cpu s small bytes holds words cells = adjusts s cpu.registers bytes holds
-  changed_registers regions Cma cpu s small bytes holds words cells = complements s cpu.registers bytes holds
-  changed_registers regions Stc cpu s small bytes holds words cells = sets_carry s cpu.registers holds
-  changed_registers regions Cmc cpu s small bytes holds words cells = turns_carry s cpu.registers holds
+  changed_registers regions Cma cpu s small bytes holds words cells =
+      let inside = holds.a in
+      with_byte_holds s cpu.registers A (complemented s.a) (255 - cpu.registers.a) bytes holds (record { above = omega (arith, inside.above, inside.below); below = omega (arith, inside.above, inside.below) })
+  changed_registers regions Stc cpu s small bytes holds words cells = carry_holds s cpu.registers (Some true) true holds refl
+  changed_registers regions Cmc cpu s small bytes holds words cells = carry_holds s cpu.registers (turned s.carry) (not cpu.registers.flags.carry) holds (turn s.carry cpu.registers.flags.carry holds.flags.carry)
   changed_registers regions (Ldax pair) cpu s small bytes holds words cells = loads s cpu.registers A (index_words s pair) (index_pair_of cpu.registers pair) bytes holds cells (index_within s cpu.registers pair holds)
   changed_registers regions (Lda address) cpu s small bytes holds words cells =
       with_byte_holds s cpu.registers A (loaded_at code s.cells address) (byte_in memory address) bytes holds (read_within code s.cells memory address reads cells held)

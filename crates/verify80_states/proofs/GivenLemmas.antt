@@ -18,34 +18,31 @@ record LeavesByte (o : Option ByteSpan) (n : ℕ) : Type 0 where
   is : o ≡ Some span
   inside : ByteWithin span n
 
-by_option : (o : Option ByteSpan) (span : ByteSpan) (n : ℕ) → o ≡ Some span → ByteWithin span n → LeavesByte o n
-by_option o span n is inside = record { span = span; is = is; inside = inside }
-
 only_leaves : (n a : ℕ) (s : ByteSpan) → (a == n) ≡ true → ByteWithin s a → LeavesByte (only n s) a
 only_leaves n a s same inside =
     let is : a ≡ n = grind (arith, nat_tests) in
     let low : nat_le s.first n ≡ true = grind (arith, nat_tests) in
     let high : nat_le n s.last ≡ true = grind (arith, nat_tests) in
-    by_option (only n s) (byte_alone n) a (rw (low, high) refl) (record { above = omega (arith, is); below = omega (arith, is) })
+    record { span = byte_alone n; is = rw (low, high) refl; inside = record { above = omega (arith, is); below = omega (arith, is) } }
 
 without_leaves : (n a : ℕ) (s : ByteSpan) → (a == n) ≡ false → ByteWithin s a → LeavesByte (without n s) a
 without_leaves n a s other inside = go (s.first == n) (nat_lt n s.last) (s.last == n) (nat_lt s.first n) refl refl refl refl where
   go : (b c d e : Bool) → (s.first == n) ≡ b → nat_lt n s.last ≡ c → (s.last == n) ≡ d → nat_lt s.first n ≡ e → LeavesByte (without n s) a
-  go true true d e first more last less = by_option (without n s) (record { first = n + 1; last = s.last }) a (rw (first, more) refl) (record { above = grind (arith, nat_tests); below = grind (arith, nat_tests) })
+  go true true d e first more last less = record { span = record { first = n + 1; last = s.last }; is = rw (first, more) refl; inside = record { above = grind (arith, nat_tests); below = grind (arith, nat_tests) } }
   go true false d e first more last less = absurd (grind (arith, nat_tests))
-  go false c true true first more last less = by_option (without n s) (record { first = s.first; last = n - 1 }) a (rw (first, last, less) refl) (record { above = grind (arith, nat_tests); below = grind (arith, nat_tests) })
+  go false c true true first more last less = record { span = record { first = s.first; last = n - 1 }; is = rw (first, last, less) refl; inside = record { above = grind (arith, nat_tests); below = grind (arith, nat_tests) } }
   go false c true false first more last less = absurd (grind (arith, nat_tests))
-  go false c false e first more last less = by_option (without n s) s a (rw (first, last) refl) inside
+  go false c false e first more last less = record { span = s; is = rw (first, last) refl; inside = inside }
 
 below_leaves : (n a : ℕ) (s : ByteSpan) → nat_lt a n ≡ true → ByteWithin s a → LeavesByte (below n s) a
 below_leaves n a s less inside =
     let low : nat_lt s.first n ≡ true = grind (arith, nat_tests) in
-    by_option (below n s) (record { first = s.first; last = min s.last (n - 1) }) a (rw low refl) (record { above = grind (arith, nat_tests); below = grind (arith, nat_tests) })
+    record { span = record { first = s.first; last = min s.last (n - 1) }; is = rw low refl; inside = record { above = grind (arith, nat_tests); below = grind (arith, nat_tests) } }
 
 from_leaves : (n a : ℕ) (s : ByteSpan) → nat_lt a n ≡ false → ByteWithin s a → LeavesByte (from n s) a
 from_leaves n a s more inside =
     let high : nat_le n s.last ≡ true = grind (arith, nat_tests) in
-    by_option (from n s) (record { first = max s.first n; last = s.last }) a (rw high refl) (record { above = grind (arith, nat_tests); below = grind (arith, nat_tests) })
+    record { span = record { first = max s.first n; last = s.last }; is = rw high refl; inside = record { above = grind (arith, nat_tests); below = grind (arith, nat_tests) } }
 
 -- the bytes of A that are left have A
 zero_leaves : (compared : Option ℕ) (wanted : Bool) (s : State) (r : Registers) → HoldsRegisters s r → Compares compared r.a r.flags → r.flags.zero ≡ wanted → LeavesByte (zero_bytes compared wanted s.a) r.a
@@ -58,11 +55,7 @@ carry_leaves None wanted s r holds compares is = record { span = s.a; is = refl;
 carry_leaves (Some n) true s r holds compares is = below_leaves n r.a s.a (sym compares.1 ∙ is) holds.a
 carry_leaves (Some n) false s r holds compares is = from_leaves n r.a s.a (sym compares.1 ∙ is) holds.a
 
--- a flag becomes known
-flags_are : (s : State) (r : Registers) (z cy n : Option Bool) → HoldsRegisters s r → IsKnown z r.flags.zero → IsKnown cy r.flags.carry → IsKnown n r.flags.sign → HoldsRegisters (record s { zero = z; carry = cy; sign = n }) r
-flags_are s r z cy n holds zero carry sign =
-    record { a = holds.a; bc = holds.bc; de = holds.de; hl = holds.hl; copy = holds.copy; flags = record { zero = zero; carry = carry; sign = sign; compared = holds.flags.compared } }
-
+-- what a cut leaves as it is
 cut_keeps : (s : State) (copy : Register) (span : ByteSpan) → ((cut_copy s copy span).words ≡ s.words) × (((cut_copy s copy span).source ≡ s.source) × ((cut_copy s copy span).set ≡ s.set))
 cut_keeps s A span = (refl, (refl, refl))
 cut_keeps s copy span = (refl, (refl, refl))
@@ -74,9 +67,16 @@ module _ (quiet : ℕ → Bool) (regions : Areas) (m : Machine) (bytes : AreByte
   abbrev LeavesOf : (set : ℕ) → Option State → Type 0
   LeavesOf set o = Leaves quiet regions m set o
 
+  -- flags become known
   with_flags : (s : State) (z cy n : Option Bool) → Holds regions s m → IsKnown z m.cpu.registers.flags.zero → IsKnown cy m.cpu.registers.flags.carry → IsKnown n m.cpu.registers.flags.sign → Holds regions (record s { zero = z; carry = cy; sign = n }) m
   with_flags s z cy n holds zero carry sign =
-      record { registers = flags_are s m.cpu.registers z cy n holds.registers zero carry sign; words = holds.words; cells = holds.cells; source = holds.source }
+      let r = holds.registers in
+      record {
+        registers = record { a = r.a; bc = r.bc; de = r.de; hl = r.hl; copy = r.copy; flags = record { zero = zero; carry = carry; sign = sign; compared = r.flags.compared } };
+        words = holds.words;
+        cells = holds.cells;
+        source = holds.source;
+      }
 
   same_left : (known wanted truth : Bool) (s : State) → Holds regions s m → IsQuietState quiet s → truth ≡ known → truth ≡ wanted → LeavesOf s.set (if_same known wanted s)
   same_left true true truth s holds are one two = record { left = s; is = refl; holds = holds; are = are; same = refl }

@@ -2,14 +2,15 @@ mod ArithmeticBounds
 mod RegisterBytes
 mod ByteLemmas
 mod FetchBounds
+mod StepLeads
 mod StepBytes
-mod RunBytes
 mod SpanLemmas
 mod OutcomeLemmas
 mod StateLemmas
 mod CellReads
 mod FollowLemmas
 mod MemoryLemmas
+mod StoredLemmas
 mod CellLemmas
 mod SourceLemmas
 mod VariableLemmas

@@ -2,7 +2,7 @@
 use Rattle.verify80_states.proofs.Names.{◌≡◌, ◌≢◌, ◌<◌, ◌≤◌, ℕ, zero, suc, ◌+◌, ◌/◌, ◌%◌, Bool, true, false, not, List, [], ◌∷◌, Option, None, Some, length, slice_index, slice_set, refl, if◌then◌else◌, subst, sym, ap, ◌∙◌, arith, cond, get_or-set_other, true≢false, get_or-set_same, length-set, All-contains, Contains-append_left, Contains-append_right, Contains-push, nat_tests, Instr, Sp, StackPair, Store, MviMemory, InrMemory, DcrMemory, Stax, Sta, Shld, Push, Pop, Call, CallIf, Ret, ReturnIf, Rst, Xthl, Lxi, Inx, Dcx, Sphl, StackBc, StackDe, StackHl, Psw, flow, Range, in_range, IsInMemory, Areas, AreRegions, all_ranges, in_code, in_data, top_of, Registers, Cpu, End, Direct, Stack, StoreOutside, holds_of, flags_byte, guard, first_outside, ends_at, push_bytes, stores, stored, changed, PairSpan, Words, State, any_byte, word_alone, HoldsPair, HoldsRegisters, HoldsWord, HoldsWords, IsOnStack, pair_of_words, no_words, pushed, popped, pushed_pair, called, returned, words_after, is_taken}
 use Rattle.machine80.specs.Cpu.{high_of, low_of}
 use Rattle.decode80.specs.{Fetch.ahead, Fetch.behind}
-use Rattle.verify80_states.proofs.{ArithmeticBounds.flags_are_byte, SpanLemmas.any_byte_within, StateLemmas.halves_hold, StateLemmas.split_holds}
+use Rattle.verify80_states.proofs.{ArithmeticBounds.flags_are_byte, ArithmeticBounds.ahead_is_word, ArithmeticBounds.behind_is_word, SpanLemmas.any_byte_within, StateLemmas.halves_hold, StateLemmas.split_holds}
 
 -- the rules of regions: code, data and stack share no address, and the stack is in memory
 pub record Ground (regions : Areas) : Type 0 where
@@ -64,7 +64,7 @@ passed_rest : (t : Bool) (b : ℕ) (others : Option ℕ) (at : ℕ → End) (res
 passed_rest true b others at rest h = h
 passed_rest false b others at rest h = cc
 
-passed : (within : ℕ → Bool) (b : ℕ) (at : ℕ → End) (rest : Option End) → ends_at (first_outside within (b ∷ [])) at rest ≡ None → within b ≡ true
+pub passed : (within : ℕ → Bool) (b : ℕ) (at : ℕ → End) (rest : Option End) → ends_at (first_outside within (b ∷ [])) at rest ≡ None → within b ≡ true
 passed within b at rest h = passed_test (within b) b None at rest h
 
 pub passed_two : (within : ℕ → Bool) (b c : ℕ) (at : ℕ → End) (rest : Option End) → ends_at (first_outside within (b ∷ c ∷ [])) at rest ≡ None → (within b ≡ true) × (within c ≡ true)
@@ -79,44 +79,14 @@ one_stored m a b x h = get_or-set_other m b a x 0 h
 pub two_stored : (m : List ℕ) (a b c x y : ℕ) → a ≢ b → a ≢ c → slice_index (stored m ((b, x) ∷ (c, y) ∷ [])) a ≡ slice_index m a
 two_stored m a b c x y h k = get_or-set_other (slice_set m b x) c a y 0 k ∙ get_or-set_other m b a x 0 h
 
--- the bytes outside data and outside the stack stay, and those of the stack unless a word is pushed or exchanged there
+two_read : (m : List ℕ) (a b x y : ℕ) → length m ≡ 65536 → a < 65536 → b < 65536 → a ≢ b → (slice_index (stored m ((a, x) ∷ (b, y) ∷ [])) a ≡ x) × (slice_index (stored m ((a, x) ∷ (b, y) ∷ [])) b ≡ y)
+two_read m a b x y whole small other apart = (
+  get_or-set_other (slice_set m a x) b a y 0 apart ∙ get_or-set_same m a x 0 (omega (arith, small, whole)),
+  get_or-set_same (slice_set m a x) b y 0 (let size = length-set m a x in omega (arith, size, other, whole)),
+)
+
+-- the words on the stack
 module _ (regions : Areas) (ground : Ground regions) where
-  -- code stays
-  not_data : (a b : ℕ) → in_code regions a ≡ true → in_data regions b ≡ true → a ≢ b
-  not_data a b code data_there = λ e. true≢false (sym data_there ∙ ap (in_data regions) (sym e) ∙ ground.code_or_data a code)
-
-  not_stack : (a b : ℕ) → in_code regions a ≡ true → in_range regions.stack b ≡ true → a ≢ b
-  not_stack a b code stack_there = λ e. true≢false (sym stack_there ∙ ap (in_range regions.stack) (sym e) ∙ ground.code_or_stack a code)
-
-  code_one : (m : List ℕ) (a b x : ℕ) → in_code regions a ≡ true → in_data regions b ≡ true → slice_index (stored m ((b, x) ∷ [])) a ≡ slice_index m a
-  code_one m a b x code there = one_stored m a b x (not_data a b code there)
-
-  code_two : (m : List ℕ) (a b c x y : ℕ) → in_code regions a ≡ true → (in_range regions.stack b ≡ true) × (in_range regions.stack c ≡ true) → slice_index (stored m ((b, x) ∷ (c, y) ∷ [])) a ≡ slice_index m a
-  code_two m a b c x y code there = two_stored m a b c x y (not_stack a b code there.0) (not_stack a c code there.1)
-
-  code_if : (t : Bool) (m : List ℕ) (a sp high low : ℕ) → in_code regions a ≡ true →
-      ends_at (first_outside (in_range regions.stack) (if t then behind sp 1 ∷ behind sp 2 ∷ [] else [])) Stack (ends_at None Direct (ends_at None StoreOutside None)) ≡ None →
-      slice_index (stored m (if t then push_bytes sp high low else [])) a ≡ slice_index m a
-  code_if true m a sp high low code pass = code_two m a (behind sp 1) (behind sp 2) high low code (passed_two (in_range regions.stack) (behind sp 1) (behind sp 2) Stack _ pass)
-  code_if false m a sp high low code pass = refl
-
-  pub code_kept : (i : Instr) (next : ℕ) (m : List ℕ) (cpu : Cpu) (a : ℕ) → guard regions i cpu ≡ None → in_code regions a ≡ true → slice_index (stored m (stores i next m cpu)) a ≡ slice_index m a
-  code_kept (Store r) next m cpu a pass code = code_one m a _ _ code (passed (in_data regions) _ StoreOutside None pass)
-  code_kept (MviMemory b) next m cpu a pass code = code_one m a _ _ code (passed (in_data regions) _ StoreOutside None pass)
-  code_kept InrMemory next m cpu a pass code = code_one m a _ _ code (passed (in_data regions) _ StoreOutside None pass)
-  code_kept DcrMemory next m cpu a pass code = code_one m a _ _ code (passed (in_data regions) _ StoreOutside None pass)
-  code_kept (Stax p) next m cpu a pass code = code_one m a _ _ code (passed (in_data regions) _ StoreOutside None pass)
-  code_kept (Sta w) next m cpu a pass code = code_one m a w cpu.registers.a code (passed (in_data regions) w Direct None pass)
-  code_kept (Shld w) next m cpu a pass code =
-      let both : (in_data regions w ≡ true) × (in_data regions (ahead w 1) ≡ true) = passed_two (in_data regions) w (ahead w 1) Direct None pass in
-      two_stored m a w (ahead w 1) cpu.registers.l cpu.registers.h (not_data a w code both.0) (not_data a (ahead w 1) code both.1)
-  code_kept (Push p) next m cpu a pass code = code_two m a (behind cpu.sp 1) (behind cpu.sp 2) _ _ code (passed_two (in_range regions.stack) (behind cpu.sp 1) (behind cpu.sp 2) Stack _ pass)
-  code_kept (Call w) next m cpu a pass code = code_two m a (behind cpu.sp 1) (behind cpu.sp 2) _ _ code (passed_two (in_range regions.stack) (behind cpu.sp 1) (behind cpu.sp 2) Stack _ pass)
-  code_kept (CallIf c w) next m cpu a pass code = code_if (holds_of c cpu.registers.flags) m a cpu.sp (next / 256) (next % 256) code pass
-  code_kept (Rst n) next m cpu a pass code = code_two m a (behind cpu.sp 1) (behind cpu.sp 2) _ _ code (passed_two (in_range regions.stack) (behind cpu.sp 1) (behind cpu.sp 2) Stack _ pass)
-  code_kept Xthl next m cpu a pass code = code_two m a cpu.sp (ahead cpu.sp 1) _ _ code (passed_two (in_range regions.stack) cpu.sp (ahead cpu.sp 1) Stack _ pass)
-  code_kept i next m cpu a pass code = refl
-
   -- a word lies on the stack from the stack pointer up
   record Lies (sp at : ℕ) : Type 0 where
     low : in_range regions.stack at ≡ true
@@ -127,148 +97,45 @@ module _ (regions : Areas) (ground : Ground regions) where
   same_pair : (pair : PairSpan) (h l high low : ℕ) → high ≡ h → low ≡ l → HoldsPair pair h l → HoldsPair pair high low
   same_pair pair h l high low same other holds = subst (λ n. HoldsPair pair n low) (sym same) (subst (λ n. HoldsPair pair h n) (sym other) holds)
 
-  -- words stay where the bytes of the stack from the stack pointer up do
+  -- memories with the same bytes of the stack from the stack pointer up
   abbrev SameStack : (sp : ℕ) → List ℕ → List ℕ → Type 0
   SameStack sp m m' = (a : ℕ) → in_range regions.stack a ≡ true → sp ≤ a → sp ≢ top_of regions → slice_index m' a ≡ slice_index m a
 
-  word_moved : (o : Option PairSpan) (m m' : List ℕ) (sp sp' at at' : ℕ) → (Lies sp at → (at ≡ at') × ((sp' ≤ at) × (sp' ≢ top_of regions))) →
-      (Lies sp at → (slice_index m' at ≡ slice_index m at) × (slice_index m' (ahead at 1) ≡ slice_index m (ahead at 1))) →
+  -- a word stays where it is, at its place from another stack pointer
+  word_stays : (o : Option PairSpan) (m m' : List ℕ) (sp sp' at at' : ℕ) → SameStack sp m m' → (Lies sp at → (at ≡ at') × ((sp' ≤ at) × (sp' ≢ top_of regions))) →
       HoldsWord regions o m sp at → HoldsWord regions o m' sp' at'
-  word_moved None m m' sp sp' at at' place same holds = tt
-  word_moved (Some pair) m m' sp sp' at at' place same holds =
-      let lies : Lies sp at = record { low = holds.low; high = holds.high; above = holds.above; filled = holds.filled } in
-      let bytes = same lies in
-      let there = place lies in
+  word_stays None m m' sp sp' at at' same place holds = tt
+  word_stays (Some pair) m m' sp sp' at at' same place holds =
+      let there = place (record { low = holds.low; high = holds.high; above = holds.above; filled = holds.filled }) in
+      let next = next_up regions at ground holds.low holds.high in
+      let up : sp ≤ ahead at 1 = (let above = holds.above in omega (arith, next, above)) in
       subst (λ n. IsOnStack regions pair m' sp' n) there.0
-      (record { low = holds.low; high = holds.high; above = there.1.0; filled = there.1.1; within = same_pair pair _ _ _ _ bytes.1 bytes.0 holds.within })
+      (record {
+        low = holds.low;
+        high = holds.high;
+        above = there.1.0;
+        filled = there.1.1;
+        within = same_pair pair _ _ _ _ (same (ahead at 1) holds.high up holds.filled) (same at holds.low holds.above holds.filled) holds.within;
+      })
 
   pub words_stay : (w : Words) (m m' : List ℕ) (sp : ℕ) → SameStack sp m m' → HoldsWords regions w m sp → HoldsWords regions w m' sp
   words_stay w m m' sp same holds = record {
-    first = stay w.first sp holds.first;
-    second = stay w.second (ahead sp 2) holds.second;
-    third = stay w.third (ahead sp 4) holds.third;
-    fourth = stay w.fourth (ahead sp 6) holds.fourth;
+    first = stays w.first sp holds.first;
+    second = stays w.second (ahead sp 2) holds.second;
+    third = stays w.third (ahead sp 4) holds.third;
+    fourth = stays w.fourth (ahead sp 6) holds.fourth;
   } where
-    stay : (o : Option PairSpan) (at : ℕ) → HoldsWord regions o m sp at → HoldsWord regions o m' sp at
-    stay o at h =
-        word_moved o m m' sp sp at at (λ lies. (refl, (lies.above, lies.filled)))
-        (λ lies. (same at lies.low lies.above lies.filled, same (ahead at 1) lies.high (let up = next_up regions at ground lies.low lies.high in let above = lies.above in omega (arith, up, above)) lies.filled)) h
+    stays : (o : Option PairSpan) (at : ℕ) → HoldsWord regions o m sp at → HoldsWord regions o m' sp at
+    stays o at h = word_stays o m m' sp sp at at same (λ lies. (refl, (lies.above, lies.filled))) h
 
   pub none_hold : (m : List ℕ) (sp : ℕ) → HoldsWords regions no_words m sp
   none_hold m sp = record { first = tt; second = tt; third = tt; fourth = tt }
 
-  -- a word is pushed
-  top_low : (sp : ℕ) → ahead (behind sp 2) 1 ≡ behind sp 1
-  unfolding ahead behind
-  top_low sp = omega arith
-
-  top_second : (sp : ℕ) → sp < 65536 → sp ≡ ahead (behind sp 2) 2
-  unfolding ahead behind
-  top_second sp small = omega arith
-
-  top_third : (sp : ℕ) → ahead sp 2 ≡ ahead (behind sp 2) 4
-  unfolding ahead behind
-  top_third sp = omega arith
-
-  top_fourth : (sp : ℕ) → ahead sp 4 ≡ ahead (behind sp 2) 6
-  unfolding ahead behind
-  top_fourth sp = omega arith
-
-  top_apart : (sp k : ℕ) → k < 6 → (ahead sp k ≢ behind sp 1) × (ahead sp k ≢ behind sp 2)
-  unfolding ahead behind
-  top_apart sp k small = (λ e. absurd (omega (arith, e, small)), λ e. absurd (omega (arith, e, small)))
-
-  sp_apart : (sp : ℕ) → sp < 65536 → (sp ≢ behind sp 1) × (sp ≢ behind sp 2)
-  unfolding behind
-  sp_apart sp small = (λ e. absurd (omega (arith, e, small)), λ e. absurd (omega (arith, e, small)))
-
-  next_byte : (sp k : ℕ) → ahead (ahead sp k) 1 ≡ ahead sp (k + 1)
+  ahead_twice : (sp j k : ℕ) → ahead sp (j + k) ≡ ahead (ahead sp j) k
   unfolding ahead
-  next_byte sp k = omega arith
+  ahead_twice sp j k = omega arith
 
-  low_apart : (sp : ℕ) → behind sp 1 ≢ behind sp 2
-  unfolding behind
-  low_apart sp = λ e. absurd (omega (arith, e))
-
-  pushed_below : (areas : Areas) (sp at : ℕ) → Ground areas → in_range areas.stack (behind sp 1) ≡ true → in_range areas.stack (behind sp 2) ≡ true → in_range areas.stack at ≡ true → sp ≤ at →
-      sp ≢ top_of areas → behind sp 2 ≤ at
-  unfolding behind
-  pushed_below areas sp at rules one two there above filled = by sp refl where
-    ends : areas.stack.first + areas.stack.length ≤ 65536
-    ends = rules.stack_ends
-
-    short : areas.stack.length < 65536
-    short = rules.stack_short
-
-    by : (n : ℕ) → sp ≡ n → behind sp 2 ≤ at
-    by zero is = absurd (filled (let high = below_last areas.stack (behind sp 1) one in omega (arith, is, ends, short, high)))
-    by (suc zero) is =
-        let low = above_first areas.stack (behind sp 1) one in
-        let high = below_last areas.stack (behind sp 2) two in
-        absurd (omega (arith, is, ends, short, low, high))
-    by (suc (suc n)) is = let small = small_on_stack areas at rules there in omega (arith, is, above, small)
-
-  behind_small : (sp n : ℕ) → behind sp n < 65536
-  unfolding behind
-  behind_small sp n = omega arith
-
-  module _ (m : List ℕ) (sp high low : ℕ) (whole : length m ≡ 65536) where
-    abbrev after : List ℕ
-    after = stored m (push_bytes sp high low)
-
-    pushed_low : slice_index after (behind sp 2) ≡ low
-    pushed_low = get_or-set_same (slice_set m (behind sp 1) high) (behind sp 2) low 0 (let size = length-set m (behind sp 1) high in let small = behind_small sp 2 in omega (arith, size, small, whole))
-
-    pushed_high : slice_index after (behind sp 1) ≡ high
-    pushed_high =
-        get_or-set_other (slice_set m (behind sp 1) high) (behind sp 2) (behind sp 1) low 0 (low_apart sp)
-        ∙ get_or-set_same m (behind sp 1) high 0 (let small = behind_small sp 1 in omega (arith, small, whole))
-
-    -- what lies from the stack pointer up does so still
-    lies_still : (at : ℕ) → (in_range regions.stack (behind sp 1) ≡ true) × (in_range regions.stack (behind sp 2) ≡ true) → Lies sp at → (behind sp 2 ≤ at) × (behind sp 2 ≢ top_of regions)
-    lies_still at there lies = (pushed_below regions sp at ground there.0 there.1 lies.low lies.above lies.filled, not_top regions (behind sp 2) ground there.1)
-
-    deep_word : (o : Option PairSpan) (k : ℕ) (at' : ℕ) → (in_range regions.stack (behind sp 1) ≡ true) × (in_range regions.stack (behind sp 2) ≡ true) → k < 5 → ahead sp k ≡ at' → HoldsWord regions o m sp (ahead sp k) →
-        HoldsWord regions o after (behind sp 2) at'
-    deep_word o k at' there small place holds =
-        word_moved o m after sp (behind sp 2) (ahead sp k) at' (λ lies. (place, lies_still (ahead sp k) there lies))
-        (λ lies. (kept k (omega arith), subst (λ n. slice_index after n ≡ slice_index m n) (sym (next_byte sp k)) (kept (k + 1) (omega arith)))) holds where
-          kept : (j : ℕ) → j < 6 → slice_index after (ahead sp j) ≡ slice_index m (ahead sp j)
-          kept j less = let apart = top_apart sp j less in two_stored m (ahead sp j) (behind sp 1) (behind sp 2) high low apart.0 apart.1
-
-    first_word : (o : Option PairSpan) → (in_range regions.stack (behind sp 1) ≡ true) × (in_range regions.stack (behind sp 2) ≡ true) → HoldsWord regions o m sp sp → HoldsWord regions o after (behind sp 2) (ahead (behind sp 2) 2)
-    first_word o there holds =
-        word_moved o m after sp (behind sp 2) sp (ahead (behind sp 2) 2) (λ lies. (top_second sp (small_on_stack regions sp ground lies.low), lies_still sp there lies))
-        (λ lies.
-        let apart = sp_apart sp (small_on_stack regions sp ground lies.low) in
-        let next = top_apart sp 1 (omega arith) in
-        (two_stored m sp (behind sp 1) (behind sp 2) high low apart.0 apart.1, two_stored m (ahead sp 1) (behind sp 1) (behind sp 2) high low next.0 next.1)) holds
-
-    pub words_pushed : (w : Words) (pair : PairSpan) → (in_range regions.stack (behind sp 1) ≡ true) × (in_range regions.stack (behind sp 2) ≡ true) → HoldsPair pair high low → HoldsWords regions w m sp →
-        HoldsWords regions (pushed w (Some pair)) after (behind sp 2)
-    words_pushed w pair there inside holds = record {
-      first = record {
-        low = there.1;
-        high = subst (λ n. in_range regions.stack n ≡ true) (sym (top_low sp)) there.0;
-        above = omega arith;
-        filled = not_top regions (behind sp 2) ground there.1;
-        within = same_pair pair _ _ _ _ (ap (slice_index after) (top_low sp) ∙ pushed_high) pushed_low inside;
-      };
-      second = first_word w.first there holds.first;
-      third = deep_word w.second 2 (ahead (behind sp 2) 4) there (omega arith) (top_third sp) holds.second;
-      fourth = deep_word w.third 4 (ahead (behind sp 2) 6) there (omega arith) (top_fourth sp) holds.third;
-    }
-
-  -- a word is popped
-  pop_third : (sp : ℕ) → ahead sp 4 ≡ ahead (ahead sp 2) 2
-  unfolding ahead
-  pop_third sp = omega arith
-
-  pop_fourth : (sp : ℕ) → ahead sp 6 ≡ ahead (ahead sp 2) 4
-  unfolding ahead
-  pop_fourth sp = omega arith
-
-  -- what lies above the word on top lies from the stack pointer up when that is popped
+  -- a word is popped: what lies above it lies from the stack pointer up then
   above_popped : (sp k : ℕ) → 2 ≤ k → k < 8 → Lies sp (ahead sp k) → (ahead sp 2 ≤ ahead sp k) × (ahead sp 2 ≢ top_of regions)
   unfolding ahead
   above_popped sp k more less lies =
@@ -279,56 +146,108 @@ module _ (regions : Areas) (ground : Ground regions) where
 
   words_popped : (w : Words) (m : List ℕ) (sp : ℕ) → HoldsWords regions w m sp → HoldsWords regions (popped w) m (ahead sp 2)
   words_popped w m sp holds = record {
-    first = still w.second 2 (ahead sp 2) (omega arith) (omega arith) refl holds.second;
-    second = still w.third 4 (ahead (ahead sp 2) 2) (omega arith) (omega arith) (pop_third sp) holds.third;
-    third = still w.fourth 6 (ahead (ahead sp 2) 4) (omega arith) (omega arith) (pop_fourth sp) holds.fourth;
+    first = stays w.second 2 (ahead sp 2) (omega arith) (omega arith) refl holds.second;
+    second = stays w.third 4 (ahead (ahead sp 2) 2) (omega arith) (omega arith) (ahead_twice sp 2 2) holds.third;
+    third = stays w.fourth 6 (ahead (ahead sp 2) 4) (omega arith) (omega arith) (ahead_twice sp 2 4) holds.fourth;
     fourth = tt;
   } where
-    still : (o : Option PairSpan) (k at' : ℕ) → 2 ≤ k → k < 8 → ahead sp k ≡ at' → HoldsWord regions o m sp (ahead sp k) → HoldsWord regions o m (ahead sp 2) at'
-    still o k at' more less place h = word_moved o m m sp (ahead sp 2) (ahead sp k) at' (λ lies. (place, above_popped sp k more less lies)) (λ lies. (refl, refl)) h
+    stays : (o : Option PairSpan) (k at' : ℕ) → 2 ≤ k → k < 8 → ahead sp k ≡ at' → HoldsWord regions o m sp (ahead sp k) → HoldsWord regions o m (ahead sp 2) at'
+    stays o k at' more less place h = word_stays o m m sp (ahead sp 2) (ahead sp k) at' (λ a on above filled. refl) (λ lies. (place, above_popped sp k more less lies)) h
 
-  -- a word is exchanged
-  sp_first : (sp k : ℕ) → sp < 65536 → 2 ≤ k → k < 8 → (ahead sp k ≢ sp) × (ahead sp k ≢ ahead sp 1)
-  unfolding ahead
-  sp_first sp k small more less = (λ e. absurd (omega (arith, e, small, more, less)), λ e. absurd (omega (arith, e, small, more, less)))
+  -- a word is put onto others, which lie two bytes further up
+  words_under : (w : Words) (pair : PairSpan) (m m' : List ℕ) (sp sp' : ℕ) → SameStack sp m m' → ((at : ℕ) → Lies sp at → (sp ≡ ahead sp' 2) × ((sp' ≤ at) × (sp' ≢ top_of regions))) →
+      IsOnStack regions pair m' sp' sp' → HoldsWords regions w m sp → HoldsWords regions (pushed w (Some pair)) m' sp'
+  words_under w pair m m' sp sp' same place top holds = record {
+    first = top;
+    second = word_stays w.first m m' sp sp' sp (ahead sp' 2) same (λ lies. place sp lies) holds.first;
+    third = under w.second 2 (ahead sp' 4) (ahead_twice sp' 2 2) holds.second;
+    fourth = under w.third 4 (ahead sp' 6) (ahead_twice sp' 2 4) holds.third;
+  } where
+    under : (o : Option PairSpan) (k at' : ℕ) → at' ≡ ahead (ahead sp' 2) k → HoldsWord regions o m sp (ahead sp k) → HoldsWord regions o m' sp' at'
+    under o k at' twice h = word_stays o m m' sp sp' (ahead sp k) at' same
+        (λ lies. let p = place (ahead sp k) lies in (ap (λ n. ahead n k) p.0 ∙ sym twice, p.1)) h
 
+  -- a word is pushed
+  top_low : (sp : ℕ) → ahead (behind sp 2) 1 ≡ behind sp 1
+  unfolding ahead behind
+  top_low sp = omega arith
+
+  top_second : (sp : ℕ) → sp < 65536 → sp ≡ ahead (behind sp 2) 2
+  unfolding ahead behind
+  top_second sp small = omega arith
+
+  low_apart : (sp : ℕ) → behind sp 1 ≢ behind sp 2
+  unfolding behind
+  low_apart sp = λ e. absurd (omega (arith, e))
+
+  pushed_below : (sp at : ℕ) → (in_range regions.stack (behind sp 1) ≡ true) × (in_range regions.stack (behind sp 2) ≡ true) → in_range regions.stack at ≡ true → sp ≤ at → sp ≢ top_of regions → (behind sp 1 < at) × (behind sp 2 < at)
+  unfolding behind
+  pushed_below sp at pushed there above filled = by sp refl where
+    by : (n : ℕ) → sp ≡ n → (behind sp 1 < at) × (behind sp 2 < at)
+    by zero is = absurd (filled (let ends = ground.stack_ends in let short = ground.stack_short in let high = below_last regions.stack (behind sp 1) pushed.0 in omega (arith, is, ends, short, high)))
+    by (suc zero) is =
+        let ends = ground.stack_ends in
+        let short = ground.stack_short in
+        let low = above_first regions.stack (behind sp 1) pushed.0 in
+        let high = below_last regions.stack (behind sp 2) pushed.1 in
+        absurd (omega (arith, is, ends, short, low, high))
+    by (suc (suc n)) is = let small = small_on_stack regions at ground there in (omega (arith, is, above, small), omega (arith, is, above, small))
+
+  module _ (m : List ℕ) (sp high low : ℕ) (whole : length m ≡ 65536) where
+    abbrev after : List ℕ
+    after = stored m (push_bytes sp high low)
+
+    read : (slice_index after (behind sp 1) ≡ high) × (slice_index after (behind sp 2) ≡ low)
+    read = two_read m (behind sp 1) (behind sp 2) high low whole (behind_is_word sp 1) (behind_is_word sp 2) (low_apart sp)
+
+    pub words_pushed : (w : Words) (pair : PairSpan) → (in_range regions.stack (behind sp 1) ≡ true) × (in_range regions.stack (behind sp 2) ≡ true) → HoldsPair pair high low → HoldsWords regions w m sp →
+        HoldsWords regions (pushed w (Some pair)) after (behind sp 2)
+    words_pushed w pair there inside holds = words_under w pair m after sp (behind sp 2)
+        (λ a on above filled.
+        let below = pushed_below sp a there on above filled in
+        two_stored m a (behind sp 1) (behind sp 2) high low (λ e. absurd (omega (arith, e, below.0))) (λ e. absurd (omega (arith, e, below.1))))
+        (λ at lies.
+        let below = pushed_below sp at there lies.low lies.above lies.filled in
+        let small = small_on_stack regions at ground lies.low in
+        let above = lies.above in
+        (top_second sp (omega (arith, small, above)), (omega (arith, below.1), not_top regions (behind sp 2) ground there.1)))
+        (record {
+          low = there.1;
+          high = subst (λ n. in_range regions.stack n ≡ true) (sym (top_low sp)) there.0;
+          above = omega arith;
+          filled = not_top regions (behind sp 2) ground there.1;
+          within = same_pair pair _ _ _ _ (ap (slice_index after) (top_low sp) ∙ read.0) read.1 inside;
+        })
+        holds
+
+  -- a word is exchanged: it is popped, and another put there
   ahead_one : (sp : ℕ) → sp < 65536 → sp ≢ ahead sp 1
   unfolding ahead
   ahead_one sp small = λ e. absurd (omega (arith, e, small))
 
-  ahead_small : (sp n : ℕ) → ahead sp n < 65536
+  exchanged_below : (sp a : ℕ) → in_range regions.stack sp ≡ true → in_range regions.stack (ahead sp 1) ≡ true → ahead sp 2 ≤ a → ahead sp 2 ≢ top_of regions → (sp < a) × (ahead sp 1 < a)
   unfolding ahead
-  ahead_small sp n = omega arith
+  exchanged_below sp a low high above filled =
+      let ends = ground.stack_ends in
+      let up = next_up regions sp ground low high in
+      let last = below_last regions.stack (ahead sp 1) high in
+      (omega (arith, ends, up, last, above, filled), omega (arith, ends, up, last, above, filled))
 
   module _ (m : List ℕ) (sp high low : ℕ) (whole : length m ≡ 65536) (low_in : in_range regions.stack sp ≡ true) (high_in : in_range regions.stack (ahead sp 1) ≡ true) where
     abbrev exchanged : List ℕ
     exchanged = stored m ((sp, low) ∷ (ahead sp 1, high) ∷ [])
 
-    sp_small : sp < 65536
-    sp_small = small_on_stack regions sp ground low_in
-
-    exchanged_low : slice_index exchanged sp ≡ low
-    exchanged_low =
-        get_or-set_other (slice_set m sp low) (ahead sp 1) sp high 0 (ahead_one sp sp_small)
-        ∙ get_or-set_same m sp low 0 (let small = sp_small in omega (arith, small, whole))
-
-    exchanged_high : slice_index exchanged (ahead sp 1) ≡ high
-    exchanged_high = get_or-set_same (slice_set m sp low) (ahead sp 1) high 0 (let size = length-set m sp low in let small = ahead_small sp 1 in omega (arith, size, small, whole))
-
-    below_word : (o : Option PairSpan) (k : ℕ) → 2 ≤ k → k < 7 → HoldsWord regions o m sp (ahead sp k) → HoldsWord regions o exchanged sp (ahead sp k)
-    below_word o k more less holds =
-        word_moved o m exchanged sp sp (ahead sp k) (ahead sp k) (λ lies. (refl, (lies.above, lies.filled)))
-        (λ lies. (kept k more (omega arith), subst (λ n. slice_index exchanged n ≡ slice_index m n) (sym (next_byte sp k)) (kept (k + 1) (omega arith) (omega arith)))) holds where
-          kept : (j : ℕ) → 2 ≤ j → j < 8 → slice_index exchanged (ahead sp j) ≡ slice_index m (ahead sp j)
-          kept j from small = let apart = sp_first sp j sp_small from small in two_stored m (ahead sp j) sp (ahead sp 1) low high apart.0 apart.1
+    read_back : (slice_index exchanged sp ≡ low) × (slice_index exchanged (ahead sp 1) ≡ high)
+    read_back = let small = small_on_stack regions sp ground low_in in two_read m sp (ahead sp 1) low high whole small (ahead_is_word sp 1) (ahead_one sp small)
 
     words_exchanged : (w : Words) (pair : PairSpan) → HoldsPair pair high low → HoldsWords regions w m sp → HoldsWords regions (record w { first = Some pair }) exchanged sp
-    words_exchanged w pair inside holds = record {
-      first = record { low = low_in; high = high_in; above = omega arith; filled = not_top regions sp ground low_in; within = same_pair pair _ _ _ _ exchanged_high exchanged_low inside };
-      second = below_word w.second 2 (omega arith) (omega arith) holds.second;
-      third = below_word w.third 4 (omega arith) (omega arith) holds.third;
-      fourth = below_word w.fourth 6 (omega arith) (omega arith) holds.fourth;
-    }
+    words_exchanged w pair inside holds = words_under (popped w) pair m exchanged (ahead sp 2) sp
+        (λ a on above filled.
+        let below = exchanged_below sp a low_in high_in above filled in
+        two_stored m a sp (ahead sp 1) low high (λ e. absurd (omega (arith, e, below.0))) (λ e. absurd (omega (arith, e, below.1))))
+        (λ at lies. (refl, ((let below = (exchanged_below sp at low_in high_in lies.above lies.filled).0 in omega (arith, below)), not_top regions sp ground low_in)))
+        (record { low = low_in; high = high_in; above = omega arith; filled = not_top regions sp ground low_in; within = same_pair pair _ _ _ _ read_back.1 read_back.0 inside })
+        (words_popped w m sp holds)
 
   -- a store to data leaves the stack
   stack_one : (m : List ℕ) (sp b x : ℕ) → in_data regions b ≡ true → SameStack sp m (stored m ((b, x) ∷ []))

@@ -1,7 +1,7 @@
 -- Registers and pairs of bytes, read and written.
-use Rattle.verify80_states.proofs.Names.{ℕ, ◌/◌, ◌%◌, Register, Pair, StackPair, IndexBc, IndexDe, A, B, C, D, E, H, L, Bc, De, Hl, Sp, StackBc, StackDe, StackHl, Psw, Flags, Registers, Cpu, register_of, with_register, hl_of, with_pair, index_pair_of, with_stack_pair, IsByte, IsWord, AreBytes}
+use Rattle.verify80_states.proofs.Names.{arith, ℕ, ◌/◌, ◌%◌, Register, Pair, StackPair, IndexPair, IndexBc, IndexDe, A, B, C, D, E, H, L, Bc, De, Hl, Sp, StackBc, StackDe, StackHl, Psw, Flags, Registers, Cpu, register_of, with_register, hl_of, with_pair, index_pair_of, with_stack_pair, IsByte, IsWord, AreBytes}
 use Rattle.machine80.specs.Cpu.{high_of, low_of}
-use Rattle.verify80_states.proofs.ArithmeticBounds.{word_of_bytes, high_byte, low_byte, flags_are_byte}
+use Rattle.verify80_states.proofs.ArithmeticBounds.{word_of_bytes, flags_are_byte}
 
 -- read
 pub register_is_byte : (r : Registers) (from : Register) → AreBytes r → IsByte (register_of r from)
@@ -13,11 +13,9 @@ register_is_byte r E bytes = bytes.e
 register_is_byte r H bytes = bytes.h
 register_is_byte r L bytes = bytes.l
 
-pub bc_is_word : (r : Registers) → AreBytes r → IsWord (index_pair_of r IndexBc)
-bc_is_word r bytes = word_of_bytes r.b r.c bytes.b bytes.c
-
-pub de_is_word : (r : Registers) → AreBytes r → IsWord (index_pair_of r IndexDe)
-de_is_word r bytes = word_of_bytes r.d r.e bytes.d bytes.e
+pub pointed_is_word : (r : Registers) (pair : IndexPair) → AreBytes r → IsWord (index_pair_of r pair)
+pointed_is_word r IndexBc bytes = word_of_bytes r.b r.c bytes.b bytes.c
+pointed_is_word r IndexDe bytes = word_of_bytes r.d r.e bytes.d bytes.e
 
 pub hl_is_word : (r : Registers) → AreBytes r → IsWord (hl_of r)
 hl_is_word r bytes = word_of_bytes r.h r.l bytes.h bytes.l
@@ -60,14 +58,10 @@ register_written r H byte small bytes = hl_written r byte r.l small bytes.l byte
 register_written r L byte small bytes = hl_written r r.h byte bytes.h small bytes
 
 pub pair_written : (cpu : Cpu) (pair : Pair) (n : ℕ) → IsWord n → AreBytes cpu.registers → AreBytes (with_pair cpu pair n).registers
-pair_written cpu Bc n small bytes = bc_written cpu.registers (n / 256) (n % 256) (high_byte n small) (low_byte n) bytes
-pair_written cpu De n small bytes = de_written cpu.registers (n / 256) (n % 256) (high_byte n small) (low_byte n) bytes
-pair_written cpu Hl n small bytes = hl_written cpu.registers (n / 256) (n % 256) (high_byte n small) (low_byte n) bytes
+pair_written cpu Bc n small bytes = bc_written cpu.registers (n / 256) (n % 256) (omega arith) (omega arith) bytes
+pair_written cpu De n small bytes = de_written cpu.registers (n / 256) (n % 256) (omega arith) (omega arith) bytes
+pair_written cpu Hl n small bytes = hl_written cpu.registers (n / 256) (n % 256) (omega arith) (omega arith) bytes
 pair_written cpu Sp n small bytes = bytes
-
-pub sp_written : (cpu : Cpu) (pair : Pair) (n : ℕ) → IsWord n → IsWord cpu.sp → IsWord (with_pair cpu pair n).sp
-sp_written cpu Sp n small sp = small
-sp_written cpu pair n small sp = sp
 
 pub stack_pair_written : (r : Registers) (pair : StackPair) (high low : ℕ) → IsByte high → IsByte low → AreBytes r → AreBytes (with_stack_pair r pair high low)
 stack_pair_written r StackBc high low h l bytes = bc_written r high low h l bytes

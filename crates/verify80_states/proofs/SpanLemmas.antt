@@ -1,5 +1,5 @@
 -- What spans say of numbers.
-use Rattle.verify80_states.proofs.Names.{◌≡◌, ◌<◌, ℕ, ◌+◌, ◌%◌, Bool, true, false, Option, None, Some, nat_lt, nat_le, refl, arith, subst, sym, nat_tests, word, Span, ByteSpan, Within, ByteWithin, IsInside, IsByteInside, any_word, any_byte, byte_alone, next_span, previous_span, next_byte, previous_byte, sum_span, sum_carries, joined, meet, meet_bytes, carry_span}
+use Rattle.verify80_states.proofs.Names.{◌≡◌, ◌<◌, ℕ, ◌+◌, ◌%◌, Bool, true, false, Option, None, Some, nat_lt, nat_le, refl, arith, nat_tests, word, Span, ByteSpan, Within, ByteWithin, IsInside, IsByteInside, any_word, any_byte, byte_alone, next_span, previous_span, next_byte, previous_byte, sum_span, sum_carries, joined, meet, meet_bytes, carry_span, if◌then◌else◌}
 use Rattle.verify80_spans.specs.Span.{IsKnown, high_of, low_of}
 use Rattle.machine80.specs.{Flags.bit_of}
 
@@ -48,17 +48,15 @@ meet_within s t n first second = record { above = grind (arith, nat_tests); belo
 pub meet_bytes_within : (s t : ByteSpan) (n : ℕ) → ByteWithin s n → ByteWithin t n → ByteWithin (meet_bytes s t) n
 meet_bytes_within s t n first second = record { above = grind (arith, nat_tests); below = grind (arith, nat_tests) }
 
--- what is known of a truth that is tested
-pub known_if : (b : Bool) (o : Option Bool) (truth : Bool) → o ≡ Some b → truth ≡ b → IsKnown o truth
-known_if b o truth is same = subst (λ (x : Option Bool). IsKnown x truth) (sym is) same
+-- what is known of a truth by one of two tests
+pub known_if : (a b x y truth : Bool) → (a ≡ true → truth ≡ x) → (a ≡ false → b ≡ true → truth ≡ y) → IsKnown (if a then Some x else (if b then Some y else None)) truth
+known_if true b x y truth one other = one refl
+known_if false true x y truth one other = other refl refl
+known_if false false x y truth one other = tt
 
 -- the carry of a sum of words
 pub carries : (s t : Span) (m n : ℕ) → Within s m → Within t n → IsKnown (sum_carries s t) (nat_lt 65535 (m + n))
-carries s t m n first second = go (nat_lt (s.last + t.last) 65536) (nat_le 65536 (s.first + t.first)) refl refl where
-  go : (a b : Bool) → nat_lt (s.last + t.last) 65536 ≡ a → nat_le 65536 (s.first + t.first) ≡ b → IsKnown (sum_carries s t) (nat_lt 65535 (m + n))
-  go true b low high = known_if false (sum_carries s t) (nat_lt 65535 (m + n)) (rw low refl) (grind (arith, nat_tests))
-  go false true low high = known_if true (sum_carries s t) (nat_lt 65535 (m + n)) (rw (low, high) refl) (grind (arith, nat_tests))
-  go false false low high = rw (low, high) tt
+carries s t m n first second = known_if (nat_lt (s.last + t.last) 65536) (nat_le 65536 (s.first + t.first)) false true (nat_lt 65535 (m + n)) (λ low. grind (arith, nat_tests)) (λ low high. grind (arith, nat_tests))
 
 -- a carry as a number
 pub carry_within : (o : Option Bool) (b : Bool) → IsKnown o b → ByteWithin (carry_span o) (bit_of b)

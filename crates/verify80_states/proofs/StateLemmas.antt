@@ -1,8 +1,8 @@
 -- What a state says when registers and flags are written.
-use Rattle.verify80_states.proofs.Names.{◌≡◌, ◌<◌, ◌==◌, ℕ, ◌+◌, ◌/◌, ◌%◌, Bool, true, false, Option, Some, nat_lt, nat_le, refl, arith, subst, sym, nat_tests, Register, Pair, A, B, C, D, E, H, L, Bc, De, Hl, Sp, Flags, Registers, Cpu, word, register_of, with_register, with_pair, Span, ByteSpan, Outcome, Cells, PairSpan, State, AreBytes, Within, ByteWithin, any_byte, byte_alone, next_span, previous_span, next_byte, previous_byte, sum_span, sum_of, joined, zero_of, sign_of, HoldsPair, HoldsRegisters, Compares, any_pair, anything, pair_of_words, pair_of_halves, byte_of, copy_without, copy_outside, with_byte, with_span, with_outcome, with_carry, with_any_flags, cut_high, cut_low, cut_copy, cut, next_pair, previous_pair, sum_pair}
+use Rattle.verify80_states.proofs.Names.{◌≡◌, ◌<◌, ◌==◌, ℕ, ◌+◌, ◌/◌, ◌%◌, Bool, true, false, Option, nat_lt, nat_le, refl, arith, subst, sym, nat_tests, Register, Pair, A, B, C, D, E, H, L, Bc, De, Hl, Sp, Flags, Registers, Cpu, word, register_of, with_register, with_pair, Span, ByteSpan, Outcome, PairSpan, State, AreBytes, Within, ByteWithin, any_byte, byte_alone, next_span, previous_span, next_byte, previous_byte, sum_span, sum_of, joined, zero_of, sign_of, HoldsPair, HoldsRegisters, Compares, any_pair, anything, pair_of_words, pair_of_halves, byte_of, copy_without, copy_outside, with_byte, with_span, with_outcome, with_carry, with_any_flags, cut_high, cut_low, cut_copy, cut, next_pair, previous_pair, sum_pair}
 use Rattle.verify80_spans.specs.Span.{IsKnown, high_of}
 use Rattle.machine80.specs.Flags.{flags_of_result}
-use Rattle.verify80_states.proofs.SpanLemmas.{high_within, low_within, joined_within, any_word_within, any_byte_within, alone_within, next_within, previous_within, next_byte_within, previous_byte_within, sum_within, meet_within, meet_bytes_within, known_if}
+use Rattle.verify80_states.proofs.SpanLemmas.{known_if, high_within, low_within, joined_within, any_word_within, any_byte_within, alone_within, next_within, previous_within, next_byte_within, previous_byte_within, sum_within, meet_within, meet_bytes_within}
 use Rattle.verify80_states.proofs.{ArithmeticBounds.word_of_bytes, OutcomeLemmas.Makes, OutcomeLemmas.sum_makes}
 
 -- pairs
@@ -16,11 +16,8 @@ pub high_holds : (p : PairSpan) (h l : ℕ) → l < 256 → HoldsPair p h l → 
 high_holds p h l small holds = high_within p.words h l small holds.words
 
 -- a word that is put into a pair
-split_word : (span : Span) (n : ℕ) → Within span n → Within span (word (n / 256) (n % 256))
-split_word span n inside = record { above = omega arith; below = omega arith }
-
 pub split_holds : (span : Span) (n : ℕ) → Within span n → HoldsPair (pair_of_words span) (n / 256) (n % 256)
-split_holds span n inside = words_hold span (n / 256) (n % 256) (omega arith) (split_word span n inside)
+split_holds span n inside = words_hold span (n / 256) (n % 256) (omega arith) (record { above = omega arith; below = omega arith })
 
 -- a register's byte
 pub byte_holds : (s : State) (r : Registers) (register : Register) → AreBytes r → HoldsRegisters s r → ByteWithin (byte_of s register) (register_of r register)
@@ -98,22 +95,11 @@ with_span_holds s cpu Hl span n holds inside = hl_written_holds s cpu.registers 
 with_span_holds s cpu Sp span n holds inside = holds
 
 -- flags of a result
-known_by : (o : Option Bool) (b : Bool) (truth : Bool) → o ≡ Some b → truth ≡ b → IsKnown o truth
-known_by o b truth is same = known_if b o truth is same
-
 zero_known : (s : ByteSpan) (n : ℕ) → ByteWithin s n → IsKnown (zero_of s) (n == 0)
-zero_known s n inside = go (nat_lt 0 s.first) (s.last == 0) refl refl where
-  go : (a b : Bool) → nat_lt 0 s.first ≡ a → (s.last == 0) ≡ b → IsKnown (zero_of s) (n == 0)
-  go true b low high = known_by (zero_of s) false (n == 0) (rw low refl) (grind (arith, nat_tests))
-  go false true low high = known_by (zero_of s) true (n == 0) (rw (low, high) refl) (grind (arith, nat_tests))
-  go false false low high = rw (low, high) tt
+zero_known s n inside = known_if (nat_lt 0 s.first) (s.last == 0) false true (n == 0) (λ low. grind (arith, nat_tests)) (λ low high. grind (arith, nat_tests))
 
 sign_known : (s : ByteSpan) (n : ℕ) → ByteWithin s n → IsKnown (sign_of s) (nat_le 128 n)
-sign_known s n inside = go (nat_lt s.last 128) (nat_le 128 s.first) refl refl where
-  go : (a b : Bool) → nat_lt s.last 128 ≡ a → nat_le 128 s.first ≡ b → IsKnown (sign_of s) (nat_le 128 n)
-  go true b low high = known_by (sign_of s) false (nat_le 128 n) (rw low refl) (grind (arith, nat_tests))
-  go false true low high = known_by (sign_of s) true (nat_le 128 n) (rw (low, high) refl) (grind (arith, nat_tests))
-  go false false low high = rw (low, high) tt
+sign_known s n inside = known_if (nat_lt s.last 128) (nat_le 128 s.first) false true (nat_le 128 n) (λ low. grind (arith, nat_tests)) (λ low high. grind (arith, nat_tests))
 
 -- flags are written
 flags_copy : (copy : Register) (r : Registers) (f : Flags) → register_of r copy ≡ r.a → register_of (record r { flags = f }) copy ≡ r.a
@@ -161,31 +147,19 @@ cut_low_holds p span h l small holds inside =
       low = low;
     }
 
-bc_is : (s : State) (r : Registers) (p : PairSpan) → HoldsRegisters s r → HoldsPair p r.b r.c → HoldsRegisters (record s { bc = p }) r
-bc_is s r p holds pair = record { a = holds.a; bc = pair; de = holds.de; hl = holds.hl; copy = holds.copy; flags = holds.flags }
-
-de_is : (s : State) (r : Registers) (p : PairSpan) → HoldsRegisters s r → HoldsPair p r.d r.e → HoldsRegisters (record s { de = p }) r
-de_is s r p holds pair = record { a = holds.a; bc = holds.bc; de = pair; hl = holds.hl; copy = holds.copy; flags = holds.flags }
-
-hl_is : (s : State) (r : Registers) (p : PairSpan) → HoldsRegisters s r → HoldsPair p r.h r.l → HoldsRegisters (record s { hl = p }) r
-hl_is s r p holds pair = record { a = holds.a; bc = holds.bc; de = holds.de; hl = pair; copy = holds.copy; flags = holds.flags }
-
 cut_copy_holds : (s : State) (r : Registers) (copy : Register) (span : ByteSpan) → AreBytes r → HoldsRegisters s r → ByteWithin span (register_of r copy) → HoldsRegisters (cut_copy s copy span) r
 cut_copy_holds s r A span bytes holds inside = holds
-cut_copy_holds s r B span bytes holds inside = bc_is s r (cut_high s.bc span) holds (cut_high_holds s.bc span r.b r.c bytes.c holds.bc inside)
-cut_copy_holds s r C span bytes holds inside = bc_is s r (cut_low s.bc span) holds (cut_low_holds s.bc span r.b r.c bytes.c holds.bc inside)
-cut_copy_holds s r D span bytes holds inside = de_is s r (cut_high s.de span) holds (cut_high_holds s.de span r.d r.e bytes.e holds.de inside)
-cut_copy_holds s r E span bytes holds inside = de_is s r (cut_low s.de span) holds (cut_low_holds s.de span r.d r.e bytes.e holds.de inside)
-cut_copy_holds s r H span bytes holds inside = hl_is s r (cut_high s.hl span) holds (cut_high_holds s.hl span r.h r.l bytes.l holds.hl inside)
-cut_copy_holds s r L span bytes holds inside = hl_is s r (cut_low s.hl span) holds (cut_low_holds s.hl span r.h r.l bytes.l holds.hl inside)
-
-a_is : (s : State) (r : Registers) (span : ByteSpan) (cells : Cells) → HoldsRegisters s r → ByteWithin span r.a → HoldsRegisters (record s { a = span; cells = cells }) r
-a_is s r span cells holds inside = record { a = inside; bc = holds.bc; de = holds.de; hl = holds.hl; copy = holds.copy; flags = holds.flags }
+cut_copy_holds s r B span bytes holds inside = record { a = holds.a; bc = cut_high_holds s.bc span r.b r.c bytes.c holds.bc inside; de = holds.de; hl = holds.hl; copy = holds.copy; flags = holds.flags }
+cut_copy_holds s r C span bytes holds inside = record { a = holds.a; bc = cut_low_holds s.bc span r.b r.c bytes.c holds.bc inside; de = holds.de; hl = holds.hl; copy = holds.copy; flags = holds.flags }
+cut_copy_holds s r D span bytes holds inside = record { a = holds.a; bc = holds.bc; de = cut_high_holds s.de span r.d r.e bytes.e holds.de inside; hl = holds.hl; copy = holds.copy; flags = holds.flags }
+cut_copy_holds s r E span bytes holds inside = record { a = holds.a; bc = holds.bc; de = cut_low_holds s.de span r.d r.e bytes.e holds.de inside; hl = holds.hl; copy = holds.copy; flags = holds.flags }
+cut_copy_holds s r H span bytes holds inside = record { a = holds.a; bc = holds.bc; de = holds.de; hl = cut_high_holds s.hl span r.h r.l bytes.l holds.hl inside; copy = holds.copy; flags = holds.flags }
+cut_copy_holds s r L span bytes holds inside = record { a = holds.a; bc = holds.bc; de = holds.de; hl = cut_low_holds s.hl span r.h r.l bytes.l holds.hl inside; copy = holds.copy; flags = holds.flags }
 
 pub cut_holds : (s : State) (r : Registers) (span : ByteSpan) → AreBytes r → HoldsRegisters s r → ByteWithin span r.a → HoldsRegisters (cut s span) r
 cut_holds s r span bytes holds inside =
-    a_is (cut_copy s s.copy span) r _ _ (cut_copy_holds s r s.copy span bytes holds (subst (λ n. ByteWithin span n) (sym holds.copy) inside))
-    (meet_bytes_within s.a span r.a holds.a inside)
+    let h = cut_copy_holds s r s.copy span bytes holds (subst (λ n. ByteWithin span n) (sym holds.copy) inside) in
+    record { a = meet_bytes_within s.a span r.a holds.a inside; bc = h.bc; de = h.de; hl = h.hl; copy = h.copy; flags = h.flags }
 
 -- a pair is counted and added to: its low byte is counted by itself too
 cut_pair_holds : (words : Span) (low : ByteSpan) (n m : ℕ) → Within words n → ByteWithin low m → m ≡ n % 256 → HoldsPair (cut_low (pair_of_words words) low) (n / 256) (n % 256)

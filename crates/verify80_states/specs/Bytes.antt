@@ -1,13 +1,11 @@
--- What a machine's numbers are: bytes in the registers, in memory and at the ports, addresses in SP and pc. A machine of the
--- definitions is made of numbers; that each stays in its range as the machine runs is said here. (Intel 8080 Microcomputer
--- Systems User's Manual, chapter 2: registers and memory of eight bits, SP and pc of sixteen.)
-use Rattle.std.specs.Prelude.{◌≡◌, ◌<◌, ℕ, Bool, List, Option, Some, All, length}
-use Rattle.decode80.specs.declared.fetching.Fetched.{Fetched}
-use Rattle.decode80.specs.Spelling.{HasOperandInRange}
-use Rattle.image80.specs.{Regions.Areas, Image.Located, Image.memory_of}
-use Rattle.machine80.specs.declared.{registers.Registers.Registers, cpu.Cpu.Cpu}
+-- What a machine's numbers are: bytes in the registers, in memory and at the ports. A machine of the definitions is made of numbers; that
+-- each stays in its range as the machine runs is said here. (Intel 8080 Microcomputer Systems User's Manual, chapter 2: registers and
+-- memory of eight bits.)
+use Rattle.std.specs.Prelude.{◌≡◌, ◌<◌, ℕ, Bool, List, Some, All, length}
+use Rattle.decode80.specs.{declared.fetching.Fetched.Fetched, Spelling.HasOperandInRange}
+use Rattle.image80.specs.Regions.{Areas}
+use Rattle.machine80.specs.declared.registers.Registers.{Registers}
 use Rattle.machine80.specs.Step.{Machine, Next, fetch, step_of}
-use Rattle.machine80.specs.World.{World, IsWorldOf}
 
 abbrev pub IsByte : ℕ → Type 0
 IsByte n = n < 256
@@ -34,11 +32,6 @@ pub record HoldsBytes (m : Machine) : Type 0 where
   pub memory : HasBytes m.memory
   pub inputs : All HasBytes m.inputs
 
--- the stack pointer and the program counter are addresses
-pub record HasAddresses (cpu : Cpu) : Type 0 where
-  pub sp : IsWord cpu.sp
-  pub pc : IsWord cpu.pc
-
 -- what was fetched has an operand in its range, and an address after it
 pub record IsBounded (found : Fetched) : Type 0 where
   pub operand : HasOperandInRange found.instr
@@ -49,25 +42,10 @@ abbrev pub BytesStayBytes : Type 0
 BytesStayBytes = (regions : Areas) (refused : Bool) (m after : Machine) → HoldsBytes m → step_of regions refused m ≡ Next after →
     HoldsBytes after
 
--- so does the stack pointer stay an address; the program counter is one after any step
-abbrev pub AddressesStayAddresses : Type 0
-AddressesStayAddresses = (regions : Areas) (refused : Bool) (m after : Machine) → HoldsBytes m → IsWord m.cpu.sp →
-    step_of regions refused m ≡ Next after → HasAddresses after.cpu
-
 -- no step makes memory longer or shorter
 abbrev pub MemoryKeepsItsLength : Type 0
 MemoryKeepsItsLength = (regions : Areas) (refused : Bool) (m after : Machine) → step_of regions refused m ≡ Next after →
     length after.memory ≡ length m.memory
-
--- so each machine of each run of an image of bytes holds bytes, if those that wait at the ports are bytes
-abbrev pub RunsHoldBytes : Type 0
-RunsHoldBytes = (image : Located) (most : Option ℕ) (w : World) (run : IsWorldOf image most w) →
-    HasBytes (memory_of image.chunks) → All HasBytes run.inputs → HoldsBytes w.machine
-
--- and its stack pointer and program counter are addresses, if the image starts at one
-abbrev pub RunsHaveAddresses : Type 0
-RunsHaveAddresses = (image : Located) (most : Option ℕ) (w : World) (run : IsWorldOf image most w) →
-    HasBytes (memory_of image.chunks) → All HasBytes run.inputs → IsWord image.start → HasAddresses w.machine.cpu
 
 -- what is fetched from bytes has an operand in its range, and an address after it
 abbrev pub FetchedOperandsAreBounded : Type 0

@@ -1,13 +1,10 @@
 -- Whether the procedure that runs at an address may still return, and where to; and what is owed to open calls: behind one whose callee may
 -- return the table has a state that says nothing, unless the callee's states know where they return to. (This project's own.)
-use Rattle.std.specs.Prelude.{◌≡◌, ◌⊎◌, ℕ, Bool, true, false, List, ◌∷◌, [], Contains, Option, None, Some}
-use Rattle.decode80.specs.declared.{flow.Flow.Flow, fetching.Fetched.Fetched}
+use Rattle.std.specs.Prelude.{◌≡◌, ◌⊎◌, ℕ, Bool, true, false, List, ◌∷◌, [], Contains, Option, Some, IfSome}
+use Rattle.decode80.specs.{declared.flow.Flow.Flow, declared.fetching.Fetched.Fetched, Facts.flow}
 use Rattle.decode80.specs.declared.flow.Flow.TheVariants.{Jumps, JumpsIf, JumpsToHl, Calls, CallsIf, Returns, ReturnsIf, Halts}
-use Rattle.decode80.specs.Facts.{flow}
-use Rattle.verify80_states.specs.declared.{fitting.calls.CallReturns.CallReturns, fitting.fitting.Placed.Placed, states.pairs.PairSpan.PairSpan, states.state.State.State}
+use Rattle.verify80_states.specs.{declared.fitting.calls.CallReturns.CallReturns, declared.fitting.fitting.Placed.Placed, declared.states.pairs.PairSpan.PairSpan, declared.states.state.State.State, declared.states.variables.Variable.Variable, Variables.HoldsSet, State.unknown_but, Following.state_after, Given.given, Marks.is_marked, Fitting.Has, Fitting.Covers, Fitting.CallsEntry}
 use Rattle.verify80_spans.specs.Span.{is_alone}
-use Rattle.verify80_states.specs.declared.states.variables.Variable.{Variable}
-use Rattle.verify80_states.specs.{Variables.HoldsSet, State.unknown_but, Following.state_after, Given.given, Marks.is_marked, Fitting.Has, Fitting.Covers, Fitting.CallsEntry}
 
 -- from each address on, until the procedure returns: whether it may return, and whether each of its returns goes to an address that the
 -- state there knows
@@ -52,8 +49,7 @@ pub record KnowsReturn (variables : List Variable) (table : List Placed) (after 
   pub covers : Covers variables table word.words.first (after s)
 
 abbrev pub KnowsReturnIf : List Variable → List Placed → (after : State → State) → Option State → Type 0
-KnowsReturnIf variables table after None = Unit {0}
-KnowsReturnIf variables table after (Some s) = KnowsReturn variables table after s
+KnowsReturnIf variables table after left = IfSome left (λ s. KnowsReturn variables table after s)
 
 abbrev pub KnowsReturnsOf : List Variable → List Placed → (after : State → State) → State → Flow → Type 0
 KnowsReturnsOf variables table after s Returns = KnowsReturn variables table after s
@@ -67,13 +63,11 @@ pub record KeepsCalls (returns : ReturnFacts) (bytes : List (Option ℕ)) (varia
       Has variables table found.next (unknown_but s.set)
   pub known : returns.known at ≡ true → KnowsReturnsOf variables table (λ t. state_after bytes found.instr true found.next t) s (flow found.instr)
 
--- What is owed to open calls, the newest first, where a return may still come or not, and its state knows where it goes or not: it is known
--- where the return goes, or what is wanted behind the call is there; and so on for the older calls. If no return is to come, nothing is owed.
-pub data Owes (returns : ReturnFacts) (behind : ℕ → Type 0) : (may known : Bool) → (places : List ℕ) → Type 0 where
-  never : (may known : Bool) (places : List ℕ) → may ≡ false → Owes returns behind may known places
-  none : (may known : Bool) (places : List ℕ) → places ≡ [] → Owes returns behind may known places
-  waits : (may known : Bool) (places : List ℕ) (place : ℕ) (older : List ℕ) → places ≡ place ∷ older → (known ≡ true) ⊎ behind place →
-      Owes returns behind (returns.may place) (returns.known place) older → Owes returns behind may known places
+-- What is owed to open calls, the newest first: if a return may come from an address on, it is known where it goes, or what is wanted behind
+-- the newest call is there; and so on for the older calls, from where it goes.
+abbrev pub Owes : ReturnFacts → (behind : ℕ → Type 0) → (at : ℕ) → (places : List ℕ) → Type 0
+Owes returns behind at [] = Unit {0}
+Owes returns behind at (place ∷ older) = returns.may at ≡ true → ((returns.known at ≡ true) ⊎ behind place) × Owes returns behind place older
 
 -- behind a call the table has a state that says nothing but of variables, each of which has one of its bytes
 pub record IsBehind (variables : List Variable) (table : List Placed) (memory : List ℕ) (place : ℕ) : Type 0 where

@@ -1,9 +1,8 @@
 -- What is known of bytes of memory, each at an address of its own, and what becomes of that when a byte is stored. (This project's own.)
 use Rattle.std.specs.Prelude.{◌≡◌, ◌⊎◌, ◌==◌, ◌&&◌, ℕ, Bool, true, List, Option, None, Some, nat_le, if◌then◌else◌}
 use Rattle.machine80.specs.Effects.{byte_in}
-use Rattle.verify80_spans.specs.declared.{span.Span.Span, byte_span.ByteSpan.ByteSpan}
-use Rattle.verify80_states.specs.declared.{states.cells.Cell.Cell, states.cells.Cells.Cells, states.variables.Variable.Variable}
-use Rattle.verify80_states.specs.Variables.{IsSaid}
+use Rattle.verify80_spans.specs.declared.byte_span.ByteSpan.{ByteSpan}
+use Rattle.verify80_states.specs.{declared.states.cells.Cell.Cell, declared.states.cells.Cells.Cells, declared.states.memory_after.StoredByte.StoredByte, declared.states.variables.Variable.Variable, Variables.IsSaid}
 use Rattle.verify80_spans.specs.Span.{ByteWithin, IsByteInside, any_byte, is_alone, meet_bytes}
 
 -- the byte at a cell's address is one of its bytes
@@ -84,9 +83,10 @@ abbrev pub cut_cells : Option ℕ → ByteSpan → Cells → Cells
 cut_cells None bytes cells = cells
 cut_cells (Some at) bytes cells = map_cells (cut_cell at bytes) cells
 
--- one of these bytes is stored at one of these addresses: if that is one, a cell there has these bytes; if the cell's is one of them, any
-abbrev pub stored_cell : (at : Span) → ByteSpan → Cell → Cell
-stored_cell at bytes c = if nat_le at.first c.at && nat_le c.at at.last then record { at = c.at; bytes = if is_alone at then bytes else any_byte } else c
+-- a byte is stored, if one is: a cell at the only address where it may be has its bytes; one that is among several such addresses, any
+abbrev pub stored_cell : StoredByte → Cell → Cell
+stored_cell b c = if nat_le b.at.first c.at && nat_le c.at b.at.last then record { at = c.at; bytes = if is_alone b.at then b.bytes else any_byte } else c
 
-abbrev pub stored_cells : (at : Span) → ByteSpan → Cells → Cells
-stored_cells at bytes cells = map_cells (stored_cell at bytes) cells
+abbrev pub cells_after : Option StoredByte → Cells → Cells
+cells_after None cells = cells
+cells_after (Some b) cells = map_cells (stored_cell b) cells

@@ -1,12 +1,10 @@
 -- What a state in a table owes: states, each at an address, such that what the instruction there makes of one is inside one wherever it
 -- leads. (This project's own.)
-use Rattle.std.specs.Prelude.{◌≡◌, ◌⊎◌, ℕ, Bool, true, false, List, All, Contains, Option, None, Some, slice_get}
-use Rattle.decode80.specs.declared.{fetching.Fetched.Fetched, flow.Flow.Flow}
+use Rattle.std.specs.Prelude.{◌≡◌, ◌⊎◌, ℕ, Bool, true, false, List, All, Contains, Option, Some, slice_get, IfSome}
+use Rattle.decode80.specs.{declared.fetching.Fetched.Fetched, declared.flow.Flow.Flow, Facts.flow}
 use Rattle.decode80.specs.declared.flow.Flow.TheVariants.{Jumps, JumpsIf, JumpsToHl, Calls, CallsIf, Returns, ReturnsIf, Halts}
-use Rattle.decode80.specs.Facts.{flow}
-use Rattle.verify80_states.specs.declared.{states.state.State.State, states.variables.Variable.Variable, fitting.fitting.Placed.Placed}
+use Rattle.verify80_states.specs.{declared.states.state.State.State, declared.states.variables.Variable.Variable, declared.fitting.fitting.Placed.Placed, State.IsStateInside, State.IsQuietState, State.cut, Following.state_after, Given.given}
 use Rattle.verify80_spans.specs.Span.{Within, ByteWithin, byte_alone}
-use Rattle.verify80_states.specs.{State.IsStateInside, State.IsQuietState, State.cut, Following.state_after, Given.given}
 
 -- the table has a state at an address that says no more than this one
 pub record Has (variables : List Variable) (table : List Placed) (to : ℕ) (s : State) : Type 0 where
@@ -22,8 +20,7 @@ pub record Covers (variables : List Variable) (table : List Placed) (to : ℕ) (
 
 -- the same of what an instruction makes of a state, if there is one
 abbrev pub CoversAfter : List Variable → List Placed → (to : ℕ) → (State → State) → Option State → Type 0
-CoversAfter variables table to after None = Unit {0}
-CoversAfter variables table to after (Some s) = Covers variables table to (after s)
+CoversAfter variables table to after left = IfSome left (λ s. Covers variables table to (after s))
 
 -- what a state owes where an instruction leads: `after` is what the instruction makes of a state, its call or return taken or not
 abbrev pub FitsBy : (targets : List ℕ) → List Variable → List Placed → (after : Bool → State → State) → State → (next : ℕ) → Flow → Type 0

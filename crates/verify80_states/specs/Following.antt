@@ -1,19 +1,15 @@
 -- What becomes of a state at each instruction. (The registers and flags that each instruction writes are those of the Intel 8080
 -- Microcomputer Systems User's Manual, chapter 4; that spans are followed is this project's own.)
 use Rattle.std.specs.Prelude.{◌&&◌, ℕ, Bool, true, false, not, List, Option, None, Some, nat_le, slice_get, if◌then◌else◌}
-use Rattle.decode80.specs.declared.{register.Register.Register, pair.Pair.Pair, pair.StackPair.StackPair, pair.IndexPair.IndexPair}
+use Rattle.decode80.specs.{declared.register.Register.Register, declared.pair.Pair.Pair, declared.pair.StackPair.StackPair, declared.pair.IndexPair.IndexPair, declared.pair.IndexPair.TheVariants.Bc as IndexBc, declared.pair.IndexPair.TheVariants.De as IndexDe, declared.instr.Instr.Instr, declared.operation.Operation.Operation, declared.operation.Operand.Operand, declared.operation.Operand.TheVariants.Register as InRegister, declared.operation.Operand.TheVariants.Memory, declared.operation.Operand.TheVariants.Immediate, Fetch.ahead}
 use Rattle.decode80.specs.declared.register.Register.TheVariants.{A, D, E, H, L}
 use Rattle.decode80.specs.declared.pair.Pair.TheVariants.{Bc, De, Hl, Sp}
 use Rattle.decode80.specs.declared.pair.StackPair.TheVariants.{Bc as StackBc, De as StackDe, Hl as StackHl, Psw}
-use Rattle.decode80.specs.declared.{pair.IndexPair.TheVariants.Bc as IndexBc, pair.IndexPair.TheVariants.De as IndexDe, instr.Instr.Instr, operation.Operation.Operation, operation.Operand.Operand}
 use Rattle.decode80.specs.declared.instr.Instr.TheVariants.{Mov, Load, Mvi, Lxi, Dad, Inx, Dcx, Inr, InrMemory, Dcr, DcrMemory, Operate, Store, MviMemory, Call, CallIf, Ret, ReturnIf, Rst, Push, Pop, Stax, Ldax, Shld, Lhld, Sta, Lda, Rotate, Daa, Cma, Stc, Cmc, Xthl, Xchg, Sphl, In}
 use Rattle.decode80.specs.declared.operation.Operation.TheVariants.{Subtract, And, ExclusiveOr, Or, Compare}
-use Rattle.decode80.specs.declared.operation.Operand.TheVariants.{Register as InRegister, Memory, Immediate}
-use Rattle.decode80.specs.Fetch.{ahead}
-use Rattle.verify80_spans.specs.declared.{span.Span.Span, byte_span.ByteSpan.ByteSpan, byte_span.Outcome.Outcome}
-use Rattle.verify80_states.specs.declared.{states.cells.Cells.Cells, states.pairs.PairSpan.PairSpan, states.words.Words.Words, states.state.State.State, states.variables.Variable.Variable}
+use Rattle.verify80_spans.specs.{declared.span.Span.Span, declared.byte_span.ByteSpan.ByteSpan, declared.byte_span.Outcome.Outcome}
+use Rattle.verify80_states.specs.{declared.states.cells.Cells.Cells, declared.states.pairs.PairSpan.PairSpan, declared.states.words.Words.Words, declared.states.state.State.State, declared.states.memory_after.StoredByte.StoredByte, declared.states.variables.Variable.Variable, Variables.takes, Cells.bytes_at, Cells.cells_after}
 use Rattle.verify80_spans.specs.Span.{any_byte, word_alone, byte_alone, is_alone, next_byte, previous_byte, sum_carries, high_of, operated, rotated, complemented, uncarried}
-use Rattle.verify80_states.specs.{Variables.takes, Cells.bytes_at, Cells.stored_cells}
 use Rattle.verify80_states.specs.State.{any_pair, pair_of_words, pair_of_halves, next_pair, previous_pair, sum_pair, byte_of, span_of, with_byte, with_span, with_outcome, with_carry, with_any_flags, compared_with, no_words, pushed, popped}
 
 -- what stands in a table at an address, if anything does
@@ -171,52 +167,47 @@ words_after (Dcx Sp) taken next s = no_words
 words_after Sphl taken next s = no_words
 words_after instr taken next s = s.words
 
--- the bytes of memory that are known after an instruction: what is pushed isn't stored to them
-abbrev pub cells_after : (code : List (Option ℕ)) → Instr → State → Cells
-cells_after code (Store register) s = stored_cells s.hl.words (byte_of s register) s.cells
-cells_after code (MviMemory byte) s = stored_cells s.hl.words (byte_alone byte) s.cells
-cells_after code InrMemory s = stored_cells s.hl.words (next_byte (loaded code s.cells s.hl.words)) s.cells
-cells_after code DcrMemory s = stored_cells s.hl.words (previous_byte (loaded code s.cells s.hl.words)) s.cells
-cells_after code (Stax pair) s = stored_cells (index_words s pair) s.a s.cells
-cells_after code (Sta address) s = stored_cells (word_alone address) s.a s.cells
-cells_after code (Shld address) s =
-    stored_cells (word_alone (ahead address 1)) (high_of s.hl.words) (stored_cells (word_alone address) s.hl.low s.cells)
-cells_after code instr s = s.cells
+-- the bytes that an instruction stores where a pair points to or at an address that it names: none, one, or the two of SHLD
+abbrev pub one_byte : Span → ByteSpan → Option StoredByte × Option StoredByte
+one_byte at bytes = (Some (record { at = at; bytes = bytes }), None)
 
--- an address, if it is the only one of a span; and one that is outside of it
+abbrev pub stored_bytes : (code : List (Option ℕ)) → Instr → State → Option StoredByte × Option StoredByte
+stored_bytes code (Store register) s = one_byte s.hl.words (byte_of s register)
+stored_bytes code (MviMemory byte) s = one_byte s.hl.words (byte_alone byte)
+stored_bytes code InrMemory s = one_byte s.hl.words (next_byte (loaded code s.cells s.hl.words))
+stored_bytes code DcrMemory s = one_byte s.hl.words (previous_byte (loaded code s.cells s.hl.words))
+stored_bytes code (Stax pair) s = one_byte (index_words s pair) s.a
+stored_bytes code (Sta address) s = one_byte (word_alone address) s.a
+stored_bytes code (Shld address) s =
+    (Some (record { at = word_alone address; bytes = s.hl.low }), Some (record { at = word_alone (ahead address 1); bytes = high_of s.hl.words }))
+stored_bytes code instr s = (None, None)
+
+-- an address, if it is the only one of a span; and one where a byte isn't stored
 abbrev pub only_address : Span → Option ℕ
 only_address span = if is_alone span then Some span.first else None
 
-abbrev pub address_outside : Span → Option ℕ → Option ℕ
-address_outside span None = None
-address_outside span (Some at) = if nat_le span.first at && nat_le at span.last then None else Some at
+abbrev pub address_after : Option StoredByte → Option ℕ → Option ℕ
+address_after None address = address
+address_after (Some b) None = None
+address_after (Some b) (Some at) = if nat_le b.at.first at && nat_le at b.at.last then None else Some at
 
--- the address of a byte that A has after an instruction, given what is left of that when the registers are written
-abbrev pub source_after : Instr → State → Option ℕ → Option ℕ
-source_after (Lda address) s left = Some address
-source_after (Sta address) s left = Some address
-source_after (Load A) s left = only_address s.hl.words
-source_after (Store A) s left = only_address s.hl.words
-source_after (Store register) s left = address_outside s.hl.words left
-source_after (MviMemory byte) s left = address_outside s.hl.words left
-source_after InrMemory s left = address_outside s.hl.words left
-source_after DcrMemory s left = address_outside s.hl.words left
-source_after (Stax pair) s left = address_outside (index_words s pair) left
-source_after (Shld address) s left = address_outside (word_alone (ahead address 1)) (address_outside (word_alone address) left)
-source_after instr s left = left
+-- the address of a byte that A has after an instruction, given what it stores, and what is left of that when the registers are written
+abbrev pub source_after : Instr → State → Option StoredByte × Option StoredByte → Option ℕ → Option ℕ
+source_after (Lda address) s stored left = Some address
+source_after (Sta address) s stored left = Some address
+source_after (Load A) s stored left = only_address s.hl.words
+source_after (Store A) s stored left = only_address s.hl.words
+source_after instr s stored left = address_after stored.1 (address_after stored.0 left)
 
 -- all of it
 abbrev pub state_after : (code : List (Option ℕ)) → Instr → (taken : Bool) → (next : ℕ) → State → State
-state_after code instr taken next s =
-    record (registers_after code instr s) { words = words_after instr taken next s; cells = cells_after code instr s; source = source_after instr s (registers_after code instr s).source; set = s.set }
+state_after code instr taken next s = record (registers_after code instr s) {
+  words = words_after instr taken next s;
+  cells = cells_after (stored_bytes code instr s).1 (cells_after (stored_bytes code instr s).0 s.cells);
+  source = source_after instr s (stored_bytes code instr s) (registers_after code instr s).source;
+  set = s.set;
+}
 
--- whether what an instruction stores where a variable may be is one of the variable's bytes
+-- whether each byte that an instruction stores where a variable may be is one of the variable's bytes
 abbrev pub is_steady : (code : List (Option ℕ)) → Instr → State → Variable → Bool
-is_steady code (Store register) s v = takes v s.hl.words (byte_of s register)
-is_steady code (MviMemory byte) s v = takes v s.hl.words (byte_alone byte)
-is_steady code InrMemory s v = takes v s.hl.words (next_byte (loaded code s.cells s.hl.words))
-is_steady code DcrMemory s v = takes v s.hl.words (previous_byte (loaded code s.cells s.hl.words))
-is_steady code (Stax pair) s v = takes v (index_words s pair) s.a
-is_steady code (Sta address) s v = takes v (word_alone address) s.a
-is_steady code (Shld address) s v = takes v (word_alone address) s.hl.low && takes v (word_alone (ahead address 1)) (high_of s.hl.words)
-is_steady code instr s v = true
+is_steady code instr s v = takes v (stored_bytes code instr s).0 && takes v (stored_bytes code instr s).1

@@ -3,9 +3,8 @@ use Rattle.std.specs.Prelude.{ℕ, Bool, true, false, not, Option, None, Some}
 use Rattle.decode80.specs.declared.condition.Condition.{Condition}
 use Rattle.decode80.specs.declared.condition.Condition.TheVariants.{NonZero, Zero, NoCarry, Carry, ParityOdd, ParityEven, Plus, Minus}
 use Rattle.verify80_spans.specs.declared.byte_span.ByteSpan.{ByteSpan}
-use Rattle.verify80_states.specs.declared.states.state.State.{State}
+use Rattle.verify80_states.specs.{declared.states.state.State.State, State.cut}
 use Rattle.verify80_spans.specs.Span.{only, without, below, from}
-use Rattle.verify80_states.specs.State.{cut}
 
 -- a state that is left if a known flag is as it is wanted
 abbrev pub if_same : (known wanted : Bool) → State → Option State

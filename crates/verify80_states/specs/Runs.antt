@@ -5,8 +5,7 @@ use Rattle.image80.specs.{Image.Located, Regions.AreRegions, Regions.in_data}
 use Rattle.machine80.specs.{Effects.target, Step.Machine, Step.Next, Step.step_of, Run.world_of}
 use Rattle.machine80.specs.World.{World, FetchesInside, IsNewest, fetched_by, places_then, returns}
 use Rattle.verify80.specs.{Looking.code_of, Starts.IsStart, Starts.IsWorldFrom, Starts.NeverGoesWrongFromPowerOn, Reached.StandsOnWalk, Reached.StaysOnWalks, Boards.LeavesProgram, Boards.with_memory}
-use Rattle.verify80_states.specs.declared.{fitting.fitting.Placed.Placed, states.variables.Variable.Variable}
-use Rattle.verify80_states.specs.{Bytes.HoldsBytes, State.Holds, Steps.AreCodeBytes, Steps.HasCode, Variables.HoldsSet, Calls.ReturnFacts, Calls.Owes, Calls.IsBehind, FittingTable.Fits}
+use Rattle.verify80_states.specs.{declared.fitting.fitting.Placed.Placed, declared.states.variables.Variable.Variable, Bytes.HoldsBytes, State.Holds, Steps.AreCodeBytes, Steps.HasCode, Variables.HoldsSet, Calls.ReturnFacts, Calls.Owes, Calls.IsBehind, FittingTable.Fits}
 
 -- one of the states that the table has at a world's address holds, and the world's memory has the image's code
 pub record KeepsTo (image : Located) (table : List Placed) (w : World) : Type 0 where
@@ -22,7 +21,7 @@ pub record KeepsTo (image : Located) (table : List Placed) (w : World) : Type 0 
 pub record KeepsToCalls (image : Located) (returns : ReturnFacts) (variables : List Variable) (table : List Placed) (w : World) : Type 0 where
   pub keeps : KeepsTo image table w
   pub set : HoldsSet variables keeps.placed.state.set w.machine.memory
-  pub owes : Owes returns (IsBehind variables table w.machine.memory) (returns.may w.machine.cpu.pc) (returns.known w.machine.cpu.pc) w.places
+  pub owes : Owes returns (IsBehind variables table w.machine.memory) w.machine.cpu.pc w.places
 
 -- so it is for each world of each run from power-on, whatever bytes are in the registers, in memory outside the code and at the
 -- ports
@@ -61,8 +60,3 @@ FittingTablesAreKept = (image : Located) (quiet : ℕ → Bool) (code : List (Op
 abbrev pub RunsKeepToKeptTables : Type 0
 RunsKeepToKeptTables = (image : Located) (bytes : ℕ) (quiet : ℕ → Bool) (table : List Placed) → NeverGoesWrongFromPowerOn image bytes →
     StaysOnWalks image → IsKept image quiet table → RunsKeepTo image table
-
--- and each of their machines holds bytes
-abbrev pub RunsHoldBytesFromPowerOn : Type 0
-RunsHoldBytesFromPowerOn = (image : Located) (start : Machine) → HoldsBytes start → (most : Option ℕ) (w : World) →
-    IsWorldFrom image start most w → HoldsBytes w.machine

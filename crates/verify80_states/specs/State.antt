@@ -1,18 +1,15 @@
 -- What is known of a machine at an instruction: what its registers may hold, some of its flags, what was compared last, the words on top
 -- of its stack, and bytes of memory; and what becomes of that when registers, flags and words are written. (The registers and flags are those of the
 -- Intel 8080 Microcomputer Systems User's Manual, chapter 4; that they are followed by spans is this project's own.)
-use Rattle.std.specs.Prelude.{◌≡◌, ◌≢◌, ◌≤◌, ◌==◌, ◌⊎◌, ℕ, Bool, true, List, Option, None, Some, nat_lt, slice_get, if◌then◌else◌}
-use Rattle.decode80.specs.declared.{register.Register.Register, pair.Pair.Pair}
+use Rattle.std.specs.Prelude.{◌≡◌, ◌≢◌, ◌≤◌, ◌==◌, ◌⊎◌, ℕ, Bool, true, List, Option, None, Some, nat_lt, slice_get, if◌then◌else◌, IfSome}
+use Rattle.decode80.specs.{declared.register.Register.Register, declared.pair.Pair.Pair, Fetch.ahead}
 use Rattle.decode80.specs.declared.register.Register.TheVariants.{A, B, C, D, E, H, L}
 use Rattle.decode80.specs.declared.pair.Pair.TheVariants.{Bc, De, Hl, Sp}
-use Rattle.decode80.specs.Fetch.{ahead}
 use Rattle.image80.specs.{Range.in_range, Regions.Areas, Regions.top_of}
-use Rattle.machine80.specs.declared.{flags.Flags.Flags, registers.Registers.Registers}
-use Rattle.machine80.specs.{Cpu.word, Cpu.register_of, Effects.byte_in, Step.Machine}
-use Rattle.verify80_spans.specs.declared.{span.Span.Span, byte_span.ByteSpan.ByteSpan, byte_span.Outcome.Outcome}
-use Rattle.verify80_states.specs.declared.{states.pairs.PairSpan.PairSpan, states.words.Words.Words, states.state.State.State, states.variables.Variable.Variable}
+use Rattle.machine80.specs.{declared.flags.Flags.Flags, declared.registers.Registers.Registers, Cpu.word, Cpu.register_of, Effects.byte_in, Step.Machine}
+use Rattle.verify80_spans.specs.{declared.span.Span.Span, declared.byte_span.ByteSpan.ByteSpan, declared.byte_span.Outcome.Outcome}
+use Rattle.verify80_states.specs.{declared.states.pairs.PairSpan.PairSpan, declared.states.words.Words.Words, declared.states.state.State.State, declared.states.variables.Variable.Variable, Variables.is_bit}
 use Rattle.verify80_spans.specs.Span.{Within, ByteWithin, IsInside, IsByteInside, IsKnown, any_word, any_byte, byte_alone, is_byte_alone, next_span, previous_span, next_byte, previous_byte, sum_span, sum_of, meet, meet_bytes, high_of, low_of, joined, zero_of, sign_of}
-use Rattle.verify80_states.specs.Variables.{is_bit}
 use Rattle.verify80_states.specs.Cells.{HoldsCells, AreCellsInside, AreQuietCells, bytes_at, no_cells, cut_cells}
 
 -- the word of a pair is one of its words, and its low byte one of its low bytes
@@ -22,8 +19,7 @@ pub record HoldsPair (p : PairSpan) (h l : ℕ) : Type 0 where
 
 -- Z says whether A is a number, and CY whether it is below that
 abbrev pub Compares : Option ℕ → (a : ℕ) → Flags → Type 0
-Compares None a flags = Unit {0}
-Compares (Some n) a flags = (flags.zero ≡ (a == n)) × (flags.carry ≡ nat_lt a n)
+Compares compared a flags = IfSome compared (λ n. (flags.zero ≡ (a == n)) × (flags.carry ≡ nat_lt a n))
 
 -- what is known of Z, CY and S, and what was compared last
 pub record HoldsFlags (z cy s : Option Bool) (n : Option ℕ) (a : ℕ) (flags : Flags) : Type 0 where
@@ -50,8 +46,7 @@ pub record IsOnStack (regions : Areas) (pair : PairSpan) (memory : List ℕ) (sp
   pub within : HoldsPair pair (byte_in memory (ahead at 1)) (byte_in memory at)
 
 abbrev pub HoldsWord : Areas → Option PairSpan → List ℕ → (sp at : ℕ) → Type 0
-HoldsWord regions None memory sp at = Unit {0}
-HoldsWord regions (Some pair) memory sp at = IsOnStack regions pair memory sp at
+HoldsWord regions known memory sp at = IfSome known (λ pair. IsOnStack regions pair memory sp at)
 
 -- what a state says of the words from the stack pointer on
 pub record HoldsWords (regions : Areas) (w : Words) (memory : List ℕ) (sp : ℕ) : Type 0 where
@@ -62,8 +57,7 @@ pub record HoldsWords (regions : Areas) (w : Words) (memory : List ℕ) (sp : �
 
 -- a byte of memory is that of A, if one is named
 abbrev pub HoldsSource : Option ℕ → (memory : List ℕ) → (a : ℕ) → Type 0
-HoldsSource None memory a = Unit {0}
-HoldsSource (Some at) memory a = byte_in memory at ≡ a
+HoldsSource source memory a = IfSome source (λ at. byte_in memory at ≡ a)
 
 -- what a state says of a machine
 pub record Holds (regions : Areas) (s : State) (m : Machine) : Type 0 where
@@ -125,8 +119,7 @@ pub record IsStateInside (variables : List Variable) (inner outer : State) : Typ
 
 -- it says something of quiet addresses alone
 abbrev pub IsQuietSource : (quiet : ℕ → Bool) → Option ℕ → Type 0
-IsQuietSource quiet None = Unit {0}
-IsQuietSource quiet (Some at) = quiet at ≡ true
+IsQuietSource quiet source = IfSome source (λ at. quiet at ≡ true)
 
 pub record IsQuietState (quiet : ℕ → Bool) (s : State) : Type 0 where
   pub cells : AreQuietCells quiet s.cells

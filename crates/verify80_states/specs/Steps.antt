@@ -3,8 +3,7 @@ use Rattle.std.specs.Prelude.{◌≡◌, ℕ, Bool, true, false, List, Option, N
 use Rattle.decode80.specs.declared.flow.Flow.{Flow}
 use Rattle.decode80.specs.declared.flow.Flow.TheVariants.{JumpsIf, Calls, CallsIf, Returns, ReturnsIf}
 use Rattle.image80.specs.{Regions.Areas, Regions.in_code, Image.Located, Image.memory_of}
-use Rattle.machine80.specs.declared.flags.Flags.{Flags}
-use Rattle.machine80.specs.Flags.{holds}
+use Rattle.machine80.specs.{declared.flags.Flags.Flags, Flags.holds}
 use Rattle.verify80_states.specs.Following.{byte_at}
 
 -- whether a jump, a call or a return that has a condition is taken; a call without one always is

@@ -1,10 +1,9 @@
 -- Variables: bytes of quiet memory, each of which stays inside a span once it is there. A state names those of which it says that they
 -- are. (This project's own.)
-use Rattle.std.specs.Prelude.{◌≡◌, ◌==◌, ◌&&◌, ◌||◌, ◌/◌, ◌%◌, ◌^◌, ℕ, Bool, true, not, List, Some, nat_le, nat_lt, slice_get}
+use Rattle.std.specs.Prelude.{◌≡◌, ◌==◌, ◌&&◌, ◌||◌, ◌/◌, ◌%◌, ◌^◌, ℕ, Bool, true, not, List, Option, None, Some, nat_le, nat_lt, slice_get}
 use Rattle.machine80.specs.Effects.{byte_in}
-use Rattle.verify80_spans.specs.declared.{span.Span.Span, byte_span.ByteSpan.ByteSpan}
 use Rattle.verify80_spans.specs.Span.{ByteWithin, IsByteInside}
-use Rattle.verify80_states.specs.declared.{states.cells.Cell.Cell, states.variables.Variable.Variable}
+use Rattle.verify80_states.specs.declared.{states.cells.Cell.Cell, states.memory_after.StoredByte.StoredByte, states.variables.Variable.Variable}
 
 -- whether one of the 64 bits of a set is set
 abbrev pub is_bit : (set number : ℕ) → Bool
@@ -27,6 +26,7 @@ pub record IsSaid (variables : List Variable) (set : ℕ) (c : Cell) : Type 0 wh
   pub at : variable.at ≡ c.at
   pub inside : IsByteInside variable.bytes c.bytes
 
--- what is stored at an address of a span, if that may be the variable's, is one of its bytes
-abbrev pub takes : Variable → (at : Span) → ByteSpan → Bool
-takes v at bytes = not (nat_le at.first v.at && nat_le v.at at.last) || (nat_le v.bytes.first bytes.first && nat_le bytes.last v.bytes.last)
+-- a byte that is stored, if one is, is one of the variable's bytes or can't be where the variable is
+abbrev pub takes : Variable → Option StoredByte → Bool
+takes v None = true
+takes v (Some b) = not (nat_le b.at.first v.at && nat_le v.at b.at.last) || (nat_le v.bytes.first b.bytes.first && nat_le b.bytes.last v.bytes.last)

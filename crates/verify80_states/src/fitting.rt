@@ -1,12 +1,4 @@
 //! A table of states that fits a program, which all runs of the program keep to.
-//!
-//! | Item | What it is |
-//! |---|---|
-//! | [`Placed`] | a state at an address |
-//! | [`APART`] | the first hint of states that tell A's bytes apart |
-//! | [`fits`] | whether a table fits |
-//! | [`CallReturns`] | whether the procedure at each address may still return, and where to |
-//! | [`fitting_states_hold`] | runs keep to a table that fits, as a contract |
 
 mod calls;
 mod empty_table;

@@ -8,6 +8,7 @@
 //! | [`State`], [`PairSpan`], [`Words`], [`Cells`], [`Cell`] | what registers, flags, the words on top of the stack and some bytes of memory may be |
 //! | [`Variable`], [`is_bit`] | a byte of memory that stays inside a span once it is there, and whether a state says that it is |
 //! | [`state_after`] | what they may be after an instruction |
+//! | [`stored_bytes`], [`StoredByte`] | the bytes that an instruction stores |
 //! | [`given`] | what a condition says of them |
 //! | [`Placed`] | a state at an address: a table is a list of these |
 //! | [`APART`] | the first hint of states that tell A's bytes apart |
@@ -28,6 +29,7 @@ pub use fitting::{
     targets_at,
 };
 pub use states::{
-    Cell, Cells, PairSpan, State, Variable, Words, given, index_words, is_bit, state_after,
+    Cell, Cells, PairSpan, State, StoredByte, Variable, Words, given, index_words, is_bit,
+    state_after, stored_bytes,
 };
 pub use verify80_spans::{ByteSpan, Span};

@@ -85,12 +85,11 @@ module _ (image : Located) (bytes : ℕ) (quiet : ℕ → Bool) (reached : List 
     -- a world of the board with SP at the stack's top when it began, at which each step so far has stayed inside
     record Stands (w : World) : Type 0 where
       on : OnBoard image.regions Anywhere start true true w
-      first : Keeps shown.first w
-      others : All (λ other. Keeps other w) shown.others
+      keeps_each : (t : KeptTable image quiet) → Keeps t w
       held : HoldsBytes w.machine
 
-    each_of : (w : World) (s : Stands w) → KeepsToEach image quiet shown.first shown.others w
-    each_of w s = record { first_too = s.first.keeps; others_too = λ k d inside. (s.others k d inside).keeps }
+    each_of : (w : World) (s : Stands w) → KeepsToEach image quiet w
+    each_of w s = λ t. (s.keeps_each t).keeps
 
     promise_of : (w : World) → Stands w → KeepsPromise image Anywhere bytes w
     promise_of w s = known.promise start true is_start w true s.on
@@ -160,12 +159,9 @@ module _ (image : Located) (bytes : ℕ) (quiet : ℕ → Bool) (reached : List 
           sym (ap (λ (o : Option Fetched). places_then o w.machine.cpu.registers.flags w.places) (fetched_here w s e.found e.fetched)) in
           record {
             on = on;
-            first = subst (Keeps shown.first) (sym v_is)
-                (keeps_then shown.first w w.machine.inputs w.machine.outputs g.there places (shown.first.kept.steps false u there known_here stands_there held held_there (keeps_now shown.first w g.inputs s.first) g.step newer));
-            others = λ k d inside.
-                let t : KeptTable image quiet = get_or shown.others k d in
+            keeps_each = λ t.
                 subst (Keeps t) (sym v_is)
-                (keeps_then t w w.machine.inputs w.machine.outputs g.there places (t.kept.steps false u there known_here stands_there held held_there (keeps_now t w g.inputs (s.others k d inside)) g.step newer));
+                (keeps_then t w w.machine.inputs w.machine.outputs g.there places (t.kept.steps false u there known_here stands_there held held_there (keeps_now t w g.inputs (s.keeps_each t)) g.step newer));
             held = subst (λ (x : World). HoldsBytes x.machine) (sym v_is) (record { registers = held_there.registers; memory = held_there.memory; inputs = s.held.inputs });
           }
 
@@ -173,10 +169,7 @@ module _ (image : Located) (bytes : ℕ) (quiet : ℕ → Bool) (reached : List 
     moves : (w v : World) → Stands w → (by : Disturbs image.regions w.machine.cpu.sp w v) → StaysQuiet quiet w.machine.memory by.memory → Stands v
     moves w v s by stays = record {
       on = disturbed true w v s.on by;
-      first = subst (Keeps shown.first) (sym by.is) (shown.first.kept.disturbed w by.memory by.leaves stays s.first);
-      others = λ k d inside.
-          let t : KeptTable image quiet = get_or shown.others k d in
-          subst (Keeps t) (sym by.is) (t.kept.disturbed w by.memory by.leaves stays (s.others k d inside));
+      keeps_each = λ t. subst (Keeps t) (sym by.is) (t.kept.disturbed w by.memory by.leaves stays (s.keeps_each t));
       held = subst (λ (x : World). HoldsBytes x.machine) (sym by.is) (record { registers = s.held.registers; memory = by.leaves.bytes; inputs = s.held.inputs });
     }
 
@@ -186,8 +179,7 @@ module _ (image : Located) (bytes : ℕ) (quiet : ℕ → Bool) (reached : List 
         let stands = (known.boards start true is_start (world_of start) true on).stands in
         record {
           on = on;
-          first = shown.first.kept.starts start is_start.pc is_start.code is_start.whole held stands;
-          others = λ k d inside. (get_or shown.others k d).kept.starts start is_start.pc is_start.code is_start.whole held stands;
+          keeps_each = λ t. t.kept.starts start is_start.pc is_start.code is_start.whole held stands;
           held = held;
         }
 
@@ -276,14 +268,9 @@ module _ (image : Located) (bytes : ℕ) (quiet : ℕ → Bool) (reached : List 
           jumps = respected_jumps (set_start image began start) set_begins set w g.stands p.found p.anywhere;
         }
 
--- so the promise holds on quiet boards
-pub holds_on_quiet_boards : (image : Located) (bytes : ℕ) (quiet : ℕ → Bool) (reached : List (Option Fetched)) (marks : List Bool) (spans : List (Option Span)) (addresses : List ℕ) (stores : List OpenStore) (jumps open_jumps : List ℕ)
-    (sound : NeverGoesWrongFromPowerOn image bytes) (walks : StaysOnWalks image) (are : AreReached (code_of image) reached) (whole : length reached ≡ 65536) (keeps : (t : KeptTable image quiet) → RunsKeepTo image t.table)
-    (shown : AreShown image quiet reached marks spans) (each_store : AreAllBelow (is_at stores_by_pair reached) 65536 addresses)
-    (open_below : AreOpenBelow reached marks spans 65536 stores) (each_jump : AreAllBelow (is_at is_pchl reached) 65536 jumps) (each_open_jump : AreAllBelow (is_marked_at is_pchl reached marks) 65536 open_jumps)
-    (known : AreKnown image bytes) (stay : BytesStayBytes) → PromiseHoldsOnQuietBoards image quiet bytes stores open_jumps
-holds_on_quiet_boards image bytes quiet reached marks spans addresses stores jumps open_jumps sound walks are whole keeps shown each_store open_below each_jump each_open_jump known stay start began may_start start_bytes w set on =
-    keeps_whole image bytes quiet reached marks spans addresses stores jumps open_jumps sound walks are whole keeps shown each_store open_below each_jump each_open_jump known stay start began may_start start_bytes set w on
+  -- so the promise holds on quiet boards
+  pub holds_on_quiet_boards : PromiseHoldsOnQuietBoards image quiet bytes stores open_jumps
+  holds_on_quiet_boards start began may_start start_bytes w set on = keeps_whole start began may_start start_bytes set w on
 
 -- where nothing is quiet, each board is a quiet one
 all_quiet : (regions : Areas) (quiet : ℕ → Bool) (listed : ℕ → Type 0) (start : Machine) (began : Bool) → ((at : ℕ) → quiet at ≡ false) → (set : Bool) (w : World) → OnBoard regions listed start began set w →

@@ -1,5 +1,5 @@
 -- Lists that grow by address.
-use Rattle.verify80_stores.proofs.Names.{◌≡◌, ◌⊎◌, ℕ, ◌+◌, ◌<◌, Bool, true, false, List, [], ◌∷◌, ◌++◌, Any, Contains, Option, Some, slice_get, subst, sym, ap, ◌∙◌, inl, inr, arith, get_or, Contains-get_or, Contains-append_left, Contains-push, Contains-push_cases, All-contains, All-nil, All-push, All-weaker, all_pairs_push, Fetched, Span, OpenStore, entry_in, stores_by_pair, AreAllBelow, AreOpenBelow, IsListed, is_marked_at}
+use Rattle.verify80_stores.proofs.Names.{◌≡◌, ◌⊎◌, ℕ, ◌+◌, ◌<◌, Bool, true, false, List, [], ◌∷◌, ◌++◌, Any, Contains, Option, Some, slice_get, subst, sym, ap, ◌∙◌, inl, inr, arith, get_or, Contains-get_or, Contains-append_left, Contains-push, Contains-push_cases, All-contains, All-nil, All-push, All-weaker, Any-push, all_pairs_push, Fetched, Span, OpenStore, entry_in, stores_by_pair, AreAllBelow, AreOpenBelow, IsListed, is_marked_at}
 use Rattle.verify80_stores.proofs.VecLemmas.{split}
 
 pub all_none : (is : ℕ → Bool) → AreAllBelow is 0 []
@@ -60,11 +60,6 @@ module _ (reached : List (Option Fetched)) (marks : List Bool) (spans : List (Op
     any_of : Contains (xs ++ x ∷ []) (get_or xs k store) → (get_or xs k store).at ≡ at → Any (λ store. store.at ≡ at) (xs ++ x ∷ [])
     any_of (j, within, here) at_it = (j, get_or xs k store, within, here, at_it)
 
-  any_last : (xs : List OpenStore) (x : OpenStore) (at : ℕ) → x.at ≡ at → Any (λ store. store.at ≡ at) (xs ++ x ∷ [])
-  any_last xs x at same = any_of (Contains-push xs x) where
-    any_of : Contains (xs ++ x ∷ []) x → Any (λ store. store.at ≡ at) (xs ++ x ∷ [])
-    any_of (j, within, here) = (j, x, within, here, same)
-
   pub open_pushed : (n : ℕ) (xs : List OpenStore) (x : OpenStore) → AreOpenBelow reached marks spans n xs → x.at ≡ n → Listed (n + 1) x → AreOpenBelow reached marks spans (n + 1) (xs ++ x ∷ [])
   open_pushed n xs x below at listed = record {
     ascending = all_pairs_push (λ (a b : OpenStore). a.at < b.at) xs x below.ascending
@@ -74,7 +69,7 @@ module _ (reached : List (Option Fetched)) (marks : List Bool) (spans : List (Op
   } where
     go : (place : ℕ) (span : Span) → is_marked_at stores_by_pair reached marks place ≡ true → entry_in (slice_get spans place) ≡ Some span → (place < n) ⊎ (place ≡ n) → Any (λ store. store.at ≡ place) (xs ++ x ∷ [])
     go place span so there (inl less) = any_front xs x place (below.all place span less so there)
-    go place span so there (inr same) = any_last xs x place (at ∙ sym same)
+    go place span so there (inr same) = Any-push (λ (store : OpenStore). store.at ≡ place) xs x (at ∙ sym same)
 
   pub open_kept : (n : ℕ) (xs : List OpenStore) → AreOpenBelow reached marks spans n xs →
       ((span : Span) → is_marked_at stores_by_pair reached marks n ≡ true → entry_in (slice_get spans n) ≡ Some span → ⊥) → AreOpenBelow reached marks spans (n + 1) xs

@@ -16,8 +16,9 @@ pub use Rattle.std.proofs.lemmas.Bool.{cases_lt, eqb-true}
 pub use Rattle.std.proofs.lemmas.Bool.Decides.{nat_tests}
 pub use Rattle.std.proofs.lemmas.List.{get_or-set_same, get_or_past, length-set}
 pub use Rattle.std.proofs.lemmas.List.Elements.{All-cons, All-contains, All-nil, All-push, All-weaker, Contains-append_left, Contains-get_or, Contains-push, Contains-push_cases}
-pub use Rattle.std.proofs.lemmas.List.Quantifiers.{all_pairs_push}
-pub use Rattle.std.proofs.lemmas.Option.{slice_get_within}
+pub use Rattle.std.proofs.lemmas.List.Folds.{list_any_at}
+pub use Rattle.std.proofs.lemmas.List.Quantifiers.{Any-push, all_pairs_push}
+pub use Rattle.std.proofs.lemmas.Option.{slice_get-get_or, slice_get_within}
 pub use Rattle.std.specs.List.{flat_map, list_all, list_any}
 pub use Rattle.std.specs.Option.{option_map_or}
 pub use Rattle.std.specs.Prelude.{All, Any, Contains, Err, None, Ok, Result, Some, [], false, if◌then◌else◌, not, replicate, slice_get, slice_index, slice_index_or, slice_set, suc, zero, ◌&&◌, ◌+◌, ◌==◌, ◌||◌, ◌∷◌, ◌≢◌, ◌⊎◌}
@@ -32,10 +33,10 @@ pub use Rattle.verify80_states.specs.{Bytes.BytesStayBytes, Bytes.HasBytes, Byte
 pub use Rattle.verify80_states.specs.Runs.{IsKept, IsKnown, KeepsTo, KeepsToCalls, RunsKeepTo}
 pub use Rattle.verify80_states.specs.declared.{fitting.fitting.Placed.Placed, states.state.State.State}
 pub use Rattle.verify80_stores.specs.Boards.{IsListedAt, KeepsWholePromise, OnQuietBoard, PromiseHoldsOnBoards, PromiseHoldsOnQuietBoards, StaysQuiet, begins as begins_quiet, disturbed as disturbed_quiet, executed as executed_quiet, is_quiet}
-pub use Rattle.verify80_stores.specs.{DataReach.ReachesTo, Kinds.is_of, Pointers.stores_by_pair, Reasons.IsSo, StackPointer.AreClosed, StackPointer.IsClosedAt, StackPointer.LeadsToMarked}
+pub use Rattle.verify80_stores.specs.{DataReach.ReachesTo, Kinds.is_of, Pointers.stores_by_pair, Causes.IsCause, Causes.IsSetBy, Causes.IsSo, Causes.writes_to, StackPointer.AreClosed, StackPointer.IsClosedAt, StackPointer.LeadsToMarked}
 pub use Rattle.verify80_stores.specs.Listing.{AreAllBelow, AreKnown, AreOpenBelow, AreOpenMarks, AreSpans, IsLeftAt, IsListed, IsSpanned, is_at, is_kind, is_marked_at}
 pub use Rattle.verify80_stores.specs.Opening.{IsLeftOpen, StaysIn, joined_span, pointer_span, span_in}
-pub use Rattle.verify80_stores.specs.Shown.{AreShown, BothBelow, IsShutAt, KeptTable}
+pub use Rattle.verify80_stores.specs.Shown.{AreShown, BothBelow, IsShut, IsShutAt, KeptTable}
 pub use Rattle.verify80_stores.specs.Stores.{AreReachedAs, AreStoresOf, EndsAsListed, GoesAsListed, IsOpen, IsReachedAs, StoresGoAsListed, WatchedRunsGoAsListed}
 pub use Rattle.verify80_stores.specs.StoresText.{jump_line, quiet_line, store_line}
-pub use Rattle.verify80_stores.specs.declared.{causes.Cause.Cause, reasons.Reason.Reason, showing.Shown.Shown, stores.OpenStore.OpenStore}
+pub use Rattle.verify80_stores.specs.declared.{causes.Cause.Cause, showing.Shown.Shown, stores.OpenStore.OpenStore}

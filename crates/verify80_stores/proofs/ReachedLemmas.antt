@@ -1,5 +1,5 @@
 -- What is reached at an address.
-use Rattle.verify80_stores.proofs.Names.{◌≡◌, ◌<◌, ℕ, zero, suc, List, [], ◌∷◌, Option, None, Some, Ok, length, slice_index_or, refl, arith, Fetched, Code, AreReached, IsReached, found_at}
+use Rattle.verify80_stores.proofs.Names.{◌≡◌, ◌<◌, ℕ, Bool, true, zero, suc, List, [], ◌∷◌, Option, None, Some, Ok, length, slice_index_or, refl, arith, Instr, Fetched, Code, AreReached, IsReached, IsReachedAs, found_at, is_kind}
 
 -- an entry that is there is within the table
 pub entry_within : {A : Type 0} (table : List (Option A)) (at : ℕ) (x : A) → slice_index_or table at None ≡ Some x → at < length table
@@ -20,3 +20,10 @@ module _ (code : Code) (reached : List (Option Fetched)) (are : AreReached code 
 
   pub there_if_reached : (at : ℕ) → IsReached code at → IsThere at
   there_if_reached at walk = found_or_not at (found_at reached at) refl walk
+
+  -- an instruction of a kind that the table has
+  pub kind_there : (kind : Instr → Bool) (at : ℕ) (o : Option Fetched) → found_at reached at ≡ o → is_kind kind o ≡ true → IsReachedAs code kind at
+  kind_there kind at None e is = cc
+  kind_there kind at (Some found) e is =
+      let walk = are.found at found e in
+      record { reached = walk.0; found = found; looked = walk.1; is = is }

@@ -1,17 +1,14 @@
 -- What is shown by one table, and by another one too.
-use Rattle.verify80_stores.proofs.Names.{◌≡◌, ◌≢◌, ◌⊎◌, ◌<◌, ◌+◌, ◌&&◌, ℕ, suc, Bool, true, false, List, [], ◌∷◌, Any, Option, Some, length, slice_set, refl, subst, sym, ◌∙◌, inl, inr, arith, get_or-set_other, true≢false, get_or-set_same, length-set, Fetched, Range, in_ranges, Areas, in_data, Located, declared_targets, found_at, Span, Placed, is_marked, IsKept, is_quiet, StaysIn, AreOpenMarks, AreSpans, AreShown, BothBelow, IsShutAt, KeptTable}
-use Rattle.verify80_stores.proofs.{ReachedLemmas.entry_within, TallyLemmas.marks_set, VecLemmas.nat_same}
+use Rattle.verify80_stores.proofs.Names.{◌≡◌, ◌≢◌, ◌⊎◌, ◌<◌, ◌+◌, ◌&&◌, ℕ, Bool, true, false, List, Option, Some, length, slice_set, refl, subst, sym, ◌∙◌, inl, inr, arith, get_or-set_other, true≢false, get_or-set_same, length-set, Fetched, Range, in_ranges, Areas, in_data, Located, declared_targets, found_at, Span, Placed, is_marked, IsKept, is_quiet, StaysIn, AreOpenMarks, AreSpans, AreShown, BothBelow, IsShut, IsShutAt}
+use Rattle.verify80_stores.proofs.{ReachedLemmas.entry_within, TallyLemmas.marks_set, VecLemmas.nat_same, VecLemmas.split}
 
-first_of : (a b : Bool) → (a && b) ≡ true → a ≡ true
+pub first_of : (a b : Bool) → (a && b) ≡ true → a ≡ true
 first_of true b h = refl
 first_of false b h = h
 
 one_false : (a b : Bool) → (a && b) ≡ false → (a ≡ false) ⊎ (b ≡ false)
 one_false true b h = inr h
 one_false false b h = inl refl
-
-split : (a n : ℕ) → a < n + 1 → (a < n) ⊎ (a ≡ n)
-split a n h = grind arith
 
 module _ (one other : List Bool) where
   pub both_none : (marks : List Bool) → length marks ≡ 65536 → ((at : ℕ) → is_marked marks at ≡ false) → BothBelow one other 0 marks
@@ -46,21 +43,16 @@ module _ (image : Located) (quiet : ℕ → Bool) (reached : List (Option Fetche
       AreShown image quiet reached marks spans
   shown_first table marks spans kept are are_spans = record {
     first = record { table = table; kept = kept };
-    others = [];
-    stays = λ at unmarked. inl (shut_by table marks are at unmarked);
+    stays = λ at unmarked. record { by = record { table = table; kept = kept }; shut = shut_by table marks are at unmarked };
     leaves = are.leaves;
     are_spans = are_spans;
   }
-
-  abbrev Shut : (first : KeptTable image quiet) (others : List (KeptTable image quiet)) → ℕ → Type 0
-  Shut first others at = IsShutAt image.regions reached first.table at ⊎ Any (λ (other : KeptTable image quiet). IsShutAt image.regions reached other.table at) others
 
   -- and with another one
   pub shown_more : (table : List Placed) (marks before both : List Bool) (spans : List (Option Span)) → length reached ≡ 65536 → IsKept image quiet table → AreOpenMarks image.regions reached table marks →
       AreShown image quiet reached before spans → BothBelow before marks 65536 both → AreShown image quiet reached both spans
   shown_more table marks before both spans whole kept are shown below = record {
     first = shown.first;
-    others = record { table = table; kept = kept } ∷ shown.others;
     stays = λ at unmarked. stay at unmarked (in_memory at);
     leaves = λ at marked. shown.leaves at (below.marked at marked);
     are_spans = shown.are_spans;
@@ -68,16 +60,15 @@ module _ (image : Located) (quiet : ℕ → Bool) (reached : List (Option Fetche
     in_memory : (at : ℕ) → (at < 65536) ⊎ ((at < 65536) → ⊥)
     in_memory at = grind arith
 
-    before_shut : (at : ℕ) → Shut shown.first shown.others at → Shut shown.first (record { table = table; kept = kept } ∷ shown.others) at
-    before_shut at (inl first) = inl first
-    before_shut at (inr (k, x, inside, is, shut)) = inr (suc k, x, omega (arith, inside), is, shut)
-
-    stay : (at : ℕ) → is_marked both at ≡ false → (at < 65536) ⊎ ((at < 65536) → ⊥) → Shut shown.first (record { table = table; kept = kept } ∷ shown.others) at
-    stay at unmarked (inr beyond) = inl (λ place placed found there here instr. absurd (beyond (let within = entry_within reached at found instr in omega (arith, within, whole))))
+    stay : (at : ℕ) → is_marked both at ≡ false → (at < 65536) ⊎ ((at < 65536) → ⊥) → IsShut image quiet reached at
+    stay at unmarked (inr beyond) = record {
+      by = shown.first;
+      shut = λ place placed found there here instr. absurd (beyond (let within = entry_within reached at found instr in omega (arith, within, whole)));
+    }
     stay at unmarked (inl small) = by (below.unmarked at small unmarked) where
-      by : (is_marked before at ≡ false) ⊎ (is_marked marks at ≡ false) → Shut shown.first (record { table = table; kept = kept } ∷ shown.others) at
-      by (inl none) = before_shut at (shown.stays at none)
-      by (inr none) = inr (0, record { table = table; kept = kept }, omega arith, refl, shut_by table marks are at none)
+      by : (is_marked before at ≡ false) ⊎ (is_marked marks at ≡ false) → IsShut image quiet reached at
+      by (inl none) = shown.stays at none
+      by (inr none) = record { by = record { table = table; kept = kept }; shut = shut_by table marks are at none }
 
 -- quiet addresses are data
 pub quiet_is_data : (regions : Areas) (ranges : List Range) (at : ℕ) → is_quiet regions ranges at ≡ true → in_data regions at ≡ true

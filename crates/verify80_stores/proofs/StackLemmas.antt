@@ -19,20 +19,12 @@ unfolding fetch
 has_none image at fault other finds has = let e : None ≡ Some other = sym (ap result_ok finds) ∙ has in cc
 
 -- when an address is closed
-pub closed_setting : (image : Located) (marks : List Bool) (at : ℕ) (found : Fetched) → Finds image at (Ok found) → uses_sp found.instr ≡ false → sets_sp found.instr ≡ true →
-    IsClosedAt image marks at
-closed_setting image marks at found finds off sets = record {
+pub closed_by : (image : Located) (marks : List Bool) (at : ℕ) (found : Fetched) → Finds image at (Ok found) → uses_sp found.instr ≡ false →
+    (sets_sp found.instr ≡ false → LeadsToMarked image.regions marks at (flow found.instr) found.next) → IsClosedAt image marks at
+closed_by image marks at found finds off leads = record {
   free = λ other has. subst (λ (x : Fetched). uses_sp x.instr ≡ false) (has_found image at found other finds has) off;
-  leads = λ other has unset.
-      absurd (true≢false (sym (subst (λ (x : Fetched). sets_sp x.instr ≡ true) (has_found image at found other finds has) sets) ∙ unset));
-}
-
-pub closed_leading : (image : Located) (marks : List Bool) (at : ℕ) (found : Fetched) → Finds image at (Ok found) → uses_sp found.instr ≡ false →
-    LeadsToMarked image.regions marks at (flow found.instr) found.next → IsClosedAt image marks at
-closed_leading image marks at found finds off leads = record {
-  free = λ other has. subst (λ (x : Fetched). uses_sp x.instr ≡ false) (has_found image at found other finds has) off;
-  leads = λ other has unset.
-      subst (λ (x : Fetched). LeadsToMarked image.regions marks at (flow x.instr) x.next) (has_found image at found other finds has) leads;
+  leads = λ other has.
+      subst (λ (x : Fetched). sets_sp x.instr ≡ false → LeadsToMarked image.regions marks at (flow x.instr) x.next) (has_found image at found other finds has) leads;
 }
 
 pub closed_without : (image : Located) (marks : List Bool) (at : ℕ) (fault : FetchFault) → Finds image at (Err fault) → IsClosedAt image marks at

@@ -1,6 +1,6 @@
 -- The stores of runs, by what is listed.
-use Rattle.verify80_stores.proofs.Names.{◌≡◌, ◌≢◌, ◌⊎◌, ℕ, zero, suc, ◌<◌, ◌&&◌, ◌||◌, ◌==◌, Bool, true, false, not, List, [], ◌∷◌, All, Any, Contains, Option, None, Some, Ok, length, slice_get, refl, if◌then◌else◌, list_any, option_map_or, nat_tests, subst, sym, ap, ◌∙◌, inl, inr, arith, get_or, Contains-get_or, All-nil, All-cons, Instr, Bc, De, Fetched, Store, MviMemory, InrMemory, DcrMemory, Stax, In, Out, Pchl, Hlt, direct_bytes, in_range, Areas, in_data, targets_at, Located, End, Registers, InputEnd, OutputRefused, StoreOutside, JumpOutside, Fetch, Stack, Direct, hl_of, index_pair_of, next_input, pointed_bytes, stack_bytes, Machine, Stop, first_outside, ends_at, guard, guarded, execute, turn_of, leads_outside, proceeded, with_input, step_on, World, turn_at, fetched_by, refuses, IsProperEnd, code_of, declared_targets, is_pchl, IsStart, IsWorldFrom, NeverGoesWrongFromPowerOn, StandsOnWalk, StaysOnWalks, AreReached, found_at, Span, State, Placed, HoldsBytes, HoldsRegisters, entry_in, is_marked, KeepsTo, RunsKeepTo, Within, AreShown, IsShutAt, KeptTable, stores_by_pair, pointer_span, IsLeftOpen, OpenStore, IsReachedAs, AreReachedAs, IsOpen, GoesAsListed, EndsAsListed, StoresGoAsListed, AreStoresOf, AreAllBelow, AreOpenBelow, IsSpanned, IsLeftAt, IsListed, is_kind, is_at, is_marked_at}
-use Rattle.verify80_stores.proofs.{HullLemmas.inside_within, ReachedLemmas.there_if_reached}
+use Rattle.verify80_stores.proofs.Names.{◌≡◌, ◌≢◌, ◌⊎◌, ℕ, zero, suc, ◌<◌, ◌==◌, Bool, true, false, not, List, [], ◌∷◌, All, Any, Contains, Option, None, Some, Ok, length, slice_get, refl, if◌then◌else◌, list_any, list_any_at, option_map_or, nat_tests, subst, sym, ap, ◌∙◌, inl, inr, arith, get_or, Contains-get_or, All-nil, All-cons, Instr, Bc, De, Fetched, Store, MviMemory, InrMemory, DcrMemory, Stax, In, Out, Pchl, Hlt, direct_bytes, in_range, Areas, in_data, targets_at, Located, End, Registers, InputEnd, OutputRefused, StoreOutside, JumpOutside, Fetch, Stack, Direct, hl_of, index_pair_of, next_input, pointed_bytes, stack_bytes, Machine, Stop, first_outside, ends_at, guard, guarded, execute, turn_of, leads_outside, proceeded, with_input, step_on, World, turn_at, fetched_by, refuses, IsProperEnd, code_of, declared_targets, is_pchl, IsStart, IsWorldFrom, NeverGoesWrongFromPowerOn, StandsOnWalk, StaysOnWalks, AreReached, found_at, Span, State, HoldsBytes, HoldsRegisters, entry_in, is_marked, KeepsTo, RunsKeepTo, Within, AreShown, KeptTable, stores_by_pair, pointer_span, IsLeftOpen, OpenStore, IsReachedAs, AreReachedAs, IsOpen, GoesAsListed, EndsAsListed, StoresGoAsListed, AreStoresOf, AreAllBelow, AreOpenBelow, IsSpanned, IsLeftAt, IsListed, is_kind, is_at, is_marked_at}
+use Rattle.verify80_stores.proofs.{HullLemmas.inside_within, ReachedLemmas.kind_there, ReachedLemmas.there_if_reached, ShownLemmas.first_of}
 
 -- an instruction that stores by a pair is such a store
 by_any_pair : (i : Instr) (s : State) (span : Span) → pointer_span i s ≡ Some span → stores_by_pair i ≡ true
@@ -112,12 +112,7 @@ jump_is regions refused i next m to h = cc
 
 -- what is one of the declared targets isn't outside them
 pub any_by : (x : ℕ) (xs : List ℕ) → Contains xs x → list_any (λ y. y == x) xs ≡ true
-any_by x [] there = absurd (omega (arith, there.1))
-any_by x (y ∷ xs) (zero, inside, same) = (let e : y == x ≡ true = grind (arith, nat_tests, same) in rw e refl)
-any_by x (y ∷ xs) (suc k, inside, same) = go (y == x) (any_by x xs (k, omega (arith, inside), same)) where
-  go : (b : Bool) → list_any (λ y. y == x) xs ≡ true → (b || list_any (λ y. y == x) xs) ≡ true
-  go true rest = refl
-  go false rest = rest
+any_by x xs (k, inside, same) = list_any_at (λ y. y == x) xs k x inside (grind (arith, nat_tests, same))
 
 store_ends : (regions : Areas) (g : Option End) (refused : Bool) (found : Fetched) (m : Machine) (a : ℕ) → guard regions found.instr m.cpu ≡ g → guarded regions g refused found m ≡ Stop (StoreOutside a) →
     Contains (pointed_bytes found.instr m.cpu.registers) a × (in_data regions a ≡ false)
@@ -144,10 +139,9 @@ inside_targets (Some targets) hl outside there = (let any : list_any (λ y. y ==
 none_listed : (at : ℕ) (stores : List OpenStore) → Any (λ store. store.at ≡ at) stores → All (λ store. store.at ≢ at) stores → ⊥
 none_listed at stores (k, store, inside, is, same) none = none k store inside (ap (λ (s : OpenStore). s.at) is ∙ same)
 
--- a world keeps to each of some tables
-pub record KeepsToEach (image : Located) (quiet : ℕ → Bool) (first : KeptTable image quiet) (others : List (KeptTable image quiet)) (w : World) : Type 0 where
-  pub first_too : KeepsTo image first.table w
-  pub others_too : All (λ other. KeepsTo image other.table w) others
+-- a world keeps to each table that is kept
+abbrev pub KeepsToEach : (image : Located) (quiet : ℕ → Bool) → World → Type 0
+KeepsToEach image quiet w = (t : KeptTable image quiet) → KeepsTo image t.table w
 
 module _ (image : Located) (bytes : ℕ) (quiet : ℕ → Bool) (reached : List (Option Fetched)) (marks : List Bool) (spans : List (Option Span)) (addresses : List ℕ) (stores : List OpenStore) (jumps open_jumps : List ℕ)
     (sound : NeverGoesWrongFromPowerOn image bytes) (walks : StaysOnWalks image) (are : AreReached (code_of image) reached) (whole : length reached ≡ 65536) (keeps : (t : KeptTable image quiet) → RunsKeepTo image t.table)
@@ -171,34 +165,21 @@ module _ (image : Located) (bytes : ℕ) (quiet : ℕ → Bool) (reached : List 
       let here : is_at kind reached at ≡ true = ap (λ (o : Option Fetched). is_kind kind o) there ∙ is in
       rw (here, marked) refl
 
-  -- what a world that keeps to a table does at an address that the table shows
-  shut_stores : (table : List Placed) (w : World) (found : Fetched) (address : ℕ) → KeepsTo image table w → found_at reached w.machine.cpu.pc ≡ Some found → Contains (pointed_bytes found.instr w.machine.cpu.registers) address →
-      IsShutAt image.regions reached table w.machine.cpu.pc → in_data image.regions address ≡ true
-  shut_stores table w found address keep instr there shut =
-      let points = points_by found.instr keep.placed.state w.machine.cpu.registers address keep.holds.registers there in
-      (shut keep.place keep.placed found keep.there keep.at instr).stores points.span points.is address points.within
+  -- what a world does at an address that a table shows
+  data_stores : (w : World) (found : Fetched) (address : ℕ) → KeepsToEach image quiet w → found_at reached w.machine.cpu.pc ≡ Some found → Contains (pointed_bytes found.instr w.machine.cpu.registers) address →
+      is_marked marks w.machine.cpu.pc ≡ false → in_data image.regions address ≡ true
+  data_stores w found address keep instr there unmarked =
+      let it = shown.stays w.machine.cpu.pc unmarked in
+      let k = keep it.by in
+      let points = points_by found.instr k.placed.state w.machine.cpu.registers address k.holds.registers there in
+      (it.shut k.place k.placed found k.there k.at instr).stores points.span points.is address points.within
 
-  shut_jumps : (table : List Placed) (w : World) (found : Fetched) → KeepsTo image table w → found_at reached w.machine.cpu.pc ≡ Some found → is_pchl found.instr ≡ true →
-      IsShutAt image.regions reached table w.machine.cpu.pc → Contains (declared_targets image.regions w.machine.cpu.pc) (hl_of w.machine.cpu.registers)
-  shut_jumps table w found keep instr jump shut = (shut keep.place keep.placed found keep.there keep.at instr).jumps jump (hl_of w.machine.cpu.registers) keep.holds.registers.hl.words
-
-  other_there : (w : World) (k : ℕ) (other : KeptTable image quiet) → KeepsToEach image quiet shown.first shown.others w → k < length shown.others → get_or shown.others k other ≡ other → KeepsTo image other.table w
-  other_there w k other keep inside is = subst (λ (t : KeptTable image quiet). KeepsTo image t.table w) is (keep.others_too k other inside)
-
-  data_stores : (w : World) (found : Fetched) (address : ℕ) → KeepsToEach image quiet shown.first shown.others w → found_at reached w.machine.cpu.pc ≡ Some found → Contains (pointed_bytes found.instr w.machine.cpu.registers) address → is_marked marks w.machine.cpu.pc ≡ false →
-      in_data image.regions address ≡ true
-  data_stores w found address keep instr there unmarked = by (shown.stays w.machine.cpu.pc unmarked) where
-    by : IsShutAt image.regions reached shown.first.table w.machine.cpu.pc ⊎ Any (λ other. IsShutAt image.regions reached other.table w.machine.cpu.pc) shown.others → in_data image.regions address ≡ true
-    by (inl shut) = shut_stores shown.first.table w found address keep.first_too instr there shut
-    by (inr (k, other, inside, is, shut)) = shut_stores other.table w found address (other_there w k other keep inside is) instr there shut
-
-  target_jumps : (w : World) (found : Fetched) → KeepsToEach image quiet shown.first shown.others w → found_at reached w.machine.cpu.pc ≡ Some found → is_pchl found.instr ≡ true → is_marked marks w.machine.cpu.pc ≡ false →
+  target_jumps : (w : World) (found : Fetched) → KeepsToEach image quiet w → found_at reached w.machine.cpu.pc ≡ Some found → is_pchl found.instr ≡ true → is_marked marks w.machine.cpu.pc ≡ false →
       Contains (declared_targets image.regions w.machine.cpu.pc) (hl_of w.machine.cpu.registers)
-  target_jumps w found keep instr jump unmarked = by (shown.stays w.machine.cpu.pc unmarked) where
-    by : IsShutAt image.regions reached shown.first.table w.machine.cpu.pc ⊎ Any (λ other. IsShutAt image.regions reached other.table w.machine.cpu.pc) shown.others →
-        Contains (declared_targets image.regions w.machine.cpu.pc) (hl_of w.machine.cpu.registers)
-    by (inl shut) = shut_jumps shown.first.table w found keep.first_too instr jump shut
-    by (inr (k, other, inside, is, shut)) = shut_jumps other.table w found (other_there w k other keep inside is) instr jump shut
+  target_jumps w found keep instr jump unmarked =
+      let it = shown.stays w.machine.cpu.pc unmarked in
+      let k = keep it.by in
+      (it.shut k.place k.placed found k.there k.at instr).jumps jump (hl_of w.machine.cpu.registers) k.holds.registers.hl.words
 
   spanned : (w : World) (found : Fetched) (keep : KeepsTo image shown.first.table w) (span : Span) → found_at reached w.machine.cpu.pc ≡ Some found → pointer_span found.instr keep.placed.state ≡ Some span →
       IsSpanned spans w.machine.cpu.pc span
@@ -206,12 +187,12 @@ module _ (image : Located) (bytes : ℕ) (quiet : ℕ → Bool) (reached : List 
       let at : keep.placed.at ≡ w.machine.cpu.pc = keep.at in
       subst (λ n. IsSpanned spans n span) at (shown.are_spans keep.place keep.placed found span keep.there (subst (λ n. found_at reached n ≡ Some found) (sym at) there) is)
 
-  pub goes_if : (w : World) (found : Fetched) → StandsOnWalk image w → KeepsToEach image quiet shown.first shown.others w → fetched_by image.regions w ≡ Some found → (address : ℕ) →
+  pub goes_if : (w : World) (found : Fetched) → StandsOnWalk image w → KeepsToEach image quiet w → fetched_by image.regions w ≡ Some found → (address : ℕ) →
       Contains (pointed_bytes found.instr w.machine.cpu.registers) address → GoesAsListed image.regions stores w.machine.cpu.pc address
   goes_if w found stands keep fetched address there =
       let here = here_if w found stands fetched in
-      let points = points_by found.instr keep.first_too.placed.state w.machine.cpu.registers address keep.first_too.holds.registers there in
-      let whole_span = spanned w found keep.first_too points.span here.there points.is in
+      let points = points_by found.instr (keep shown.first).placed.state w.machine.cpu.registers address (keep shown.first).holds.registers there in
+      let whole_span = spanned w found (keep shown.first) points.span here.there points.is in
       let within : Within whole_span.whole address = inside_within points.span whole_span.whole address whole_span.inside points.within in
       record {
         listed = λ k d inside same.
@@ -221,15 +202,15 @@ module _ (image : Located) (bytes : ℕ) (quiet : ℕ → Bool) (reached : List 
             subst (λ (s : Span). Within s address) (let e : whole_span.whole ≡ store.span = cc in e) within;
         unlisted = λ none. go here points.span points.is whole_span.whole whole_span.there none (is_marked marks w.machine.cpu.pc) refl;
       } where
-        go : Here w found → (span : Span) → pointer_span found.instr keep.first_too.placed.state ≡ Some span → (whole_one : Span) → entry_in (slice_get spans w.machine.cpu.pc) ≡ Some whole_one →
+        go : Here w found → (span : Span) → pointer_span found.instr (keep shown.first).placed.state ≡ Some span → (whole_one : Span) → entry_in (slice_get spans w.machine.cpu.pc) ≡ Some whole_one →
             All (λ store. store.at ≢ w.machine.cpu.pc) stores → (b : Bool) → is_marked marks w.machine.cpu.pc ≡ b → in_data image.regions address ≡ true
         go here span is whole_one there_one none true marked =
             absurd (none_listed w.machine.cpu.pc stores
-            (open_below.all w.machine.cpu.pc whole_one here.small (marked_so stores_by_pair w.machine.cpu.pc found here.there (by_any_pair found.instr keep.first_too.placed.state span is) marked) there_one) none)
+            (open_below.all w.machine.cpu.pc whole_one here.small (marked_so stores_by_pair w.machine.cpu.pc found here.there (by_any_pair found.instr (keep shown.first).placed.state span is) marked) there_one) none)
         go here span is whole_one there_one none false unmarked = data_stores w found address keep here.there there unmarked
 
   -- a PCHL is listed, or goes to a declared target
-  pub jump_there : (w : World) (found : Fetched) → StandsOnWalk image w → KeepsToEach image quiet shown.first shown.others w → fetched_by image.regions w ≡ Some found → is_pchl found.instr ≡ true →
+  pub jump_there : (w : World) (found : Fetched) → StandsOnWalk image w → KeepsToEach image quiet w → fetched_by image.regions w ≡ Some found → is_pchl found.instr ≡ true →
       Contains open_jumps w.machine.cpu.pc ⊎ Contains (declared_targets image.regions w.machine.cpu.pc) (hl_of w.machine.cpu.registers)
   jump_there w found stands keep fetched jump = go (here_if w found stands fetched) (is_marked marks w.machine.cpu.pc) refl where
     go : Here w found → (b : Bool) → is_marked marks w.machine.cpu.pc ≡ b → Contains open_jumps w.machine.cpu.pc ⊎ Contains (declared_targets image.regions w.machine.cpu.pc) (hl_of w.machine.cpu.registers)
@@ -237,11 +218,8 @@ module _ (image : Located) (bytes : ℕ) (quiet : ℕ → Bool) (reached : List 
     go here false unmarked = inr (target_jumps w found keep here.there jump unmarked)
 
   -- each world of a run keeps to each table
-  run_keeps : (start : Machine) → IsStart image start → HoldsBytes start → (most : Option ℕ) (w : World) → IsWorldFrom image start most w → KeepsToEach image quiet shown.first shown.others w
-  run_keeps start begins held most w from = record {
-    first_too = keeps shown.first start begins held most w from;
-    others_too = λ k d inside. keeps (get_or shown.others k d) start begins held most w from;
-  }
+  run_keeps : (start : Machine) → IsStart image start → HoldsBytes start → (most : Option ℕ) (w : World) → IsWorldFrom image start most w → KeepsToEach image quiet w
+  run_keeps start begins held most w from = λ t. keeps t start begins held most w from
 
   goes : (start : Machine) → IsStart image start → HoldsBytes start → (most : Option ℕ) (w : World) (found : Fetched) → IsWorldFrom image start most w → fetched_by image.regions w ≡ Some found → (address : ℕ) →
       Contains (pointed_bytes found.instr w.machine.cpu.registers) address → GoesAsListed image.regions stores w.machine.cpu.pc address
@@ -283,12 +261,6 @@ module _ (image : Located) (bytes : ℕ) (quiet : ℕ → Bool) (reached : List 
   ends_so start begins held most w e from stops proper = tt
 
   -- what is listed is what walks reach
-  kind_there : (kind : Instr → Bool) (at : ℕ) (o : Option Fetched) → found_at reached at ≡ o → is_kind kind o ≡ true → IsReachedAs (code_of image) kind at
-  kind_there kind at None e is = cc
-  kind_there kind at (Some found) e is =
-      let walk = are.found at found e in
-      record { reached = walk.0; found = found; looked = walk.1; is = is }
-
   there_of_kind : (kind : Instr → Bool) (xs : List ℕ) → AreAllBelow (is_at kind reached) 65536 xs → (at : ℕ) → IsReachedAs (code_of image) kind at → Contains xs at
   there_of_kind kind xs below at is =
       let there = there_if_reached (code_of image) reached are at is.reached in
@@ -298,15 +270,11 @@ module _ (image : Located) (bytes : ℕ) (quiet : ℕ → Bool) (reached : List 
   all_of_kind : (kind : Instr → Bool) (xs : List ℕ) → AreAllBelow (is_at kind reached) 65536 xs → AreReachedAs (code_of image) kind xs
   all_of_kind kind xs below = record {
     ascending = below.ascending;
-    each = λ at. (λ there. kind_there kind at (found_at reached at) refl (below.each at there).1, there_of_kind kind xs below at);
+    each = λ at. (λ there. kind_there (code_of image) reached are kind at (found_at reached at) refl (below.each at there).1, there_of_kind kind xs below at);
   }
 
-  first_of : (a b : Bool) → (a && b) ≡ true → a ≡ true
-  first_of true b h = refl
-  first_of false b h = cc
-
   open_jump_there : (at : ℕ) → Contains open_jumps at → IsReachedAs (code_of image) is_pchl at
-  open_jump_there at there = kind_there is_pchl at (found_at reached at) refl (first_of (is_at is_pchl reached at) (is_marked marks at) (each_open_jump.each at there).1)
+  open_jump_there at there = kind_there (code_of image) reached are is_pchl at (found_at reached at) refl (first_of (is_at is_pchl reached at) (is_marked marks at) (each_open_jump.each at there).1)
 
   -- a state that leaves a store open shows an address of its whole span that is no data
   open_by : (store : OpenStore) (l : IsListed reached marks spans 65536 store) (left : IsLeftAt image.regions reached shown.first.table store.at) → left.found ≡ l.found → IsOpen image store

@@ -1,17 +1,11 @@
 -- Vectors by address, read and written.
-use Rattle.verify80_stores.proofs.Names.{◌≡◌, ◌≢◌, ◌⊎◌, ℕ, zero, suc, ◌+◌, ◌<◌, Bool, true, false, List, [], ◌∷◌, Option, None, Some, length, replicate, slice_get, slice_index_or, slice_set, refl, sym, ◌∙◌, arith, get_or, get_or-set_other, get_or-set_same, entry_in, is_marked}
+use Rattle.verify80_stores.proofs.Names.{◌≡◌, ◌≢◌, ◌⊎◌, ℕ, zero, suc, ◌+◌, ◌<◌, Bool, true, false, List, [], ◌∷◌, Option, None, length, replicate, slice_get, slice_index_or, slice_set, refl, sym, ◌∙◌, arith, get_or-set_other, get_or-set_same, entry_in, is_marked}
 
 -- two ways to read a table of entries
 same_entry : {A : Type 0} (table : List (Option A)) (at : ℕ) → entry_in (slice_get table at) ≡ slice_index_or table at None
 same_entry [] at = refl
 same_entry (entry ∷ table) zero = refl
 same_entry (entry ∷ table) (suc at) = same_entry table at
-
--- an element that is got
-pub got_some : {A : Type 0} (xs : List A) (k : ℕ) (d : A) → k < length xs → slice_get xs k ≡ Some (get_or xs k d)
-got_some [] k d inside = absurd (omega arith)
-got_some (y ∷ xs) zero d inside = refl
-got_some (y ∷ xs) (suc k) d inside = got_some xs k d (omega (arith, inside))
 
 -- marks, none of which is set, and one of which is
 pub none_marked : (count at : ℕ) → is_marked (replicate count false) at ≡ false

@@ -2,7 +2,7 @@ pub mod Pointers
 pub mod Stores
 pub mod Boards
 pub mod StoresText
-pub mod Reasons
+pub mod Causes
 -- what the crate's own functions promise one another: no public contract cites these
 pub mod DataReach
 pub mod Kinds

@@ -1,5 +1,5 @@
 -- What tables of states that fit leave open of a program. (This project's own.)
-use Rattle.std.specs.Prelude.{◌≡◌, ◌⊎◌, ◌<◌, ℕ, Bool, true, false, List, Any, Option, Some, length, slice_get}
+use Rattle.std.specs.Prelude.{◌≡◌, ◌⊎◌, ◌<◌, ℕ, Bool, true, false, List, Option, Some, length, slice_get}
 use Rattle.decode80.specs.declared.fetching.Fetched.{Fetched}
 use Rattle.image80.specs.{Image.Located, Regions.Areas}
 use Rattle.verify80.specs.{Looking.declared_targets, Reached.found_at}
@@ -24,11 +24,15 @@ abbrev pub IsShutAt : Areas → List (Option Fetched) → List Placed → (at : 
 IsShutAt regions reached table at = (place : ℕ) (placed : Placed) (found : Fetched) → slice_get table place ≡ Some placed → placed.at ≡ at →
     found_at reached at ≡ Some found → StaysIn regions (declared_targets regions at) found.instr placed.state
 
--- Marks and spans by address, for some tables that are kept. At each unmarked address one of them lets the instruction stay inside. One of
--- them leaves the instruction open at each marked address: the spans are those of its states.
+-- a table that is kept lets the instruction at an address stay inside
+pub record IsShut (image : Located) (quiet : ℕ → Bool) (reached : List (Option Fetched)) (at : ℕ) : Type 0 where
+  pub by : KeptTable image quiet
+  pub shut : IsShutAt image.regions reached by.table at
+
+-- Marks and spans by address. At each unmarked address a table that is kept lets the instruction stay inside. One such table leaves the
+-- instruction open at each marked address: the spans are those of its states.
 pub record AreShown (image : Located) (quiet : ℕ → Bool) (reached : List (Option Fetched)) (marks : List Bool) (spans : List (Option Span)) : Type 0 where
   pub first : KeptTable image quiet
-  pub others : List (KeptTable image quiet)
-  pub stays : (at : ℕ) → is_marked marks at ≡ false → IsShutAt image.regions reached first.table at ⊎ Any (λ other. IsShutAt image.regions reached other.table at) others
+  pub stays : (at : ℕ) → is_marked marks at ≡ false → IsShut image quiet reached at
   pub leaves : (at : ℕ) → is_marked marks at ≡ true → IsLeftAt image.regions reached first.table at
   pub are_spans : AreSpans reached first.table spans

@@ -5,8 +5,7 @@ use Rattle.decode80.specs.declared.{instr.Instr.Instr, fetching.Fetched.Fetched}
 use Rattle.image80.specs.{Regions.Areas, Regions.in_data, Image.Located, Image.memory_of}
 use Rattle.machine80.specs.declared.end.End.{End}
 use Rattle.machine80.specs.declared.end.End.TheVariants.{Halt, InputEnd, OutputRefused, StoreOutside, JumpOutside, Fetch, Stack, Direct}
-use Rattle.machine80.specs.{Effects.pointed_bytes, Step.Machine, Step.Stop}
-use Rattle.machine80.specs.World.{World, IsWorldOf, turn_at, fetched_by}
+use Rattle.machine80.specs.{Effects.pointed_bytes, Step.Machine, Step.Stop, World.World, World.IsWorldOf, World.turn_at, World.fetched_by}
 use Rattle.frames80.specs.Code.{Code}
 use Rattle.verify80.specs.{Looking.code_of, Looking.is_pchl, Starts.IsStart, Starts.IsWorldFrom, Reached.IsReached}
 use Rattle.verify80_states.specs.Bytes.{HasBytes, HoldsBytes}

@@ -1,21 +1,33 @@
-//! What sets the pair of a store or a jump that isn't shown to stay inside, and why nothing is known of it. This is advice: nothing is
-//! promised of it but that what it says of memory is so.
+//! What sets the pair of a store or a jump that isn't shown to stay inside, and why nothing is known of it. This is advice: it is searched
+//! for, and what it says of instructions and of memory is so.
 
-ghost use Rattle.std.specs.Prelude.{All, IfOk, IfSome};
-ghost use Rattle.verify80_stores.specs.Reasons.{IsSo};
+ghost use Rattle.std.specs.Prelude.{◌≡◌, true, All, IfOk};
+ghost use Rattle.frames80.specs.Code.{Code};
+ghost use Rattle.verify80.specs.{Looking.code_of, Reached.AreReached};
+ghost use Rattle.verify80_stores.specs.Causes.{IsCause, IsSetBy, IsSo};
 
 use crate::code_bytes::code_bytes;
-use crate::quiet::mark_quiet;
+use crate::quiet::{is_quiet, mark_quiet};
 use crate::reasons::{Reason, Reasons};
-use crate::setters::{Setter, Setters};
 use crate::stores::Stores;
-use decode80::{IndexPair, Pair, Storing};
-use image80::Range;
+use decode80::{Fetched, IndexPair, Instr, Pair, Storing};
+use image80::{Image, Range};
 use std::alloc::{AllocError, Global};
 use std::fmt;
 use verify80::{Vouched, find_reached};
 use verify80_proposals::{Groups, ReachedProgram};
-use verify80_states::CallReturns;
+use verify80_states::reached_at;
+
+/// What sets a pair.
+#[derive(Clone, Copy, Debug, PartialEq, Eq)]
+pub enum Setter {
+    /// The instruction at this address sets the pair, or a half of it.
+    Instruction(u16),
+    /// The INX or DCX at this address counts the pair, in a loop.
+    Count(u16),
+    /// Nothing is known to set the pair since the program begins.
+    Nothing,
+}
 
 /// What sets the pair of an open store or jump.
 #[derive(Clone, Copy, Debug, PartialEq, Eq)]
@@ -67,55 +79,97 @@ pub fn find_causes(
     quiet: &[Range],
     stores: &Stores,
 ) -> Result<Vec<Cause>, AllocError>
-    ensures { IfOk result (λ causes. All (λ cause. IfSome cause.reason (IsSo vouched.now.image.regions quiet.now)) causes.items) }
+    ensures { IfOk result (λ causes. All (IsCause vouched.now.image quiet.now) causes.items) }
 {
     let image = vouched.image();
     let found = find_reached(alloc, vouched)?;
+    let reached = found.instructions();
     let code = code_bytes(alloc, image)?;
-    let is_quiet = mark_quiet(alloc, &image.regions, quiet)?;
-    let none = CallReturns {
-        may_return: Vec::new(alloc),
-        know_return: Vec::new(alloc),
-    };
-    let program = ReachedProgram {
-        code: &code,
-        instructions: found.instructions(),
-        returns: &none,
-        groups: &[],
-        start: image.start,
-        regions: &image.regions,
-        quiet: &is_quiet,
-    };
+    let marks = mark_quiet(alloc, &image.regions, quiet)?;
+    let program = ReachedProgram::new(image, reached, &code, &marks);
     let groups = Groups::new(alloc, program, vouched.rows())?;
-    let setters = Setters::new(alloc, program, &groups)?;
     let reasons = Reasons::new(alloc, image, quiet, program, &groups)?;
     let mut causes = Vec::new(alloc);
+    for open in &open_pairs(alloc, stores)? {
+        causes.push(cause_of(image, quiet, reached, &reasons, *open))?;
+    }
+    Ok(causes)
+}
+
+/// The address and the pair of each open store and each open jump.
+///
+/// # Errors
+/// `AllocError` if memory runs out.
+fn open_pairs(alloc: Global, stores: &Stores) -> Result<Vec<(u16, Pair)>, AllocError> {
+    let mut pairs = Vec::new(alloc);
     for open in &stores.open {
         let pair = match open.instr.storing() {
             Storing::Through(IndexPair::Bc) => Pair::Bc,
             Storing::Through(IndexPair::De) => Pair::De,
             _ => Pair::Hl,
         };
-        causes.push(cause_of(&setters, &reasons, open.at, pair))?;
+        pairs.push((open.at, pair))?;
     }
     for at in &stores.open_jumps {
-        causes.push(cause_of(&setters, &reasons, *at, Pair::Hl))?;
+        pairs.push((*at, Pair::Hl))?;
     }
-    Ok(causes)
+    Ok(pairs)
 }
 
-/// What sets a pair before an address, and why it isn't known.
-fn cause_of(setters: &Setters, reasons: &Reasons<'_>, at: u16, pair: Pair) -> Cause
-    ensures { IfSome result.reason (IsSo reasons.now.image.now.regions reasons.now.quiet.now) }
+/// What is found of the pair of an open store or jump, without what isn't so.
+fn cause_of(
+    image: &Image,
+    quiet: &[Range],
+    reached: &[Option<Fetched>],
+    reasons: &Reasons<'_>,
+    open: (u16, Pair),
+) -> Cause
+    requires { AreReached (code_of image.now) reached.now }
+    ensures { IsCause image.now quiet.now result }
 {
-    let setter = setters.setter(at, pair);
+    let (at, pair) = open;
+    let setter = setter_of(reached, pair, reasons.setter(at, pair));
+    let reason = match setter {
+        Setter::Nothing => None,
+        _ => reasons.reason(at, pair),
+    };
     Cause {
         at,
         pair,
         setter,
-        reason: match setter {
-            Setter::Nothing => None,
-            _ => reasons.reason(setters, at, pair),
+        reason: match reason {
+            Some(reason) if is_so(image, quiet, reached, reason) => Some(reason),
+            _ => None,
         },
+    }
+}
+
+/// The setter of a pair at an address, if there is one: an instruction that is reached there and writes the pair.
+fn setter_of(reached: &[Option<Fetched>], pair: Pair, at: Option<u16>) -> Setter
+    ensures { (code : Code) → AreReached code reached.now → IsSetBy code pair result }
+{
+    let Some(at) = at else {
+        return Setter::Nothing;
+    };
+    match reached_at(reached, at) {
+        Some(found) if found.instr.writes().includes(pair) => match found.instr {
+            Instr::Inx(_) | Instr::Dcx(_) => Setter::Count(at),
+            _ => Setter::Instruction(at),
+        },
+        _ => Setter::Nothing,
+    }
+}
+
+/// Whether what a reason says of memory, or of an address, is so.
+fn is_so(image: &Image, quiet: &[Range], reached: &[Option<Fetched>], reason: Reason) -> bool
+    requires { AreReached (code_of image.now) reached.now }
+    ensures { result ≡ true → IsSo image.now quiet.now reason }
+{
+    let regions = &image.regions;
+    match reason {
+        Reason::NotQuiet(at) => regions.in_data(at) && !is_quiet(regions, quiet, at),
+        Reason::NotCode(at) => !regions.in_code(at) && !regions.in_data(at),
+        Reason::TooManyStates(at) => reached_at(reached, at).is_some(),
+        Reason::TooManyWays => true,
     }
 }

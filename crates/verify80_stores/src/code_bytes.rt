@@ -2,8 +2,7 @@
 
 ghost use Rattle.std.specs.Prelude.{◌≡◌, ℕ, None, IfOk, length};
 ghost use Rattle.image80.specs.RegionMap.{Maps};
-ghost use Rattle.verify80_states.specs.Following.{byte_at};
-ghost use Rattle.verify80_states.specs.Steps.{AreCodeBytes, code_in};
+ghost use Rattle.verify80_states.specs.{Following.byte_at, Steps.AreCodeBytes, Steps.code_in};
 
 use image80::{Image, RegionMap, Regions};
 use std::alloc::{AllocError, Global};

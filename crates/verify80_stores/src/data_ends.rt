@@ -1,8 +1,7 @@
 //! How far data goes on from each address.
 
 ghost use Rattle.std.specs.Prelude.{◌≡◌, ◌+◌, ◌<◌, ℕ, true, false, IfOk, length};
-ghost use Rattle.image80.specs.Regions.{in_data};
-ghost use Rattle.image80.specs.RegionMap.{Maps};
+ghost use Rattle.image80.specs.{Regions.in_data, RegionMap.Maps};
 ghost use Rattle.verify80_spans.specs.Span.{Within};
 ghost use Rattle.verify80_stores.specs.DataReach.{AreDataEnds, ReachesTo};
 

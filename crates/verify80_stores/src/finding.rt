@@ -4,9 +4,8 @@ ghost use Rattle.std.specs.Prelude.{◌≡◌, [], IfOk, true};
 ghost use Rattle.image80.specs.Image.{memory_of};
 ghost use Rattle.verify80.specs.Boards.{SetsStack};
 ghost use Rattle.verify80_states.specs.Bytes.{HasBytes};
-ghost use Rattle.verify80_stores.specs.Boards.{PromiseHoldsOnBoards, PromiseHoldsOnQuietBoards, is_quiet};
+ghost use Rattle.verify80_stores.specs.{Boards.PromiseHoldsOnBoards, Boards.PromiseHoldsOnQuietBoards, Boards.is_quiet, Listing.AreKnown};
 ghost use Rattle.verify80_stores.specs.Stores.{AreStoresOf, WatchedRunsGoAsListed};
-ghost use Rattle.verify80_stores.specs.Listing.{AreKnown};
 
 use crate::laws::watched_runs_go_as_listed;
 use crate::listing::{Kind, addresses_of, open_jumps, open_stores};
@@ -75,7 +74,7 @@ pub fn find_stores(alloc: Global, vouched: &Vouched, quiet: &[Range]) -> Result<
         open,
         jumps,
         open_jumps,
-        sets_stack: sets_stack(alloc, image)?,
+        sets_stack: sets_stack(alloc, image, vouched.rows(), reached)?,
     })
 }
 

@@ -30,13 +30,13 @@ mod setters;
 mod showing;
 mod stack_pointer;
 mod stores;
+mod ways;
 
-pub use causes::{Cause, find_causes};
+pub use causes::{Cause, Setter, find_causes};
 pub use finding::find_stores;
 pub use laws::watched_runs_go_as_listed;
 pub use lines::stores_text;
 pub use quiet_ranges::first_outside_data;
 pub use reasons::Reason;
-pub use setters::Setter;
 pub use stores::{OpenStore, Stores};
 pub use verify80_states::{Span, bytes_stay_bytes};

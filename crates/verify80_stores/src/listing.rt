@@ -1,17 +1,13 @@
 //! What is listed of the instructions that are reached.
 
 ghost use Rattle.std.specs.Prelude.{◌≡◌, ◌+◌, ◌<◌, ℕ, true, false, Some, Contains, IfOk, IfSome, IfNone, length, slice_get};
-ghost use Rattle.verify80.specs.Looking.{declared_targets, is_pchl};
-ghost use Rattle.verify80.specs.Reached.{found_at};
+ghost use Rattle.verify80.specs.{Looking.declared_targets, Looking.is_pchl, Reached.found_at};
 ghost use Rattle.verify80_spans.specs.declared.span.Span.{Span};
 ghost use Rattle.verify80_spans.specs.Span.{Within};
-ghost use Rattle.verify80_states.specs.Following.{entry_in};
-ghost use Rattle.verify80_stores.specs.DataReach.{AreDataEnds};
-ghost use Rattle.verify80_states.specs.Marks.{is_marked};
-ghost use Rattle.verify80_stores.specs.Pointers.{stores_by_pair};
+ghost use Rattle.verify80_states.specs.{Following.entry_in, Marks.is_marked};
+ghost use Rattle.verify80_stores.specs.{DataReach.AreDataEnds, Pointers.stores_by_pair, Kinds.is_of};
 ghost use Rattle.verify80_stores.specs.Opening.{joined_span, span_in, StaysIn, IsLeftOpen};
 ghost use Rattle.verify80_stores.specs.Listing.{AreAllBelow, AreOpenBelow, AreOpenMarks, AreSpans, IsListed, is_at, is_marked_at};
-ghost use Rattle.verify80_stores.specs.Kinds.{is_of};
 
 use crate::data_ends::{data_ends, is_all_data};
 use crate::marks::unmarked;

@@ -1,8 +1,7 @@
 //! Quiet ranges as a caller names them.
 
 ghost use Rattle.std.specs.Prelude.{◌≡◌, ◌<◌, ℕ, None, IfSome, true, false};
-ghost use Rattle.image80.specs.Range.{in_range};
-ghost use Rattle.image80.specs.Regions.{in_data};
+ghost use Rattle.image80.specs.{Range.in_range, Regions.in_data};
 
 use image80::{Range, Regions};
 

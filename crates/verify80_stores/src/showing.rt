@@ -2,13 +2,9 @@
 
 ghost use Rattle.std.specs.Prelude.{◌≡◌, ℕ, true, IfOk, IfSome, length};
 ghost use Rattle.image80.specs.Regions.{AreRegions};
-ghost use Rattle.verify80.specs.Looking.{code_of};
-ghost use Rattle.verify80.specs.Reached.{AreReached};
-ghost use Rattle.verify80_stores.specs.Boards.{is_quiet};
-ghost use Rattle.verify80_states.specs.Marks.{is_marked};
-ghost use Rattle.verify80_states.specs.Steps.{AreCodeBytes};
-ghost use Rattle.verify80_states.specs.Runs.{IsKept};
-ghost use Rattle.verify80_stores.specs.Shown.{AreShown, BothBelow};
+ghost use Rattle.verify80.specs.{Looking.code_of, Reached.AreReached};
+ghost use Rattle.verify80_stores.specs.{Boards.is_quiet, Shown.AreShown, Shown.BothBelow};
+ghost use Rattle.verify80_states.specs.{Marks.is_marked, Steps.AreCodeBytes, Runs.IsKept};
 
 use crate::code_bytes::code_bytes;
 use crate::listing::{open_marks, spans_of};
@@ -19,7 +15,7 @@ use image80::{Image, Range};
 use std::alloc::{AllocError, Global};
 use verify80::ProcRow;
 use verify80_proposals::{Groups, Proposal, ReachedProgram, propose_table};
-use verify80_states::{CallReturns, Placed, Span, anything, fits, is_marked};
+use verify80_states::{Placed, Span, anything, fits, is_marked};
 
 /// How many tables are tried.
 const TABLES: usize = 6;
@@ -53,19 +49,7 @@ pub(crate) fn show(
 {
     let code = code_bytes(alloc, image)?;
     let marks = mark_quiet(alloc, &image.regions, quiet)?;
-    let none = CallReturns {
-        may_return: Vec::new(alloc),
-        know_return: Vec::new(alloc),
-    };
-    let program = ReachedProgram {
-        code: &code,
-        instructions: reached,
-        returns: &none,
-        groups: &[],
-        start: image.start,
-        regions: &image.regions,
-        quiet: &marks,
-    };
+    let program = ReachedProgram::new(image, reached, &code, &marks);
     let groups = Groups::new(alloc, program, rows)?;
     let mut shown = None;
     for number in 0..TABLES {
@@ -110,10 +94,24 @@ fn show_more(
     requires shown { IfSome shown (λ s. AreShown image.now (is_quiet image.now.regions quiet.now) reached.now s.marks.items s.spans.items) }
     ensures { IfOk result (λ more. IfSome more (λ s. AreShown image.now (is_quiet image.now.regions quiet.now) reached.now s.marks.items s.spans.items)) }
 {
-    match fitting_table(image, reached, quiet, code, marks, found) {
-        Some(table) => Ok(Some(show_with(alloc, image, reached, quiet, &table, shown)?)),
-        None => Ok(shown),
+    let Some(
+        Proposal {
+            table,
+            hints,
+            returns,
+            variables,
+            crowded: _,
+        },
+    ) = found
+    else {
+        return Ok(shown);
+    };
+    if !fits(
+        image, &table, &hints, &returns, &variables, code, reached, marks,
+    ) {
+        return Ok(shown);
     }
+    Ok(Some(show_with(alloc, image, reached, quiet, &table, shown)?))
 }
 
 /// What is shown with a table that fits.
@@ -182,36 +180,4 @@ fn show_nothing(
 {
     let table = anything(alloc, image, reached)?;
     show_with(alloc, image, reached, quiet, &table, None)
-}
-
-/// A table that is proposed, if one is and it fits the image.
-fn fitting_table(
-    image: &Image,
-    reached: &[Option<Fetched>],
-    quiet: &[Range],
-    code: &[Option<u8>],
-    marks: &[bool],
-    found: Option<Proposal>,
-) -> Option<Vec<Placed>>
-    requires reached { AreReached (code_of image.now) reached.now }
-    requires whole { length reached.now ≡ 65536 }
-    requires rules { AreRegions image.now.regions }
-    requires code { AreCodeBytes image.now code.now }
-    requires marks { (at : ℕ) → is_marked marks.now at ≡ true → is_quiet image.now.regions quiet.now at ≡ true }
-    ensures { IfSome result (λ table. IsKept image.now (is_quiet image.now.regions quiet.now) table.items) }
-{
-    let Proposal {
-        table,
-        hints,
-        returns,
-        variables,
-        crowded: _,
-    } = found?;
-    if fits(
-        image, &table, &hints, &returns, &variables, code, reached, marks,
-    ) {
-        Some(table)
-    } else {
-        None
-    }
 }

@@ -3,7 +3,7 @@
 //! The addresses that the main program may reach with SP not set are searched, and nothing rests on how: that none is forgotten is
 //! looked at address by address.
 
-ghost use Rattle.std.specs.Prelude.{◌≡◌, true, length, IfOk};
+ghost use Rattle.std.specs.Prelude.{◌≡◌, true, IfOk, length};
 ghost use Rattle.std.specs.List.{list_all};
 ghost use Rattle.decode80.specs.declared.flow.Flow.TheVariants.{JumpsToHl};
 ghost use Rattle.decode80.specs.Facts.{flow};
@@ -12,10 +12,12 @@ ghost use Rattle.verify80_states.specs.Marks.{is_marked};
 ghost use Rattle.verify80_stores.specs.StackPointer.{AreClosed, IsClosedAt, LeadsToMarked};
 
 use crate::marks::unmarked;
+use crate::ways::{Ways, found_at};
 use decode80::{Fetched, Flow, Instr, Pair, fetch};
 use image80::{Image, Regions};
 use std::alloc::{AllocError, Global};
-use verify80::ImageCode;
+use verify80::{ImageCode, ProcRow};
+use verify80_proposals::{Groups, ReachedProgram};
 use verify80_states::is_marked;
 
 /// Whether the main program of an image sets SP, on each way, before an instruction uses it. If it does, SP may be anything where a
@@ -23,11 +25,16 @@ use verify80_states::is_marked;
 ///
 /// # Errors
 /// `AllocError` if memory runs out.
-pub(crate) fn sets_stack(alloc: Global, image: &Image) -> Result<bool, AllocError>
+pub(crate) fn sets_stack(
+    alloc: Global,
+    image: &Image,
+    rows: &[ProcRow],
+    reached: &[Option<Fetched>],
+) -> Result<bool, AllocError>
     ensures { IfOk result (λ sets. sets ≡ true → SetsStack image.now) }
 {
     let code = ImageCode::new(alloc, image)?;
-    let marks = find_unset(alloc, &code, &image.regions, image.start)?;
+    let marks = find_unset(alloc, image, rows, reached)?;
     if !is_marked(&marks, image.start) {
         return Ok(false);
     }
@@ -128,101 +135,28 @@ fn uses_sp(instr: Instr) -> bool
     )
 }
 
-/// The addresses that are found, and those of them that are still to be followed.
-#[derive(Drop)]
-struct Search {
-    marks: Vec<bool>,
-    queue: Vec<u16>,
-}
-
 /// The addresses that the main program may reach before it has set SP, marked by address.
 ///
 /// # Errors
 /// `AllocError` if memory runs out.
 fn find_unset(
     alloc: Global,
-    code: &ImageCode,
-    regions: &Regions,
-    start: u16,
+    image: &Image,
+    rows: &[ProcRow],
+    reached: &[Option<Fetched>],
 ) -> Result<Vec<bool>, AllocError>
     ensures { IfOk result (λ marks. length marks.items ≡ 65536) }
 {
-    let marks = unmarked(alloc, 65_536)?;
-    let mut search = Search {
-        marks,
-        queue: Vec::new(alloc),
-    };
-    search.enter(start)?;
-    // Each address is entered once.
-    for _ in 0..65_536 {
-        let Some(at) = search.queue.pop() else {
-            break;
-        };
-        search.follow(code, regions, at)?;
+    let program = ReachedProgram::new(image, reached, &[], &[]);
+    let groups = Groups::new(alloc, program, rows)?;
+    let mut ways = Ways::new(alloc, program, &groups)?;
+    ways.spread(
+        |at, instr| at == image.start && !sets_sp(instr),
+        |instr| !sets_sp(instr),
+    )?;
+    let mut marks = unmarked(alloc, 65_536)?;
+    for at in 0..65_536_usize {
+        marks[at] = at == usize::from(image.start) || found_at(&ways.found, at as u16).is_some();
     }
-    Ok(search.marks)
-}
-
-impl Search {
-    /// Marks an address that isn't marked, and notes it to be followed.
-    ///
-    /// # Errors
-    /// `AllocError` if memory runs out.
-    fn enter(&mut self, at: u16) -> Result<(), AllocError>
-        requires { length self.old.marks.items ≡ 65536 }
-        ensures { length self.new.marks.items ≡ 65536 }
-    {
-        if !self.marks[usize::from(at)] {
-            self.marks[usize::from(at)] = true;
-            self.queue.push(at)?;
-        }
-        Ok(())
-    }
-
-    /// Enters each address to which the instruction at an address leads, unless it sets SP.
-    ///
-    /// # Errors
-    /// `AllocError` if memory runs out.
-    fn follow(&mut self, code: &ImageCode, regions: &Regions, at: u16) -> Result<(), AllocError>
-        requires { length self.old.marks.items ≡ 65536 }
-        ensures { length self.new.marks.items ≡ 65536 }
-    {
-        let Ok(found) = fetch(at, code) else {
-            return Ok(());
-        };
-        if sets_sp(found.instr) {
-            return Ok(());
-        }
-        match found.instr.flow() {
-            Flow::Continues => self.enter(found.next),
-            Flow::Jumps(to) => self.enter(to),
-            Flow::JumpsIf(_, to) => {
-                self.enter(found.next)?;
-                self.enter(to)
-            }
-            Flow::JumpsToHl => self.enter_all(regions.targets(at).unwrap_or(&[])),
-            Flow::Calls(_)
-            | Flow::CallsIf(_, _)
-            | Flow::Returns
-            | Flow::ReturnsIf(_)
-            | Flow::Pushes
-            | Flow::Pops
-            | Flow::Exchanges
-            | Flow::Halts => Ok(()),
-        }
-    }
-
-    /// Enters addresses.
-    ///
-    /// # Errors
-    /// `AllocError` if memory runs out.
-    fn enter_all(&mut self, targets: &[u16]) -> Result<(), AllocError>
-        requires { length self.old.marks.items ≡ 65536 }
-        ensures { length self.new.marks.items ≡ 65536 }
-    {
-        for target in targets {
-            self.enter(*target)?;
-        }
-        Ok(())
-    }
+    Ok(marks)
 }

@@ -7,17 +7,17 @@ ghost use Rattle.verify80_states.specs.Calls.{AccountsFor, AccountsForCall, IsWi
 use crate::fitting::marks::is_marked;
 use decode80::{Fetched, Flow};
 
-/// What is known of the returns of the procedure that runs at each address: marks by address, 65,536 places.
+/// Whether the procedure that runs at each address may return, and whether it is known where to: marks by address, 65,536 of each.
 #[derive(Debug, Drop)]
 pub struct CallReturns {
-    /// Whether it may still return.
+    /// Marks of the addresses from which on a return may still come.
     pub may_return: Vec<bool>,
-    /// Whether each state at its returns knows where they go.
+    /// Marks of the addresses from which on each state at a return knows where it goes.
     pub know_return: Vec<bool>,
 }
 
 impl CallReturns {
-    /// Whether a return may come from an address on.
+    /// Whether a return may still come from an address on.
     pub fn may_return(&self, at: u16) -> bool
         ensures { result ≡ (returns_of self.now).may at }
     {
@@ -31,7 +31,8 @@ impl CallReturns {
         is_marked(&self.know_return, at)
     }
 
-    /// Whether a return that may come from one address on may come from another on.
+    /// Whether `at` accounts for `to`: a return that may come from `to` on may come from `at` on, and those from `to` on are known, if
+    /// those from `at` on are.
     fn has_within(&self, at: u16, to: u16) -> bool
         ensures { result ≡ true → IsWithin (returns_of self.now) at to }
     {
@@ -39,14 +40,14 @@ impl CallReturns {
             && (!self.know_return(at) || self.know_return(to))
     }
 
-    /// Whether an address accounts for a call.
+    /// Whether `at` accounts for a call of `entry` that returns to `next`; true if the callee may not return.
     fn accounts_for_call(&self, at: u16, entry: u16, next: u16) -> bool
         ensures { result ≡ true → AccountsForCall (returns_of self.now) at entry next }
     {
         !self.may_return(entry) || self.has_within(at, next)
     }
 
-    /// Whether a return that may come from each of these on may come from an address on.
+    /// Whether `at` accounts for each of these targets.
     fn has_each_within(&self, at: u16, targets: &[u16]) -> bool
         ensures { result ≡ true → (to : ℕ) → Contains targets.now to → IsWithin (returns_of self.now) at to }
     {
@@ -58,7 +59,9 @@ impl CallReturns {
         true
     }
 
-    /// Whether an address accounts for the returns that may come where its instruction leads.
+    /// Whether the marks at `at` agree with those where its instruction leads: if a return may come from there on, one may from `at` on,
+    /// and if each return from `at` on knows where it goes, each from there on does. A call that is taken leads to the address after
+    /// it, if its callee may return; at a return, one may come. `targets` are those of a PCHL.
     pub fn accounts_for(&self, targets: &[u16], at: u16, found: Fetched) -> bool
         ensures { result ≡ true → AccountsFor (returns_of self.now) targets.now at found.next (flow found.instr) }
     {

@@ -2,8 +2,7 @@
 
 ghost use Rattle.std.specs.Prelude.{◌≡◌, ℕ, Bool, IfOk, length};
 ghost use Rattle.image80.specs.Regions.{AreRegions};
-ghost use Rattle.verify80.specs.Looking.{code_of};
-ghost use Rattle.verify80.specs.Reached.{AreReached};
+ghost use Rattle.verify80.specs.{Looking.code_of, Reached.AreReached};
 ghost use Rattle.verify80_states.specs.Runs.{IsKept};
 
 use crate::bytes::bytes_stay_bytes;

@@ -2,20 +2,13 @@
 
 ghost use Rattle.std.specs.List.{list_all};
 ghost use Rattle.std.specs.Prelude.{◌≡◌, ◌<◌, ℕ, Bool, true, false, Contains, Some, length, slice_get};
-ghost use Rattle.decode80.specs.declared.fetching.Fetched.{Fetched};
-ghost use Rattle.decode80.specs.Facts.{flow};
+ghost use Rattle.decode80.specs.{declared.fetching.Fetched.Fetched, Facts.flow};
 ghost use Rattle.image80.specs.Regions.{AreRegions, in_data};
-ghost use Rattle.verify80.specs.Looking.{code_of, declared_targets};
-ghost use Rattle.verify80.specs.Reached.{AreReached, found_at};
-ghost use Rattle.verify80_states.specs.declared.fitting.fitting.Placed.{Placed};
+ghost use Rattle.verify80.specs.{Looking.code_of, Looking.declared_targets, Reached.AreReached, Reached.found_at};
+ghost use Rattle.verify80_states.specs.{declared.fitting.fitting.Placed.Placed, State.cut, State.unknown_but, Following.is_steady, Following.state_after, Marks.is_marked, Steps.AreCodeBytes, FittingTable.EntryFits, Runs.IsKept};
 ghost use Rattle.verify80_spans.specs.Span.{Within, ByteWithin, byte_alone};
-ghost use Rattle.verify80_states.specs.State.{cut, unknown_but};
-ghost use Rattle.verify80_states.specs.Following.{is_steady, state_after};
-ghost use Rattle.verify80_states.specs.Marks.{is_marked};
-ghost use Rattle.verify80_states.specs.Steps.{AreCodeBytes};
 ghost use Rattle.verify80_states.specs.Fitting.{CallsEntry, Has, Covers, CoversAfter, FitsAt, KnowsQuiet};
-ghost use Rattle.verify80_states.specs.Calls.{AccountsFor, KeepsCalls, KnowsReturn, KnowsReturnsOf, returns_of};
-ghost use Rattle.verify80_states.specs.Runs.{IsKept};
+ghost use Rattle.verify80_states.specs.Calls.{AccountsFor, KnowsReturn, KnowsReturnsOf, returns_of};
 
 use crate::fitting::calls::CallReturns;
 use crate::fitting::laws::fitting_states_hold;
@@ -26,7 +19,7 @@ use decode80::{Fetched, Flow};
 use image80::{Image, Regions};
 use verify80_spans::{ByteSpan, Span};
 
-/// The hints from here on name no place: less this, each says where those of A's bytes begin, one for each that A may be.
+/// The first hint that names no place in a table: less this, it says where the hints of A's bytes begin, one for each byte that A may be.
 pub const APART: u32 = 0x8000_0000;
 
 /// A state at an address.
@@ -34,31 +27,31 @@ pub const APART: u32 = 0x8000_0000;
 pub struct Placed {
     pub at: u16,
     pub state: State,
-    /// Where its hints begin: for each way on the place of a state that says no more, or of one for each byte that A may be there.
+    /// Where the state's hints begin: one for each way on, which names a state that says no more, or one such state for each byte of A.
     pub hint: u32,
 }
 
-/// A table of states for a program: its hints, and what is known of the program.
+/// A table of states with its hints, and the program that it has to fit.
 #[derive(Clone, Copy)]
 pub(crate) struct Fit<'a> {
-    /// The states.
+    /// The states of the table.
     pub table: &'a [Placed],
-    /// For each way on from each state the place of one that says no more; or where the places of those for each byte of A begin.
+    /// The places in the table that the ways on from each state lead to; or, from `APART` on, where those for each byte of A begin.
     pub hints: &'a [u32],
-    /// Whether procedures return, and know where to.
+    /// Whether procedures return, and whether it is known where to.
     pub returns: &'a CallReturns,
-    /// The variables that its states name.
+    /// The variables that the states of the table name.
     pub variables: &'a [Variable],
-    /// By address the bytes of code.
+    /// The bytes of code, by address.
     pub code: &'a [Option<u8>],
     /// The regions, with the targets of each PCHL.
     pub regions: &'a Regions,
-    /// By address the instructions that are reached.
+    /// The instructions that are reached, by address.
     pub reached: &'a [Option<Fetched>],
 }
 
 impl Fit<'_> {
-    /// Whether the state at the place that a hint names stands at an address, and says no more than this one.
+    /// Whether a hint names a place of the table with a state at `to` that says no more than `state`.
     fn has(&self, hint: u32, to: u16, state: State) -> bool
         ensures { result ≡ true → Has self.now.variables.now self.now.table.now to state }
     {
@@ -71,14 +64,14 @@ impl Fit<'_> {
         }
     }
 
-    /// Whether the states that a hint names stand at an address, and together say no more than this one.
+    /// Whether a hint names states at `to` that together say no more than `state`: one, or one for each byte that A may be.
     fn covers(&self, hint: u32, to: u16, state: State) -> bool
         ensures { result ≡ true → Covers self.now.variables.now self.now.table.now to state }
     {
         self.has(hint, to, state) || self.has_each(hint, to, state)
     }
 
-    /// Whether a hint names a state for each byte that A may be.
+    /// Whether a hint names a state at `to` for each byte that A may be, which says no more than `state` with this byte in A.
     fn has_each(&self, hint: u32, to: u16, state: State) -> bool
         ensures { result ≡ true → (byte : ℕ) → ByteWithin state.a byte → Has self.now.variables.now self.now.table.now to (cut state (byte_alone byte)) }
     {
@@ -98,7 +91,8 @@ impl Fit<'_> {
         true
     }
 
-    /// Whether they do of what an instruction makes of a state, if there is one.
+    /// Whether a hint names states at `to` that together say no more than what an instruction makes of `left`; true if no state is left.
+    /// `taken` says whether its call or return is taken.
     fn covers_after(
         &self,
         hint: u32,
@@ -115,14 +109,14 @@ impl Fit<'_> {
         }
     }
 
-    /// What an instruction makes of a state.
+    /// The state after an instruction; `taken` says whether its call or return is taken.
     fn after(&self, found: Fetched, taken: bool, state: State) -> State
         ensures { result ≡ state_after self.now.code.now found.instr taken found.next state }
     {
         state_after(self.code, found.instr, taken, found.next, state)
     }
 
-    /// Whether the table covers a state at each of these targets that HL may be.
+    /// Whether hints name states at each of these targets that HL may be, which together say no more than `state`.
     fn has_at_each(&self, hint: u32, targets: &[u16], hl: Span, state: State) -> bool
         ensures { result ≡ true → (to : ℕ) → Contains targets.now to → Within hl to → Covers self.now.variables.now self.now.table.now to state }
     {
@@ -136,7 +130,7 @@ impl Fit<'_> {
         true
     }
 
-    /// Whether a state fits the instruction there.
+    /// Whether the table covers what the instruction at a state's address makes of it, wherever the instruction leads but by a return.
     fn state_fits(&self, targets: &[u16], placed: Placed, found: Fetched) -> bool
         ensures { result ≡ true → FitsAt self.now.code.now targets.now self.now.variables.now self.now.table.now placed.state found }
     {
@@ -144,10 +138,11 @@ impl Fit<'_> {
         let Fetched { instr, next } = found;
         let second = hint.saturating_add(1);
         match instr.flow() {
-            Flow::Continues | Flow::Pushes | Flow::Pops | Flow::Exchanges => {
-                self.covers(hint, next, self.after(found, false, state))
-            }
-            Flow::Jumps(to) => self.covers(hint, to, self.after(found, false, state)),
+            Flow::Continues => self.covers_after(hint, next, found, false, Some(state)),
+            Flow::Pushes => self.covers_after(hint, next, found, false, Some(state)),
+            Flow::Pops => self.covers_after(hint, next, found, false, Some(state)),
+            Flow::Exchanges => self.covers_after(hint, next, found, false, Some(state)),
+            Flow::Jumps(to) => self.covers_after(hint, to, found, false, Some(state)),
             Flow::JumpsIf(condition, to) | Flow::CallsIf(condition, to) => {
                 self.covers_after(hint, to, found, true, given(condition, true, state))
                     && self.covers_after(second, next, found, false, given(condition, false, state))
@@ -158,7 +153,7 @@ impl Fit<'_> {
                 state.hl.words,
                 self.after(found, false, state),
             ),
-            Flow::Calls(to) => self.covers(hint, to, self.after(found, true, state)),
+            Flow::Calls(to) => self.covers_after(hint, to, found, true, Some(state)),
             Flow::ReturnsIf(condition) => {
                 self.covers_after(hint, next, found, false, given(condition, false, state))
             }
@@ -166,7 +161,7 @@ impl Fit<'_> {
         }
     }
 
-    /// Whether each address accounts for what may come where its instruction leads.
+    /// Whether each reached address accounts for the addresses where its instruction leads.
     fn all_account(&self) -> bool
         ensures { result ≡ true → (at : ℕ) (found : Fetched) → at < 65536 → found_at self.now.reached.now at ≡ Some found →
             AccountsFor (returns_of self.now.returns.now) (declared_targets self.now.regions.now at) at found.next (flow found.instr) }
@@ -179,7 +174,7 @@ impl Fit<'_> {
         true
     }
 
-    /// Whether one address does, if an instruction is reached there.
+    /// Whether `at` accounts for the addresses where its instruction leads; true if no instruction is reached there.
     fn accounts_at(&self, at: u16) -> bool
         ensures { result ≡ true → (found : Fetched) → found_at self.now.reached.now at ≡ Some found →
             AccountsFor (returns_of self.now.returns.now) (declared_targets self.now.regions.now at) at found.next (flow found.instr) }
@@ -192,16 +187,11 @@ impl Fit<'_> {
         }
     }
 
-    /// Whether each state fits, and keeps to what its address accounts for.
+    /// Whether each state of the table fits the instruction at its address.
     fn all_fit(&self) -> bool
-        ensures entries { result ≡ true → (place : ℕ) (placed : Placed) (found : Fetched) → slice_get self.now.table.now place ≡ Some placed →
+        ensures { result ≡ true → (place : ℕ) (placed : Placed) (found : Fetched) → slice_get self.now.table.now place ≡ Some placed →
             found_at self.now.reached.now placed.at ≡ Some found →
-            FitsAt self.now.code.now (declared_targets self.now.regions.now placed.at) self.now.variables.now self.now.table.now placed.state found }
-        ensures calls { result ≡ true → (place : ℕ) (placed : Placed) (found : Fetched) → slice_get self.now.table.now place ≡ Some placed →
-            found_at self.now.reached.now placed.at ≡ Some found →
-            KeepsCalls (returns_of self.now.returns.now) self.now.code.now self.now.variables.now self.now.table.now placed.at placed.state found }
-        ensures steady { result ≡ true → (place : ℕ) (placed : Placed) (found : Fetched) → slice_get self.now.table.now place ≡ Some placed →
-            found_at self.now.reached.now placed.at ≡ Some found → list_all (is_steady self.now.code.now found.instr placed.state) self.now.variables.now ≡ true }
+            EntryFits self.now.code.now (returns_of self.now.returns.now) (declared_targets self.now.regions.now placed.at) self.now.variables.now self.now.table.now placed.at placed.state found }
     {
         for placed in self.table {
             if !self.placed_fits(*placed) {
@@ -211,14 +201,10 @@ impl Fit<'_> {
         true
     }
 
-    /// Whether one state does, if an instruction is reached there.
+    /// Whether a state of the table fits the instruction at its address; true if none is reached there.
     fn placed_fits(&self, placed: Placed) -> bool
-        ensures entries { result ≡ true → (found : Fetched) → found_at self.now.reached.now placed.at ≡ Some found →
-            FitsAt self.now.code.now (declared_targets self.now.regions.now placed.at) self.now.variables.now self.now.table.now placed.state found }
-        ensures calls { result ≡ true → (found : Fetched) → found_at self.now.reached.now placed.at ≡ Some found →
-            KeepsCalls (returns_of self.now.returns.now) self.now.code.now self.now.variables.now self.now.table.now placed.at placed.state found }
-        ensures steady { result ≡ true → (found : Fetched) → found_at self.now.reached.now placed.at ≡ Some found →
-            list_all (is_steady self.now.code.now found.instr placed.state) self.now.variables.now ≡ true }
+        ensures { result ≡ true → (found : Fetched) → found_at self.now.reached.now placed.at ≡ Some found →
+            EntryFits self.now.code.now (returns_of self.now.returns.now) (declared_targets self.now.regions.now placed.at) self.now.variables.now self.now.table.now placed.at placed.state found }
     {
         match reached_at(self.reached, placed.at) {
             Some(found) => {
@@ -237,7 +223,8 @@ impl Fit<'_> {
         }
     }
 
-    /// Whether a state knows where a return goes, and the table covers there what the return makes of it, if the states at its address are to.
+    /// Whether a state at a return knows where that goes, and the table covers what comes of the state there; true if the states at its
+    /// address need not know it.
     fn keeps_returns(&self, placed: Placed, found: Fetched) -> bool
         ensures { result ≡ true → (returns_of self.now.returns.now).known placed.at ≡ true →
             KnowsReturnsOf self.now.variables.now self.now.table.now (λ t. state_after self.now.code.now found.instr true found.next t) placed.state (flow found.instr) }
@@ -255,7 +242,7 @@ impl Fit<'_> {
         }
     }
 
-    /// Whether a state does at a return that is taken.
+    /// Whether a state knows where a return that is taken goes, and the table covers what comes of the state there.
     fn knows_return(&self, hint: u32, found: Fetched, state: State) -> bool
         ensures { result ≡ true → KnowsReturn self.now.variables.now self.now.table.now (λ t. state_after self.now.code.now found.instr true found.next t) state }
     {
@@ -268,8 +255,8 @@ impl Fit<'_> {
         }
     }
 
-    /// Whether behind a call whose callee may return, to where its states don't know, the table has a state that says nothing but of its
-    /// variables.
+    /// Whether the table has a state behind a state's call that says nothing but of the caller's variables; true if the instruction is no
+    /// call, or if no return comes or each is known.
     fn keeps_behind(&self, placed: Placed, found: Fetched) -> bool
         ensures { result ≡ true → (entry : ℕ) → CallsEntry (flow found.instr) entry → (returns_of self.now.returns.now).may entry ≡ true →
             (returns_of self.now.returns.now).known entry ≡ false → Has self.now.variables.now self.now.table.now found.next (unknown_but placed.state.set) }
@@ -287,7 +274,8 @@ impl Fit<'_> {
         }
     }
 
-    /// Whether it has one behind a call of the procedure at `entry`.
+    /// Whether the table has a state at `next` that says nothing but of the variables of `set`; true if no return comes from `entry` on, or
+    /// each is known.
     fn has_behind(&self, hint: u32, entry: u16, next: u16, set: u64) -> bool
         ensures { result ≡ true → (returns_of self.now.returns.now).may entry ≡ true → (returns_of self.now.returns.now).known entry ≡ false →
             Has self.now.variables.now self.now.table.now next (unknown_but set) }
@@ -297,21 +285,17 @@ impl Fit<'_> {
             || self.has(hint, next, State { set, ..State::ANY })
     }
 
-    /// Whether what an instruction stores in a state where a variable may be is one of its bytes, for each variable.
+    /// Whether each byte that a state's instruction stores where a variable may be is one of the variable's bytes, for all variables.
     fn are_steady(&self, placed: Placed, found: Fetched) -> bool
         ensures { result ≡ list_all (is_steady self.now.code.now found.instr placed.state) self.now.variables.now }
     {
-        let Placed {
-            at: _,
-            state,
-            hint: _,
-        } = placed;
+        let state = placed.state;
         self.variables.iter().all(|variable| is_steady(self.code, found.instr, state, *variable))
     }
 }
 
-/// Whether a table of states fits an image whose walks reach these instructions, and whose procedures return so; something is known of the
-/// bytes at quiet addresses alone, and of variables there. The first of the hints is that of the start. Then all runs keep to the table.
+/// Whether a table of states fits an image, so that all runs of the image keep to it. The first hint is that of the image's start. `code`
+/// has the image's code by address, and `reached` the instructions on its walks. The table must know bytes of quiet addresses alone.
 pub fn fits(
     image: &Image,
     table: &[Placed],
@@ -354,7 +338,7 @@ pub fn fits(
     fit.all_fit()
 }
 
-/// Whether a table says something of quiet addresses alone.
+/// Whether each state of a table says something of quiet addresses alone.
 fn all_know_quiet(table: &[Placed], quiet: &[bool]) -> bool
     ensures { result ≡ true → KnowsQuiet (is_marked quiet.now) table.now }
 {

@@ -4,8 +4,9 @@ ghost use Rattle.std.specs.Prelude.{◌≡◌, true};
 ghost use Rattle.verify80_states.specs.Marks.{is_marked};
 
 use crate::fitting::is_marked;
+use crate::states::memory_after::StoredByte;
 use crate::states::variables::{Variable, is_said};
-use verify80_spans::{ByteSpan, Span};
+use verify80_spans::ByteSpan;
 
 /// What the byte at an address may be.
 #[derive(Clone, Copy, Debug, PartialEq, Eq)]
@@ -17,7 +18,7 @@ pub struct Cell {
 impl Cell {
     ghost use Rattle.verify80_states.specs.Cells.{IsCellInside, IsQuietCell, IsSaidByCell, cell_or, cut_cell, stored_cell};
 
-    /// Nothing is known.
+    /// A cell that says nothing.
     pub const ANY: Cell = Cell {
         at: 0,
         bytes: ByteSpan::ANY,
@@ -40,21 +41,21 @@ impl Cell {
         is_said(variables, set, other)
     }
 
-    /// Whether it says nothing, or its address is marked as quiet.
+    /// Whether this cell says nothing, or its address is marked as quiet.
     fn is_quiet(self, quiet: &[bool]) -> bool
         ensures { result ≡ true → IsQuietCell (is_marked quiet.now) self }
     {
         self.bytes == ByteSpan::ANY || is_marked(quiet, self.at)
     }
 
-    /// Its bytes, if its address is this one.
+    /// The bytes of this cell if it is at an address, and else `otherwise`.
     fn or(self, at: u16, otherwise: ByteSpan) -> ByteSpan
         ensures { result ≡ cell_or self at otherwise }
     {
         if self.at == at { self.bytes } else { otherwise }
     }
 
-    /// The cell when the byte at an address is one of these too.
+    /// This cell when the byte at `at` is known to be one of `bytes` too.
     fn cut(self, at: u16, bytes: ByteSpan) -> Cell
         ensures { result ≡ cut_cell at bytes self }
     {
@@ -68,14 +69,18 @@ impl Cell {
         }
     }
 
-    /// The cell when one of these bytes is stored at one of these addresses.
-    fn stored(self, at: Span, bytes: ByteSpan) -> Cell
-        ensures { result ≡ stored_cell at bytes self }
+    /// This cell after a byte is stored.
+    fn stored(self, stored: StoredByte) -> Cell
+        ensures { result ≡ stored_cell stored self }
     {
-        if at.first <= self.at && self.at <= at.last {
+        if stored.at.first <= self.at && self.at <= stored.at.last {
             Cell {
                 at: self.at,
-                bytes: if at.is_alone() { bytes } else { ByteSpan::ANY },
+                bytes: if stored.at.is_alone() {
+                    stored.bytes
+                } else {
+                    ByteSpan::ANY
+                },
             }
         } else {
             self
@@ -83,8 +88,7 @@ impl Cell {
     }
 }
 
-/// What some bytes of memory may be. Each cell has the address that it has: a state before an instruction names there those of which
-/// something is known, or is to be known.
+/// What up to eight bytes of memory may be, each at the address that its cell names.
 #[derive(Clone, Copy, Debug, PartialEq, Eq)]
 pub struct Cells {
     pub first: Cell,
@@ -98,9 +102,9 @@ pub struct Cells {
 }
 
 impl Cells {
-    ghost use Rattle.verify80_states.specs.Cells.{AreCellsInside, AreQuietCells, bytes_at, cut_cells, stored_cells};
+    ghost use Rattle.verify80_states.specs.Cells.{AreCellsInside, AreQuietCells, bytes_at, cells_after, cut_cells};
 
-    /// Nothing is known.
+    /// Cells that say nothing.
     pub const ANY: Cells = Cells {
         first: Cell::ANY,
         second: Cell::ANY,
@@ -112,7 +116,7 @@ impl Cells {
         eighth: Cell::ANY,
     };
 
-    /// Whether these cells, and the variables that a set names, say all that others do.
+    /// Whether these cells, with the variables that a set names, say all that other cells do.
     pub(crate) fn are_inside(self, other: Cells, variables: &[Variable], set: u64) -> bool
         ensures { result ≡ true → AreCellsInside variables.now set self other }
     {
@@ -140,7 +144,7 @@ impl Cells {
         self.eighth.is_inside(other.eighth, variables, set)
     }
 
-    /// Whether something is known only of addresses that are marked as quiet.
+    /// Whether these cells say something only of addresses that are marked as quiet.
     pub fn are_quiet(self, quiet: &[bool]) -> bool
         ensures { result ≡ true → AreQuietCells (is_marked quiet.now) self }
     {
@@ -154,7 +158,7 @@ impl Cells {
             && self.eighth.is_quiet(quiet)
     }
 
-    /// What the byte at an address may be.
+    /// What the byte at an address may be: any byte, if no cell is there.
     pub fn bytes_at(self, at: u16) -> ByteSpan
         ensures { result ≡ bytes_at self at }
     {
@@ -168,7 +172,7 @@ impl Cells {
         self.first.or(at, bytes)
     }
 
-    /// The cells when the byte at an address, if one is named, is one of these too.
+    /// The cells when the byte at `at` is known to be one of `bytes` too; unchanged if no address is given, or no cell is at it.
     pub fn cut(self, at: Option<u16>, bytes: ByteSpan) -> Cells
         ensures { result ≡ cut_cells at bytes self }
     {
@@ -187,19 +191,22 @@ impl Cells {
         }
     }
 
-    /// The cells when one of these bytes is stored at one of these addresses.
-    pub fn stored(self, at: Span, bytes: ByteSpan) -> Cells
-        ensures { result ≡ stored_cells at bytes self }
+    /// The cells after a byte is stored, if one is.
+    pub(crate) fn after(self, stored: Option<StoredByte>) -> Cells
+        ensures { result ≡ cells_after stored self }
     {
-        Cells {
-            first: self.first.stored(at, bytes),
-            second: self.second.stored(at, bytes),
-            third: self.third.stored(at, bytes),
-            fourth: self.fourth.stored(at, bytes),
-            fifth: self.fifth.stored(at, bytes),
-            sixth: self.sixth.stored(at, bytes),
-            seventh: self.seventh.stored(at, bytes),
-            eighth: self.eighth.stored(at, bytes),
+        match stored {
+            None => self,
+            Some(stored) => Cells {
+                first: self.first.stored(stored),
+                second: self.second.stored(stored),
+                third: self.third.stored(stored),
+                fourth: self.fourth.stored(stored),
+                fifth: self.fifth.stored(stored),
+                sixth: self.sixth.stored(stored),
+                seventh: self.seventh.stored(stored),
+                eighth: self.eighth.stored(stored),
+            },
         }
     }
 }

@@ -7,7 +7,7 @@ use crate::states::state::State;
 use decode80::Condition;
 use verify80_spans::ByteSpan;
 
-/// A state that is left if a known flag is as it is wanted.
+/// The state, if a known flag is as wanted; `None` if it isn't.
 fn if_same(known: bool, wanted: bool, state: State) -> Option<State>
     ensures { result ≡ if_same known wanted state }
 {
@@ -17,7 +17,7 @@ fn if_same(known: bool, wanted: bool, state: State) -> Option<State>
     }
 }
 
-/// The bytes of A that are left if Z is as it is wanted.
+/// The bytes that A may be if Z is as wanted, given what A was compared with; `None` if there are none.
 fn zero_bytes(compared: Option<u8>, wanted: bool, a: ByteSpan) -> Option<ByteSpan>
     ensures { result ≡ zero_bytes compared wanted a }
 {
@@ -28,7 +28,7 @@ fn zero_bytes(compared: Option<u8>, wanted: bool, a: ByteSpan) -> Option<ByteSpa
     }
 }
 
-/// The bytes of A that are left if CY is as it is wanted.
+/// The bytes that A may be if CY is as wanted, given what A was compared with; `None` if there are none.
 fn carry_bytes(compared: Option<u8>, wanted: bool, a: ByteSpan) -> Option<ByteSpan>
     ensures { result ≡ carry_bytes compared wanted a }
 {
@@ -39,7 +39,7 @@ fn carry_bytes(compared: Option<u8>, wanted: bool, a: ByteSpan) -> Option<ByteSp
     }
 }
 
-/// The state in which A holds one of these bytes, if there are any.
+/// The state in which A holds one of `bytes`; `None` if there are none.
 fn cut_to(bytes: Option<ByteSpan>, state: State) -> Option<State>
     ensures { result ≡ cut_to bytes state }
 {
@@ -49,7 +49,7 @@ fn cut_to(bytes: Option<ByteSpan>, state: State) -> Option<State>
     }
 }
 
-/// The state in which Z is as it is wanted.
+/// The state that is left if Z is as wanted; `None` if it can't be.
 fn given_zero(wanted: bool, state: State) -> Option<State>
     ensures { result ≡ given_zero state.zero wanted state }
 {
@@ -65,7 +65,7 @@ fn given_zero(wanted: bool, state: State) -> Option<State>
     }
 }
 
-/// The state in which CY is as it is wanted.
+/// The state that is left if CY is as wanted; `None` if it can't be.
 fn given_carry(wanted: bool, state: State) -> Option<State>
     ensures { result ≡ given_carry state.carry wanted state }
 {
@@ -81,7 +81,7 @@ fn given_carry(wanted: bool, state: State) -> Option<State>
     }
 }
 
-/// The state in which S is as it is wanted.
+/// The state that is left if S is as wanted; `None` if it can't be.
 fn given_sign(wanted: bool, state: State) -> Option<State>
     ensures { result ≡ given_sign state.sign wanted state }
 {
@@ -94,7 +94,7 @@ fn given_sign(wanted: bool, state: State) -> Option<State>
     }
 }
 
-/// The state that is left if a condition holds, or doesn't hold; `None` if that can't be.
+/// The state that is left if a condition holds, or if it doesn't; `None` if that can't be.
 pub fn given(condition: Condition, holds: bool, state: State) -> Option<State>
     ensures { result ≡ given condition holds state }
 {

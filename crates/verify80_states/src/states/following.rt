@@ -6,14 +6,14 @@ ghost use Rattle.verify80_spans.specs.Span.{uncarried};
 ghost use Rattle.verify80_states.specs.State.{compared_with, with_outcome};
 
 use crate::states::cells::Cells;
-use crate::states::memory_after::{cells_after, source_after};
+use crate::states::memory_after::{source_after, stored_bytes};
 use crate::states::pairs::PairSpan;
 use crate::states::state::State;
 use crate::states::words::Words;
 use decode80::{IndexPair, Instr, Operand, Operation, Pair, Register, StackPair, ahead};
 use verify80_spans::{ByteSpan, Outcome, Span, operated, rotated};
 
-/// The byte of code at an address, if code is there.
+/// The byte of code at an address; `None` if no code is there.
 fn byte_at(code: &[Option<u8>], at: u16) -> Option<u8>
     ensures { result ≡ byte_at code.now at }
 {
@@ -23,7 +23,7 @@ fn byte_at(code: &[Option<u8>], at: u16) -> Option<u8>
     }
 }
 
-/// What is known of a word.
+/// What a word on the stack may be: any word, if nothing is known of it.
 fn known_pair(word: Option<PairSpan>) -> PairSpan
     ensures { result ≡ known_pair word }
 {
@@ -33,7 +33,7 @@ fn known_pair(word: Option<PairSpan>) -> PairSpan
     }
 }
 
-/// A byte that is read at an address: only code and cells are known.
+/// What a byte that is read at an address may be: the byte of code there, or what a cell says.
 fn loaded_at(code: &[Option<u8>], cells: Cells, at: u16) -> ByteSpan
     ensures { result ≡ loaded_at code.now cells at }
 {
@@ -43,7 +43,7 @@ fn loaded_at(code: &[Option<u8>], cells: Cells, at: u16) -> ByteSpan
     }
 }
 
-/// A byte that is read at one of these addresses.
+/// What a byte that is read at one of these addresses may be: any byte, if there are several.
 pub(crate) fn loaded(code: &[Option<u8>], cells: Cells, at: Span) -> ByteSpan
     ensures { result ≡ loaded code.now cells at }
 {
@@ -54,7 +54,7 @@ pub(crate) fn loaded(code: &[Option<u8>], cells: Cells, at: Span) -> ByteSpan
     }
 }
 
-/// A register is copied.
+/// The state after MOV copies a register.
 fn moved(to: Register, from: Register, state: State) -> State
     ensures { result ≡ moved to from state }
 {
@@ -69,7 +69,7 @@ fn moved(to: Register, from: Register, state: State) -> State
     }
 }
 
-/// A register is counted up or down to these bytes.
+/// The state after a register is counted up or down to one of these bytes; CY stays.
 fn counted(register: Register, byte: ByteSpan, state: State) -> State
     ensures { result ≡ counted register byte state }
 {
@@ -80,7 +80,7 @@ fn counted(register: Register, byte: ByteSpan, state: State) -> State
     state.with_byte(register, byte).with_outcome(outcome)
 }
 
-/// A result comes into A.
+/// The state after a result comes into A.
 fn resulted(outcome: Outcome, state: State) -> State
     ensures { result ≡ resulted outcome state }
 {
@@ -89,7 +89,7 @@ fn resulted(outcome: Outcome, state: State) -> State
         .with_outcome(outcome)
 }
 
-/// Z and CY are as if A was compared with 0.
+/// The state in which Z and CY are as if A had been compared with 0.
 fn tested(state: State) -> State
     ensures { result ≡ tested state }
 {
@@ -99,14 +99,14 @@ fn tested(state: State) -> State
     }
 }
 
-/// A stays as it is, and Z, S and CY are those of its byte.
+/// The state after an operation that leaves A's byte, and sets Z, S and CY by it.
 fn unchanged(state: State) -> State
     ensures { result ≡ tested (with_outcome state (uncarried state.a)) }
 {
     tested(state.with_outcome(Outcome::uncarried(state.a)))
 }
 
-/// What an operand may be.
+/// What the operand of an operation on A may be.
 fn operand_bytes(code: &[Option<u8>], operand: Operand, state: State) -> ByteSpan
     ensures { result ≡ operand_bytes code.now operand state }
 {
@@ -117,7 +117,7 @@ fn operand_bytes(code: &[Option<u8>], operand: Operand, state: State) -> ByteSpa
     }
 }
 
-/// The byte with which A is compared, if it is one.
+/// The byte with which A is compared; `None` if it may be one of several.
 fn compared_with(byte: ByteSpan) -> Option<u8>
     ensures { result ≡ compared_with byte }
 {
@@ -128,7 +128,7 @@ fn compared_with(byte: ByteSpan) -> Option<u8>
     }
 }
 
-/// An operation on A and a byte, which may be A itself.
+/// The state after an operation on A and a byte; `itself` says that this is A's own.
 fn after_operation(operation: Operation, itself: bool, byte: ByteSpan, state: State) -> State
     ensures { result ≡ after_operation operation itself byte state }
 {
@@ -152,7 +152,7 @@ fn after_operation(operation: Operation, itself: bool, byte: ByteSpan, state: St
     }
 }
 
-/// The carry of DAD.
+/// The carry after DAD adds a pair to HL; `None` if it isn't known.
 fn added_carry(state: State, pair: Pair) -> Option<bool>
     ensures { result ≡ added_carry state pair }
 {
@@ -164,7 +164,7 @@ fn added_carry(state: State, pair: Pair) -> Option<bool>
     }
 }
 
-/// A carry is complemented.
+/// The carry after CMC; `None` if it isn't known.
 fn turned(carry: Option<bool>) -> Option<bool>
     ensures { result ≡ turned carry }
 {
@@ -174,7 +174,7 @@ fn turned(carry: Option<bool>) -> Option<bool>
     }
 }
 
-/// DE and HL are exchanged.
+/// The state after DE and HL are exchanged.
 fn exchanged_pairs(state: State) -> State
     ensures { result ≡ exchanged_pairs state }
 {
@@ -193,7 +193,7 @@ fn exchanged_pairs(state: State) -> State
     }
 }
 
-/// What a pair that LDAX and STAX name may be.
+/// The words that the pair of LDAX or STAX may be.
 pub fn index_words(state: State, pair: IndexPair) -> Span
     ensures { result ≡ index_words state pair }
 {
@@ -203,7 +203,7 @@ pub fn index_words(state: State, pair: IndexPair) -> Span
     }
 }
 
-/// A word comes into the pair that POP names.
+/// The state after POP takes a word into a pair.
 fn popped_to(pair: StackPair, word: PairSpan, state: State) -> State
     ensures { result ≡ popped_to pair word state }
 {
@@ -215,7 +215,7 @@ fn popped_to(pair: StackPair, word: PairSpan, state: State) -> State
     }
 }
 
-/// The word that PUSH pushes: PSW is A and the flags.
+/// What the word that PUSH pushes may be; PSW is A and the flags.
 fn pushed_pair(state: State, pair: StackPair) -> PairSpan
     ensures { result ≡ pushed_pair state pair }
 {
@@ -227,7 +227,7 @@ fn pushed_pair(state: State, pair: StackPair) -> PairSpan
     }
 }
 
-/// Registers and flags after an instruction.
+/// The state after an instruction, as to registers and flags.
 fn registers_after(code: &[Option<u8>], instr: Instr, state: State) -> State
     ensures { result ≡ registers_after code.now instr state }
 {
@@ -303,7 +303,7 @@ fn registers_after(code: &[Option<u8>], instr: Instr, state: State) -> State
     }
 }
 
-/// The words on the stack after a call, if it is taken.
+/// The words on the stack after a call, which pushes the address behind it, `next`, if it is taken.
 fn called(taken: bool, next: u16, words: Words) -> Words
     ensures { result ≡ called taken next words }
 {
@@ -314,7 +314,7 @@ fn called(taken: bool, next: u16, words: Words) -> Words
     }
 }
 
-/// The words on the stack after a return, if it is taken.
+/// The words on the stack after a return, which pops one if it is taken.
 fn returned(taken: bool, words: Words) -> Words
     ensures { result ≡ returned taken words }
 {
@@ -348,10 +348,11 @@ pub fn state_after(code: &[Option<u8>], instr: Instr, taken: bool, next: u16, st
     ensures { result ≡ state_after code.now instr taken next state }
 {
     let after = registers_after(code, instr, state);
+    let stored = stored_bytes(code, instr, state);
     State {
         words: words_after(instr, taken, next, state),
-        cells: cells_after(code, instr, state),
-        source: source_after(instr, state, after.source),
+        cells: state.cells.after(stored.0).after(stored.1),
+        source: source_after(instr, state, stored, after.source),
         set: state.set,
         ..after
     }

@@ -1,36 +1,60 @@
-//! What becomes of what is known of memory at an instruction.
+//! What an instruction stores, and what becomes of what is known of memory.
 
 ghost use Rattle.std.specs.Prelude.{◌≡◌};
-ghost use Rattle.verify80_states.specs.Following.{address_outside, cells_after, is_steady, only_address, source_after};
+ghost use Rattle.verify80_states.specs.Following.{address_after, is_steady, one_byte, only_address, source_after, stored_bytes};
 
-use crate::states::cells::Cells;
 use crate::states::following::{index_words, loaded};
 use crate::states::state::State;
 use crate::states::variables::Variable;
 use decode80::{Instr, Register, ahead};
 use verify80_spans::{ByteSpan, Span};
 
-/// The bytes of memory that are known after an instruction.
-pub(crate) fn cells_after(code: &[Option<u8>], instr: Instr, state: State) -> Cells
-    ensures { result ≡ cells_after code.now instr state }
+/// A byte that an instruction stores: where, and which.
+#[derive(Clone, Copy, Debug)]
+pub struct StoredByte {
+    pub at: Span,
+    pub bytes: ByteSpan,
+}
+
+/// A store of one byte: one of `bytes`, at one of the addresses of `at`.
+fn one_byte(at: Span, bytes: ByteSpan) -> (Option<StoredByte>, Option<StoredByte>)
+    ensures { result ≡ one_byte at bytes }
 {
-    let cells = state.cells;
+    (Some(StoredByte { at, bytes }), None)
+}
+
+/// The bytes that an instruction stores where a pair points to or at an address that it names: none, one, or the two of SHLD, the low
+/// one first. What it pushes isn't among them.
+pub fn stored_bytes(
+    code: &[Option<u8>],
+    instr: Instr,
+    state: State,
+) -> (Option<StoredByte>, Option<StoredByte>)
+    ensures { result ≡ stored_bytes code.now instr state }
+{
     let pointed = state.hl.words;
     match instr {
-        Instr::Store(register) => cells.stored(pointed, state.byte(register)),
-        Instr::MviMemory(byte) => cells.stored(pointed, ByteSpan::alone(byte)),
-        Instr::InrMemory => cells.stored(pointed, loaded(code, cells, pointed).next()),
-        Instr::DcrMemory => cells.stored(pointed, loaded(code, cells, pointed).previous()),
-        Instr::Stax(pair) => cells.stored(index_words(state, pair), state.a),
-        Instr::Sta(address) => cells.stored(Span::alone(address), state.a),
-        Instr::Shld(address) => cells
-            .stored(Span::alone(address), state.hl.low)
-            .stored(Span::alone(ahead(address, 1)), state.hl.high()),
-        _ => cells,
+        Instr::Store(register) => one_byte(pointed, state.byte(register)),
+        Instr::MviMemory(byte) => one_byte(pointed, ByteSpan::alone(byte)),
+        Instr::InrMemory => one_byte(pointed, loaded(code, state.cells, pointed).next()),
+        Instr::DcrMemory => one_byte(pointed, loaded(code, state.cells, pointed).previous()),
+        Instr::Stax(pair) => one_byte(index_words(state, pair), state.a),
+        Instr::Sta(address) => one_byte(Span::alone(address), state.a),
+        Instr::Shld(address) => (
+            Some(StoredByte {
+                at: Span::alone(address),
+                bytes: state.hl.low,
+            }),
+            Some(StoredByte {
+                at: Span::alone(ahead(address, 1)),
+                bytes: state.hl.high(),
+            }),
+        ),
+        _ => (None, None),
     }
 }
 
-/// An address, if it is the only one of a span.
+/// The only address of a span; `None` if it has several.
 fn only_address(span: Span) -> Option<u16>
     ensures { result ≡ only_address span }
 {
@@ -41,53 +65,37 @@ fn only_address(span: Span) -> Option<u16>
     }
 }
 
-/// An address that is outside of a span.
-fn address_outside(span: Span, address: Option<u16>) -> Option<u16>
-    ensures { result ≡ address_outside span address }
+/// An address, unless a byte is stored that may be there: then `None`.
+fn address_after(stored: Option<StoredByte>, address: Option<u16>) -> Option<u16>
+    ensures { result ≡ address_after stored address }
 {
-    match address {
-        Some(at) if span.first <= at && at <= span.last => None,
-        other => other,
+    match (stored, address) {
+        (Some(stored), Some(at)) if stored.at.first <= at && at <= stored.at.last => None,
+        (_, address) => address,
     }
 }
 
-/// The address of a byte that A has after an instruction, given what is left of that when the registers are written.
-pub(crate) fn source_after(instr: Instr, state: State, left: Option<u16>) -> Option<u16>
-    ensures { result ≡ source_after instr state left }
+/// The address of a byte of memory that A has after an instruction, if one is known. `stored` is what the instruction stores, and `left`
+/// what was known before it, unless A is written.
+pub(crate) fn source_after(
+    instr: Instr,
+    state: State,
+    stored: (Option<StoredByte>, Option<StoredByte>),
+    left: Option<u16>,
+) -> Option<u16>
+    ensures { result ≡ source_after instr state stored left }
 {
-    let pointed = state.hl.words;
     match instr {
         Instr::Lda(address) | Instr::Sta(address) => Some(address),
-        Instr::Load(Register::A) | Instr::Store(Register::A) => only_address(pointed),
-        Instr::Store(_) | Instr::MviMemory(_) | Instr::InrMemory | Instr::DcrMemory => {
-            address_outside(pointed, left)
-        }
-        Instr::Stax(pair) => address_outside(index_words(state, pair), left),
-        Instr::Shld(address) => address_outside(
-            Span::alone(ahead(address, 1)),
-            address_outside(Span::alone(address), left),
-        ),
-        _ => left,
+        Instr::Load(Register::A) | Instr::Store(Register::A) => only_address(state.hl.words),
+        _ => address_after(stored.1, address_after(stored.0, left)),
     }
 }
 
-/// Whether what an instruction stores where a variable may be is one of the variable's bytes.
+/// Whether each byte that an instruction stores where a variable may be is one of the variable's bytes.
 pub(crate) fn is_steady(code: &[Option<u8>], instr: Instr, state: State, variable: Variable) -> bool
     ensures { result ≡ is_steady code.now instr state variable }
 {
-    let cells = state.cells;
-    let pointed = state.hl.words;
-    match instr {
-        Instr::Store(register) => variable.takes(pointed, state.byte(register)),
-        Instr::MviMemory(byte) => variable.takes(pointed, ByteSpan::alone(byte)),
-        Instr::InrMemory => variable.takes(pointed, loaded(code, cells, pointed).next()),
-        Instr::DcrMemory => variable.takes(pointed, loaded(code, cells, pointed).previous()),
-        Instr::Stax(pair) => variable.takes(index_words(state, pair), state.a),
-        Instr::Sta(address) => variable.takes(Span::alone(address), state.a),
-        Instr::Shld(address) => {
-            variable.takes(Span::alone(address), state.hl.low)
-                && variable.takes(Span::alone(ahead(address, 1)), state.hl.high())
-        }
-        _ => true,
-    }
+    let (first, second) = stored_bytes(code, instr, state);
+    variable.takes(first) && variable.takes(second)
 }

@@ -14,13 +14,13 @@ impl PairSpan {
     ghost use Rattle.verify80_spans.specs.Span.{high_of};
     ghost use Rattle.verify80_states.specs.State.{pair_of_words, pair_of_halves, cut_high, cut_low, next_pair, previous_pair, sum_pair, IsPairInside};
 
-    /// Any word.
+    /// A pair of which nothing is known.
     pub const ANY: PairSpan = PairSpan {
         words: Span::ANY,
         low: ByteSpan::ANY,
     };
 
-    /// A pair of these words.
+    /// The pair that is one of `words`.
     pub fn of_words(words: Span) -> PairSpan
         ensures { result ≡ pair_of_words words }
     {
@@ -30,7 +30,7 @@ impl PairSpan {
         }
     }
 
-    /// A pair of these halves.
+    /// The pair whose high byte is one of `high` and whose low byte is one of `low`.
     pub fn of_halves(high: ByteSpan, low: ByteSpan) -> PairSpan
         ensures { result ≡ pair_of_halves high low }
     {
@@ -40,14 +40,14 @@ impl PairSpan {
         }
     }
 
-    /// What its high byte may be.
+    /// What the high byte of this pair may be.
     pub fn high(self) -> ByteSpan
         ensures { result ≡ high_of self.words }
     {
         self.words.high()
     }
 
-    /// The pair whose high byte is one of these too.
+    /// This pair when its high byte is known to be one of `byte` too.
     pub(crate) fn cut_high(self, byte: ByteSpan) -> PairSpan
         ensures { result ≡ cut_high self byte }
     {
@@ -57,7 +57,7 @@ impl PairSpan {
         }
     }
 
-    /// The pair whose low byte is one of these too.
+    /// This pair when its low byte is known to be one of `byte` too.
     pub(crate) fn cut_low(self, byte: ByteSpan) -> PairSpan
         ensures { result ≡ cut_low self byte }
     {
@@ -68,21 +68,21 @@ impl PairSpan {
         }
     }
 
-    /// What becomes of it by adding 1, as INX does.
+    /// This pair plus 1, as INX makes it.
     pub(crate) fn next(self) -> PairSpan
         ensures { result ≡ next_pair self }
     {
         PairSpan::of_words(self.words.next()).cut_low(self.low.next())
     }
 
-    /// What becomes of it by subtracting 1, as DCX does.
+    /// This pair less 1, as DCX makes it.
     pub(crate) fn previous(self) -> PairSpan
         ensures { result ≡ previous_pair self }
     {
         PairSpan::of_words(self.words.previous()).cut_low(self.low.previous())
     }
 
-    /// What becomes of it by adding another, as DAD does.
+    /// The sum of this pair and another, as DAD makes it.
     pub(crate) fn plus(self, other: PairSpan) -> PairSpan
         ensures { result ≡ sum_pair self other }
     {
@@ -90,7 +90,7 @@ impl PairSpan {
         PairSpan::of_words(self.words.plus(other.words)).cut_low(low.value)
     }
 
-    /// Whether all that this pair may be the other may be.
+    /// Whether all that this pair may be another may be.
     pub(crate) fn is_inside(self, other: PairSpan) -> bool
         ensures { (result ≡ true) ↔ IsPairInside self other }
     {

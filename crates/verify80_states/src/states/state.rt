@@ -17,26 +17,26 @@ pub struct State {
     pub hl: PairSpan,
     /// The register that has the byte of A: A itself, if none else is known to.
     pub copy: Register,
-    /// Whether Z is set, as far as it is known.
+    /// Whether Z is set; `None` if that isn't known.
     pub zero: Option<bool>,
-    /// Whether CY is set.
+    /// Whether CY is set; `None` if that isn't known.
     pub carry: Option<bool>,
-    /// Whether S is set.
+    /// Whether S is set; `None` if that isn't known.
     pub sign: Option<bool>,
-    /// The number of which Z says whether A is it, and CY whether A is below it.
+    /// The byte that A was compared with, if it is known: Z says whether A is that byte, and CY whether A is below it.
     pub compared: Option<u8>,
     pub words: Words,
     pub cells: Cells,
-    /// The address of a byte of memory that A has, if one is known.
+    /// The address of a byte of memory that A is known to have; `None` if there is none.
     pub source: Option<u16>,
-    /// The variables that have one of their bytes: a bit for each.
+    /// The variables that are known to have one of their bytes: a bit for each.
     pub set: u64,
 }
 
 ghost use Rattle.std.specs.Prelude.{◌≡◌, true};
 ghost use Rattle.verify80_states.specs.State.{copy_without, copy_outside, IsFlagInside, IsComparisonInside, IsCopyInside};
 
-/// The register that has A's byte when a register is written.
+/// The register that has A's byte after a register is written: A itself, if none else does.
 fn copy_without(written: Register, copy: Register) -> Register
     ensures { result ≡ copy_without written copy }
 {
@@ -52,7 +52,7 @@ fn copy_without(written: Register, copy: Register) -> Register
     }
 }
 
-/// The register that has A's byte when a pair is written.
+/// The register that has A's byte after a pair is written: A itself, if none else does.
 fn copy_outside(written: Pair, copy: Register) -> Register
     ensures { result ≡ copy_outside written copy }
 {
@@ -64,64 +64,41 @@ fn copy_outside(written: Pair, copy: Register) -> Register
     }
 }
 
-/// Whether what is known of a flag says all that another knowledge does.
+/// Whether `inner`, what is known of a flag, says all that `outer` does.
 fn is_flag_inside(inner: Option<bool>, outer: Option<bool>) -> bool
     ensures { result ≡ true → IsFlagInside inner outer }
 {
-    match (inner, outer) {
-        (_, None) | (Some(true), Some(true)) | (Some(false), Some(false)) => true,
-        _ => false,
-    }
+    outer.is_none() || inner == outer
 }
 
-/// Whether what is known of a comparison does.
+/// Whether `inner`, what A is known to be compared with, says all that `outer` does.
 fn is_comparison_inside(inner: Option<u8>, outer: Option<u8>) -> bool
     ensures { result ≡ true → IsComparisonInside inner outer }
 {
-    match (inner, outer) {
-        (_, None) => true,
-        (Some(inner), Some(outer)) => inner == outer,
-        (None, Some(_)) => false,
-    }
+    outer.is_none() || inner == outer
 }
 
-/// Whether what is known of the byte of memory that A has does.
+/// Whether `inner`, the known address of the byte that A has, says all that `outer` does.
 fn is_source_inside(inner: Option<u16>, outer: Option<u16>) -> bool
     ensures { result ≡ true → IsComparisonInside inner outer }
 {
-    match (inner, outer) {
-        (_, None) => true,
-        (Some(inner), Some(outer)) => inner == outer,
-        (None, Some(_)) => false,
-    }
+    outer.is_none() || inner == outer
 }
 
-/// Whether what is known of a copy does.
+/// Whether `inner`, the register that has the byte of A, says all that `outer` does.
 fn is_copy_inside(inner: Register, outer: Register) -> bool
     ensures { result ≡ true → IsCopyInside inner outer }
 {
-    match (inner, outer) {
-        (_, Register::A)
-        | (Register::B, Register::B)
-        | (Register::C, Register::C)
-        | (Register::D, Register::D)
-        | (Register::E, Register::E)
-        | (Register::H, Register::H)
-        | (Register::L, Register::L) => true,
-        _ => false,
-    }
+    outer == Register::A || inner == outer
 }
 
 impl State {
     ghost use Rattle.std.specs.Prelude.{◌≡◌, ◌⊎◌, true, Some, slice_get};
     ghost use Rattle.verify80_spans.specs.Span.{IsByteInside};
-    ghost use Rattle.verify80_states.specs.declared.states.variables.Variable.{Variable};
-    ghost use Rattle.verify80_states.specs.Variables.{is_bit};
-    ghost use Rattle.verify80_states.specs.Cells.{bytes_at};
+    ghost use Rattle.verify80_states.specs.{declared.states.variables.Variable.Variable, Variables.is_bit, Cells.bytes_at, Marks.is_marked};
     ghost use Rattle.verify80_states.specs.State.{byte_of, span_of, with_byte, with_span, with_outcome, with_carry, with_any_flags, cut, cut_copy, AreRegistersInside, IsSetInside, IsStateInside, IsQuietState};
-    ghost use Rattle.verify80_states.specs.Marks.{is_marked};
 
-    /// Nothing is known.
+    /// The state that says nothing.
     pub const ANY: State = State {
         a: ByteSpan::ANY,
         bc: PairSpan::ANY,
@@ -138,7 +115,7 @@ impl State {
         set: 0,
     };
 
-    /// Whether this state says all that another does, given the variables that they name.
+    /// Whether this state says all that another does; `variables` are those that both may name.
     pub fn is_inside(self, other: State, variables: &[Variable]) -> bool
         ensures { result ≡ true → IsStateInside variables.now self other }
     {
@@ -156,7 +133,7 @@ impl State {
             && self.cells.are_inside(other.cells, variables, self.set)
     }
 
-    /// Whether it names each variable that another state names, or its cells say as much.
+    /// Whether this state names each variable that another one names, or its cells say as much.
     fn is_set_inside(self, other: State, variables: &[Variable]) -> bool
         ensures { result ≡ true → IsSetInside variables.now self other }
     {
@@ -168,7 +145,8 @@ impl State {
         true
     }
 
-    /// Whether another state doesn't name the variable with a number, or this one does, or its cells say as much.
+    /// Whether this state says of the variable with a number what `other` does: it names the variable in `set`, or its cells show that
+    /// the byte is one of the variable's. True if `other` doesn't name it, or if there is no such variable.
     fn has_named(self, other: State, variables: &[Variable], number: usize) -> bool
         ensures { result ≡ true → (v : Variable) → slice_get variables.now number ≡ Some v → is_bit other.set number ≡ true →
             (is_bit self.set number ≡ true) ⊎ IsByteInside (bytes_at self.cells v.at) v.bytes }
@@ -183,7 +161,7 @@ impl State {
         }
     }
 
-    /// Whether the registers say all that those of another state do.
+    /// Whether this state says of A, BC, DE and HL all that another does.
     fn are_registers_inside(self, other: State) -> bool
         ensures { result ≡ true → AreRegistersInside self other }
     {
@@ -193,7 +171,7 @@ impl State {
             && self.de.is_inside(other.de)
     }
 
-    /// What a register may hold.
+    /// What a register may hold in this state.
     pub fn byte(self, register: Register) -> ByteSpan
         ensures { result ≡ byte_of self register }
     {
@@ -208,7 +186,7 @@ impl State {
         }
     }
 
-    /// What a pair may be; SP may be any word.
+    /// What a pair may be in this state; SP may be any word.
     pub fn pair(self, pair: Pair) -> PairSpan
         ensures { result ≡ span_of self pair }
     {
@@ -220,11 +198,35 @@ impl State {
         }
     }
 
-    /// The state when a register is written: the other half of its pair stays.
+    /// This state with another span for BC.
+    fn with_bc(self, bc: PairSpan) -> State
+        ensures { result ≡ record self { bc = bc } }
+    {
+        State { bc, ..self }
+    }
+
+    /// This state with another span for DE.
+    fn with_de(self, de: PairSpan) -> State
+        ensures { result ≡ record self { de = de } }
+    {
+        State { de, ..self }
+    }
+
+    /// This state with another span for HL.
+    fn with_hl(self, hl: PairSpan) -> State
+        ensures { result ≡ record self { hl = hl } }
+    {
+        State { hl, ..self }
+    }
+
+    /// This state after a register is written: the other half of its pair stays.
     pub fn with_byte(self, register: Register, byte: ByteSpan) -> State
         ensures { result ≡ with_byte self register byte }
     {
-        let copy = copy_without(register, self.copy);
+        let after = State {
+            copy: copy_without(register, self.copy),
+            ..self
+        };
         match register {
             Register::A => State {
                 a: byte,
@@ -233,65 +235,32 @@ impl State {
                 source: None,
                 ..self
             },
-            Register::B => State {
-                bc: PairSpan::of_halves(byte, self.bc.low),
-                copy,
-                ..self
-            },
-            Register::C => State {
-                bc: PairSpan::of_halves(self.bc.high(), byte),
-                copy,
-                ..self
-            },
-            Register::D => State {
-                de: PairSpan::of_halves(byte, self.de.low),
-                copy,
-                ..self
-            },
-            Register::E => State {
-                de: PairSpan::of_halves(self.de.high(), byte),
-                copy,
-                ..self
-            },
-            Register::H => State {
-                hl: PairSpan::of_halves(byte, self.hl.low),
-                copy,
-                ..self
-            },
-            Register::L => State {
-                hl: PairSpan::of_halves(self.hl.high(), byte),
-                copy,
-                ..self
-            },
+            Register::B => after.with_bc(PairSpan::of_halves(byte, self.bc.low)),
+            Register::C => after.with_bc(PairSpan::of_halves(self.bc.high(), byte)),
+            Register::D => after.with_de(PairSpan::of_halves(byte, self.de.low)),
+            Register::E => after.with_de(PairSpan::of_halves(self.de.high(), byte)),
+            Register::H => after.with_hl(PairSpan::of_halves(byte, self.hl.low)),
+            Register::L => after.with_hl(PairSpan::of_halves(self.hl.high(), byte)),
         }
     }
 
-    /// The state when a pair is written.
+    /// This state after a pair is written. Of SP nothing is known.
     pub fn with_span(self, pair: Pair, span: PairSpan) -> State
         ensures { result ≡ with_span self pair span }
     {
-        let copy = copy_outside(pair, self.copy);
+        let after = State {
+            copy: copy_outside(pair, self.copy),
+            ..self
+        };
         match pair {
-            Pair::Bc => State {
-                bc: span,
-                copy,
-                ..self
-            },
-            Pair::De => State {
-                de: span,
-                copy,
-                ..self
-            },
-            Pair::Hl => State {
-                hl: span,
-                copy,
-                ..self
-            },
+            Pair::Bc => after.with_bc(span),
+            Pair::De => after.with_de(span),
+            Pair::Hl => after.with_hl(span),
             Pair::Sp => self,
         }
     }
 
-    /// The state when the flags are those of a result.
+    /// This state after the flags are set by a result.
     pub fn with_outcome(self, outcome: Outcome) -> State
         ensures { result ≡ with_outcome self outcome }
     {
@@ -304,7 +273,7 @@ impl State {
         }
     }
 
-    /// The state when the carry alone is written.
+    /// This state after CY alone is written.
     pub fn with_carry(self, carry: Option<bool>) -> State
         ensures { result ≡ with_carry self carry }
     {
@@ -315,7 +284,7 @@ impl State {
         }
     }
 
-    /// The state when the flags are whatever they are.
+    /// This state after flags are written of which nothing is known.
     pub fn with_any_flags(self) -> State
         ensures { result ≡ with_any_flags self }
     {
@@ -328,40 +297,22 @@ impl State {
         }
     }
 
-    /// The state in which the register that has A's byte holds one of these.
+    /// This state when the register that has A's byte is known to hold one of `byte`.
     fn cut_copy(self, byte: ByteSpan) -> State
         ensures { result ≡ cut_copy self self.copy byte }
     {
         match self.copy {
             Register::A => self,
-            Register::B => State {
-                bc: self.bc.cut_high(byte),
-                ..self
-            },
-            Register::C => State {
-                bc: self.bc.cut_low(byte),
-                ..self
-            },
-            Register::D => State {
-                de: self.de.cut_high(byte),
-                ..self
-            },
-            Register::E => State {
-                de: self.de.cut_low(byte),
-                ..self
-            },
-            Register::H => State {
-                hl: self.hl.cut_high(byte),
-                ..self
-            },
-            Register::L => State {
-                hl: self.hl.cut_low(byte),
-                ..self
-            },
+            Register::B => self.with_bc(self.bc.cut_high(byte)),
+            Register::C => self.with_bc(self.bc.cut_low(byte)),
+            Register::D => self.with_de(self.de.cut_high(byte)),
+            Register::E => self.with_de(self.de.cut_low(byte)),
+            Register::H => self.with_hl(self.hl.cut_high(byte)),
+            Register::L => self.with_hl(self.hl.cut_low(byte)),
         }
     }
 
-    /// The state in which A holds one of these bytes, and so do the register and the byte of memory that have its byte.
+    /// This state when A is known to hold one of `byte`, and so do the register and the byte of memory that have A's byte.
     pub fn cut(self, byte: ByteSpan) -> State
         ensures { result ≡ cut self byte }
     {
@@ -372,7 +323,7 @@ impl State {
         }
     }
 
-    /// Whether it says something of addresses alone that are marked as quiet.
+    /// Whether this state says something only of addresses that are marked as quiet.
     pub fn is_quiet(self, quiet: &[bool]) -> bool
         ensures { result ≡ true → IsQuietState (is_marked quiet.now) self }
     {

@@ -4,9 +4,10 @@ ghost use Rattle.std.specs.Prelude.{◌≡◌, true};
 ghost use Rattle.verify80_states.specs.Variables.{IsSaid, is_bit, takes};
 
 use crate::states::cells::Cell;
-use verify80_spans::{ByteSpan, Span};
+use crate::states::memory_after::StoredByte;
+use verify80_spans::ByteSpan;
 
-/// A byte of quiet memory. Whatever is stored where it may be is one of these bytes.
+/// A byte of quiet memory: whatever is stored where it may be is one of `bytes`.
 #[derive(Clone, Copy, Debug)]
 pub struct Variable {
     pub at: u16,
@@ -14,16 +15,21 @@ pub struct Variable {
 }
 
 impl Variable {
-    /// Whether one of these bytes, stored at one of these addresses, is one of its own if that may be where it is.
-    pub(crate) fn takes(self, at: Span, bytes: ByteSpan) -> bool
-        ensures { result ≡ takes self at bytes }
+    /// Whether a byte that is stored, if one is, is one of the variable's bytes or can't be where the variable is.
+    pub(crate) fn takes(self, stored: Option<StoredByte>) -> bool
+        ensures { result ≡ takes self stored }
     {
-        !(at.first <= self.at && self.at <= at.last)
-            || self.bytes.first <= bytes.first && bytes.last <= self.bytes.last
+        match stored {
+            None => true,
+            Some(StoredByte { at, bytes }) => {
+                !(at.first <= self.at && self.at <= at.last)
+                    || self.bytes.first <= bytes.first && bytes.last <= self.bytes.last
+            }
+        }
     }
 }
 
-/// Whether one of the 64 bits of a set is set.
+/// Whether the bit with a number is set in a set of 64.
 pub fn is_bit(set: u64, number: usize) -> bool
     ensures { result ≡ is_bit set number }
 {
@@ -42,7 +48,7 @@ pub(crate) fn is_said(variables: &[Variable], set: u64, cell: Cell) -> bool
     false
 }
 
-/// Whether the variable with a number does.
+/// Whether a set names the variable with a number, and this says all that a cell does.
 fn is_said_by(variables: &[Variable], set: u64, number: usize, cell: Cell) -> bool
     ensures { result ≡ true → IsSaid variables.now set cell }
 {

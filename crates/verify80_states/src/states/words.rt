@@ -18,7 +18,7 @@ impl Words {
     ghost use Rattle.std.specs.Prelude.{◌≡◌, true};
     ghost use Rattle.verify80_states.specs.State.{pushed, popped, AreWordsInside};
 
-    /// None is known.
+    /// Words of which none is known.
     pub const NONE: Words = Words {
         first: None,
         second: None,
@@ -26,7 +26,7 @@ impl Words {
         fourth: None,
     };
 
-    /// The words when one is pushed.
+    /// The words after one is pushed; the last one is forgotten.
     pub fn pushed(self, word: Option<PairSpan>) -> Words
         ensures { result ≡ pushed self word }
     {
@@ -38,7 +38,7 @@ impl Words {
         }
     }
 
-    /// The words when one is popped.
+    /// The words after one is popped; of the last one nothing is known then.
     pub fn popped(self) -> Words
         ensures { result ≡ popped self }
     {
@@ -50,7 +50,7 @@ impl Words {
         }
     }
 
-    /// Whether these words say all that the others do.
+    /// Whether these words say all that others do.
     pub(crate) fn are_inside(self, other: Words) -> bool
         ensures { result ≡ true → AreWordsInside self other }
     {
@@ -61,7 +61,7 @@ impl Words {
     }
 }
 
-/// Whether what is known of a word says all that another knowledge does.
+/// Whether `inner`, what is known of a word, says all that `outer` does.
 fn is_word_inside(inner: Option<PairSpan>, outer: Option<PairSpan>) -> bool
     ensures { result ≡ true → IsWordInside inner outer }
 {

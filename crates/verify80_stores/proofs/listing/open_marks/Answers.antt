@@ -1,4 +1,4 @@
-use Rattle.verify80_stores.proofs.VecLemmas.{got_some}
+use Rattle.verify80_stores.proofs.Names.{slice_get-get_or}
 use Rattle.verify80_stores.proofs.listing.open_marks.Goals.{then-is_left_open, else-is_left_open}
 use Rattle.verify80_stores.proofs.TallyLemmas.{marks_none, marks_open, marks_shut, marks_all}
 use Rattle.verify80_stores.proofs.listing.open_marks.Goals as goal
@@ -11,11 +11,11 @@ loop-placed-preserved c =
     elim c.if-is_left_open.branch [
       | then-is_left_open w ↦
           rw (w.marks-is, w.from.ensures)
-          (marks_open c.args.regions.now c.args.reached.now c.args.table.now c.loop-placed.placed-index c.loop-placed.marks.items _ (got_some c.args.table.now c.loop-placed.placed-index _ c.loop-placed-test.true) c.loop-placed.invariant
+          (marks_open c.args.regions.now c.args.reached.now c.args.table.now c.loop-placed.placed-index c.loop-placed.marks.items _ (slice_get-get_or c.args.table.now c.loop-placed.placed-index _ c.loop-placed-test.true) c.loop-placed.invariant
           c.is_left_open.ensures.address (c.is_left_open.ensures.leaves w.if-is_left_open.true))
       | else-is_left_open w ↦
           rw w.marks-is
-          (marks_shut c.args.regions.now c.args.reached.now c.args.table.now c.loop-placed.placed-index c.loop-placed.marks.items _ (got_some c.args.table.now c.loop-placed.placed-index _ c.loop-placed-test.true) c.loop-placed.invariant
+          (marks_shut c.args.regions.now c.args.reached.now c.args.table.now c.loop-placed.placed-index c.loop-placed.marks.items _ (slice_get-get_or c.args.table.now c.loop-placed.placed-index _ c.loop-placed-test.true) c.loop-placed.invariant
           (c.is_left_open.ensures.stays w.if-is_left_open.false))
     ]
 

@@ -1,5 +1,4 @@
-use Rattle.verify80_stores.proofs.Names.{sym}
-use Rattle.verify80_stores.proofs.VecLemmas.{got_some}
+use Rattle.verify80_stores.proofs.Names.{slice_get-get_or, sym}
 use Rattle.verify80_stores.proofs.listing.spans_of.Goals.{in-Some, in_default}
 use Rattle.verify80_stores.proofs.TallyLemmas.{spans_none, spans_more, spans_kept, spans_all}
 use Rattle.verify80_stores.proofs.listing.spans_of.Goals as goal
@@ -12,11 +11,11 @@ loop-placed-preserved c =
     elim c.match-span_of.branch [
       | in-Some w ↦
           rw (w.spans-is, w.from.ensures, w.joined_at.ensures, w.deref.ensures.value)
-          (spans_more c.args.reached.now c.args.table.now c.loop-placed.placed-index c.loop-placed.spans.items _ w.in-Some.span (got_some c.args.table.now c.loop-placed.placed-index _ c.loop-placed-test.true) c.loop-placed.invariant
+          (spans_more c.args.reached.now c.args.table.now c.loop-placed.placed-index c.loop-placed.spans.items _ w.in-Some.span (slice_get-get_or c.args.table.now c.loop-placed.placed-index _ c.loop-placed-test.true) c.loop-placed.invariant
           w.in-Some.ensures.address (sym w.in-Some.ensures.span))
       | in_default w ↦
           rw w.spans-is
-          (spans_kept c.args.reached.now c.args.table.now c.loop-placed.placed-index c.loop-placed.spans.items _ (got_some c.args.table.now c.loop-placed.placed-index _ c.loop-placed-test.true) c.loop-placed.invariant
+          (spans_kept c.args.reached.now c.args.table.now c.loop-placed.placed-index c.loop-placed.spans.items _ (slice_get-get_or c.args.table.now c.loop-placed.placed-index _ c.loop-placed-test.true) c.loop-placed.invariant
           (sym w.in_default.ensures.span))
     ]
 

@@ -13,4 +13,4 @@ returns c quiet =
     let image = c.args.image.now in
     let apart = c.code_data_and_stack_are_apart.ensures in
     nothing_is_kept image quiet c.args.reached.now c.loop-at.table.items c.requires.reached c.requires.whole (ground_of apart.code_or_data apart.code_or_stack apart.data_or_stack image.regions c.requires.rules)
-    c.bytes_stay_bytes.ensures.length (λ at less. c.loop-at.invariant.everywhere at (let enough = c.loop-at-test.false in omega (arith, enough, less))) c.loop-at.invariant.nothing
+    c.bytes_stay_bytes.ensures.operands c.bytes_stay_bytes.ensures.length (λ at less. c.loop-at.invariant.everywhere at (let enough = c.loop-at-test.false in omega (arith, enough, less))) c.loop-at.invariant.nothing

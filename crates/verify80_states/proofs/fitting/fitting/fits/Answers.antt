@@ -11,7 +11,7 @@ returns c fitting quiet marked in_data =
     let variables = c.args.variables.now in
     let table = c.args.table.now in
     let start : Has variables table image.start anything = subst (λ (i : Located). Has variables table i.start anything) c.image.view_is (c.if-not-has.ensures refl) in
-    let fit : AllFit c.image.inside.regions code returns reached variables table = record { entries = c.all_fit.ensures.entries fitting; accounts = c.if-not-all_account.ensures refl; calls = c.all_fit.ensures.calls fitting; steady = c.all_fit.ensures.steady fitting } in
+    let fit : AllFit c.image.inside.regions code returns reached variables table = record { entries = c.all_fit.ensures fitting; accounts = c.if-not-all_account.ensures refl } in
     let fit_here : AllFit image.regions code returns reached variables table = subst (λ (r : Areas). AllFit r code returns reached variables table) (ap (λ (i : Located). i.regions) c.image.view_is) fit in
     c.fitting_states_hold.ensures.kept image quiet code returns variables table c.requires.rules c.requires.code in_data
     (fits_program image quiet reached code returns variables table c.requires.reached c.requires.whole start fit_here (knows_quieter (is_marked c.args.quiet.now) quiet table marked (c.if-not-all_know_quiet.ensures refl))

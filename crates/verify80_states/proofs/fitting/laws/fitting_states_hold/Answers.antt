@@ -1,4 +1,4 @@
-use Rattle.verify80_states.proofs.{MemoryLemmas.ground_of, KeepLemmas.run_bytes, KeepLemmas.run_keeps, KeepLemmas.is_kept}
+use Rattle.verify80_states.proofs.{MemoryLemmas.ground_of, KeepLemmas.run_keeps, KeepLemmas.is_kept}
 use Rattle.verify80_states.proofs.fitting.laws.fitting_states_hold.Goals as goal
 
 pub returns-clause-kept : goal.returns-clause-kept
@@ -9,7 +9,3 @@ returns-clause-kept c image quiet code returns variables table rules are quiet_d
 pub returns-clause-keep : goal.returns-clause-keep
 returns-clause-keep c image bytes quiet table sound walks kept start begins start_bytes most w from =
     run_keeps image bytes quiet table sound walks kept c.bytes_stay_bytes.ensures.bytes start begins start_bytes most w from
-
-pub returns-clause-bytes : goal.returns-clause-bytes
-returns-clause-bytes c image start bytes most w from =
-    run_bytes c.bytes_stay_bytes.ensures.bytes image.regions start most from.steps w bytes from.is
