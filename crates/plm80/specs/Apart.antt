@@ -1,8 +1,7 @@
 -- Which arguments of a command are apart: those whose paths differ, letter for letter, from that of a file that it writes.
 -- (Which arguments may share a file is this project's own: regions may replace those that they were made of.)
 use Rattle.std.specs.Prelude.{◌≡◌, ℕ, Bool, false, Some, List, codes}
-use Rattle.clap.specs.declared.parser.matches.ArgMatches.{ArgMatches}
-use Rattle.clap.specs.Matches.{first_value, found_of}
+use Rattle.clap.specs.{declared.parser.matches.ArgMatches.ArgMatches, Matches.first_value, Matches.found_of}
 use Rattle.plm80_console.specs.ApartPaths.{is_among_values, is_behind_values, is_value}
 use Rattle.plm80.specs.declared.commands.arguments.Request.{Request}
 use Rattle.plm80.specs.declared.commands.arguments.Request.TheVariants as request

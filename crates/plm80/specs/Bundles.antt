@@ -1,11 +1,8 @@
 -- What is done with a bundle. (Its exit statuses are this project's own.)
 use Rattle.std.specs.Prelude.{◌≡◌, ◌⊎◌, ◌≤◌, ℕ, List, [], Some, Result, Ok, Err, length}
-use Rattle.loader80.specs.declared.replies.Outcome.{Outcome}
-use Rattle.loader80.specs.declared.fault.SessionFault.TheVariants.{Refused}
-use Rattle.loader80_text.specs.declared.bundles.fault.BundleFault.{BundleFault}
-use Rattle.loader80_text.specs.declared.bundles.fault.BundleFault.TheVariants.{Session}
-use Rattle.loader80_text.specs.Bundle.{BundleSends, bundle_limit}
-use Rattle.loader80_text.specs.BundleText.{bundle_texts}
+use Rattle.loader80.specs.declared.{replies.Outcome.Outcome, fault.SessionFault.TheVariants.Refused}
+use Rattle.loader80_text.specs.{Bundle.BundleSends, Bundle.bundle_limit, BundleText.bundle_texts}
+use Rattle.loader80_text.specs.declared.bundles.fault.BundleFault.{BundleFault, TheVariants.Session}
 use Rattle.plm80_console.specs.Journal.{Journal, OnlyReports, and_input, and_printed}
 use Rattle.plm80_programs.specs.Status.{end_status}
 

@@ -1,31 +1,21 @@
 -- What each request is, and what is done for it. (The commands and their statuses are this project's own.)
 use Rattle.std.specs.Prelude.{◌≡◌, ◌⊎◌, ℕ, Bool, true, false, List, [], ◌∷◌, Some, String, map, option_map, codes, string_bytes}
 use Rattle.std.specs.Str.{bytes_eq}
-use Rattle.clap.specs.declared.parser.matches.ArgMatches.{ArgMatches}
 use Rattle.clap.specs.Matches.{found_of, subcommand_name_of}
-use Rattle.clap.specs.Simple.{subcommand_rows_of}
-use Rattle.clap.specs.Walk.{rows_of}
-use Rattle.plm80_console.specs.Answer.{Gives, GivesUp}
-use Rattle.plm80_console.specs.Arguments.{argument_text}
+use Rattle.clap.specs.{declared.parser.matches.ArgMatches.ArgMatches, Simple.subcommand_rows_of, Walk.rows_of}
 use Rattle.plm80_console.specs.Journal.{Journal, OnlyReports, and_reported}
-use Rattle.plm80_names.specs.Arguments.{AreNamedFiles, asks_names, program_paths}
-use Rattle.plm80_names.specs.Verdict.{AnswersProgram}
+use Rattle.plm80_console.specs.{Answer.Gives, Answer.GivesUp, Arguments.argument_text}
+use Rattle.plm80_names.specs.{Arguments.AreNamedFiles, Arguments.asks_names, Arguments.program_paths, Verdict.AnswersProgram}
 use Rattle.plm80_objects.specs.Absolute.{ExtractsFile, GivesDumps, GivesUpDumps}
 use Rattle.plm80_objects.specs.Arguments.{AreAbsoluteArguments, AreCompareArguments, AreExtractArguments, AreFindArguments, AreLibraryArguments, AreLinkArguments, AreLocateArguments, AreMapArguments}
-use Rattle.plm80_objects.specs.Compare.{ComparesFiles}
-use Rattle.plm80_objects.specs.Find.{FindsModules}
-use Rattle.plm80_objects.specs.Link.{LinksFiles}
 use Rattle.plm80_objects.specs.Modules.{AnswersModules, DescribesModules, GivesUpLibrary, LocatesFile, MapsFile, WritesLibrary}
+use Rattle.plm80_objects.specs.{Compare.ComparesFiles, Find.FindsModules, Link.LinksFiles}
 use Rattle.plm80_programs.specs.Arguments.{AreCallsArguments, AreCasesArguments, AreCoverArguments, AreExplainArguments, AreListArguments, AreRegionsArguments, AreRunArguments, AreStoresArguments, AreTraceArguments, cases_path, run_paths}
-use Rattle.plm80_programs.specs.Cases.{AnswersCases}
-use Rattle.plm80_programs.specs.InputWords.{AnswersWords, AreInputsArguments}
-use Rattle.plm80_programs.specs.Explanations.{PrintsExplanation}
 use Rattle.plm80_programs.specs.Printed.{AnswersStores, PrintsCalls, PrintsListing, PrintsReport}
 use Rattle.plm80_programs.specs.Running.{CoversFiles, RunsFiles, TracesFiles}
-use Rattle.plm80_programs.specs.Suggest.{AnswersAdvice, AreSuggestArguments}
-use Rattle.plm80_programs.specs.Written.{AnswersRegions}
-use Rattle.plm80.specs.Apart.{AreApartIn}
-use Rattle.plm80.specs.declared.commands.arguments.Request.{Request}
+use Rattle.plm80_programs.specs.{Cases.AnswersCases, InputWords.AnswersWords, InputWords.AreInputsArguments, Explanations.PrintsExplanation}
+use Rattle.plm80_programs.specs.{Suggest.AnswersAdvice, Suggest.AreSuggestArguments, Written.AnswersRegions}
+use Rattle.plm80.specs.{Apart.AreApartIn, declared.commands.arguments.Request.Request}
 use Rattle.plm80.specs.declared.commands.arguments.Request.TheVariants as request
 
 -- its name on the command line

@@ -12,10 +12,11 @@ use std::io::ErrorKind;
 /// The line between the regions and the inputs.
 const INPUTS: &[u8] = b"INPUTS\n";
 
-/// What is said if the image goes on behind the first line.
+/// The words on a bundle whose image goes on behind its first line.
 const SEVERAL_LINES: &str = "the hexadecimal is on several lines: write the image on one line";
 
-/// Says what is wrong with the bundle that was read, whose fault was reported; `output` is why writing its transcript failed.
+/// Says what is wrong with the bundle that was read and whose fault was reported; `output` is why writing its transcript failed last, if it
+/// did.
 pub fn explain_bundle<C: Console>(
     console: &C,
     fault: BundleFault,
@@ -48,7 +49,7 @@ pub fn explain_bundle<C: Console>(
     }
 }
 
-/// What follows the first line.
+/// What follows the first line of a text; empty if no line feed ends it.
 fn after_line(text: &[u8]) -> &[u8]
     ensures { (result.now ≡ []) ⊎ ((place : ℕ) × (result.now ≡ drop place text.now)) }
 {
@@ -66,7 +67,7 @@ fn begins_with_digits(text: &[u8]) -> bool
     text.len() >= 2 && text[0].is_ascii_hexdigit() && text[1].is_ascii_hexdigit()
 }
 
-/// What follows the first line `INPUTS`.
+/// What follows the first line `INPUTS` of a text; empty if there is none.
 fn after_inputs_line(text: &[u8]) -> &[u8]
     ensures { (result.now ≡ []) ⊎ ((place : ℕ) × (result.now ≡ drop place text.now)) }
 {

@@ -33,7 +33,7 @@ pub fn run_command<C: Console>(console: &mut C, arguments: &[String]) -> ExitCod
     do_request(console, request)
 }
 
-/// Explains faults from now on, if that is asked for.
+/// Makes the console explain faults from now on, if that is `asked` for.
 pub fn explain_if<C: Console>(console: &mut C, asked: bool)
     ensures { C.journal console.new ≡ C.journal console.old }
 {
@@ -42,7 +42,7 @@ pub fn explain_if<C: Console>(console: &mut C, asked: bool)
     }
 }
 
-/// Does what is asked for, and gives the exit status: that of its answer, or 2 at a fault.
+/// Does what a request asks for, and gives the exit status: that of its answer, or 2 at a fault.
 fn do_request<C: Console>(console: &mut C, request: Request<'_>) -> ExitCode
     ensures { IsDone request.entry (C.journal console.old) (C.journal console.new) (exit_status result) }
 {
@@ -52,7 +52,7 @@ fn do_request<C: Console>(console: &mut C, request: Request<'_>) -> ExitCode
     }
 }
 
-/// Prints the error of arguments that are no text, and gives the exit status.
+/// Prints the error of arguments that are no text, and gives the exit status, 2.
 pub fn refuse_arguments<C: Console>(console: &mut C) -> ExitCode
     ensures status { exit_status result ≡ 2 }
     ensures reported { C.journal console.new ≡ and_reported (C.journal console.old) }
@@ -61,7 +61,7 @@ pub fn refuse_arguments<C: Console>(console: &mut C) -> ExitCode
     console.report_usage(&error).status()
 }
 
-/// Does what is asked for, and gives the status of its answer.
+/// Does what a request asks for, and gives the status of its answer. A fault is reported.
 fn perform<C: Console>(console: &mut C, request: Request<'_>) -> Result<u8, Reported>
     ensures done { IfOk result (IsPerformed request.entry (C.journal console.old) (C.journal console.new)) }
     ensures fault { IfErr result (λ _. IsFailed request.entry (C.journal console.old) (C.journal console.new)) }

@@ -10,8 +10,7 @@
 
 ghost use Rattle.std.specs.Prelude.{◌≡◌, ◌<◌, ◌≤◌, true, false, length, IfErr, IfOk};
 ghost use Rattle.std.specs.Process.{exit_status};
-ghost use Rattle.loader80_text.specs.Bundle.{BundleSends, bundle_limit};
-ghost use Rattle.loader80_text.specs.BundleText.{bundle_texts};
+ghost use Rattle.loader80_text.specs.{Bundle.BundleSends, Bundle.bundle_limit, BundleText.bundle_texts};
 ghost use Rattle.plm80_console.specs.Journal.{OnlyReports};
 ghost use Rattle.plm80.specs.Bundles.{GivesBundle, IsBundleDone, bundle_status};
 ghost use Rattle.plm80.specs.Requests.{IsCommandDone, asks_bundle};
@@ -122,7 +121,7 @@ fn transcribe<C: Console>(console: &mut C) -> Result<u8, Reported>
     }
 }
 
-/// The answer of a bundle, whose transcript is written.
+/// Runs the bundle of this text, and writes its transcript to `out`: how the run ended, or the bundle's fault.
 fn answer_of<K: Sink>(alloc: Global, text: &[u8], out: &mut K) -> Result<Outcome, BundleFault>
     requires countable { K.failed out.old < u64.MAX }
     requires within { length text.now ≤ bundle_limit }
@@ -132,7 +131,7 @@ fn answer_of<K: Sink>(alloc: Global, text: &[u8], out: &mut K) -> Result<Outcome
     bundle(alloc, &mut input, out, STEPS, OUTPUTS)
 }
 
-/// The exit status of a bundle's answer: that of the run, or 1 of a refusal.
+/// The exit status of a bundle's answer: that of the run, or 1 of a refusal; any other fault is left a fault.
 fn bundle_status(answer: Result<Outcome, BundleFault>) -> Result<u8, BundleFault>
     ensures { result ≡ bundle_status answer }
 {

@@ -1,8 +1,6 @@
 -- What becomes of files that are written.
 use Rattle.std.specs.Prelude.{◌≡◌, Result, Ok, Err, IfErr}
-use Rattle.plm80_console.specs.Answer.{AnswerValue, GaveUp, IsGivenUp}
-use Rattle.plm80_console.specs.Answer.IsGivenUp.{within}
-use Rattle.plm80_console.specs.Journal.{Journal}
+use Rattle.plm80_console.specs.{Answer.AnswerValue, Answer.GaveUp, Answer.IsGivenUp, Answer.IsGivenUp.within, Journal.Journal}
 
 -- an answer that was made is given up
 pub given_up : {A E F : Type 0} (made : Result AnswerValue F) (answer : AnswerValue) (old new : Journal) (r : Result A E) → made ≡ Ok answer

@@ -1,4 +1,5 @@
 mod GivenLemmas
+mod JournalLemmas
 mod NumberLemmas
 mod PieceLemmas
 mod RangeLemmas

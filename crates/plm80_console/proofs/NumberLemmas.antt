@@ -1,8 +1,6 @@
 -- At most four hexadecimal digits write a word.
-use Rattle.std.specs.Prelude.{ℕ, ◌<◌, ◌≤◌, ◌^◌, List, length}
-use Rattle.std.proofs.Common.{arith}
-use Rattle.std.proofs.Math.Nat.{pow-le-pow_right}
-use Rattle.std.proofs.lemmas.Int.Digits.{digits_value-lt}
+use Rattle.std.proofs.Common.{ℕ, ◌<◌, ◌≤◌, ◌^◌, List, length, arith}
+use Rattle.std.proofs.{Math.Nat.pow-le-pow_right, lemmas.Int.Digits.digits_value-lt}
 use Rattle.plm80_console.specs.NumberText.{IsByteText, IsLengthText, IsWordText, word_value}
 
 pub word_value-lt : (digits : List ℕ) → IsWordText digits → word_value digits < 65536

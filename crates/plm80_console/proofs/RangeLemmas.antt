@@ -1,16 +1,8 @@
 -- Ranges of the command line, one after another.
-use Rattle.std.specs.Prelude.{◌≡◌, ℕ, ◌+◌, ◌<◌, Bool, true, if◌then◌else◌, List, [], ◌∷◌, ◌++◌, length, map, take}
-use Rattle.std.specs.Borrow.{Bor}
-use Rattle.std.proofs.Common.{◌∙◌, ap, get_or, subst, sym}
-use Rattle.std.proofs.lemmas.Bool.{cond-true}
+use Rattle.std.proofs.Common.{Bor, ℕ, ◌+◌, ◌<◌, List, [], ◌∷◌, ◌++◌, length, map, take, ◌∙◌, ap, get_or, subst, sym}
 use Rattle.std.proofs.lemmas.List.{map-append, take_more}
 use Rattle.image80.specs.declared.range.Range.{Range}
-use Rattle.plm80_console.specs.Ranges.{AreRangesOf, IsRangeText}
-use Rattle.plm80_console.specs.Ranges.AreRangesOf.{more}
-
--- a push that went well
-pub pushed : {X : Type 0} (ok : Bool) (old longer new : List X) → new ≡ (if ok then longer else old) → ok ≡ true → new ≡ longer
-pushed ok old longer new is well = is ∙ cond-true ok longer old well
+use Rattle.plm80_console.specs.Ranges.{AreRangesOf, IsRangeText, AreRangesOf.more}
 
 abbrev text_of : Bor (List ℕ) → List ℕ
 text_of text = text.now

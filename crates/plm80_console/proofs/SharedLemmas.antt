@@ -1,44 +1,23 @@
 -- Paths that two arguments share, and arguments that share none.
-use Rattle.std.specs.Prelude.{◌≡◌, ◌≢◌, ℕ, zero, suc, ◌<◌, ◌≤◌, Bool, false, ◌||◌, Option, Some, None, option_map, unwrap_or, List, [], ◌∷◌, length, map, slice_get}
-use Rattle.std.specs.Borrow.{Bor}
-use Rattle.std.specs.List.{list_any}
-use Rattle.std.specs.Str.{bytes_eq}
+use Rattle.std.specs.Prelude.{◌≡◌, ◌≢◌, ℕ, ◌<◌, ◌≤◌, Bool, false, ◌||◌, Option, Some, None, option_map, unwrap_or, List, [], ◌∷◌, length, map, slice_get}
+use Rattle.std.specs.{Borrow.Bor, List.list_any, Str.bytes_eq}
 use Rattle.std.proofs.Common.{◌∙◌, ap, sym, refl, subst, get_or, arith}
+use Rattle.std.proofs.lemmas.Option.{get_or_from_slice_get, slice_get_within}
 use Rattle.clap.specs.declared.parser.matches.ArgMatches.{ArgMatches}
 use Rattle.plm80_console.specs.ApartPaths.{IsApart, IsApartFrom, has_path, path_to_write, stands_behind}
-use Rattle.plm80_console.specs.Arguments.{argument_values}
-use Rattle.plm80_console.specs.Kinds.{may_replace}
-use Rattle.plm80_console.specs.SharedPaths.{IsWrittenBy}
-use Rattle.plm80_console.specs.declared.shared_paths.SharedPath.{SharedPath}
-use Rattle.plm80_console.specs.declared.syntax.Argument.{Argument}
-use Rattle.plm80_console.specs.declared.syntax.Kind.{Kind}
 use Rattle.plm80_console.specs.declared.syntax.Kind.TheVariants.{Paths, PathsAt}
+use Rattle.plm80_console.specs.{Arguments.argument_values, Kinds.may_replace, SharedPaths.IsWrittenBy}
+use Rattle.plm80_console.specs.declared.{shared_paths.SharedPath.SharedPath, syntax.Argument.Argument, syntax.Kind.Kind}
 
 pub is_written_by : (matches : ArgMatches) (shared : SharedPath) → Some shared.path.now ≡ path_to_write matches shared.written
     → may_replace shared.written.kind shared.other.name.now ≡ false → IsWrittenBy matches shared
 is_written_by matches shared is apart = record { written = sym is; apart = apart }
 
--- an item of a list, by its index
-pub get_there : {X : Type 0} (xs : List X) (i : ℕ) (x : X) → i < length xs → x ≡ get_or xs i x → slice_get xs i ≡ Some x
-get_there [] i x lt at = absurd (omega arith)
-get_there (y ∷ ys) zero x lt at = ap (λ z. Some z) (sym at)
-get_there (y ∷ ys) (suc i) x lt at = get_there ys i x (omega arith) at
-
-get_is : {X : Type 0} (xs : List X) (i : ℕ) (d x : X) → slice_get xs i ≡ Some x → get_or xs i d ≡ x
-get_is [] i d x is = absurd cc
-get_is (y ∷ ys) zero d x is = cc
-get_is (y ∷ ys) (suc i) d x is = get_is ys i d x is
-
-get_below : {X : Type 0} (xs : List X) (i : ℕ) (x : X) → slice_get xs i ≡ Some x → i < length xs
-get_below [] i x is = absurd cc
-get_below (y ∷ ys) zero x is = omega arith
-get_below (y ∷ ys) (suc i) x is = let below : i < length ys = get_below ys i x is in omega arith
-
 pub apart_there : (matches : ArgMatches) (written : Argument) (path : List ℕ) (arguments : List Argument) (place : ℕ) (d other : Argument)
     → slice_get arguments place ≡ Some other → IsApartFrom matches written path (get_or arguments place d)
     → IsApartFrom matches written path other
 apart_there matches written path arguments place d other stands apart =
-    subst (λ (a : Argument). IsApartFrom matches written path a) (get_is arguments place d other stands) apart
+    subst (λ (a : Argument). IsApartFrom matches written path a) (get_or_from_slice_get arguments place other d stands) apart
 
 -- all others are apart from the one with this index
 pub all_apart : (matches : ArgMatches) (arguments : List Argument) (index : ℕ) (written : Argument) (path : List ℕ) (count : ℕ)
@@ -49,7 +28,7 @@ pub all_apart : (matches : ArgMatches) (arguments : List Argument) (index : ℕ)
 all_apart matches arguments index written path count is writes ends each = λ found its there its_path place other stands differs.
     let same : found ≡ written = (let both : Some found ≡ Some written = sym there ∙ is in cc) in
     let paths : its ≡ path = (let both : Some its ≡ Some path = sym its_path ∙ (ap (path_to_write matches) same ∙ writes) in cc) in
-    let below : place < length arguments = get_below arguments place other stands in
+    let below : place < length arguments = slice_get_within arguments place other stands in
     let apart : IsApartFrom matches written path other = each place (omega (arith, ends)) other stands differs in
     λ stays. ap (λ (p : List ℕ). has_path other.kind matches other.name.now p) paths
     ∙ apart (ap (λ (w : Argument). may_replace w.kind other.name.now) (sym same) ∙ stays)

@@ -1,11 +1,7 @@
 -- The arguments of a command for clap, one after another.
-use Rattle.std.specs.Prelude.{◌≡◌, ℕ, ◌≤◌, Bool, List, [], ◌∷◌, ◌++◌, Result, Ok, Err, IfOk, length, map, take}
-use Rattle.std.proofs.Common.{◌∙◌, ap}
+use Rattle.std.proofs.Common.{◌≡◌, ℕ, ◌≤◌, Bool, List, [], ◌∷◌, ◌++◌, Result, Ok, Err, IfOk, length, map, take, ◌∙◌, ap}
 use Rattle.std.proofs.lemmas.List.{map-append, take_all}
-use Rattle.clap.specs.Built.{AddsArg}
-use Rattle.clap.specs.Facts.{args_of}
-use Rattle.clap.specs.declared.builder.arg.Arg.{Arg}
-use Rattle.clap.specs.declared.builder.command.Command.{Command}
+use Rattle.clap.specs.{Built.AddsArg, Facts.args_of, declared.builder.arg.Arg.Arg, declared.builder.command.Command.Command}
 use Rattle.plm80_console.specs.SyntaxTable.{argument_in, arguments_in, arguments_of}
 use Rattle.plm80_console.specs.declared.syntax.Argument.{Argument}
 

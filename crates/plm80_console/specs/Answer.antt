@@ -1,10 +1,9 @@
 -- What a command does in the end, as a value: the files that it writes, the lines that it prints, and its exit status.
 -- (The order, files first, and the statuses are this project's own.)
 use Rattle.std.specs.Prelude.{◌≡◌, ℕ, ◌<◌, List, [], ◌∷◌, map}
-use Rattle.plm80_console.specs.Journal.{AddsSome, FileValue, Journal, OnlyReports, and_printed, and_read_files, and_written}
-use Rattle.plm80_console.specs.declared.answer.WrittenFile.{WrittenFile}
-use Rattle.plm80_console.specs.declared.answer.WrittenFiles.{WrittenFiles}
+use Rattle.plm80_console.specs.Journal.{AddsSome, FileValue, Journal, OnlyReports, and_printed, and_read_files, and_written, file_value}
 use Rattle.plm80_console.specs.declared.answer.WrittenFiles.TheVariants.{Nothing, One, Both}
+use Rattle.plm80_console.specs.declared.answer.{WrittenFile.WrittenFile, WrittenFiles.WrittenFiles}
 
 pub record AnswerValue : Type 0 where
   pub files : List FileValue
@@ -12,7 +11,7 @@ pub record AnswerValue : Type 0 where
   pub status : ℕ
 
 abbrev pub file_of : WrittenFile → FileValue
-file_of file = record { path = file.path.now; bytes = file.bytes.items }
+file_of file = file_value file.path.now file.bytes.items
 
 -- the files in the order in which they are written
 abbrev pub files_of : WrittenFiles → List FileValue
@@ -26,11 +25,11 @@ prints lines status = record { files = []; lines = lines; status = status }
 
 -- a file is written, and then lines are printed
 abbrev pub writes : (path bytes lines : List ℕ) → AnswerValue
-writes path bytes lines = record { files = record { path = path; bytes = bytes } ∷ []; lines = lines; status = 0 }
+writes path bytes lines = record { files = file_value path bytes ∷ []; lines = lines; status = 0 }
 
 -- the same lines and status, behind a file
 abbrev pub behind_file : (path bytes : List ℕ) → AnswerValue → AnswerValue
-behind_file path bytes answer = record answer { files = record { path = path; bytes = bytes } ∷ [] }
+behind_file path bytes answer = record answer { files = file_value path bytes ∷ [] }
 
 -- two files are written
 abbrev pub writes_both : (first second : FileValue) → AnswerValue
@@ -54,9 +53,10 @@ pub record IsGiven (answer : AnswerValue) (old new : Journal) (status : ℕ) : T
 abbrev pub paths_of : List FileValue → List (List ℕ)
 paths_of files = map (λ (file : FileValue). file.path) files
 
--- A fault was reported before all was done: some of these files may have been written, or spoiled.
+-- A fault was reported before all was done: some of these files may have been written, or spoiled. No file was read.
 pub record GaveUp (files : List FileValue) (old new : Journal) : Type 0 where
   pub reported : old.reported < new.reported
+  pub read : new.read ≡ old.read
   pub written : AddsSome files old.written new.written
   pub spoiled : AddsSome (paths_of files) old.spoiled new.spoiled
   pub copies : new.copies ≡ old.copies
@@ -81,8 +81,9 @@ pub record Gives (Answers : List FileValue → AnswerValue → Type 0) (paths : 
   pub answers : Answers files answer
   pub given : IsGiven answer (and_read_files old files) new status
 
--- A command gave up, which was reported: before it wrote a file, or as it gave its answer.
+-- A command gave up, which was reported: before it wrote a file; or the files of its arguments were read, in their order, and it gave up
+-- as it gave its answer to them.
 pub data GivesUp (Answers : List FileValue → AnswerValue → Type 0) (paths : List (List ℕ)) (old new : Journal) : Type 0 where
   before : OnlyReports old new → GivesUp Answers paths old new
   within : (files : List FileValue) (answer : AnswerValue) → paths_of files ≡ paths → Answers files answer
-      → GaveUp answer.files old new → GivesUp Answers paths old new
+      → GaveUp answer.files (and_read_files old files) new → GivesUp Answers paths old new

@@ -1,16 +1,11 @@
 -- Arguments of a command that write no file which another argument names, letter for letter.
 -- (Which arguments may share a file is this project's own.)
 use Rattle.std.specs.Prelude.{◌≡◌, ◌≢◌, ℕ, ◌==◌, nat_lt, Bool, false, ◌&&◌, Option, None, Some, if◌then◌else◌, List, length, slice_get}
-use Rattle.std.specs.List.{list_any, position_or_len, after_first}
-use Rattle.std.specs.Option.{option_map_or}
-use Rattle.std.specs.Str.{bytes_eq}
-use Rattle.clap.specs.declared.parser.matches.ArgMatches.{ArgMatches}
-use Rattle.clap.specs.Matches.{first_value, found_of}
-use Rattle.plm80_console.specs.Arguments.{argument_values}
-use Rattle.plm80_console.specs.Kinds.{is_written, may_replace}
-use Rattle.plm80_console.specs.declared.syntax.Argument.{Argument}
-use Rattle.plm80_console.specs.declared.syntax.Kind.{Kind}
+use Rattle.std.specs.{List.list_any, List.position_or_len, List.after_first, Option.option_map_or, Str.bytes_eq}
+use Rattle.clap.specs.{declared.parser.matches.ArgMatches.ArgMatches, Matches.first_value, Matches.found_of}
 use Rattle.plm80_console.specs.declared.syntax.Kind.TheVariants.{Path, Paths, Written, WrittenOption, WrittenIfGiven, Replaced, PathsAt}
+use Rattle.plm80_console.specs.{Arguments.argument_values, Kinds.is_written, Kinds.may_replace}
+use Rattle.plm80_console.specs.declared.syntax.{Argument.Argument, Kind.Kind}
 
 -- the path of the file that an argument writes, if it writes one and is given
 abbrev pub path_to_write : ArgMatches → Argument → Option (List ℕ)

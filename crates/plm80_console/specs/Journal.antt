@@ -7,6 +7,10 @@ pub record FileValue : Type 0 where
   pub path : List ℕ
   pub bytes : List ℕ
 
+-- the file of this path, with these bytes
+abbrev pub file_value : (path bytes : List ℕ) → FileValue
+file_value path bytes = record { path = path; bytes = bytes }
+
 -- Files that were read whole, in order; all bytes of standard input, if they were read; files that were written whole, in order; bytes
 -- that were printed on standard output; how many lines of faults were printed on standard error; the paths of files that may have
 -- neither their old bytes nor their new ones, since writing them in place failed; and the paths under which copies of files were kept,
@@ -26,13 +30,13 @@ nothing_done = record { read = []; input = []; written = []; printed = []; repor
 -- ---- one thing more
 
 abbrev pub and_read : Journal → (path bytes : List ℕ) → Journal
-and_read journal path bytes = record journal { read = journal.read ++ record { path = path; bytes = bytes } ∷ [] }
+and_read journal path bytes = record journal { read = journal.read ++ file_value path bytes ∷ [] }
 
 abbrev pub and_input : Journal → (bytes : List ℕ) → Journal
 and_input journal bytes = record journal { input = journal.input ++ bytes }
 
 abbrev pub and_written : Journal → (path bytes : List ℕ) → Journal
-and_written journal path bytes = record journal { written = journal.written ++ record { path = path; bytes = bytes } ∷ [] }
+and_written journal path bytes = record journal { written = journal.written ++ file_value path bytes ∷ [] }
 
 abbrev pub and_printed : Journal → (bytes : List ℕ) → Journal
 and_printed journal bytes = record journal { printed = journal.printed ++ bytes }

@@ -1,5 +1,6 @@
 pub mod Answer
 pub mod Journal
+pub mod JournalLaws
 pub mod Replaced
 pub mod ApartPaths
 pub mod Arguments

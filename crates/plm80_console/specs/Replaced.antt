@@ -2,17 +2,18 @@
 -- (When a copy is kept, and under which names, is this project's own.)
 use Rattle.std.specs.Prelude.{◌≡◌, ◌⊎◌, ℕ, ◌<◌, ◌==◌, if◌then◌else◌, List, [], ◌∷◌, ◌++◌, codes}
 use Rattle.std.specs.Fmt.{decimal}
-use Rattle.plm80_console.specs.Journal.{FileValue, Journal, and_copied, and_written}
+use Rattle.plm80_console.specs.Journal.{FileValue, Journal, and_copied, and_written, file_value}
 use Rattle.plm80_console.specs.declared.new_file.NewFile.{NewFile}
 
 abbrev pub new_file_value : NewFile → FileValue
-new_file_value file = record { path = file.path.now; bytes = file.bytes.now }
+new_file_value file = file_value file.path.now file.bytes.now
 
 -- ---- a file that isn't brought to its place, which is reported
 
--- nothing was written; the file was spoiled, or not
+-- nothing was read or written; the file was spoiled, or not
 pub record NotSettled (path : List ℕ) (old new : Journal) : Type 0 where
   pub reported : old.reported < new.reported
+  pub read : new.read ≡ old.read
   pub written : new.written ≡ old.written
   pub spoiled : (new.spoiled ≡ old.spoiled) ⊎ (new.spoiled ≡ old.spoiled ++ path ∷ [])
   pub copies : new.copies ≡ old.copies

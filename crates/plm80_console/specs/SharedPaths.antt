@@ -1,9 +1,7 @@
 -- A path that an argument of a command has which writes a file, and that another one has too.
 use Rattle.std.specs.Prelude.{◌≡◌, false, Some}
 use Rattle.clap.specs.declared.parser.matches.ArgMatches.{ArgMatches}
-use Rattle.plm80_console.specs.ApartPaths.{path_to_write}
-use Rattle.plm80_console.specs.Kinds.{may_replace}
-use Rattle.plm80_console.specs.declared.shared_paths.SharedPath.{SharedPath}
+use Rattle.plm80_console.specs.{ApartPaths.path_to_write, Kinds.may_replace, declared.shared_paths.SharedPath.SharedPath}
 
 -- the one argument writes the file of this path, and isn't one that may replace what the other reads
 pub record IsWrittenBy (matches : ArgMatches) (shared : SharedPath) : Type 0 where

@@ -1,10 +1,7 @@
 -- The arguments of a command: as its table has them, and as clap has them.
 use Rattle.std.specs.Prelude.{ℕ, Bool, List, map}
-use Rattle.clap.specs.Facts.{args_of}
-use Rattle.clap.specs.declared.builder.arg.Arg.{Arg}
-use Rattle.clap.specs.declared.builder.command.Command.{Command}
-use Rattle.plm80_console.specs.Kinds.{is_required}
-use Rattle.plm80_console.specs.declared.syntax.Argument.{Argument}
+use Rattle.clap.specs.{Facts.args_of, declared.builder.arg.Arg.Arg, declared.builder.command.Command.Command}
+use Rattle.plm80_console.specs.{Kinds.is_required, declared.syntax.Argument.Argument}
 
 -- the name of each, and whether no command line is taken without it
 abbrev pub argument_of : Argument → List ℕ × Bool

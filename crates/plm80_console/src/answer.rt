@@ -14,12 +14,12 @@ pub struct WrittenFile<'a> {
     pub bytes: Vec<u8>,
 }
 
-/// The files that a command writes.
+/// The files that a command writes: none, one or two.
 #[derive(Drop)]
 pub enum WrittenFiles<'a> {
     Nothing,
     One(WrittenFile<'a>),
-    /// Neither is changed before both can be written.
+    /// Two files, of which neither is changed before both can be written.
     Both(WrittenFile<'a>, WrittenFile<'a>),
 }
 
@@ -41,7 +41,7 @@ impl<'a> Model for Answer<'a> {
 }
 
 impl<'a> Answer<'a> {
-    /// Lines are printed, and no file is written.
+    /// An answer that prints these lines with this exit status, and writes no file.
     pub fn prints(lines: Vec<u8>, status: u8) -> Answer<'a>
         ensures { result ≡ prints lines.items status }
     {
@@ -52,7 +52,7 @@ impl<'a> Answer<'a> {
         }
     }
 
-    /// A file is written, and then lines are printed. The status is 0.
+    /// An answer that writes these bytes to the file of this path, and then prints these lines. The exit status is 0.
     pub fn writes(path: &'a str, bytes: Vec<u8>, lines: Vec<u8>) -> Answer<'a>
         ensures { result ≡ writes path.now bytes.items lines.items }
     {
@@ -63,7 +63,8 @@ impl<'a> Answer<'a> {
         }
     }
 
-    /// An answer with the lines and the status of this one; a file is written before its lines are printed, and no other.
+    /// An answer that writes the file of this path alone, whatever files this answer writes, and then prints the lines of this answer
+    /// and has its status.
     pub fn behind_file<'b>(self, path: &'b str, bytes: Vec<u8>) -> Answer<'b>
         ensures { result ≡ behind_file path.now bytes.items self.entry }
     {
@@ -79,7 +80,7 @@ impl<'a> Answer<'a> {
         }
     }
 
-    /// Two files are written. The status is 0.
+    /// An answer that writes two files, in this order, and prints nothing. The exit status is 0.
     pub fn writes_both(alloc: Global, first: WrittenFile<'a>, second: WrittenFile<'a>) -> Answer<'a>
         ensures { result ≡ writes_both (file_of first.entry) (file_of second.entry) }
     {
@@ -92,8 +93,8 @@ impl<'a> Answer<'a> {
 }
 
 impl<'a> WrittenFile<'a> {
-    /// The file, lent.
-    pub(crate) fn lent(&self) -> NewFile<'_>
+    /// Lends the path and the bytes of the file.
+    pub(crate) fn lend(&self) -> NewFile<'_>
         ensures path { result.path.now ≡ self.now.path.now }
         ensures bytes { result.bytes.now ≡ self.now.bytes.items }
     {

@@ -6,7 +6,7 @@ ghost use Rattle.plm80_console.specs.Arguments.{argument_text, argument_values};
 use clap::ArgMatches;
 use std::alloc::{AllocError, Global};
 
-/// The text of an argument that clap requires.
+/// The value of the argument of this name, which clap requires; empty if there is none.
 pub fn argument_text<'a>(matches: &ArgMatches<'a>, name: &str) -> &'a str
     ensures { result.now ≡ argument_text matches.now name.now }
 {
@@ -16,7 +16,7 @@ pub fn argument_text<'a>(matches: &ArgMatches<'a>, name: &str) -> &'a str
     }
 }
 
-/// The values of an argument that may have several, in order; none if it isn't given.
+/// The values of the argument of this name, which may have several, in order; none if it isn't given. A fault only if memory runs out.
 pub fn argument_values<'a>(
     alloc: Global,
     matches: &ArgMatches<'a>,

@@ -5,17 +5,17 @@ ghost use Rattle.std.specs.Str.{bytes_eq};
 
 use crate::console::Console;
 
-/// How paths are compared.
+/// How two paths are compared.
 #[derive(Clone, Copy)]
 pub(crate) enum Comparison {
-    /// By their letters.
+    /// Paths are one if their letters are the same.
     Letters,
-    /// By the files that they name.
+    /// Paths are one if they name one file, by whatever spellings and links.
     Files,
 }
 
 impl Comparison {
-    /// Whether the paths are one.
+    /// Whether two paths are one, compared in this way.
     pub(crate) fn is_one<C: Console>(self, console: &C, first: &str, second: &str) -> bool
         ensures { self ≡ Comparison.Letters → result ≡ bytes_eq first.now second.now }
     {

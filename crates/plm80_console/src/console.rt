@@ -4,7 +4,7 @@ ghost use Rattle.std.specs.Prelude.{◌≡◌, ◌<◌, ◌≤◌, ◌∷◌, �
 ghost use Rattle.stream80.specs.WholeText.{text_limit};
 ghost use Rattle.plm80_console.specs.Answer.{GaveUp, IsGiven, IsGivenUp, and_files, files_of};
 ghost use Rattle.plm80_console.specs.Replaced.{GaveUpKeeping, IsReplacedKeeping, new_file_value};
-ghost use Rattle.plm80_console.specs.Journal.{IsTakenBack, Journal, OnlyReports, and_input, and_printed, and_read, and_reported, and_written};
+ghost use Rattle.plm80_console.specs.Journal.{IsTakenBack, Journal, OnlyReports, and_input, and_printed, and_read, and_reported, and_written, file_value};
 
 use crate::answer::{Answer, WrittenFiles};
 use crate::failure_words::FailureWords;
@@ -22,62 +22,68 @@ pub trait Console {
     // What was done so far.
     ghost journal: { Self → Journal };
 
-    /// Standard output, lent out: it must be taken back.
+    /// Standard output while it is lent out. What was written to it counts as printed once it is taken back.
     type Output: Sink;
 
     /// The allocator of the program.
     fn alloc(&self) -> Global;
 
-    /// Whether faults are explained.
+    /// Whether words are printed below the line of each fault.
     fn explains(&self) -> bool;
 
-    /// All bytes of the file of this path, of which there are no more than a text may have.
+    /// Reads the file of this path whole. A fault that is reported: the file can't be read, it has more bytes than a text may have, or
+    /// memory ran out.
     fn read(&mut self, path: &str) -> Result<Vec<u8>, Reported>
         ensures read { IfOk result (λ bytes. journal self.new ≡ and_read (journal self.old) path.now bytes.items) }
         ensures within { IfOk result (λ bytes. vec_len bytes ≤ text_limit) }
         ensures fault { IfErr result (λ _. OnlyReports (journal self.old) (journal self.new)) };
 
-    /// All bytes of standard input, of which there are no more than `limit`. They are a bundle: at a terminal it is said that one is read.
+    /// Reads standard input whole, which is a bundle: at a terminal it is said that one is read. A fault that is reported: it can't be
+    /// read, it has more than `limit` bytes, or memory ran out.
     fn read_input(&mut self, limit: usize) -> Result<Vec<u8>, Reported>
         requires { limit < usize.MAX }
         ensures read { IfOk result (λ bytes. journal self.new ≡ and_input (journal self.old) bytes.items) }
         ensures within { IfOk result (λ bytes. vec_len bytes ≤ limit) }
         ensures fault { IfErr result (λ _. OnlyReports (journal self.old) (journal self.new)) };
 
-    /// Hands all bytes of the file of this path to the feed, in pieces of 512 bytes at most.
+    /// Reads the file of this path, and hands all of its bytes to the feed, in pieces of 512 bytes at most. A fault of the system, too
+    /// many bytes and out of memory are reported; a fault of the bytes is kept by the feed.
     fn read_in_pieces<F: TakePieces>(&mut self, path: &str, feed: &mut F) -> Result<(), Reported>
         ensures read { IfOk result (λ _. (bytes : List ℕ) × (journal self.new ≡ and_read (journal self.old) path.now bytes)
             × (F.has_taken feed.old [] → F.has_taken feed.new bytes)) }
         ensures fault { IfErr result (λ _. OnlyReports (journal self.old) (journal self.new)) };
 
-    /// Replaces the file of this path by one with these bytes.
+    /// Replaces the file of this path by one with these bytes, or makes it. After a fault, which is reported, the file is as it was, unless
+    /// it was written in place: then it may be spoiled.
     fn replace(&mut self, path: &str, bytes: &[u8]) -> Result<(), Reported>
         ensures written { IfOk result (λ _. journal self.new ≡ and_written (journal self.old) path.now bytes.now) }
-        ensures fault { IfErr result (λ _. GaveUp (record { path = path.now; bytes = bytes.now } ∷ []) (journal self.old) (journal self.new)) };
+        ensures fault { IfErr result (λ _. GaveUp (file_value path.now bytes.now ∷ []) (journal self.old) (journal self.new)) };
 
-    /// Replaces two files. Neither is changed before both are written, unless both are written in place.
+    /// Replaces two files, or makes them. Neither is changed before both are written, unless both are written in place. After a fault,
+    /// which is reported, one of them may have been replaced.
     fn replace_both(&mut self, first: NewFile<'_>, second: NewFile<'_>) -> Result<(), Reported>
         ensures written { IfOk result (λ _. journal self.new ≡ and_written (and_written (journal self.old) first.entry.path.now
             first.entry.bytes.now) second.entry.path.now second.entry.bytes.now) }
         ensures fault { IfErr result (λ _. GaveUp (new_file_value first.entry ∷ new_file_value second.entry ∷ [])
             (journal self.old) (journal self.new)) };
 
-    /// Replaces the file of this path. If the path names an object file now, a copy of it is kept beside the path first.
+    /// Replaces the file of this path by one with these bytes. If the path names an object file now, a copy of it is kept beside the path
+    /// first.
     fn replace_keeping_objects(&mut self, path: &str, bytes: &[u8]) -> Result<(), Reported>
         ensures written { IfOk result (λ _. IsReplacedKeeping path.now bytes.now (journal self.old) (journal self.new)) }
         ensures fault { IfErr result (λ _. GaveUpKeeping path.now (journal self.old) (journal self.new)) };
 
-    /// Standard output, to which nothing was written yet.
+    /// Lends out standard output, to which nothing was written yet: it must be taken back.
     fn output(&mut self) -> Self::Output
         ensures written { Self.Output.written result ≡ Some [] }
         ensures unfailed { Self.Output.failed result ≡ 0 }
         ensures unchanged { journal self.new ≡ journal self.old };
 
-    /// Takes the output back: what was written to it is printed. Why a write failed last; `None` if none did.
+    /// Takes standard output back: what was written to it is printed. The result is why a write failed last; `None` if none did.
     fn take_back(&mut self, output: Self::Output) -> Option<ErrorKind>
         ensures { IsTakenBack (Self.Output.written output) (journal self.old) (journal self.new) };
 
-    /// Reports a fault, in a line of its own.
+    /// Prints a fault on standard error, in a line of its own.
     fn report<F: Display + Drop>(&mut self, fault: F) -> Reported
         ensures { journal self.new ≡ and_reported (journal self.old) };
 
@@ -85,39 +91,39 @@ pub trait Console {
     fn report_usage(&mut self, error: &clap::Error) -> Reported
         ensures { journal self.new ≡ and_reported (journal self.old) };
 
-    /// From now on faults are explained.
+    /// Makes the console print words below the line of each fault from now on.
     fn explain_faults(&mut self)
         ensures { journal self.new ≡ journal self.old };
 
-    /// Prints words below the fault that was reported, if they are asked for.
+    /// Prints words below the fault that was reported, if faults are explained.
     fn explain<F: Display + Drop>(&self, words: F);
 
-    /// Prints a line on standard error that is no fault.
+    /// Prints a line on standard error that is no fault, whether faults are explained or not.
     fn remark<F: Display + Drop>(&self, words: F);
 
-    /// The bytes of a file that was read, to say more of it; `None` if that isn't asked for, or if it can't be read again, as a pipe
-    /// can't.
+    /// Reads the file of this path again, to say more of a fault; `None` if faults aren't explained, or if the file can't be read again,
+    /// as a pipe can't.
     fn text_to_explain(&self, path: &str) -> Option<Vec<u8>>
         ensures { IfSome result (λ bytes. vec_len bytes ≤ text_limit) };
 
     /// Whether two paths name one file, by whatever spellings and links.
     fn is_one_file(&self, first: &str, second: &str) -> bool;
 
-    /// Reports a fault of the file of this path.
+    /// Prints a fault of the file of this path on standard error, with the path before it.
     fn report_file<F: Display + Drop>(&mut self, path: &str, fault: F) -> Reported
         ensures { journal self.new ≡ and_reported (journal self.old) }
     {
         self.report(format_args!("{path} {fault}"))
     }
 
-    /// Reports that memory ran out.
+    /// Prints on standard error that memory ran out, as the fault `Memory`.
     fn report_memory(&mut self) -> Reported
         ensures { journal self.new ≡ and_reported (journal self.old) }
     {
         self.report("Memory")
     }
 
-    /// Reports that standard output takes nothing more.
+    /// Prints on standard error that standard output takes nothing more, as the fault `Write`; `failure` is why, if that is known.
     fn report_output(&mut self, failure: Option<ErrorKind>) -> Reported
         ensures { journal self.new ≡ and_reported (journal self.old) }
     {
@@ -126,14 +132,14 @@ pub trait Console {
         reported
     }
 
-    /// Prints these words below the fault that was reported, if there are any and they are asked for.
+    /// Prints words below the fault that was reported, if there are any and faults are explained.
     fn explain_any<F: Display + Drop>(&self, words: Option<F>) {
         if let Some(words) = words {
             self.explain(words);
         }
     }
 
-    /// The file of this path, read whole.
+    /// Reads the file of this path whole, as `read` does, and keeps the path beside its bytes.
     fn read_file<'a>(&mut self, path: &'a str) -> Result<ReadFile<'a>, Reported>
         ensures path { IfOk result (λ file. file.path.now ≡ path.now) }
         ensures read { IfOk result (λ file. journal self.new ≡ and_read (journal self.old) path.now file.bytes.items) }
@@ -143,10 +149,11 @@ pub trait Console {
         Ok(ReadFile { path, bytes })
     }
 
-    /// Prints bytes on standard output.
+    /// Prints bytes on standard output. If it doesn't take them all, that is reported.
     fn print(&mut self, bytes: &[u8]) -> Result<(), Reported>
         ensures printed { IfOk result (λ _. journal self.new ≡ and_printed (journal self.old) bytes.now) }
         ensures fault { IfErr result (λ _. OnlyReports (journal self.old) (journal self.new)) }
+        ensures read { IfErr result (λ _. (journal self.new).read ≡ (journal self.old).read) }
     {
         let mut output = self.output();
         let answer = write_all(&mut output, bytes);
@@ -157,7 +164,7 @@ pub trait Console {
         }
     }
 
-    /// Writes files, in order.
+    /// Writes the files of a command, in their order. At the first fault, which is reported, no further file is written.
     fn write_files(&mut self, files: &WrittenFiles<'_>) -> Result<(), Reported>
         ensures written { IfOk result (λ _. journal self.new ≡ and_files (journal self.old) (files_of files.now)) }
         ensures fault { IfErr result (λ _. GaveUp (files_of files.now) (journal self.old) (journal self.new)) }
@@ -165,11 +172,12 @@ pub trait Console {
         match files {
             WrittenFiles::Nothing => Ok(()),
             WrittenFiles::One(file) => self.replace(file.path, &file.bytes),
-            WrittenFiles::Both(first, second) => self.replace_both(first.lent(), second.lent()),
+            WrittenFiles::Both(first, second) => self.replace_both(first.lend(), second.lend()),
         }
     }
 
-    /// Writes the files of an answer, then prints its lines, and gives its status.
+    /// Does what an answer says: writes its files, then prints its lines, and returns its exit status. At a fault, which is reported, the
+    /// rest isn't done.
     fn give(&mut self, answer: Answer<'_>) -> Result<u8, Reported>
         ensures given { IfOk result (IsGiven answer.entry (journal self.old) (journal self.new)) }
         ensures fault { IfErr result (λ _. GaveUp answer.entry.files (journal self.old) (journal self.new)) }
@@ -185,7 +193,7 @@ pub trait Console {
         Ok(status)
     }
 
-    /// Does an answer, unless memory ran out for it.
+    /// Does what an answer says, as `give` does, if it could be made; else reports that memory ran out.
     fn give_if_made(&mut self, answer: Result<Answer<'_>, AllocError>) -> Result<u8, Reported>
         ensures given { IfOk result (λ status. IsOkAnd answer.entry (λ made. IsGiven made (journal self.old) (journal self.new) status)) }
         ensures fault { IfErr result (λ _. IsGivenUp (λ made. answer.entry ≡ Ok made) (journal self.old) (journal self.new)) }

@@ -6,7 +6,7 @@ ghost use Rattle.plm80_console.specs.FailureWords.{failure_of};
 use std::io::ErrorKind;
 use thiserror::Error;
 
-/// Words on why the system failed.
+/// Why the system failed at a file or a stream, as words below a fault.
 #[derive(Clone, Copy, Debug, Error)]
 pub enum FailureWords {
     #[error("standard output is closed")]
@@ -20,7 +20,7 @@ pub enum FailureWords {
 }
 
 impl FailureWords {
-    /// Words on a failure; none if it isn't known, or if memory ran out.
+    /// The words for a failure of the system; `None` if it isn't known, or if memory ran out, which has a fault of its own.
     pub fn of(failure: Option<ErrorKind>) -> Option<FailureWords>
         ensures failure { IfSome result (λ words. failure ≡ Some (failure_of words)) }
         ensures none { IfNone result ((failure ≡ None) ⊎ (failure ≡ Some ErrorKind.OutOfMemory)) }
@@ -33,7 +33,7 @@ impl FailureWords {
         }
     }
 
-    /// Words on a failure at standard output, which may be closed.
+    /// The words for a failure at standard output, where one that isn't connected is closed; `None` as in `of`.
     pub fn of_output(failure: Option<ErrorKind>) -> Option<FailureWords>
         ensures failure { IfSome result (λ words. failure ≡ Some (failure_of words)) }
         ensures none { IfNone result ((failure ≡ None) ⊎ (failure ≡ Some ErrorKind.OutOfMemory)) }

@@ -12,6 +12,7 @@
 //! | [`FailureWords`] | why the system failed, in words |
 //! | [`TakePieces`] | what takes the pieces of a file |
 //! | [`OneLine`] | a text that stays in its line |
+//! | [`laws`] | reading leaves files alone, as a contract |
 #![tactic(auto)]
 
 mod answer;
@@ -19,6 +20,7 @@ mod argument_texts;
 mod comparison;
 mod console;
 mod failure_words;
+pub mod laws;
 mod new_file;
 mod number_text;
 mod one_line;

@@ -1,6 +1,6 @@
 //! A file to write, lent.
 
-/// The path of a file to write, and all bytes that it gets.
+/// A file to write, borrowed: its path, and all bytes that it gets.
 #[derive(Clone, Copy)]
 pub struct NewFile<'a> {
     pub path: &'a str,

@@ -1,8 +1,7 @@
 //! Numbers from their texts, of digits alone.
 
 ghost use Rattle.std.specs.Prelude.{◌≡◌, ◌==◌, IfSome, IfNone, slice_index};
-ghost use Rattle.std.specs.Char.{is_ascii_hexdigit};
-ghost use Rattle.std.specs.List.{list_all};
+ghost use Rattle.std.specs.{Char.is_ascii_hexdigit, List.list_all};
 ghost use Rattle.plm80_console.specs.NumberText.{IsByteText, IsCountText, IsLengthText, IsWordText, count_value, word_value};
 
 /// The word that one to four hexadecimal digits write, in either case; `None` exactly for every other text.

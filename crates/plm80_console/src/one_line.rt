@@ -14,7 +14,7 @@ impl<F: Display> Display for OneLine<F> {
     }
 }
 
-/// Writes what it is given, with control characters shown.
+/// A formatter that writes text with each control character shown by its bytes.
 #[derive(Drop)]
 struct Shown<'f, W> {
     formatter: &'f mut Formatter<W>,

@@ -2,9 +2,8 @@
 
 ghost use Rattle.std.specs.Prelude.{◌≡◌, unwrap_or, option_map, IfErr, IfOk, IfSome, IsSomeAnd, OnErr};
 ghost use Rattle.clap.specs.Matches.{first_value, found_of};
-ghost use Rattle.plm80_console.specs.Arguments.{argument_text};
-ghost use Rattle.plm80_console.specs.Journal.{OnlyReports, and_reported};
 ghost use Rattle.plm80_console.specs.NumberText.{IsByteText, IsCountText, IsLengthText, IsWordText, count_value, word_value};
+ghost use Rattle.plm80_console.specs.{Arguments.argument_text, Journal.OnlyReports, Journal.and_reported};
 
 use crate::argument_texts::argument_text;
 use crate::console::Console;
@@ -21,7 +20,7 @@ pub struct OptionText<'a> {
 }
 
 impl<'a> OptionText<'a> {
-    /// The option of this name with its value.
+    /// The option of this name with this text as its value.
     pub fn new(name: &'a str, text: &'a str) -> OptionText<'a>
         ensures name { result.name.now ≡ name.now }
         ensures text { result.text.now ≡ text.now }
@@ -29,7 +28,7 @@ impl<'a> OptionText<'a> {
         OptionText { name, text }
     }
 
-    /// The option of this name, if it is given or has a default.
+    /// The option of this name with its value; `None` if it isn't given and has no default.
     pub fn given(matches: &ArgMatches<'a>, name: &'a str) -> Option<OptionText<'a>>
         ensures name { IfSome result (λ option. option.name.now ≡ name.now) }
         ensures text { option_map (λ option. option.text.now) result ≡ first_value (found_of matches.now) name.now }
@@ -37,7 +36,7 @@ impl<'a> OptionText<'a> {
         Some(OptionText::new(name, matches.get_str(name)?))
     }
 
-    /// The option of this name, which clap requires or which has a default.
+    /// The option of this name with its value, which clap requires or which has a default; empty if there is none.
     pub fn of(matches: &ArgMatches<'a>, name: &'a str) -> OptionText<'a>
         ensures name { result.name.now ≡ name.now }
         ensures text { result.text.now ≡ argument_text matches.now name.now }
@@ -45,7 +44,7 @@ impl<'a> OptionText<'a> {
         OptionText::new(name, argument_text(matches, name))
     }
 
-    /// The option of this name; with this value if it isn't given.
+    /// The option of this name with its value, or with `default` if it isn't given.
     pub fn or(matches: &ArgMatches<'a>, name: &'a str, default: &'a str) -> OptionText<'a>
         ensures name { result.name.now ≡ name.now }
         ensures text { result.text.now ≡ unwrap_or (first_value (found_of matches.now) name.now) default.now }
@@ -70,7 +69,7 @@ impl<'a> OptionText<'a> {
         self.text
     }
 
-    /// The word that the option's value writes, of one to four hexadecimal digits.
+    /// The word that the option's value writes, of one to four hexadecimal digits. For any other text `BadNumber` is reported.
     pub fn word<C: Console>(self, console: &mut C) -> Result<u16, Reported>
         ensures word { let text = self.entry.text.now in IfOk result (λ word. IsWordText text × (word ≡ word_value text)) }
         ensures fault { OnErr result (IsWordText self.entry.text.now → ⊥) }
@@ -83,7 +82,7 @@ impl<'a> OptionText<'a> {
         }
     }
 
-    /// The word of an option that needn't be given.
+    /// The word that the option's value writes, as `word` reads it; `Ok(None)` if the option isn't given.
     pub fn word_if_given<C: Console>(
         option: Option<OptionText<'_>>,
         console: &mut C,
@@ -100,7 +99,7 @@ impl<'a> OptionText<'a> {
         }
     }
 
-    /// The number that the option's value writes, of one to five hexadecimal digits.
+    /// The number that the option's value writes, of one to five hexadecimal digits. For any other text `BadNumber` is reported.
     pub fn length<C: Console>(self, console: &mut C) -> Result<u32, Reported>
         ensures length { let text = self.entry.text.now in IfOk result (λ length. IsLengthText text × (length ≡ word_value text)) }
         ensures fault { OnErr result (IsLengthText self.entry.text.now → ⊥) }
@@ -113,7 +112,7 @@ impl<'a> OptionText<'a> {
         }
     }
 
-    /// The byte that the option's value writes, of two hexadecimal digits.
+    /// The byte that the option's value writes, of two hexadecimal digits. For any other text `BadNumber` is reported.
     pub fn byte<C: Console>(self, console: &mut C) -> Result<u8, Reported>
         ensures byte { let text = self.entry.text.now in IfOk result (λ byte. IsByteText text × (byte ≡ word_value text)) }
         ensures fault { OnErr result (IsByteText self.entry.text.now → ⊥) }
@@ -126,7 +125,7 @@ impl<'a> OptionText<'a> {
         }
     }
 
-    /// The number that the option's value writes in decimal.
+    /// The number that the option's value writes in decimal, up to 64 bits. For any other text `BadNumber` is reported.
     pub fn count<C: Console>(self, console: &mut C) -> Result<u64, Reported>
         ensures count { let text = self.entry.text.now in IfOk result (λ count. IsCountText text × (count ≡ count_value text)) }
         ensures fault { OnErr result (IsCountText self.entry.text.now → ⊥) }
@@ -142,7 +141,7 @@ impl<'a> OptionText<'a> {
         }
     }
 
-    /// The name that the option's value is, of a module.
+    /// The option's value as the name of a module. `BadName` is reported if it can't be one, and `Memory` if memory runs out.
     pub fn module_name<C: Console>(self, console: &mut C) -> Result<Name, Reported>
         ensures name { IfOk result (λ name. name ≡ self.entry.text.now) }
         ensures unchanged { IfOk result (λ _. C.journal console.new ≡ C.journal console.old) }
@@ -158,14 +157,14 @@ impl<'a> OptionText<'a> {
         }
     }
 
-    /// Reports that the option's value isn't a number of its form.
+    /// Reports the fault `BadNumber` of the option's value; `wanted` says which form its number has.
     pub fn report_number<C: Console>(self, console: &mut C, wanted: &str) -> Reported
         ensures { C.journal console.new ≡ and_reported (C.journal console.old) }
     {
         self.report(console, "BadNumber", wanted)
     }
 
-    /// Reports a fault of the option's value, and says which option has which value, and what is wanted.
+    /// Reports a fault of the option's value, and says below it which option has which value, and what is wanted.
     fn report<C: Console>(self, console: &mut C, fault: &str, wanted: &str) -> Reported
         ensures { C.journal console.new ≡ and_reported (C.journal console.old) }
     {

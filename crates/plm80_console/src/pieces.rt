@@ -3,18 +3,17 @@
 ghost use Rattle.std.specs.Prelude.{◌≢◌, ℕ, ◌++◌, List, OnOk, Err};
 ghost use Rattle.omf_module.specs.Fault.{no_memory};
 
-use omf_library::laws::lasting_faults_last;
 use omf_library::{LibraryFault, LibraryFeed};
-use omf_module::laws::lasting_file_faults_last;
 use omf_module::{Cause, FileFeed, ModuleFault};
 use std::alloc::AllocError;
 
-/// What takes the pieces of a file.
+/// A reader of files that takes their bytes in pieces.
 pub trait TakePieces {
-    // What has become of it by these bytes.
+    // What holds of the reader when it has taken these bytes.
     ghost has_taken: { Self → List ℕ → Type 0 };
 
-    /// Takes the next piece. A fault of the bytes is no error here: the pieces after it are taken too.
+    /// Takes the next piece of the file. `AllocError` only if memory runs out; a fault of the bytes is no error here: the pieces after it
+    /// are taken too.
     fn take(&mut self, piece: &[u8]) -> Result<(), AllocError>
         ensures { OnOk result ((bytes : List ℕ) → has_taken self.old bytes → has_taken self.new (bytes ++ piece.now)) };
 }
@@ -25,13 +24,12 @@ impl TakePieces for FileFeed {
     ghost has_taken = { HasTakenFile };
 
     fn take(&mut self, piece: &[u8]) -> Result<(), AllocError> {
-        lasting_file_faults_last();
-        unless_module_memory(self.piece(piece))
+        check_module_memory(self.piece(piece))
     }
 }
 
-/// Whether memory ran out at a piece of an object file.
-fn unless_module_memory(answer: Result<usize, ModuleFault>) -> Result<(), AllocError>
+/// `AllocError` if memory ran out at a piece of an object file; `Ok` for every other fault, which the feed keeps.
+fn check_module_memory(answer: Result<usize, ModuleFault>) -> Result<(), AllocError>
     ensures { OnOk result (answer ≢ Err no_memory) }
 {
     match answer {
@@ -51,13 +49,12 @@ impl TakePieces for LibraryFeed {
     ghost has_taken = { HasTakenLibrary };
 
     fn take(&mut self, piece: &[u8]) -> Result<(), AllocError> {
-        lasting_faults_last();
-        unless_library_memory(self.piece(piece))
+        check_library_memory(self.piece(piece))
     }
 }
 
-/// Whether memory ran out at a piece of a library.
-fn unless_library_memory(answer: Result<usize, LibraryFault>) -> Result<(), AllocError>
+/// `AllocError` if memory ran out at a piece of a library; `Ok` for every other fault, which the feed keeps.
+fn check_library_memory(answer: Result<usize, LibraryFault>) -> Result<(), AllocError>
     ensures { OnOk result (answer ≢ Err LibraryFault.Memory) }
 {
     match answer {

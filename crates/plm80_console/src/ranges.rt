@@ -1,8 +1,7 @@
 //! Ranges of addresses that options name.
 
 ghost use Rattle.std.specs.Prelude.{◌≡◌, map, IfErr, IfOk, IfSome};
-ghost use Rattle.plm80_console.specs.Journal.{OnlyReports};
-ghost use Rattle.plm80_console.specs.Ranges.{AreRangesOf, IsRangeText};
+ghost use Rattle.plm80_console.specs.{Journal.OnlyReports, Ranges.AreRangesOf, Ranges.IsRangeText};
 
 use crate::console::Console;
 use crate::number_text::word_of_digits;
@@ -10,7 +9,8 @@ use crate::options::OptionText;
 use crate::reported::Reported;
 use image80::Range;
 
-/// The ranges that the values of an option write.
+/// The ranges that the values of the option of this name write, in order: each a first address, a colon and a length. `BadNumber` is
+/// reported of the first one that writes none, and `Memory` if memory runs out.
 pub fn ranges_of<C: Console>(
     console: &mut C,
     name: &str,
@@ -34,7 +34,8 @@ pub fn ranges_of<C: Console>(
     Ok(ranges)
 }
 
-/// The range of a first address, a colon and a length, if it ends in memory.
+/// The range that a text writes as a first address, a colon and a length; `None` for any other text, and if the range would end behind
+/// FFFF.
 fn range_of(text: &str) -> Option<Range>
     ensures { IfSome result (IsRangeText text.now) }
 {

@@ -9,7 +9,7 @@ pub struct ReadFile<'a> {
     pub bytes: Vec<u8>,
 }
 
-/// A fault of the file of this path.
+/// A fault of a file, with the file's path.
 #[derive(Clone, Copy)]
 pub struct FaultOf<'a, F> {
     pub path: &'a str,
@@ -17,7 +17,7 @@ pub struct FaultOf<'a, F> {
 }
 
 impl<'a> ReadFile<'a> {
-    /// A fault of this file.
+    /// The fault with the path of the file that has it.
     pub fn fault<F>(&self, fault: F) -> FaultOf<'a, F>
         ensures path { result.path.now ≡ self.now.path.now }
         ensures fault { result.fault ≡ fault }

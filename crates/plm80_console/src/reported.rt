@@ -6,18 +6,18 @@ ghost use Rattle.std.specs.Process.{exit_status};
 use std::fmt::Display;
 use std::process::ExitCode;
 
-/// A fault has been reported on standard error. Nothing makes one but printing there, which takes the host, so no command can; and
-/// nothing but an exit status comes of it.
+/// A proof that a fault has been reported on standard error. Nothing makes one but printing there, which takes the host, so no command
+/// can; and nothing but an exit status comes of it.
 pub struct Reported(());
 
 impl Reported {
-    /// Prints the fault on standard error. If that fails, it has been reported all the same: there is no other place for it.
+    /// Prints a fault on standard error. If that fails, it counts as reported all the same: there is no other place for it.
     pub fn print<F: Display + Drop>(rt: &HostRuntime, fault: F) -> Reported {
         let _ = eprint!(rt; "{fault}");
         Reported(())
     }
 
-    /// The exit status of a fault.
+    /// The exit status of a run with a fault, which is 2.
     pub fn status(self) -> ExitCode
         ensures { exit_status result ≡ 2 }
     {

@@ -1,12 +1,10 @@
 //! Paths that two arguments of a command share.
 
 ghost use Rattle.std.specs.Prelude.{◌≡◌, true, false, option_map, string_bytes, IfErr, IfOk, IfNone, IfSome, OnOk};
-ghost use Rattle.std.specs.List.{list_any};
-ghost use Rattle.std.specs.Str.{bytes_eq};
+ghost use Rattle.std.specs.{List.list_any, Str.bytes_eq};
 ghost use Rattle.plm80_console.specs.ApartPaths.{AreApart, IsApart, IsApartFrom, has_path, path_to_write, stands_behind};
 ghost use Rattle.plm80_console.specs.Kinds.{may_replace, names_no_file, shown_text};
-ghost use Rattle.plm80_console.specs.Refusals.{IsConflict};
-ghost use Rattle.plm80_console.specs.SharedPaths.{IsWrittenBy};
+ghost use Rattle.plm80_console.specs.{Refusals.IsConflict, SharedPaths.IsWrittenBy};
 
 use crate::comparison::Comparison;
 use crate::console::Console;
@@ -18,7 +16,7 @@ use std::alloc::{AllocError, Global};
 
 impl<'a> Syntax<'a> {
     /// Refuses arguments by which a file would be read and written, or written twice: those in which the path of a file to write is
-    /// that of another file, letter for letter or by another spelling or a link.
+    /// that of another argument, letter for letter or by another spelling or a link. The error is one of clap; it may be out of memory.
     pub fn refuse_shared_paths<C: Console>(
         &self,
         console: &C,
@@ -36,7 +34,7 @@ impl<'a> Syntax<'a> {
         }
     }
 
-    /// The first path of a file to write that another argument has too, so compared.
+    /// The first path of a file to write that another argument has too, by this comparison; `None` if there is none.
     fn shared_path<'m, C: Console>(
         &self,
         console: &C,
@@ -47,16 +45,16 @@ impl<'a> Syntax<'a> {
         ensures apart { comparison ≡ Comparison.Letters → IfNone result (AreApart matches.now self.now.arguments.now) }
     {
         for index in 0..self.arguments.len() {
-            if let Some(shared) = self.shared_by(console, matches, comparison, index) {
+            if let Some(shared) = self.path_shared_by(console, matches, comparison, index) {
                 return Some(shared);
             }
         }
         None
     }
 
-    /// The path of the argument with this index, if it is that of a file to write and another argument has it too.
+    /// The path of the argument with this index, if it is that of a file to write and another argument has it too; else `None`.
     #[tactic(auto, using(crate::proofs::SharedLemmas::is_written_by))]
-    fn shared_by<'m, C: Console>(
+    fn path_shared_by<'m, C: Console>(
         &self,
         console: &C,
         matches: &ArgMatches<'m>,
@@ -80,7 +78,7 @@ impl<'a> Syntax<'a> {
         None
     }
 
-    /// The error of a path that two arguments share, as clap prints errors of this command.
+    /// The error that a path is shared, as clap prints errors of this command. `AllocError` only if memory runs out.
     fn refusal(&self, alloc: Global, shared: SharedPath<'_, 'a>) -> Result<Error, AllocError>
         ensures { IfOk result IsConflict }
     {
@@ -108,7 +106,7 @@ struct SharedPath<'m, 'a> {
 }
 
 impl<'a> Argument<'a> {
-    /// The path that is given here, if it is that of a file to write.
+    /// The value of this argument if it is the path of a file to write; `None` if it isn't given, or is of another kind.
     fn path_to_write<'m>(&self, matches: &ArgMatches<'m>) -> Option<&'m str>
         ensures { option_map (λ path. path.now) result ≡ path_to_write matches.now self.now }
     {
@@ -128,7 +126,7 @@ impl<'a> Argument<'a> {
         }
     }
 
-    /// Whether the file that this argument writes may be that of the other one, which it reads.
+    /// Whether this argument may write the very file that the other one reads.
     fn may_replace(&self, other: &Argument<'_>) -> bool
         ensures { result ≡ may_replace self.now.kind other.now.name.now }
     {
@@ -148,7 +146,7 @@ impl<'a> Argument<'a> {
         }
     }
 
-    /// Whether the other argument has the path of the file that this one writes, which may not be.
+    /// Whether the other argument has the path of the file that this one writes, and isn't one whose file may be replaced.
     fn shares<C: Console>(
         &self,
         console: &C,
@@ -163,7 +161,7 @@ impl<'a> Argument<'a> {
         !self.may_replace(other) && other.has_path(console, matches, comparison, path)
     }
 
-    /// Whether the path is given here.
+    /// Whether the path is a value of this argument, or behind an equals sign in one, by this comparison.
     fn has_path<C: Console>(
         &self,
         console: &C,
@@ -202,7 +200,7 @@ impl<'a> Argument<'a> {
         }
     }
 
-    /// The argument as clap's errors show it.
+    /// The argument as clap's errors show it. `AllocError` only if memory runs out.
     fn shown_text(&self, alloc: Global) -> Result<String, AllocError>
         ensures { IfOk result (λ shown. string_bytes shown ≡ shown_text self.now.kind self.now.name.now) }
     {
@@ -221,7 +219,7 @@ impl<'a> Argument<'a> {
     }
 }
 
-/// Whether the path is one of these.
+/// Whether the path is one of these paths, by this comparison.
 fn is_among<C: Console>(console: &C, comparison: Comparison, paths: &[&str], path: &str) -> bool
     ensures { comparison ≡ Comparison.Letters → result ≡ list_any (λ own. bytes_eq own.now path.now) paths.now }
 {
@@ -233,7 +231,7 @@ fn is_among<C: Console>(console: &C, comparison: Comparison, paths: &[&str], pat
     false
 }
 
-/// Whether the path is that of one of these values, each a number, an equals sign and a path.
+/// Whether the path is that of one of these values, each a number, an equals sign and a path, by this comparison.
 fn is_behind<C: Console>(console: &C, comparison: Comparison, values: &[&str], path: &str) -> bool
     ensures { comparison ≡ Comparison.Letters → result ≡ list_any (λ value. stands_behind value.now path.now) values.now }
 {
@@ -245,7 +243,7 @@ fn is_behind<C: Console>(console: &C, comparison: Comparison, values: &[&str], p
     false
 }
 
-/// Whether the path stands behind the first equals sign of a value.
+/// Whether the path stands behind the first equals sign of this value, by this comparison.
 fn is_path_of<C: Console>(console: &C, comparison: Comparison, value: &str, path: &str) -> bool
     ensures { comparison ≡ Comparison.Letters → result ≡ stands_behind value.now path.now }
 {

@@ -2,13 +2,12 @@
 
 ghost use Rattle.std.specs.Prelude.{◌≡◌, ◌++◌, ◌∷◌, [], Some, true, false, codes, IfOk};
 ghost use Rattle.clap.specs.Simple.{app_of};
-ghost use Rattle.plm80_console.specs.Kinds.{is_required};
-ghost use Rattle.plm80_console.specs.SyntaxTable.{arguments_in, arguments_of};
+ghost use Rattle.plm80_console.specs.{Kinds.is_required, SyntaxTable.arguments_in, SyntaxTable.arguments_of};
 
 use clap::{Arg, ArgAction, Command};
 use std::alloc::{AllocError, Global};
 
-/// A command of the program.
+/// A command of the program for clap: its name, its help text and its arguments.
 #[derive(Clone, Copy)]
 pub struct Syntax<'a> {
     pub name: &'a str,
@@ -17,7 +16,7 @@ pub struct Syntax<'a> {
     pub arguments: &'a [Argument<'a>],
 }
 
-/// An argument of a command.
+/// An argument of a command: its name, what it is, and its help text.
 #[derive(Clone, Copy)]
 pub struct Argument<'a> {
     pub name: &'a str,
@@ -25,30 +24,31 @@ pub struct Argument<'a> {
     pub help: &'a str,
 }
 
-/// What an argument is.
+/// What an argument is: a position or an option, whether it is required, and whether its value is a path.
 #[derive(Clone, Copy)]
 pub enum Kind<'a> {
     /// The path of a file to read, which is required.
     Path,
-    /// The paths of one or more files to read.
+    /// The paths of one or more files to read, of which one is required.
     Paths,
-    /// One or more words, none of which is a path.
+    /// One or more words, none of which is a path; one is required.
     Words,
     /// The path of a file to write, which is required. No other argument of the command may name this file.
     Written,
-    /// An option that is required, whose value is such a path.
+    /// An option that is required, whose value is the path of a file to write, which the help text calls by this word. No other argument
+    /// may name this file.
     WrittenOption(&'a str),
-    /// An option whose value is such a path, which the help text calls by this word.
+    /// An option whose value is the path of a file to write, which the help text calls by this word. No other argument may name this file.
     WrittenIfGiven(&'a str),
-    /// An option whose value is such a path, which the help text calls by this word. It may name the file that the argument `old`
-    /// reads.
+    /// An option whose value is the path of a file to write, which the help text calls `value`. Of the other arguments only `old`, which
+    /// reads, may name this file.
     Replaced { value: &'a str, old: &'a str },
-    /// An option that is required, whose value the help text calls by this word. Any argument after the option is its value.
+    /// An option that is required, whose value is no path; the help text calls it by this word. Any argument after the option is its value.
     Required(&'a str),
     /// An option with a number, which the help text calls by this word. Any argument after the option is its value, and
     /// the program reads it.
     Number(&'a str),
-    /// An option with a number N and this default.
+    /// An option whose value is a number, which the help text calls `N`; with this default.
     Count(&'a str),
     /// An option without a value.
     Flag,
@@ -58,7 +58,7 @@ pub enum Kind<'a> {
 }
 
 impl<'a> Syntax<'a> {
-    /// The command with its arguments, for clap.
+    /// The command with its arguments and `--why`, for clap. `AllocError` only if memory runs out.
     pub fn command(&self, alloc: Global) -> Result<Command<'a>, AllocError>
         ensures name { IfOk result (λ command. (app_of command).top.name ≡ self.now.name.now) }
         ensures arguments { IfOk result (λ command. arguments_in command ≡ arguments_of self.now.arguments.now ++ (codes "why", false) ∷ []) }
@@ -81,7 +81,7 @@ pub const WHY: Argument<'static> = Argument {
 };
 
 impl<'a> Argument<'a> {
-    /// The argument for clap.
+    /// This argument as clap takes it.
     fn arg(&self, alloc: Global) -> Arg<'a>
         ensures name { result.id ≡ self.now.name }
         ensures required { result.required ≡ is_required self.now.kind }
@@ -103,7 +103,7 @@ impl<'a> Argument<'a> {
     }
 }
 
-/// An option of this name, whose value the help text calls by this word, whatever it begins with.
+/// Makes an argument of clap an option of this name. The help text calls its value by this word; the value may begin with a hyphen.
 fn option<'a>(arg: Arg<'a>, name: &'a str, value: &'a str) -> Arg<'a>
     ensures { result ≡ record arg.entry { long = Some name.entry; val_names = result.val_names; allow_hyphen_values = true } }
 {

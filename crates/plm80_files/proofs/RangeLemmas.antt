@@ -1,7 +1,5 @@
 -- Ranges in the words of lines.
-use Rattle.std.specs.Prelude.{◌≡◌, ℕ, List, ◌++◌, Option, Some, None, MatchOption, IfSome, codes}
-use Rattle.std.specs.Borrow.{Bor}
-use Rattle.std.proofs.Common.{refl, inl, inr}
+use Rattle.std.proofs.Common.{◌≡◌, ℕ, List, ◌++◌, Option, Some, None, MatchOption, IfSome, codes, Bor, refl, inl, inr}
 use Rattle.plm80_files.specs.RangeWords.{IsBehindKeyword}
 
 pub behind_code : (line rest : List ℕ) → line ≡ codes "CODE " ++ rest → IsBehindKeyword line rest

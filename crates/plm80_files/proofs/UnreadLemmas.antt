@@ -1,6 +1,5 @@
 -- Bytes behind an end record.
-use Rattle.std.specs.Prelude.{◌≡◌, ℕ, List, slice_get, Some}
-use Rattle.std.proofs.Common.{sym, subst}
+use Rattle.std.proofs.Common.{◌≡◌, ℕ, List, slice_get, Some, sym, subst}
 use Rattle.plm80_files.specs.UnreadBytes.{IsBehindEnd, after_record, here, later}
 
 -- the end record comes first

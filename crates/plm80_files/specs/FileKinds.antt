@@ -2,11 +2,9 @@
 -- (8080 Object Module Formats: the types of a module's and a library's header; Intel's hexadecimal object file format: a colon
 -- before each record; ELF: its first four bytes. Texts of regions and of inputs are this project's.)
 use Rattle.std.specs.Prelude.{ℕ, ◌==◌, nat_le, Bool, true, false, ◌&&◌, not, if◌then◌else◌, List, ◌∷◌, length, take, drop, codes, slice_index}
-use Rattle.std.specs.List.{list_all, starts_with}
-use Rattle.std.specs.Char.{is_ascii_hexdigit}
-use Rattle.plm80_files.specs.declared.file_kinds.FileKind.{FileKind}
+use Rattle.std.specs.{List.list_all, List.starts_with, Char.is_ascii_hexdigit}
+use Rattle.plm80_files.specs.declared.file_kinds.{FileKind.FileKind, FileRole.FileRole}
 use Rattle.plm80_files.specs.declared.file_kinds.FileKind.TheVariants as kind
-use Rattle.plm80_files.specs.declared.file_kinds.FileRole.{FileRole}
 use Rattle.plm80_files.specs.declared.file_kinds.FileRole.TheVariants as role
 
 -- a given number of hexadecimal digits come first

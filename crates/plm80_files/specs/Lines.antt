@@ -1,11 +1,9 @@
 -- What is often wrong with a line of the program's texts, which is then said in words.
 -- (The texts of regions and of inputs are this project's: lines that end in LF alone, without comments.)
 use Rattle.std.specs.Prelude.{ℕ, zero, suc, ◌-◌, ◌%◌, ◌==◌, Option, Some, None, is_some, slice_get, codes, Bool, false, ◌&&◌, ◌||◌, nat_lt, not, if◌then◌else◌, List, [], ◌∷◌, length, take}
-use Rattle.std.specs.List.{list_all, list_any, ends_with, slice_split}
-use Rattle.std.specs.Char.{is_ascii_hexdigit, is_ascii_lowercase}
-use Rattle.plm80_files.specs.FileKinds.{starts}
-use Rattle.plm80_files.specs.declared.line_words.LineFlaw.{LineFlaw}
+use Rattle.std.specs.{List.list_all, List.list_any, List.ends_with, List.slice_split, Char.is_ascii_hexdigit, Char.is_ascii_lowercase}
 use Rattle.plm80_files.specs.declared.line_words.LineFlaw.TheVariants.{NotAscii, CarriageReturn, ControlZ, NoLineFeed, Blank, Comment, OddDigits, LowerCase}
+use Rattle.plm80_files.specs.{FileKinds.starts, declared.line_words.LineFlaw.LineFlaw}
 
 -- what stands between line feeds, or between one and an end of the text, by its index
 abbrev pub part_at : (text : List ℕ) → (index : ℕ) → Option (List ℕ)

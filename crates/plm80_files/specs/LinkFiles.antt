@@ -1,19 +1,13 @@
 -- What the files that `link` takes are, by their first byte.
 use Rattle.std.specs.Prelude.{◌≡◌, ℕ, Bool, true, false, ◌==◌, List, [], ◌∷◌}
-use Rattle.omf_core.specs.Kind.{kind_byte}
-use Rattle.omf_core.specs.declared.kind.RecordKind.TheVariants.{LibraryHeader}
+use Rattle.omf_core.specs.{Kind.kind_byte, declared.kind.RecordKind.TheVariants.LibraryHeader}
 use Rattle.omf_model.specs.Modules.{ModuleValue}
-use Rattle.omf_module.specs.Reading.{OrNoMemory as OrNoModuleMemory}
-use Rattle.omf_module.specs.Spelled.{SpellsFile, FaultsFile}
-use Rattle.omf_library.specs.Fault.{OrNoMemory as OrNoLibraryMemory}
-use Rattle.omf_library.specs.Spelled.{SpellsLibrary, FaultsLibrary}
-use Rattle.plm80_console.specs.Journal.{Journal, and_read}
-use Rattle.plm80_console.specs.Pieces.{HasTakenFile, HasTakenLibrary}
-use Rattle.plm80_files.specs.declared.link_feed.LinkFeed.{LinkFeed}
+use Rattle.omf_module.specs.{Reading.OrNoMemory as OrNoModuleMemory, Spelled.SpellsFile, Spelled.FaultsFile}
+use Rattle.omf_library.specs.{Fault.OrNoMemory as OrNoLibraryMemory, Spelled.SpellsLibrary, Spelled.FaultsLibrary}
+use Rattle.plm80_console.specs.{Journal.Journal, Journal.and_read, Pieces.HasTakenFile, Pieces.HasTakenLibrary}
+use Rattle.plm80_files.specs.declared.{link_feed.LinkFeed.LinkFeed, link_feed.LinkFile.LinkFile, file_fault.FileFault.FileFault}
 use Rattle.plm80_files.specs.declared.link_feed.LinkFeed.TheVariants as feed
-use Rattle.plm80_files.specs.declared.link_feed.LinkFile.{LinkFile}
 use Rattle.plm80_files.specs.declared.link_feed.LinkFile.TheVariants as file
-use Rattle.plm80_files.specs.declared.file_fault.FileFault.{FileFault}
 use Rattle.plm80_files.specs.declared.file_fault.FileFault.TheVariants as fault
 
 -- The first byte of a file says what it is: a library begins with the kind of its header, which no object file begins with.

@@ -1,11 +1,9 @@
 -- A range in the words of a line.
 -- (The text of regions is this project's: a word, the first address and the length, with a blank between them.)
 use Rattle.std.specs.Prelude.{◌≡◌, ◌⊎◌, ℕ, ◌<◌, Bool, true, List, ◌∷◌, ◌++◌, Some, codes}
-use Rattle.image80.specs.declared.range.Range.{Range}
-use Rattle.image80.specs.Range.{in_range}
+use Rattle.image80.specs.{declared.range.Range.Range, Range.in_range}
 use Rattle.plm80_console.specs.NumberText.{IsWordText, word_value}
-use Rattle.plm80_files.specs.Lines.{line_at}
-use Rattle.plm80_files.specs.declared.regions_words.RangeLine.{RangeLine}
+use Rattle.plm80_files.specs.{Lines.line_at, declared.regions_words.RangeLine.RangeLine}
 
 -- the words of lines that have a range, each with its blank
 abbrev pub IsKeyword : List ℕ → Type 0

@@ -18,7 +18,7 @@ pub data IsBehindEnd : (bytes rest : List ℕ) → Type 0 where
 abbrev pub is_filling : List ℕ → Bool
 is_filling bytes = list_all (λ byte. byte == 0 || byte == 0x1A) bytes
 
--- so many bytes are behind an end record, and don't only fill the file up
+-- `count` bytes are behind an end record, and don't only fill the file up
 pub record AreUnread (bytes : List ℕ) (count : ℕ) : Type 0 where
   pub rest : List ℕ
   pub behind : IsBehindEnd bytes rest

@@ -8,15 +8,15 @@ use omf_library::LibraryFault;
 use omf_module::{Cause, ModuleFault};
 use plm80_console::{Console, Reported};
 
-/// Where the faults of a file that begins as an object file are explained, in words.
+/// Words that say where faults of object files are explained.
 pub(crate) const OBJECT_WORDS: &str = "docs/FAULTS.md says what to look for there ('Object files')";
 
 /// Why an object file or a library isn't read.
 #[derive(Clone, Copy, Debug)]
 pub enum FileFault {
-    /// The bytes are no object file.
+    /// A fault of the file's bytes as an object file.
     Module(ModuleFault),
-    /// The bytes are no library.
+    /// A fault of the file's bytes as a library.
     Library(LibraryFault),
 }
 
@@ -45,7 +45,7 @@ impl From<LibraryFault> for FileFault {
 }
 
 impl FileFault {
-    /// Reports the fault of the file of this path, which was read.
+    /// Reports the fault of the file of this path, which was read, with words below it.
     pub fn report<C: Console>(self, console: &mut C, path: &str) -> Reported
         ensures { C.journal console.new ≡ and_reported (C.journal console.old) }
     {
@@ -60,7 +60,7 @@ impl FileFault {
     }
 }
 
-/// Reports why a file is no library.
+/// Reports a fault of the file of this path as a library.
 fn report_library<C: Console>(console: &mut C, path: &str, fault: LibraryFault) -> Reported
     ensures { C.journal console.new ≡ and_reported (C.journal console.old) }
 {
@@ -69,7 +69,7 @@ fn report_library<C: Console>(console: &mut C, path: &str, fault: LibraryFault) 
     reported
 }
 
-/// Reports why a file is no object file, and what it seems to be.
+/// Reports a fault of the file of this path as an object file, and says below it what the file seems to be, if it can be read again.
 fn report_module<C: Console>(console: &mut C, path: &str, fault: ModuleFault) -> Reported
     ensures { C.journal console.new ≡ and_reported (C.journal console.old) }
 {

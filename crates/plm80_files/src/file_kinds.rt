@@ -38,7 +38,7 @@ pub(crate) enum FileKind {
     Unknown,
 }
 
-/// What a file was to be, by its place among the arguments.
+/// What a file is to be, by its place among the arguments of its command.
 #[derive(Clone, Copy, Debug, PartialEq, Eq)]
 pub enum FileRole {
     ObjectFile,
@@ -48,7 +48,7 @@ pub enum FileRole {
 }
 
 impl FileKind {
-    /// The kind of the file with these bytes.
+    /// The kind of a file with these bytes.
     fn of(bytes: &[u8]) -> FileKind
         ensures { result ≡ kind_of bytes.now }
     {
@@ -63,7 +63,7 @@ impl FileKind {
         }
     }
 
-    /// The kind of a file that begins with another byte.
+    /// The kind of a file with these bytes, which begin neither as an object file nor as a library.
     fn of_text(bytes: &[u8]) -> FileKind
         ensures { result ≡ kind_of_text bytes.now }
     {
@@ -80,7 +80,7 @@ impl FileKind {
         }
     }
 
-    /// Words for the kind of a file that was to be an object file; none if it begins as one.
+    /// Words on a file of this kind that was to be an object file; `None` if it begins as one.
     fn words_for_object(self) -> Option<&'static str>
         ensures { is_some result ≡ is_explained FileRole.ObjectFile self }
     {
@@ -98,7 +98,7 @@ impl FileKind {
         }
     }
 
-    /// Words for the kind of a file that was to be a text of regions; none if it begins as one, or as no file that is known.
+    /// Words on a file of this kind that was to be a text of regions; `None` if it begins as one, or as no file that is known.
     fn words_for_regions(self) -> Option<&'static str>
         ensures { is_some result ≡ is_explained FileRole.Regions self }
     {
@@ -113,7 +113,7 @@ impl FileKind {
         }
     }
 
-    /// Words for the kind of a file that was to be a text of inputs; none unless it begins as another file of the same command.
+    /// Words on a file of this kind that was to be a text of inputs; `None` unless it begins as another file of the same command.
     fn words_for_inputs(self) -> Option<&'static str>
         ensures { is_some result ≡ is_explained FileRole.Inputs self }
     {
@@ -129,7 +129,7 @@ impl FileKind {
         }
     }
 
-    /// Which path an image has, if a file of this kind seems to be another one of the command.
+    /// Words on which path an image has, if a file of this kind in its place seems to be another file of the command; else `None`.
     fn place_of_image(self) -> Option<&'static str>
         ensures { is_some result ≡ is_misplaced FileRole.Image self }
     {
@@ -146,7 +146,7 @@ impl FileKind {
         }
     }
 
-    /// Which path inputs have, if a file of this kind seems to be another one of the command.
+    /// Words on which path inputs have, if a file of this kind in their place seems to be another file of the command; else `None`.
     fn place_of_inputs(self) -> Option<&'static str>
         ensures { is_some result ≡ is_misplaced FileRole.Inputs self }
     {
@@ -163,7 +163,7 @@ impl FileKind {
 }
 
 impl FileRole {
-    /// Words for the kind of a file that was to have this role; none if it may have it.
+    /// Words on a file of this kind that was to have this role; `None` if it may have it, or if there is nothing to say.
     fn words(self, kind: FileKind) -> Option<&'static str>
         ensures { is_some result ≡ is_explained self kind }
     {
@@ -174,8 +174,8 @@ impl FileRole {
         }
     }
 
-    /// Which path the file of this role has, if a file of this kind seems to be another one of the command. Of regions it is said
-    /// after the other words on them.
+    /// Words on which path the file of this role has, if a file of this kind in its place seems to be another file of the command; else
+    /// `None`. Of regions `place_of_regions` says it, after the other words on them.
     fn place(self, kind: FileKind) -> Option<&'static str>
         ensures { is_some result ≡ is_misplaced self kind }
     {
@@ -204,15 +204,15 @@ fn is_inputs(bytes: &[u8]) -> bool
         && begins_with_digits(&bytes[3..], 2)
 }
 
-/// Whether the bytes begin with a given number of hexadecimal digits.
+/// Whether the bytes begin with `count` hexadecimal digits.
 fn begins_with_digits(bytes: &[u8], count: usize) -> bool
     ensures { result ≡ begins_with_digits count bytes.now }
 {
     count <= bytes.len() && are_digits(&bytes[..count])
 }
 
-/// Says what these bytes seem to be, which were to be the file of this role, and which path it has, if that helps; whether it said
-/// what they seem to be.
+/// Says what the bytes of a file seem to be that was to have this role, and which path the file of this role has, if that helps. The
+/// result is whether it said what they seem to be.
 pub fn explain_file<C: Console>(console: &C, bytes: &[u8], role: FileRole) -> bool
     ensures { result ≡ is_explained role (kind_of bytes.now) }
 {
@@ -223,7 +223,7 @@ pub fn explain_file<C: Console>(console: &C, bytes: &[u8], role: FileRole) -> bo
     words.is_some()
 }
 
-/// Which path the regions have, if this text, which isn't theirs, seems to be another file of the command.
+/// Words on which path the regions have, if the text that was given for them seems to be another file of the command; else `None`.
 pub fn place_of_regions(text: &[u8]) -> Option<&'static str>
     ensures { is_some result ≡ stands_beside_regions (kind_of text.now) }
 {
@@ -233,7 +233,7 @@ pub fn place_of_regions(text: &[u8]) -> Option<&'static str>
     }
 }
 
-/// Says what is wrong with the line of this number of a text that was to be that of inputs.
+/// Says what is wrong with the line of this number in a text that was to be one of inputs.
 pub fn explain_inputs<C: Console>(console: &C, text: &[u8], number: usize) {
     if !explain_file(console, text, FileRole::Inputs)
         && !explain_flaws(console, text, number, FLAWS)

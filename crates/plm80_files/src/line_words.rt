@@ -7,10 +7,10 @@ ghost use Rattle.plm80_files.specs.Lines.{ends_in_blank, has_comment, has_flaw, 
 use plm80_console::{Console, are_digits};
 use thiserror::Error;
 
-/// The end of a text in CP/M, and the Ctrl-Z of other systems.
+/// The byte 1A: the end of a text in CP/M, and Ctrl-Z on other systems.
 const CONTROL_Z: u8 = 0x1A;
 
-/// What is often wrong with a line.
+/// What is often wrong with a line of the program's texts.
 #[derive(Clone, Copy, Debug, Error)]
 pub enum LineFlaw {
     #[error("the line has bytes that aren't ASCII: write the text without UTF-16 and without a byte order mark")]
@@ -31,7 +31,7 @@ pub enum LineFlaw {
     LowerCase,
 }
 
-/// What may be wrong with any line, in the order in which it is said.
+/// The flaws that any line may have, in the order in which they are said.
 pub const FLAWS: &[LineFlaw] = &[
     LineFlaw::NotAscii,
     LineFlaw::CarriageReturn,
@@ -42,7 +42,7 @@ pub const FLAWS: &[LineFlaw] = &[
     LineFlaw::OddDigits,
 ];
 
-/// The flaws of a line whose words and digits are of upper case.
+/// The flaws of a line whose words and digits are of upper case, in the order in which they are said.
 pub(crate) const UPPER_FLAWS: &[LineFlaw] = &[
     LineFlaw::NotAscii,
     LineFlaw::CarriageReturn,
@@ -54,7 +54,7 @@ pub(crate) const UPPER_FLAWS: &[LineFlaw] = &[
     LineFlaw::LowerCase,
 ];
 
-/// The flaws of a first line, whose digit stands alone.
+/// The flaws of the first line of a text of regions, whose digit stands alone.
 pub(crate) const VERSION_FLAWS: &[LineFlaw] = &[
     LineFlaw::NotAscii,
     LineFlaw::CarriageReturn,
@@ -71,7 +71,8 @@ pub(crate) struct Line<'a> {
     pub(crate) is_ended: bool,
 }
 
-/// Says which of these flaws the line of this number has, each in a line of its own; whether it has one.
+/// Says which of these flaws the line of this number has, each in a line of its own. The result is whether it has one; `false` if the text
+/// has no such line.
 pub fn explain_flaws<C: Console>(
     console: &C,
     text: &[u8],
@@ -87,7 +88,7 @@ pub fn explain_flaws<C: Console>(
 }
 
 impl<'a> Line<'a> {
-    /// Says which of these flaws the line has, each in a line of its own; whether it has one.
+    /// Says which of these flaws this line has, each in a line of its own. The result is whether it has one.
     fn explain<C: Console>(self, console: &C, flaws: &[LineFlaw]) -> bool
         ensures { let line = self.entry in result ≡ list_any (λ flaw. has_flaw flaw line.bytes.now line.is_ended) flaws.now }
     {
@@ -99,7 +100,7 @@ impl<'a> Line<'a> {
         flaws.iter().any(|flaw| self.has(*flaw))
     }
 
-    /// Whether the line has this flaw.
+    /// Whether this line has the flaw.
     fn has(self, flaw: LineFlaw) -> bool
         ensures { result ≡ has_flaw flaw self.entry.bytes.now self.entry.is_ended }
     {
@@ -117,6 +118,7 @@ impl<'a> Line<'a> {
         }
     }
 
+    /// Whether this line has a semicolon.
     fn has_comment(self) -> bool
         ensures { result ≡ has_comment self.entry.bytes.now }
     {
@@ -137,7 +139,7 @@ pub(crate) fn line_of(text: &[u8], number: usize) -> Option<Line<'_>>
     Some(Line { bytes, is_ended })
 }
 
-/// What stands between line feeds, or between one and an end of the text, by its index.
+/// The part of the text with this index, of those between its line feeds; `None` if there is none.
 fn part_of(text: &[u8], index: usize) -> Option<&[u8]>
     ensures { option_copied result ≡ part_at text.now index }
 {

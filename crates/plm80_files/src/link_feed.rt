@@ -15,20 +15,23 @@ use std::alloc::{AllocError, Global};
 /// The type of a library header, which no module begins with.
 const LIBRARY_HEADER: u8 = RecordKind::LibraryHeader as u8;
 
-/// An object file or a library that comes in pieces. Its first byte decides which it is.
+/// A reader of an object file or a library that comes in pieces. The first byte decides which it is.
 #[derive(Drop)]
 pub enum LinkFeed {
     /// No byte has come.
     Empty(Global),
+    /// The first byte isn't that of a library.
     ObjectFile(FileFeed),
+    /// The first byte is that of a library.
     Library(LibraryFeed),
 }
 
-/// What a file has.
+/// What a file that `link` takes has.
 #[derive(Drop)]
 pub enum LinkFile {
     /// The modules of an object file, in order.
     Modules(Vec<Module>),
+    /// A library with its modules.
     Library(Library),
 }
 
@@ -40,8 +43,8 @@ impl TakePieces for LinkFeed {
     fn take(&mut self, piece: &[u8]) -> Result<(), AllocError> {
         match self {
             LinkFeed::Empty(alloc) => {
-                let begun = begun(*alloc, piece)?;
-                *self = begun;
+                let first = first_feed(*alloc, piece)?;
+                *self = first;
                 Ok(())
             }
             LinkFeed::ObjectFile(feed) => feed.take(piece),
@@ -50,8 +53,8 @@ impl TakePieces for LinkFeed {
     }
 }
 
-/// The feed of a file that begins with this piece.
-fn begun(alloc: Global, piece: &[u8]) -> Result<LinkFeed, AllocError>
+/// The reader of a file that begins with this piece, which it has taken. `AllocError` only if memory runs out.
+fn first_feed(alloc: Global, piece: &[u8]) -> Result<LinkFeed, AllocError>
     ensures { IfOk result (λ feed. HasTakenEither feed piece.now) }
 {
     match piece.first() {
@@ -70,7 +73,7 @@ fn begun(alloc: Global, piece: &[u8]) -> Result<LinkFeed, AllocError>
 }
 
 impl LinkFeed {
-    /// What the file has whose pieces were taken. A file without bytes is read as an object file.
+    /// What the file has of which all pieces were taken, or its fault. A file without bytes is read as an object file.
     fn finish(self) -> Result<LinkFile, FileFault>
         ensures file { (text : List ℕ) → HasTakenEither self text → IfOk result (SpellsEither text) }
         ensures fault { (text : List ℕ) → HasTakenEither self text → IfErr result (FaultsEither text) }
@@ -83,7 +86,7 @@ impl LinkFeed {
     }
 }
 
-/// The object file or the library that the file of this path is, read in pieces.
+/// Reads the file of this path, in pieces, as an object file or as a library, by its first byte. A fault is reported.
 pub fn read_link_file<C: Console>(console: &mut C, path: &str) -> Result<LinkFile, Reported>
     ensures read { IfOk result (IsLinkFileRead path.now (C.journal console.old) (C.journal console.new)) }
     ensures fault { IfErr result (λ _. OnlyReports (C.journal console.old) (C.journal console.new)) }
@@ -92,7 +95,7 @@ pub fn read_link_file<C: Console>(console: &mut C, path: &str) -> Result<LinkFil
     console.read_in_pieces(path, &mut feed)?;
     match feed.finish() {
         Ok(file) => {
-            console.explain_any(UnreadBytes::again(console, path));
+            console.explain_any(UnreadBytes::of_file(console, path));
             Ok(file)
         }
         Err(fault) => Err(fault.report(console, path)),

@@ -9,7 +9,8 @@ use crate::unread_bytes::UnreadBytes;
 use omf_module::{FileFeed, Module};
 use plm80_console::{Console, Reported};
 
-/// The modules of the object file of this path, in order; also of one that begins as a library. It is read in pieces.
+/// Reads the modules of the object file of this path, in order and in pieces; a file that begins as a library is read as one too, which is
+/// a fault. A fault is reported.
 pub fn read_modules<C: Console>(console: &mut C, path: &str) -> Result<Vec<Module>, Reported>
     ensures read { IfOk result (λ modules. AreModulesRead path.now (C.journal console.old) (C.journal console.new) modules.items) }
     ensures fault { IfErr result (λ _. OnlyReports (C.journal console.old) (C.journal console.new)) }
@@ -18,14 +19,14 @@ pub fn read_modules<C: Console>(console: &mut C, path: &str) -> Result<Vec<Modul
     console.read_in_pieces(path, &mut feed)?;
     match feed.finish() {
         Ok(modules) => {
-            console.explain_any(UnreadBytes::again(console, path));
+            console.explain_any(UnreadBytes::of_file(console, path));
             Ok(modules)
         }
         Err(fault) => Err(FileFault::Module(fault).report(console, path)),
     }
 }
 
-/// Appends modules that were read.
+/// Moves the modules that were `read` behind the others, and leaves none in `read`. `Memory` is reported if memory runs out.
 pub fn append_modules<C: Console>(
     console: &mut C,
     modules: &mut Vec<Module>,

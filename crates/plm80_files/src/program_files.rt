@@ -13,21 +13,21 @@ use image80::{Image, Regions, RegionsFault, read_regions};
 use image80_file::{ImageFault, read_image};
 use plm80_console::{Argument, Console, Kind, Reported};
 
-/// The argument of an image that is read.
+/// The argument of commands that names the image's file.
 pub const IMAGE: Argument<'static> = Argument {
     name: "IMAGE",
     kind: Kind::Path,
     help: "The image, an absolute object file",
 };
 
-/// The argument of its regions.
+/// The argument of commands that names the regions' file.
 pub const REGIONS: Argument<'static> = Argument {
     name: "REGIONS",
     kind: Kind::Path,
     help: "The text of its code, data and stack ranges",
 };
 
-/// The regions that the file's text spells.
+/// The regions that the text of the file of this path spells. If it spells none, that is reported.
 pub fn regions_of<C: Console>(console: &mut C, path: &str, text: &[u8]) -> Result<Regions, Reported>
     ensures regions { IfOk result (Spells text.now) }
     ensures unchanged { IfOk result (λ _. C.journal console.new ≡ C.journal console.old) }
@@ -43,7 +43,7 @@ pub fn regions_of<C: Console>(console: &mut C, path: &str, text: &[u8]) -> Resul
     }
 }
 
-/// Reports why the text of the file of this path spells no regions.
+/// Reports why the text of the file of this path spells no regions, with words below it.
 pub fn report_regions<C: Console>(
     console: &mut C,
     path: &str,
@@ -60,7 +60,7 @@ pub fn report_regions<C: Console>(
     reported
 }
 
-/// The image that the file's bytes spell, with these regions.
+/// The image that the bytes of the file of this path spell, with these regions. If they spell none, that is reported.
 pub fn image_of<C: Console>(
     console: &mut C,
     path: &str,
@@ -88,7 +88,7 @@ pub fn image_of<C: Console>(
     }
 }
 
-/// Words for a fault of a file that begins as an image does; none if memory ran out.
+/// Words on a fault of a file that begins as an image does; `None` if memory ran out.
 fn words_for(fault: ImageFault) -> Option<&'static str>
     ensures { (result ≡ None) ↔ (fault ≡ ImageFault.Memory) }
 {

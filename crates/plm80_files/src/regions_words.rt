@@ -19,10 +19,10 @@ const ADDRESSES: usize = 65_536;
 const RANGE_LINE: &str =
     "a line is CODE, DATA or (once) STACK, a first address and a length up to FFFF, as CODE 3000 009B; or CASE and addresses";
 
-/// No line has this number.
+/// The number that stands for no line: lines are counted from 1.
 const NO_LINE: usize = 0;
 
-/// Says what is wrong with the text of regions that has this fault.
+/// Says what is wrong with a text of regions that has this fault.
 pub fn explain_regions<C: Console>(console: &C, text: &[u8], fault: RegionsFault) {
     match fault {
         RegionsFault::BadVersion => {
@@ -55,7 +55,7 @@ pub fn explain_regions<C: Console>(console: &C, text: &[u8], fault: RegionsFault
     }
 }
 
-/// A line with a range, as words show it.
+/// A line of a text of regions that has a range: its number, its words and the range.
 #[derive(Clone, Copy, Debug, Error)]
 #[error("line {number}: {words}")]
 struct RangeLine<'a> {
@@ -64,7 +64,7 @@ struct RangeLine<'a> {
     range: Range,
 }
 
-/// The line of this number, if it has a range.
+/// The line of this number in a text of regions; `None` if there is none, or if it has no range.
 fn range_line(text: &[u8], number: usize) -> Option<RangeLine<'_>>
     ensures { IfSome result (IsRangeLine text.now number) }
 {
@@ -80,7 +80,8 @@ fn range_line(text: &[u8], number: usize) -> Option<RangeLine<'_>>
     }
 }
 
-/// The first line that has an address of an earlier one, behind that. If memory runs out for it, there is none.
+/// The first line that has an address of an earlier one, and the earlier one before it; `None` if there is no such line, or if memory
+/// runs out.
 fn overlap_in(alloc: Global, text: &[u8]) -> Option<(RangeLine<'_>, RangeLine<'_>)>
     ensures { IfSome result (λ lines. ShareAddress text.now lines.0 lines.1) }
 {
@@ -99,7 +100,7 @@ fn overlap_in(alloc: Global, text: &[u8]) -> Option<(RangeLine<'_>, RangeLine<'_
     }
 }
 
-/// Whether the line of this number needs a text of version 2: a CASE line in one of version 1.
+/// Whether the line of this number is a CASE line in a text of version 1, which only version 2 has.
 fn needs_version_2(text: &[u8], number: usize) -> bool
     ensures { result ≡ needs_version_2 text.now number }
 {
@@ -109,7 +110,8 @@ fn needs_version_2(text: &[u8], number: usize) -> bool
     }
 }
 
-/// The number of the first line that has an address of an earlier one, behind the number of that.
+/// The number of the first line that has an address of an earlier one, and the number of that before it; `None` if there is no such line.
+/// `AllocError` only if memory runs out.
 fn overlapping_lines(alloc: Global, text: &[u8]) -> Result<Option<(usize, usize)>, AllocError>
     ensures { IfOk result (λ found. IfSome found (λ lines. lines.0 ≢ NO_LINE)) }
 {
@@ -126,7 +128,8 @@ fn overlapping_lines(alloc: Global, text: &[u8]) -> Result<Option<(usize, usize)
     Ok(None)
 }
 
-/// Notes that the line of this number has the addresses of a range, up to the first one that an earlier line has; that line's number.
+/// Notes in `owners` that the line of this number has the addresses of a range, up to the first one that an earlier line has. The result is
+/// that line's number; `None` if no line has one of them.
 fn take_range(owners: &mut Vec<usize>, range: Range, number: usize) -> Option<usize>
     ensures { IfSome result (λ earlier. earlier ≢ NO_LINE) }
 {
@@ -142,7 +145,7 @@ fn take_range(owners: &mut Vec<usize>, range: Range, number: usize) -> Option<us
     None
 }
 
-/// The range of a line CODE, STACK or DATA.
+/// The range of a CODE, STACK or DATA line; `None` for any other line.
 fn range_of(line: &[u8]) -> Option<Range>
     ensures { IfSome result (IsInWords line.now) }
 {
@@ -156,7 +159,7 @@ fn range_of(line: &[u8]) -> Option<Range>
     })
 }
 
-/// What stands behind the first word of such a line.
+/// What stands behind the word CODE, STACK or DATA and a blank, with which a line begins; `None` if it begins otherwise.
 fn extent_of(line: &[u8]) -> Option<&[u8]>
     ensures { IfSome result (λ extent. IsBehindKeyword line.now extent.now) }
 {

@@ -22,12 +22,12 @@ pub struct UnreadBytes<'a> {
 }
 
 impl<'a> UnreadBytes<'a> {
-    /// The unread bytes of the file of this path, which has these bytes; none if the bytes behind its end record only fill it up.
+    /// Words on the unread bytes of the file of this path, which has these bytes; `None` if those behind its end record only fill it up.
     pub fn of(path: &'a str, bytes: &[u8]) -> Option<UnreadBytes<'a>>
         ensures path { IfSome result (λ unread. unread.path.now ≡ path.now) }
         ensures bytes { IfSome result (λ unread. AreUnread bytes.now unread.count) }
     {
-        let unread = behind_end(bytes);
+        let unread = bytes_behind_end(bytes);
         if is_filling(unread) {
             None
         } else {
@@ -38,8 +38,9 @@ impl<'a> UnreadBytes<'a> {
         }
     }
 
-    /// The unread bytes of the file of this path, which was read; none if it can't be read again, or words aren't asked for.
-    pub(crate) fn again<C: Console>(console: &C, path: &'a str) -> Option<UnreadBytes<'a>>
+    /// Words on the unread bytes of the file of this path, which is read again; `None` if there are none, if the file can't be read
+    /// again, or if faults aren't explained.
+    pub(crate) fn of_file<C: Console>(console: &C, path: &'a str) -> Option<UnreadBytes<'a>>
         ensures path { IfSome result (λ unread. unread.path.now ≡ path.now) }
         ensures bytes { IfSome result (λ unread. (bytes : List ℕ) × AreUnread bytes unread.count) }
     {
@@ -48,21 +49,21 @@ impl<'a> UnreadBytes<'a> {
     }
 }
 
-/// Whether bytes only fill up a file.
+/// Whether bytes only fill up a file: all are 00 or 1A.
 fn is_filling(bytes: &[u8]) -> bool
     ensures { result ≡ is_filling bytes.now }
 {
     bytes.iter().all(|byte| *byte == 0 || *byte == CONTROL_Z)
 }
 
-/// The bytes behind the end record; none if there is no such record.
-fn behind_end(bytes: &[u8]) -> &[u8]
+/// The bytes behind the end record of an object file; empty if there is no such record.
+fn bytes_behind_end(bytes: &[u8]) -> &[u8]
     ensures { IsBehindEnd bytes.now result.now }
 {
     let mut rest = bytes;
     // A record has four bytes at least.
     for _ in 0..bytes.len() {
-        match after_record(rest) {
+        match split_record(rest) {
             Some((END_OF_FILE, after)) => return after,
             Some((_, after)) => rest = after,
             None => break,
@@ -71,8 +72,8 @@ fn behind_end(bytes: &[u8]) -> &[u8]
     b""
 }
 
-/// The type of the record with which these bytes begin, and the bytes behind it.
-fn after_record(bytes: &[u8]) -> Option<(u8, &[u8])>
+/// The type of the record with which these bytes begin, and the bytes behind it; `None` if they end before it does.
+fn split_record(bytes: &[u8]) -> Option<(u8, &[u8])>
     ensures kind { IfSome result (λ found. slice_get bytes.now 0 ≡ Some found.0) }
     ensures after { IfSome result (λ found. found.1.now ≡ after_record bytes.now) }
 {

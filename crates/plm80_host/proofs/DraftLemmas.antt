@@ -2,12 +2,9 @@
 use Rattle.std.specs.Prelude.{◌≡◌, ℕ, ◌+◌, List, ◌++◌, codes, Option, None, Some, Result, Ok, Err, IfErr, IfOk, IfSome, String, string_bytes, refl}
 use Rattle.std.proofs.Common.{◌∙◌, ap, arith, inl}
 use Rattle.std.specs.Fmt.{decimal}
-use Rattle.plm80_console.specs.declared.new_file.NewFile.{NewFile}
+use Rattle.plm80_console.specs.{declared.new_file.NewFile.NewFile, Journal.Journal, Journal.and_reported, Replaced.GaveUpKeeping}
 use Rattle.plm80_host.specs.Drafts.{IsBeginning, IsDraftIn, IsDraftOf, IsNamed}
-use Rattle.plm80_console.specs.Journal.{Journal, and_reported}
-use Rattle.plm80_console.specs.Replaced.{GaveUpKeeping}
-use Rattle.plm80_host.specs.declared.replacing.Draft.{Draft}
-use Rattle.plm80_host.specs.declared.replacing.DraftFault.{DraftFault}
+use Rattle.plm80_host.specs.declared.replacing.{Draft.Draft, DraftFault.DraftFault}
 
 -- a draft in the file of a name that begins as the path does is one of the path's file
 pub drafts_of : (file : NewFile) (beginning : List ℕ) (number : ℕ) (name : List ℕ) (answer : Result Draft DraftFault)
@@ -28,6 +25,7 @@ unkept path old between new same is = record {
   kept = inl refl;
   fault = record {
     reported = let more : new.reported ≡ old.reported + 1 = ap (λ (j : Journal). j.reported) is ∙ ap (λ (j : Journal). j.reported + 1) same in omega (arith, more);
+    read = ap (λ (j : Journal). j.read) is ∙ ap (λ (j : Journal). j.read) same;
     written = ap (λ (j : Journal). j.written) is ∙ ap (λ (j : Journal). j.written) same;
     spoiled = inl (ap (λ (j : Journal). j.spoiled) is ∙ ap (λ (j : Journal). j.spoiled) same);
     copies = ap (λ (j : Journal). j.copies) is ∙ ap (λ (j : Journal). j.copies) same;

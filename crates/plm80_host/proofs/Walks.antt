@@ -4,9 +4,7 @@ use seplogic.Ra.Ura.{Ura}
 use mir.Val.{Val, vstruct, vnil}
 use types.Logic.{Logic}
 use types.Kit.{Goal, Step, step, Item, ‵, ◌$◌, fjoin, fpack, feq_i}
-use denote.RattleType.{RattleType, Valss}
-use denote.Steps.{nothing}
-use denote.Struct.Struct.{Struct, within}
+use denote.{RattleType.RattleType, RattleType.Valss, Steps.nothing, Struct.Struct.Struct, Struct.Struct.within}
 
 abbrev pub none : Val
 none = vstruct vnil

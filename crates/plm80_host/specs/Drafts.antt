@@ -1,9 +1,7 @@
 -- How a new file comes into its place.
 use Rattle.std.specs.Prelude.{◌≡◌, ◌⊎◌, ℕ, Bool, ◌&&◌, not, is_none, if◌then◌else◌, IfSome, List, ◌++◌, take, codes, string_bytes}
 use Rattle.std.specs.Fmt.{decimal}
-use Rattle.plm80_console.specs.Journal.{Journal, and_written}
-use Rattle.plm80_console.specs.Replaced.{NotSettled}
-use Rattle.plm80_console.specs.declared.new_file.NewFile.{NewFile}
+use Rattle.plm80_console.specs.{Journal.Journal, Journal.and_written, Replaced.NotSettled, declared.new_file.NewFile.NewFile}
 use Rattle.plm80_host.specs.declared.replacing.Draft.{Draft}
 
 -- it is written in its place, where it may fail as it is written

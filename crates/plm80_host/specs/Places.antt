@@ -2,9 +2,7 @@
 -- (POSIX: the device and the serial number of a file are those of no other one.)
 use Rattle.std.specs.Prelude.{Bool, false, ◌==◌, ◌&&◌, string_bytes}
 use Rattle.std.specs.Str.{bytes_eq}
-use Rattle.plm80_host.specs.declared.same_file.Node.{Node}
-use Rattle.plm80_host.specs.declared.same_file.Place.{Place}
-use Rattle.plm80_host.specs.declared.same_file.Place.TheVariants.{File, NewFile}
+use Rattle.plm80_host.specs.declared.same_file.{Node.Node, Place.Place, Place.TheVariants.File, Place.TheVariants.NewFile}
 
 abbrev pub is_one_node : Node → Node → Bool
 is_one_node node other = node.device == other.device && node.number == other.number

@@ -1,8 +1,7 @@
 //! Files that are opened when they are first read, readers that keep why they failed, and why.
 
 ghost use Rattle.std.specs.Prelude.{◌≡◌, ◌≢◌, None, Some, pos};
-ghost use Rattle.std.specs.Io.{ReadsAtMost};
-ghost use Rattle.std.specs.IoError.{error_kind, raw_os_error};
+ghost use Rattle.std.specs.{Io.ReadsAtMost, IoError.error_kind, IoError.raw_os_error};
 
 use std::fs::File;
 use std::io;
@@ -12,7 +11,7 @@ use std::marker::Model;
 /// The number of the error that the system gives for a descriptor that is closed.
 const CLOSED: i32 = 9;
 
-/// Why the system failed. std has no kind for a closed standard input or output: here it isn't connected.
+/// The kind of an error of the system. std has none for a closed standard input or output: `NotConnected` stands for it.
 pub(crate) fn kind_of(error: &io::Error) -> ErrorKind
     ensures closed { raw_os_error error.now ≡ Some (pos 9) → result ≡ ErrorKind.NotConnected }
     ensures other { raw_os_error error.now ≢ Some (pos 9) → result ≡ error_kind error.now }
@@ -33,7 +32,7 @@ pub(crate) struct LateFile<'a> {
     failure: Option<ErrorKind>,
 }
 
-/// A contract sees why it failed last.
+/// A contract sees why opening or reading the file failed last.
 impl<'a> Model for LateFile<'a> {
     ghost use Rattle.std.specs.Prelude.{Option};
     ghost use Rattle.std.specs.declared.io.ErrorKind.{ErrorKind};
@@ -44,7 +43,7 @@ impl<'a> Model for LateFile<'a> {
 }
 
 impl<'a> LateFile<'a> {
-    /// The file of this path, not opened yet.
+    /// The file of this path, which isn't opened yet.
     pub(crate) fn new(rt: &'a HostRuntime, path: &'a str) -> LateFile<'a>
         ensures { result ≡ None }
     {
@@ -56,13 +55,14 @@ impl<'a> LateFile<'a> {
         }
     }
 
-    /// Why opening or reading it failed last; `None` if neither did.
+    /// Why opening or reading the file failed last; `None` if neither did.
     pub(crate) fn failure(&self) -> Option<ErrorKind>
         ensures { result ≡ self.now }
     {
         self.failure
     }
 
+    /// Reads the next bytes of the file, which is opened if it isn't yet. `failure` is left as it was.
     fn open_and_read(&mut self, buffer: &mut [u8]) -> io::Result<usize>
         ensures count { ReadsAtMost result buffer.new }
         ensures failure { self.new ≡ self.old }
@@ -91,14 +91,14 @@ impl<'a> Read for LateFile<'a> {
     }
 }
 
-/// A reader that keeps why its last failure came.
+/// A reader that keeps why a read failed last.
 #[derive(Drop)]
 pub(crate) struct NotedReader<R> {
     inner: R,
     failure: Option<ErrorKind>,
 }
 
-/// A contract sees why a read failed last.
+/// A contract sees why a read failed last, of a reader that keeps it.
 impl<R> Model for NotedReader<R> {
     ghost use Rattle.std.specs.Prelude.{Option};
     ghost use Rattle.std.specs.declared.io.ErrorKind.{ErrorKind};
@@ -109,7 +109,7 @@ impl<R> Model for NotedReader<R> {
 }
 
 impl<R: Read> NotedReader<R> {
-    /// The reader, with no failure so far.
+    /// A reader over `inner` that keeps no failure yet.
     pub(crate) fn new(inner: R) -> NotedReader<R>
         ensures { result ≡ None }
     {

@@ -22,7 +22,7 @@ pub struct HostConsole<'a> {
 }
 
 impl<'a> HostConsole<'a> {
-    /// The console of the program, with which nothing was done; with `why`, words about a fault follow its line.
+    /// A console with which nothing was done yet; with `why`, words about a fault follow its line.
     pub fn new(rt: &'a HostRuntime, why: bool) -> HostConsole<'a>
         ensures { ⟦<HostConsole<'a> as Console>⟧.journal result ≡ nothing_done }
     {
@@ -33,7 +33,7 @@ impl<'a> HostConsole<'a> {
         }
     }
 
-    /// Notes one thing that was done.
+    /// Adds a thing that was done to the console's journal.
     pub(crate) fn note(&mut self, note: &Note<'_>)
         ensures { self.new.notes.journal ≡ noted self.old.notes.journal note.now }
     {
@@ -189,7 +189,7 @@ impl<'a> Console for HostConsole<'a> {
 const DASH: &str = "-";
 
 impl<'a> HostConsole<'a> {
-    /// Reports that a hyphen alone names no file.
+    /// Reports the fault of a path that is a hyphen alone, which names no file, and says below it how standard streams are named.
     fn report_dash(&mut self, fault: &str) -> Reported
         ensures { self.new.notes.journal ≡ and_reported self.old.notes.journal }
     {
@@ -200,7 +200,7 @@ impl<'a> HostConsole<'a> {
         reported
     }
 
-    /// Reports a fault of the system at the file of this path.
+    /// Reports a fault at the file of this path, and says below it why the system failed, if that is known.
     pub(crate) fn report_system(
         &mut self,
         path: &str,
@@ -214,7 +214,7 @@ impl<'a> HostConsole<'a> {
         reported
     }
 
-    /// Reports why not all bytes of the file of this path were read.
+    /// Reports why the file of this path wasn't read whole; `failure` is why the system failed, if it did.
     fn report_unread(
         &mut self,
         path: &str,
@@ -236,7 +236,7 @@ impl<'a> HostConsole<'a> {
 }
 
 impl<'a> HostConsole<'a> {
-    /// Reports why not all bytes of standard input were read, which is the only text of a bundle.
+    /// Reports why standard input, the only text of a bundle, wasn't read whole; `failure` is why the system failed, if it did.
     fn report_no_input(&mut self, fault: ReadAllFault, failure: Option<ErrorKind>) -> Reported
         ensures { self.new.notes.journal ≡ and_reported self.old.notes.journal }
     {
@@ -255,10 +255,11 @@ impl<'a> HostConsole<'a> {
     }
 }
 
-/// How many bytes of a file are handed on at a time.
+/// How many bytes of a file are handed to a feed at a time, at most.
 const PIECE: usize = 512;
 
-/// Hands all bytes of a file, of which there are no more than a text may have, to the feed, in pieces; notes them.
+/// Reads a file whole and hands its bytes to the feed, in pieces; the result notes them. A fault if a read fails, if there are more bytes
+/// than a text may have, or if memory runs out.
 fn hand_pieces<R: Read, F: TakePieces>(file: &mut R, feed: &mut F) -> Result<Notes, ReadAllFault>
     ensures { IfOk result (λ pieces. F.has_taken feed.old [] → F.has_taken feed.new pieces.journal.printed) }
 {
@@ -279,7 +280,7 @@ fn hand_pieces<R: Read, F: TakePieces>(file: &mut R, feed: &mut F) -> Result<Not
     Err(ReadAllFault::TooLong)
 }
 
-/// Standard output. The pieces that it takes are noted.
+/// Standard output while it is lent out. The pieces that it takes are noted.
 pub struct HostOutput<'a> {
     rt: &'a HostRuntime,
     failures: u64,

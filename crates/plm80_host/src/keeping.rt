@@ -20,7 +20,7 @@ use std::{fs, io};
 const MODULE_HEADER: u8 = 0x02;
 
 impl<'a> HostConsole<'a> {
-    /// Replaces the file as [`Console::replace`] does. If the path names an object file now, by a symbolic link too, a copy of it
+    /// Replaces a file as [`Console::replace`] does. If the path names an object file now, by a symbolic link too, a copy of it
     /// is kept beside the path: under the path with a tilde, and with a number behind it if there is such a file. Nothing is
     /// replaced before the copy is whole.
     pub(crate) fn replace_keeping(&mut self, file: NewFile<'_>) -> Result<(), Reported>
@@ -42,8 +42,8 @@ impl<'a> HostConsole<'a> {
         }
     }
 
-    /// Keeps a copy of the regular file that the path names, if that is an object file. One that can't be read may be one: it is a
-    /// fault.
+    /// Keeps a copy of the regular file that the path names, if it is an object file. A file that can't be read may be one: that is
+    /// reported.
     fn keep_object(&mut self, path: &str) -> Result<(), Reported>
         ensures kept { IfOk result (λ _. IsKept path.now self.old.notes.journal self.new.notes.journal) }
         ensures fault { IfErr result (λ _. self.new.notes.journal ≡ and_reported self.old.notes.journal) }
@@ -61,7 +61,7 @@ impl<'a> HostConsole<'a> {
         }
     }
 
-    /// The file of this path, if it begins as an object file does.
+    /// Opens the file of this path; `None` if it isn't there, is no regular file, or doesn't begin as an object file does.
     fn open_object(&self, path: &str) -> io::Result<Option<File>> {
         let mut file = File::open(self.rt, path)?;
         let mut first = [0u8; 1];
@@ -73,7 +73,7 @@ impl<'a> HostConsole<'a> {
         Ok(Some(file))
     }
 
-    /// Copies the object file to the first name beside its path that no file has.
+    /// Copies the object file of this path to the first name beside it that no file has. A fault is reported, and no copy is left.
     fn keep(&mut self, path: &str, object: File) -> Result<(), Reported>
         ensures kept { IfOk result (λ _. IsKept path.now self.old.notes.journal self.new.notes.journal) }
         ensures fault { IfErr result (λ _. self.new.notes.journal ≡ and_reported self.old.notes.journal) }
@@ -86,7 +86,7 @@ impl<'a> HostConsole<'a> {
         }
     }
 
-    /// The first name beside a path that no file has, and a new file of this name.
+    /// Makes a new, empty file of the first name beside a path that no file has: the name and the file, or why there is none.
     fn new_copy(&self, path: &str) -> Result<(String, File), CopyFault>
         ensures { IfOk result (λ made. (number : ℕ) × (string_bytes made.0 ≡ kept_text path.now number)) }
     {
@@ -101,7 +101,7 @@ impl<'a> HostConsole<'a> {
         Err(CopyFault::System(ErrorKind::AlreadyExists))
     }
 
-    /// The path of this number under which a copy may be kept.
+    /// The path with a tilde, and with this number behind it unless it is 0. `AllocError` only if memory runs out.
     fn kept_path(&self, path: &str, number: u32) -> Result<String, AllocError>
         ensures { IfOk result (λ kept. string_bytes kept ≡ kept_text path.now number) }
     {
@@ -112,7 +112,8 @@ impl<'a> HostConsole<'a> {
         }
     }
 
-    /// Makes the new file a copy of the object file, or removes it.
+    /// Makes the new file `copy`, whose name is `kept`, a copy of the object file of this path. After a fault, which is reported, it is
+    /// removed.
     fn fill_copy(
         &mut self,
         path: &str,
@@ -141,7 +142,7 @@ impl<'a> HostConsole<'a> {
         }
     }
 
-    /// Reports that the object file of this path can't be kept under another name.
+    /// Reports that the object file of this path can't be kept under the name `kept`, and why.
     fn report_unkept(&mut self, path: &str, kept: &str, kind: ErrorKind) -> Reported
         ensures { self.new.notes.journal ≡ and_reported self.old.notes.journal }
     {
@@ -151,12 +152,12 @@ impl<'a> HostConsole<'a> {
     }
 }
 
-/// Why there is no new file for a copy.
+/// Why no new file for a copy was made.
 #[derive(Drop)]
 enum CopyFault {
     Memory,
     System(ErrorKind),
-    /// The file of this name can't be made.
+    /// The system doesn't make the file of this name.
     At(String, ErrorKind),
 }
 
@@ -168,7 +169,8 @@ impl From<AllocError> for CopyFault {
     }
 }
 
-/// Writes all bytes of the object file to the copy and to the disk. The copy gets its permissions first.
+/// Writes all bytes of the object file to the copy and to the disk. The copy gets the object file's permissions first. An error if a file
+/// of that length is too long for the system, or if the system fails.
 fn copy_and_sync(rt: &HostRuntime, mut object: File, mut copy: File) -> io::Result<()> {
     let metadata = object.metadata()?;
     if is_past_limit(rt, metadata.len()) {

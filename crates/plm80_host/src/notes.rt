@@ -8,7 +8,7 @@ ghost use Rattle.plm80_console.specs.Journal.{Journal};
 
 use std::marker::Model;
 
-/// What was done so far.
+/// The journal of a run: what was done so far.
 #[derive(Drop)]
 pub struct Notes {
     pub ghost journal: { Journal },
@@ -29,15 +29,15 @@ pub enum Note<'a> {
     Input(&'a [u8]),
     /// The file of a path was replaced by one with these bytes.
     Written(&'a str, &'a [u8]),
-    /// A piece of a file or of an output.
+    /// A piece of a file was read, or a piece was written to an output.
     Piece(&'a [u8]),
-    /// Pieces were printed.
+    /// The pieces that an output took were printed.
     Printed(&'a Notes),
     /// A fault was reported.
     Reported,
-    /// The file of a path was written in part.
+    /// The file of a path was written in part, in its place, and may have lost its bytes.
     Spoiled(&'a str),
-    /// A copy was kept under a path.
+    /// A copy of an object file was kept under a path.
     Copied(&'a str),
 }
 
@@ -45,14 +45,14 @@ impl Notes {
     ghost use Rattle.plm80_console.specs.Journal.{nothing_done};
     ghost use Rattle.plm80_host.specs.Noted.{noted};
 
-    /// Nothing was done.
+    /// A journal of nothing.
     pub fn new() -> Notes
         ensures { result.journal ≡ nothing_done }
     {
         Notes {}
     }
 
-    /// The notes with one thing more.
+    /// This journal with one thing more.
     pub fn with(&self, _note: &Note<'_>) -> Notes
         ensures { result.journal ≡ noted self.now.journal _note.now }
     {

@@ -6,10 +6,9 @@
 
 ghost use Rattle.std.specs.Prelude.{◌≡◌, ◌∷◌, [], IfErr, IfOk, string_bytes};
 ghost use Rattle.std.specs.IoError.{error_kind};
-ghost use Rattle.plm80_console.specs.Answer.{GaveUp};
-ghost use Rattle.plm80_console.specs.Replaced.{NotSettled, new_file_value};
-ghost use Rattle.plm80_host.specs.Drafts.{IsBeginning, IsDraftIn, IsDraftOf, NotBothSettled, in_order, is_in_place};
+ghost use Rattle.plm80_console.specs.{Answer.GaveUp, Replaced.NotSettled, Replaced.new_file_value};
 ghost use Rattle.plm80_console.specs.Journal.{and_reported, and_written};
+ghost use Rattle.plm80_host.specs.Drafts.{IsBeginning, IsDraftIn, IsDraftOf, NotBothSettled, in_order, is_in_place};
 
 use crate::host::HostConsole;
 use crate::notes::Note;
@@ -22,18 +21,19 @@ use std::io::{ErrorKind, Write};
 use std::os::unix::fs::{MetadataExt, OpenOptionsExt};
 use std::{fs, io};
 
-/// How many bytes of a file's name its draft's name begins with, at most. With `.new` and a number it has at most 254: a file
+/// How many bytes of a file's name the name of its draft begins with, at most. With `.new` and a number that has at most 254: a file
 /// system takes 255.
 const NAME_LENGTH: usize = 240;
 
-/// A new file before it is in its place. It is settled or dropped, by name.
+/// A new file before it is in its place. A draft is settled or dropped, by a call.
 pub(crate) struct Draft<'a> {
     file: NewFile<'a>,
-    /// The file in which it is whole and synced; `None` if nothing of it is written, since it is written in place.
+    /// The name of the file in which all bytes are written and synced; `None` if none is, since they are written in place.
     beside: Option<String>,
 }
 
 impl<'a> Draft<'a> {
+    /// Whether the file is written in its place, where it may fail as it is written.
     fn is_in_place(&self) -> bool
         ensures { result ≡ is_in_place self.now }
     {
@@ -41,7 +41,7 @@ impl<'a> Draft<'a> {
     }
 }
 
-/// Two drafts, with the one first that is written in place, if only one is, since that may fail as it is written.
+/// Both drafts, with the one first that is written in place, if only one is, since that may fail as it is written; else in the order given.
 fn in_order<'a>(first: Draft<'a>, second: Draft<'a>) -> (Draft<'a>, Draft<'a>)
     ensures { result ≡ in_order first.entry second.entry }
 {
@@ -52,7 +52,7 @@ fn in_order<'a>(first: Draft<'a>, second: Draft<'a>) -> (Draft<'a>, Draft<'a>)
     }
 }
 
-/// Why there is no draft.
+/// Why no draft of a file was made.
 #[derive(Clone, Copy)]
 enum DraftFault {
     Memory,
@@ -76,7 +76,7 @@ impl From<io::Error> for DraftFault {
 }
 
 impl<'a> HostConsole<'a> {
-    /// Makes these bytes all that the file of this path has. After a fault it is as it was, unless it is written in place.
+    /// Replaces a file, or makes it. After a fault, which is reported, it is as it was, unless it is written in place.
     pub(crate) fn replace_file(&mut self, file: NewFile<'_>) -> Result<(), Reported>
         ensures written { IfOk result (λ _. self.new.notes.journal
             ≡ and_written self.old.notes.journal file.entry.path.now file.entry.bytes.now) }
@@ -88,7 +88,8 @@ impl<'a> HostConsole<'a> {
         Ok(())
     }
 
-    /// Replaces two files. Neither is changed before both are written, unless both are written in place.
+    /// Replaces two files, or makes them. Neither is changed before the other's bytes are written, unless both are written in place.
+    /// After a fault, which is reported, one of them may have been replaced, and one that is written in place may have lost its bytes.
     pub(crate) fn replace_two(
         &mut self,
         first: NewFile<'_>,
@@ -115,7 +116,7 @@ impl<'a> HostConsole<'a> {
         }
     }
 
-    /// Moves both drafts to their places, in this order.
+    /// Moves both drafts to their places, in this order. If the first one isn't moved, which is reported, the second one is removed.
     fn settle_both(&mut self, first: Draft<'_>, second: Draft<'_>) -> Result<(), Reported>
         ensures unchanged { IfOk result (λ _. self.new.notes.journal ≡ self.old.notes.journal) }
         ensures fault { IfErr result (λ _. NotBothSettled first.entry.file second.entry.file self.old.notes.journal self.new.notes.journal) }
@@ -130,7 +131,8 @@ impl<'a> HostConsole<'a> {
         }
     }
 
-    /// Moves the draft of a second file to its place, when the first file is in its own.
+    /// Moves the draft of a second file to its place, when the first file is in its own. If it isn't moved, which is reported, the journal
+    /// says that the first file was written.
     fn settle_second(&mut self, first: NewFile<'_>, second: Draft<'_>) -> Result<(), Reported>
         ensures unchanged { IfOk result (λ _. self.new.notes.journal ≡ self.old.notes.journal) }
         ensures fault { IfErr result (λ _. NotBothSettled first.entry second.entry.file self.old.notes.journal self.new.notes.journal) }
@@ -144,7 +146,7 @@ impl<'a> HostConsole<'a> {
         }
     }
 
-    /// Writes the file beside its place, if it can be renamed from there.
+    /// Makes the draft of a file: beside its place, if it can be renamed from there. A fault is reported.
     pub(crate) fn draft<'f>(&mut self, file: NewFile<'f>) -> Result<Draft<'f>, Reported>
         ensures draft { IfOk result (IsDraftOf file.entry) }
         ensures unchanged { IfOk result (λ _. self.new.notes.journal ≡ self.old.notes.journal) }
@@ -161,7 +163,8 @@ impl<'a> HostConsole<'a> {
         }
     }
 
-    /// Moves the draft to its file's place. If that fails in place, the file may have lost its bytes.
+    /// Moves a draft to its file's place, or writes the file in place. A fault is reported; if writing in place fails, the file may have
+    /// lost its bytes.
     pub(crate) fn settle(&mut self, draft: Draft<'_>) -> Result<(), Reported>
         ensures unchanged { IfOk result (λ _. self.new.notes.journal ≡ self.old.notes.journal) }
         ensures fault { IfErr result (λ _. NotSettled draft.entry.file.path.now self.old.notes.journal self.new.notes.journal) }
@@ -179,7 +182,7 @@ impl<'a> HostConsole<'a> {
         }
     }
 
-    /// Gives the file beside its place the place's name, or removes it.
+    /// Renames the file `beside` to this path. If that fails, which is reported, it is removed.
     fn move_draft(&mut self, beside: &str, path: &str) -> Result<(), Reported>
         ensures unchanged { IfOk result (λ _. self.new.notes.journal ≡ self.old.notes.journal) }
         ensures fault { IfErr result (λ _. self.new.notes.journal ≡ and_reported self.old.notes.journal) }
@@ -193,7 +196,7 @@ impl<'a> HostConsole<'a> {
         }
     }
 
-    /// Removes what was written of a draft.
+    /// Removes what was written of a draft. Its file is left as it was.
     pub(crate) fn drop_draft(&self, draft: Draft<'_>) {
         let Draft { file: _, beside } = draft;
         if let Some(beside) = beside {
@@ -201,7 +204,7 @@ impl<'a> HostConsole<'a> {
         }
     }
 
-    /// The draft of a file, or why there is none.
+    /// Makes the draft of a file, or says why there is none. Reports nothing.
     fn try_draft<'f>(&self, file: NewFile<'f>) -> Result<Draft<'f>, DraftFault>
         ensures { IfOk result (IsDraftOf file.entry) }
     {
@@ -227,7 +230,7 @@ impl<'a> HostConsole<'a> {
         Err(DraftFault::System(ErrorKind::AlreadyExists))
     }
 
-    /// A new file of this name; one that replaces another is its owner's alone.
+    /// Makes a new file of this name; if it `replaces` another, only its owner may open it. An error if there is such a file.
     fn create_beside(&self, beside: &str, replaces: bool) -> io::Result<File> {
         if replaces {
             create_private(self.rt, beside)
@@ -236,7 +239,8 @@ impl<'a> HostConsole<'a> {
         }
     }
 
-    /// Writes the bytes to the file beside the place, which gets the old file's permissions.
+    /// Writes the file's bytes to `target`, whose name is `beside`, with the permissions of the file `old` that it replaces. If it can't
+    /// have the owner and permissions of that, the draft is one that is written in place.
     fn fill<'f>(
         &self,
         target: File,
@@ -264,7 +268,7 @@ impl<'a> HostConsole<'a> {
         }
     }
 
-    /// What the path names now. An old file that can't be written is an error, as it is for one that is written in place.
+    /// What the path of a new file names now. A file that can't be written is an error, as if it were written in place.
     fn find_replaced(&self, path: &str) -> io::Result<Replaced> {
         match fs::symlink_metadata(self.rt, path) {
             Err(error) if error.kind() == ErrorKind::NotFound => Ok(Replaced::Nothing),
@@ -278,16 +282,16 @@ impl<'a> HostConsole<'a> {
     }
 }
 
-/// What the path of a new file names before.
+/// What the path of a new file names before the file is written.
 #[derive(Drop)]
 enum Replaced {
     Nothing,
-    /// A regular file with no other link.
+    /// A regular file with no other link, by what the system says of it.
     File(Metadata),
     Other,
 }
 
-/// The path, with no more of its file's name than a draft's name begins with.
+/// A beginning of the path: the whole path, or what leaves `NAME_LENGTH` bytes of its file's name at most.
 fn with_short_name(path: &str) -> &str
     ensures { IsBeginning path.now result.now }
 {
@@ -304,7 +308,7 @@ fn with_short_name(path: &str) -> &str
     path
 }
 
-/// A new file of this name, which its owner alone can open.
+/// Makes a new file of this name, which its owner alone can open. An error if there is such a file.
 pub(crate) fn create_private(rt: &HostRuntime, path: &str) -> io::Result<File> {
     OpenOptions::new()
         .write(true)
@@ -313,7 +317,7 @@ pub(crate) fn create_private(rt: &HostRuntime, path: &str) -> io::Result<File> {
         .open(rt, path)
 }
 
-/// Whether the file has more bytes than one may have at its place. A pipe or a device may have any number.
+/// Whether the new file has more bytes than the system lets a file have. A pipe or a device may take any number.
 fn exceeds_limit(rt: &HostRuntime, file: NewFile<'_>) -> bool {
     match fs::metadata(rt, file.path) {
         Ok(metadata) if !metadata.is_file() => false,
@@ -321,7 +325,7 @@ fn exceeds_limit(rt: &HostRuntime, file: NewFile<'_>) -> bool {
     }
 }
 
-/// Gives the file the old one's permissions; whether it has its owner and group, too.
+/// Gives the new file the old one's permissions, if both have one owner and group; whether it has all of these then.
 fn has_place_of(target: &File, old: &Metadata) -> bool {
     match target.metadata() {
         Ok(new) if new.uid() == old.uid() && new.gid() == old.gid() => {
@@ -331,7 +335,7 @@ fn has_place_of(target: &File, old: &Metadata) -> bool {
     }
 }
 
-/// Writes all bytes to the file and to the disk.
+/// Writes these bytes to the file, and has the system write them to the disk.
 fn write_and_sync(mut target: File, bytes: &[u8]) -> io::Result<()> {
     target.write_all(bytes)?;
     target.sync_all()

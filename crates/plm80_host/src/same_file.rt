@@ -2,8 +2,7 @@
 
 ghost use Rattle.std.specs.Prelude.{◌≡◌, ◌==◌, ◌&&◌, IfOk, IfSome, string_bytes};
 ghost use Rattle.std.specs.Str.{bytes_eq};
-ghost use Rattle.plm80_host.specs.PathParts.{joined_path};
-ghost use Rattle.plm80_host.specs.Places.{IsNewFile, is_one_place};
+ghost use Rattle.plm80_host.specs.{PathParts.joined_path, Places.IsNewFile, Places.is_one_place};
 
 use crate::host::HostConsole;
 use crate::path_parts::folder_and_name;
@@ -17,16 +16,16 @@ use std::os::unix::fs::MetadataExt;
 const LINKS: usize = 40;
 
 impl<'a> HostConsole<'a> {
-    /// Whether two paths name one file.
+    /// Whether two paths name one file, or one that would be made. `false` if that isn't known of one of them.
     pub(crate) fn is_one_place(&self, first: &str, second: &str) -> bool {
         match (place_of(self.rt, first), place_of(self.rt, second)) {
-            (Some(first), Some(second)) => first.is(&second),
+            (Some(first), Some(second)) => first.is_same(&second),
             _ => false,
         }
     }
 }
 
-/// A file or a folder that is there.
+/// A file or a folder of the system, by the numbers that it has there.
 #[derive(Clone, Copy)]
 struct Node {
     device: u64,
@@ -34,6 +33,7 @@ struct Node {
 }
 
 impl Node {
+    /// The file or folder of which the system says this.
     fn of(metadata: &Metadata) -> Node {
         Node {
             device: metadata.dev(),
@@ -42,14 +42,14 @@ impl Node {
     }
 
     /// Whether two nodes are one file or folder.
-    fn is(self, other: Node) -> bool
+    fn is_same(self, other: Node) -> bool
         ensures { result ≡ (self.device == other.device && self.number == other.number) }
     {
         self.device == other.device && self.number == other.number
     }
 }
 
-/// What a path names.
+/// What a path names: a file, or where one would be made.
 #[derive(Drop)]
 enum Place {
     /// A regular file that is there, whatever links lead to it.
@@ -60,20 +60,20 @@ enum Place {
 
 impl Place {
     /// Whether two places are one file.
-    fn is(&self, other: &Place) -> bool
+    fn is_same(&self, other: &Place) -> bool
         ensures { result ≡ is_one_place self.now other.now }
     {
         match (self, other) {
-            (Place::File(node), Place::File(other)) => node.is(*other),
+            (Place::File(node), Place::File(other)) => node.is_same(*other),
             (Place::NewFile(folder, name), Place::NewFile(other, other_name)) => {
-                folder.is(*other) && name.as_str() == other_name.as_str()
+                folder.is_same(*other) && name.as_str() == other_name.as_str()
             }
             (Place::File(_), Place::NewFile(..)) | (Place::NewFile(..), Place::File(_)) => false,
         }
     }
 }
 
-/// What the path names; `None` if that can't be read or written, or is a pipe or a device, which may be both at once.
+/// What the path names; `None` if it can't be read or written, and for a pipe or a device, which may be read and written at once.
 fn place_of(rt: &HostRuntime, path: &str) -> Option<Place> {
     match fs::metadata(rt, path) {
         Ok(metadata) if metadata.is_file() => Some(Place::File(Node::of(&metadata))),
@@ -82,7 +82,7 @@ fn place_of(rt: &HostRuntime, path: &str) -> Option<Place> {
     }
 }
 
-/// The file that would be made at the path, by which no file is found; `None` if there can be none.
+/// The file that would be made at a path that names none, behind its symbolic links; `None` if none can be made.
 fn new_file(rt: &HostRuntime, path: &str) -> Option<Place>
     ensures { IfSome result IsNewFile }
 {
@@ -96,7 +96,7 @@ fn new_file(rt: &HostRuntime, path: &str) -> Option<Place>
     None
 }
 
-/// Where a symbolic link of this path leads; `Some(None)` if there is no link, and `None` if that can't be read.
+/// The path to which a symbolic link of this path leads; `Some(None)` if there is no such link, and `None` if it can't be read.
 fn next_path(rt: &HostRuntime, path: &str) -> Option<Option<String>> {
     match fs::read_link(rt, path) {
         Ok(target) => {
@@ -108,7 +108,7 @@ fn next_path(rt: &HostRuntime, path: &str) -> Option<Option<String>> {
     }
 }
 
-/// A path that begins in this folder, unless it begins at the root.
+/// A path as it is read in this folder: itself if it begins at the root. `AllocError` only if memory runs out.
 fn join(alloc: Global, folder: &str, path: &str) -> Result<String, AllocError>
     ensures { IfOk result (λ joined. string_bytes joined ≡ joined_path folder.now path.now) }
 {
@@ -119,7 +119,7 @@ fn join(alloc: Global, folder: &str, path: &str) -> Result<String, AllocError>
     }
 }
 
-/// The file that would be made under this path, which no link has; `None` if there can be none.
+/// The file that would be made under a path that is no link; `None` if its folder isn't there, or if it names no file.
 fn in_folder(rt: &HostRuntime, path: &str) -> Option<Place>
     ensures { IfSome result IsNewFile }
 {

@@ -5,10 +5,10 @@
 use plm80_console::count_of_digits;
 use std::fs;
 
-/// Where Linux says what a process may use.
+/// The file in which Linux says what a process may use.
 const LIMITS: &str = "/proc/self/limits";
 
-/// Whether no file that is written may have this length. It may, if the system doesn't say what the limit is.
+/// Whether a file of this length is longer than the system lets one be. `false` if the system doesn't say what the limit is.
 pub(crate) fn is_past_limit(rt: &HostRuntime, length: u64) -> bool {
     match fs::read_to_string(rt, LIMITS) {
         Ok(limits) => size_limit(&limits).is_some_and(|limit| length > limit),
@@ -16,7 +16,7 @@ pub(crate) fn is_past_limit(rt: &HostRuntime, length: u64) -> bool {
     }
 }
 
-/// The length that a file may have; `None` if any.
+/// The length that a file may have, as the system's text of limits says; `None` if it may have any, or if the text has none.
 fn size_limit(limits: &str) -> Option<u64> {
     for line in limits.lines() {
         if let Some(words) = line.strip_prefix("Max file size ") {

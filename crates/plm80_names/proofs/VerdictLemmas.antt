@@ -1,16 +1,11 @@
 -- What is read of two files, and what the verifier says of it.
-use Rattle.std.specs.Prelude.{◌≡◌, ◌≢◌, ℕ, Bool, List, Result, Ok, Err, IfOk}
-use Rattle.std.proofs.Common.{◌∙◌, ap}
+use Rattle.std.proofs.Common.{◌≡◌, ◌≢◌, ℕ, Bool, List, Result, Ok, Err, IfOk, ◌∙◌, ap}
 use Rattle.omf_model.specs.declared.symbols.Public.{Public}
-use Rattle.image80.specs.Image.{Located}
-use Rattle.image80.specs.RegionsText.{Spells}
+use Rattle.image80.specs.{Image.Located, RegionsText.Spells}
 use Rattle.image80_file.specs.ImageFile.{SpellsImage, without_regions}
-use Rattle.verify80_flow.specs.declared.refusal.Refusal.{Refusal}
-use Rattle.verify80_flow.specs.declared.refusal.Refusal.TheVariants.{Memory}
-use Rattle.verify80_flow.specs.Faults.{Holds}
+use Rattle.verify80_flow.specs.{declared.refusal.Refusal.Refusal, declared.refusal.Refusal.TheVariants.Memory, Faults.Holds}
 use Rattle.verify80.specs.Looking.{code_of}
-use Rattle.plm80_names.specs.Printed.{AreNamesOf, named_refusal_line}
-use Rattle.plm80_names.specs.Verdict.{AreOfFiles, IsProgramRead, IsRefusal}
+use Rattle.plm80_names.specs.{Printed.AreNamesOf, Printed.named_refusal_line, Verdict.AreOfFiles, Verdict.IsProgramRead, Verdict.IsRefusal}
 use Rattle.plm80_console.specs.Journal.{Journal, and_read}
 
 -- what was read of two files is a program's

@@ -1,7 +1,6 @@
 -- Which argument of the command line each path and each flag is.
 use Rattle.std.specs.Prelude.{◌≡◌, ℕ, Bool, true, false, None, Some, List, [], ◌∷◌, codes}
-use Rattle.clap.specs.declared.parser.matches.ArgMatches.{ArgMatches}
-use Rattle.clap.specs.Matches.{found_of, one_text}
+use Rattle.clap.specs.{declared.parser.matches.ArgMatches.ArgMatches, Matches.found_of, Matches.one_text}
 use Rattle.plm80_console.specs.Arguments.{argument_text}
 use Rattle.plm80_names.specs.declared.named_files.NamedFiles.{NamedFiles}
 

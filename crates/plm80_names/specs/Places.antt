@@ -1,14 +1,9 @@
 -- What is at an address: an instruction, and a range of the regions.
 -- (8080 Assembly Language Programming Manual: instructions of one to three bytes. The words for ranges are those of a regions text.)
 use Rattle.std.specs.Prelude.{◌≡◌, ◌⊎◌, ℕ, ◌+◌, ◌%◌, true, false, Option, None, Some, MatchOption, option_map, List, codes, find}
-use Rattle.decode80.specs.declared.instr.Instr.{Instr}
-use Rattle.decode80.specs.Decoded.{decoded}
-use Rattle.image80.specs.declared.range.Range.{Range}
-use Rattle.image80.specs.Image.{Located, byte_at}
-use Rattle.image80.specs.Range.{in_range}
-use Rattle.image80.specs.Regions.{Areas}
-use Rattle.plm80_names.specs.declared.refusal_words.Place.{Place}
-use Rattle.plm80_names.specs.declared.refusal_words.PlaceWords.{PlaceWords}
+use Rattle.decode80.specs.{declared.instr.Instr.Instr, Decoded.decoded}
+use Rattle.image80.specs.{declared.range.Range.Range, Image.Located, Image.byte_at, Range.in_range, Regions.Areas}
+use Rattle.plm80_names.specs.declared.refusal_words.{Place.Place, PlaceWords.PlaceWords}
 
 -- the instruction that the image's bytes spell at an address; addresses go on at 0000 after FFFF
 abbrev pub instr_at : Located → (at : ℕ) → Option Instr

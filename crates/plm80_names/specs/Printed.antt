@@ -1,15 +1,12 @@
 -- The names that commands print: those of an image's file if they are asked for, behind or before the lines of a text.
 -- (As the symbols of ISIS-II's debuggers; the form of the lines is this project's own.)
 use Rattle.std.specs.Prelude.{◌≡◌, ℕ, ◌-◌, Bool, true, false, nat_eq, if◌then◌else◌, Option, Some, None, List, [], ◌∷◌, ◌++◌, codes, length, take, drop}
-use Rattle.std.specs.Cmp.Lexicographic.{pointwise}
-use Rattle.std.specs.List.{flat_map}
+use Rattle.std.specs.{Cmp.Lexicographic.pointwise, List.flat_map}
 use Rattle.image80.specs.declared.range.Range.{Range}
 use Rattle.omf_model.specs.declared.symbols.Public.{Public}
 use Rattle.image80_text.specs.NameText.{name_text, named_text}
 use Rattle.place80_text.specs.ImagePublics.{HasPublics}
-use Rattle.verify80_flow.specs.declared.refusal.Refusal.{Refusal}
-use Rattle.verify80_flow.specs.declared.report.ProcRow.{ProcRow}
-use Rattle.verify80_flow.specs.Refusal.{refusal_address}
+use Rattle.verify80_flow.specs.{declared.refusal.Refusal.Refusal, declared.report.ProcRow.ProcRow, Refusal.refusal_address}
 use Rattle.loader80.specs.TranscriptText.{refusal_line}
 use Rattle.verify80.specs.Vouched.{Voucher}
 use Rattle.loader80_text.specs.ReportText.{report_text, row_line}

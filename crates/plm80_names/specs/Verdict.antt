@@ -2,19 +2,13 @@
 -- (That a refusal is printed alone, and its exit status, are this project's own.)
 use Rattle.std.specs.Prelude.{◌≡◌, ◌≢◌, ℕ, Bool, List, [], ◌∷◌}
 use Rattle.omf_model.specs.declared.symbols.Public.{Public}
-use Rattle.image80.specs.Image.{Located}
-use Rattle.image80.specs.RegionsText.{Spells}
+use Rattle.image80.specs.{Image.Located, RegionsText.Spells}
 use Rattle.image80_file.specs.ImageFile.{SpellsImage, without_regions}
-use Rattle.verify80_flow.specs.declared.refusal.Refusal.{Refusal}
-use Rattle.verify80_flow.specs.declared.refusal.Refusal.TheVariants.{Memory}
-use Rattle.verify80_flow.specs.Faults.{Holds}
-use Rattle.verify80.specs.Looking.{code_of}
-use Rattle.verify80.specs.Vouched.{IsVouched, Voucher}
-use Rattle.plm80_console.specs.Answer.{AnswerValue, prints}
-use Rattle.plm80_console.specs.Journal.{FileValue, Journal, and_read}
-use Rattle.plm80_names.specs.declared.refusing.Verdict.{Verdict}
-use Rattle.plm80_names.specs.declared.refusing.Verdict.TheVariants.{Accepted, Refused}
+use Rattle.verify80_flow.specs.{declared.refusal.Refusal.Refusal, declared.refusal.Refusal.TheVariants.Memory, Faults.Holds}
+use Rattle.verify80.specs.{Looking.code_of, Vouched.IsVouched, Vouched.Voucher}
+use Rattle.plm80_console.specs.{Answer.AnswerValue, Answer.prints, Journal.FileValue, Journal.Journal, Journal.and_read}
 use Rattle.plm80_names.specs.Printed.{AreNamesOf, named_refusal_line}
+use Rattle.plm80_names.specs.declared.refusing.Verdict.{Verdict, TheVariants.Accepted, TheVariants.Refused}
 
 -- An image, its regions and its names are those of two files: the names are the image's file's, if they are asked for.
 pub record AreOfFiles (asked : Bool) (file text : List ℕ) (image : Located) (publics : List Public) : Type 0 where

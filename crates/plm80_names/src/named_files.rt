@@ -3,10 +3,8 @@
 ghost use Rattle.std.specs.Prelude.{◌≡◌, IfErr, IfOk};
 ghost use Rattle.image80.specs.RegionsText.{Spells};
 ghost use Rattle.image80_file.specs.ImageFile.{SpellsImage, without_regions};
-ghost use Rattle.plm80_names.specs.Printed.{AreNamesOf};
-ghost use Rattle.plm80_names.specs.Arguments.{AreNamedFiles};
+ghost use Rattle.plm80_names.specs.{Printed.AreNamesOf, Arguments.AreNamedFiles, Verdict.IsProgramRead};
 ghost use Rattle.plm80_console.specs.Journal.{OnlyReports, and_read};
-ghost use Rattle.plm80_names.specs.Verdict.{IsProgramRead};
 
 use crate::names::Names;
 use clap::ArgMatches;
@@ -40,7 +38,7 @@ pub struct ProgramTexts<'a> {
 }
 
 impl<'a> NamedFiles<'a> {
-    /// The arguments as clap has read them.
+    /// The paths of the image and its regions, and whether names are asked for, as clap has read them.
     pub fn of(matches: &ArgMatches<'a>) -> NamedFiles<'a>
         ensures { AreNamedFiles matches.now result }
     {
@@ -51,8 +49,8 @@ impl<'a> NamedFiles<'a> {
         }
     }
 
-    /// The image with its regions, as the files have them, and its names if they are asked for. Both files are read before one is
-    /// checked.
+    /// Reads the image and its regions, and the image's names if they are asked for. Both files are read before one is checked; a fault is
+    /// reported.
     pub fn read<C: Console>(self, console: &mut C) -> Result<(Image, Names), Reported>
         ensures read { IfOk result (λ read. IsProgramRead self.entry.image.now self.entry.regions.now self.entry.names
             (C.journal console.old) (C.journal console.new) read.0 read.1) }
@@ -64,7 +62,7 @@ impl<'a> NamedFiles<'a> {
 }
 
 impl<'a> ProgramTexts<'a> {
-    /// Reads the image and the regions, in this order.
+    /// Reads the files of an image and of its regions, in this order. A fault is reported.
     pub fn read<C: Console>(
         console: &mut C,
         image: &'a str,
@@ -81,8 +79,8 @@ impl<'a> ProgramTexts<'a> {
         Ok(ProgramTexts { image, regions })
     }
 
-    /// The image of the one file, with the regions that the text of the other one spells, and its names if they are asked for. The
-    /// regions are checked first.
+    /// The image that the image's file spells, with the regions that their text spells, and its names if they are `asked` for. The regions
+    /// are checked first; a fault is reported.
     pub fn program<C: Console>(
         &self,
         console: &mut C,

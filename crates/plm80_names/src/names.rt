@@ -14,7 +14,7 @@ use plm80_console::{Console, Reported};
 use std::alloc::{AllocError, Global};
 use std::marker::Model;
 
-/// The publics of an image, by which its addresses are named; none if names aren't printed. They are looked up by address, in
+/// The publics of an image, by which its addresses are named; none if names aren't printed. Publics are looked up by address, in
 /// tables that are made once. A contract sees their list.
 #[derive(Drop)]
 pub struct Names {
@@ -31,7 +31,7 @@ impl Model for Names {
 }
 
 impl Names {
-    /// The names that the bytes of the image's file have, if they are asked for.
+    /// The names that the image's file of this path has in its bytes, if they are `asked` for, else none. A fault is reported.
     pub fn of<C: Console>(
         console: &mut C,
         asked: bool,
@@ -63,15 +63,15 @@ impl Names {
         &self.publics
     }
 
-    /// Whether there are none.
+    /// Whether there are no names.
     pub fn is_empty(&self) -> bool
         ensures { result ≡ (length self.now == 0) }
     {
         self.publics.is_empty()
     }
 
-    /// Lines of instructions, each that has a name with a line for it before. The lines of a trace are numbered. Without names
-    /// it is the text as it was.
+    /// A text of instructions, one a line, with a line before each whose address has a name; the lines of a trace are `numbered`. Without
+    /// names it is the text as it was.
     ///
     /// # Errors
     /// `AllocError` only if memory runs out.
@@ -108,7 +108,7 @@ impl Names {
         name_lines(alloc, &self.publics, code, word, &text)
     }
 
-    /// The text of one line, with the name of an address behind it. Without names it is the text as it was.
+    /// The text of one line, with the name of an address behind it, if it has one. Without names it is the text as it was.
     ///
     /// # Errors
     /// `AllocError` only if memory runs out.
@@ -128,7 +128,7 @@ impl Names {
         }
     }
 
-    /// Appends the name of an address behind a line.
+    /// Appends a blank and the name of an address to a text; nothing if the address has no name.
     ///
     /// # Errors
     /// `AllocError` only if memory runs out.
@@ -144,7 +144,7 @@ impl Names {
         append_name(alloc, &self.publics, code, address, text)
     }
 
-    /// Appends the line of the name of an address.
+    /// Appends a line with the name of an address to a text; nothing if the address has no name.
     ///
     /// # Errors
     /// `AllocError` only if memory runs out.
@@ -155,7 +155,7 @@ impl Names {
     }
 }
 
-/// The publics as names.
+/// These publics as names. `Memory` is reported if memory runs out.
 fn names_of<C: Console>(console: &mut C, publics: Vec<Public>) -> Result<Names, Reported>
     ensures names { IfOk result (λ names. names ≡ publics.items) }
     ensures unchanged { IfOk result (λ _. C.journal console.new ≡ C.journal console.old) }

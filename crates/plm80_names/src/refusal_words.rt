@@ -3,8 +3,7 @@
 ghost use Rattle.std.specs.Prelude.{◌≡◌, ℕ, List, [], true, false, find, option_copied, IfNone, IfOk, IfSome};
 ghost use Rattle.place80_text.specs.ImagePublics.{HasPublics};
 ghost use Rattle.decode80.specs.Text.{text as text_of};
-ghost use Rattle.image80.specs.Range.{in_range};
-ghost use Rattle.image80.specs.Regions.{in_data};
+ghost use Rattle.image80.specs.{Range.in_range, Regions.in_data};
 ghost use Rattle.verify80.specs.Looking.{code_of};
 ghost use Rattle.verify80_flow.specs.Faults.{Holds};
 ghost use Rattle.plm80_names.specs.Places.{IsInNoRange, IsOutsideRam, IsPlaceInRam, IsPlaceInStack, IsPlaceOf, ArePlaceWords, instr_at};
@@ -26,7 +25,7 @@ struct Place {
     range: Range,
 }
 
-/// An address, and the range that has it, if one does.
+/// An address, and the range of an image's regions that has it; `None` if no range does.
 #[derive(Clone, Copy)]
 struct PlaceWords {
     address: u16,
@@ -34,7 +33,7 @@ struct PlaceWords {
 }
 
 impl PlaceWords {
-    /// The address, with the range of the image that has it.
+    /// The address, with the range of the image's regions that has it, if one does.
     fn of(image: &Image, address: u16) -> PlaceWords
         ensures { ArePlaceWords image.now.regions address result }
     {
@@ -61,9 +60,9 @@ impl Display for PlaceWords {
     }
 }
 
-/// Words on what a command has given of the program in the files of these paths, if they are asked for. If it is a refusal, and the command
-/// doesn't show why: what is at its address, and how to go on. Then, if names are asked for and missing, that they are. The files are read
-/// again; if they can't be, or memory runs out, less is said.
+/// Prints words on what a command has `given` of the program in the files of these paths, if faults are explained. Of a refusal: what is at
+/// its address, and how to go on; `regions` is `None` if the command shows that itself. Then, if `names` are asked for and missing, that
+/// they are. The files are read again; if they can't be, or memory runs out, less is said.
 pub fn explain_given<C: Console>(
     console: &C,
     given: &Result<u8, Reported>,
@@ -84,7 +83,7 @@ pub fn explain_given<C: Console>(
     }
 }
 
-/// Whether the file of this path is an image that has no names; if that isn't known, `false`.
+/// Whether the file of this path is an image that has no names; `false` if that isn't known.
 fn has_no_names<C: Console>(console: &C, path: &str) -> bool
     ensures { result ≡ true → (bytes : List ℕ) × HasPublics bytes [] }
 {
@@ -97,7 +96,7 @@ fn has_no_names<C: Console>(console: &C, path: &str) -> bool
     }
 }
 
-/// The program in the files of these paths with its refusal, if it is refused.
+/// The image of the program in the files of these paths, with its refusal; `None` if it is accepted, or if it can't be read again.
 fn refused_again<C: Console>(console: &C, image: &str, regions: &str) -> Option<(Image, Refusal)>
     ensures { IfSome result (λ refused. Holds (code_of refused.0) refused.1) }
 {
@@ -111,7 +110,7 @@ fn refused_again<C: Console>(console: &C, image: &str, regions: &str) -> Option<
     }
 }
 
-/// Says what is at the address of a refusal.
+/// Says what is at the address of this refusal of the image.
 fn explain_place<C: Console>(console: &C, image: &Image, refusal: Refusal) {
     match refusal {
         Refusal::FetchOutside(at) if image.regions.in_code(at) => {
@@ -138,7 +137,7 @@ fn explain_place<C: Console>(console: &C, image: &Image, refusal: Refusal) {
     }
 }
 
-/// Says which instruction is at the address of a refusal, and what is wrong with it.
+/// Says which instruction is at the address of this refusal of the image, and what is wrong with it; nothing if there is none.
 fn explain_instruction<C: Console>(console: &C, image: &Image, refusal: Refusal) {
     let Some(at) = refusal.address() else { return };
     let Some(instr) = instr_at(image, at) else {
@@ -178,7 +177,7 @@ fn explain_instruction<C: Console>(console: &C, image: &Image, refusal: Refusal)
     }
 }
 
-/// The instruction at an address, by the image's bytes.
+/// The instruction that the image's bytes spell at an address; `None` if its opcode is unused.
 fn instr_at(image: &Image, at: u16) -> Option<Instr>
     ensures { result ≡ instr_at image.now at }
 {
@@ -191,7 +190,7 @@ fn instr_at(image: &Image, at: u16) -> Option<Instr>
     Some(instr)
 }
 
-/// The text of an instruction.
+/// The text of an instruction, as the assembler takes it. `AllocError` only if memory runs out.
 fn text_of(alloc: Global, instr: Instr) -> Result<Vec<u8>, AllocError>
     ensures { IfOk result (λ made. made.items ≡ text_of instr) }
 {
@@ -200,7 +199,7 @@ fn text_of(alloc: Global, instr: Instr) -> Result<Vec<u8>, AllocError>
     Ok(text)
 }
 
-/// The first byte outside DATA that an instruction names to store to.
+/// The first address outside DATA that an instruction names to store to; `None` if it names none.
 fn stored_outside(image: &Image, instr: Instr) -> Option<u16>
     ensures { IfSome result (λ address. in_data image.now.regions address ≡ false) }
 {
@@ -211,7 +210,7 @@ fn stored_outside(image: &Image, instr: Instr) -> Option<u16>
     }
 }
 
-/// The range that has an address.
+/// The range of the image's regions that has an address, with its word: of code, of data or the stack; `None` if none has it.
 fn place_of(image: &Image, address: u16) -> Option<Place>
     ensures some { IfSome result (IsPlaceOf image.now.regions address) }
     ensures none { IfNone result (IsInNoRange image.now.regions address) }
@@ -225,7 +224,7 @@ fn place_of(image: &Image, address: u16) -> Option<Place>
     }
 }
 
-/// The range of data that has an address, or the stack.
+/// The range of data that has an address, or the stack, with its word; `None` if neither has it.
 fn place_in_ram(image: &Image, address: u16) -> Option<Place>
     ensures some { IfSome result (IsPlaceInRam image.now.regions address) }
     ensures none { IfNone result (IsOutsideRam image.now.regions address) }
@@ -239,7 +238,7 @@ fn place_in_ram(image: &Image, address: u16) -> Option<Place>
     }
 }
 
-/// The stack, if it has an address.
+/// The range of the stack with its word, if it has the address; else `None`.
 fn place_in_stack(image: &Image, address: u16) -> Option<Place>
     ensures some { IfSome result (IsPlaceInStack image.now.regions address) }
     ensures none { IfNone result (in_range image.now.regions.stack address ≡ false) }
@@ -255,7 +254,7 @@ fn place_in_stack(image: &Image, address: u16) -> Option<Place>
     }
 }
 
-/// The first of the ranges that has an address.
+/// The first of these ranges that has an address; `None` if none has it.
 fn range_of(ranges: &[Range], address: u16) -> Option<&Range>
     ensures { option_copied result ≡ find (λ range. in_range range address) ranges.now }
 {

@@ -2,8 +2,7 @@
 
 ghost use Rattle.std.specs.Prelude.{◌≡◌, ◌≢◌, IfOk, OnOk};
 ghost use Rattle.verify80_flow.specs.declared.refusal.Refusal.TheVariants.{Memory};
-ghost use Rattle.plm80_names.specs.Printed.{named_refusal_line};
-ghost use Rattle.plm80_names.specs.Verdict.{IsVerdict};
+ghost use Rattle.plm80_names.specs.{Printed.named_refusal_line, Verdict.IsVerdict};
 
 use crate::names::Names;
 use image80::Image;
@@ -19,7 +18,7 @@ pub enum Verdict {
     Refused(Vec<u8>),
 }
 
-/// Verifies an image.
+/// Verifies an image: accepts it, or gives the line of a refusal that holds of it, with the name of the address.
 ///
 /// # Errors
 /// `AllocError` only if memory runs out; that is no answer about the image.
@@ -38,7 +37,7 @@ pub fn judge(alloc: Global, image: Image, names: &Names) -> Result<Verdict, Allo
 /// The line of a refusal, with the name of its address behind it.
 ///
 /// # Errors
-/// `AllocError` only if memory runs out, or has run out: that refusal has no line.
+/// `AllocError` if memory runs out, and of the refusal that says so, which has no line.
 pub fn named_refusal(
     alloc: Global,
     image: &Image,

@@ -1,10 +1,7 @@
 -- What is found of files, one after another.
-use Rattle.std.specs.Prelude.{◌≡◌, ℕ, ◌+◌, ◌<◌, Bool, true, ◌&&◌, List, [], ◌∷◌, ◌++◌, length, take}
-use Rattle.std.proofs.Common.{◌∙◌, ap, sym, subst, get_or, refl}
-use Rattle.std.proofs.lemmas.List.{take_more}
-use Rattle.rom80_find.specs.Dump.{DumpValue}
-use Rattle.plm80_files.specs.declared.link_feed.LinkFile.{LinkFile}
-use Rattle.plm80_objects.specs.Find.{PrintsFile, PrintsFiles, more, none}
+use Rattle.plm80_objects.proofs.Names.{◌≡◌, ℕ, ◌+◌, ◌<◌, Bool, true, ◌&&◌, List, [], ◌∷◌, ◌++◌, length, take, ◌∙◌, ap, sym, subst, get_or}
+use Rattle.plm80_objects.proofs.Names.{refl, take_more, DumpValue, LinkFile, PrintsFile, PrintsFiles}
+use Rattle.plm80_objects.specs.Find.{more, none}
 
 -- no file
 take_none : {A : Type 0} (xs : List A) → take 0 xs ≡ []

@@ -1,150 +1,103 @@
 -- Answers that are given to files that were read.
-use Rattle.std.specs.Prelude.{◌≡◌, ℕ, ◌+◌, ◌<◌, Bool, true, if◌then◌else◌, List, [], ◌∷◌, ◌++◌, length, map, take, Result, Ok, Err, IfOk, IfErr, IsOkAnd, refl}
-use Rattle.std.specs.Borrow.{Bor}
-use Rattle.std.proofs.Common.{◌∙◌, ap, arith, get_or, subst, sym}
-use Rattle.std.proofs.lemmas.Bool.{cond-true}
-use Rattle.std.proofs.lemmas.List.{take_more}
-use Rattle.plm80_console.specs.Answer.{AnswerValue, GaveUp, Gives, GivesUp, IsGiven, IsGivenUp, paths_of}
-use Rattle.plm80_console.specs.Answer.GivesUp.{before, within}
+use Rattle.plm80_objects.proofs.Names.{◌≡◌, ℕ, Bool, true, if◌then◌else◌, List, Result, Ok, Err, IfOk, IfErr, IsOkAnd, ◌∙◌, subst}
+use Rattle.plm80_objects.proofs.Names.{cond-true, IfErr-weaker, IfOk-weaker, AnswerValue, GaveUp, Gives, GivesUp, IsAnswered, IsGiven}
+use Rattle.plm80_objects.proofs.Names.{IsGivenUp, paths_of, FileValue, Journal, OnlyReports, and_read_files, FaultsFollowReading}
 use Rattle.plm80_console.specs.Answer.IsGivenUp.{before as before_it, within as within_it}
-use Rattle.plm80_console.specs.Journal.{AddsSome, FileValue, Journal, OnlyReports, and_read, and_read_files, and_reported}
-
-abbrev pub file_value : (path bytes : List ℕ) → FileValue
-file_value path bytes = record { path = path; bytes = bytes }
-
-abbrev pub texts : List (Bor (List ℕ)) → List (List ℕ)
-texts ps = map (λ (p : Bor (List ℕ)). p.now) ps
-
--- ---- lists of files
-
--- one more file
-pub read_more : (old : Journal) (files : List FileValue) (path bytes : List ℕ)
-    → and_read (and_read_files old files) path bytes ≡ and_read_files old (files ++ file_value path bytes ∷ [])
-read_more old [] path bytes = refl
-read_more old (file ∷ files) path bytes = read_more (and_read old file.path file.bytes) files path bytes
-
-pub paths_more : (files : List FileValue) (path bytes : List ℕ) → paths_of (files ++ file_value path bytes ∷ []) ≡ paths_of files ++ path ∷ []
-paths_more [] path bytes = refl
-paths_more (file ∷ files) path bytes = ap (λ (ps : List (List ℕ)). file.path ∷ ps) (paths_more files path bytes)
-
-texts_behind : (ps : List (Bor (List ℕ))) (p : Bor (List ℕ)) → texts (ps ++ p ∷ []) ≡ texts ps ++ p.now ∷ []
-texts_behind [] p = refl
-texts_behind (q ∷ ps) p = ap (λ (ts : List (List ℕ)). q.now ∷ ts) (texts_behind ps p)
-
--- the paths so far, and the next one
-pub texts_more : (ps : List (Bor (List ℕ))) (i : ℕ) (d : Bor (List ℕ)) → i < length ps
-    → texts (take i ps) ++ (get_or ps i d).now ∷ [] ≡ texts (take (i + 1) ps)
-texts_more ps i d below = sym (ap texts (take_more ps i d below) ∙ texts_behind (take i ps) (get_or ps i d))
-
--- ---- nothing but reading came before
-
-same_reported : (old : Journal) (files : List FileValue) → (and_read_files old files).reported ≡ old.reported
-same_reported old [] = refl
-same_reported old (file ∷ files) = same_reported (and_read old file.path file.bytes) files
-
-same_written : (old : Journal) (files : List FileValue) → (and_read_files old files).written ≡ old.written
-same_written old [] = refl
-same_written old (file ∷ files) = same_written (and_read old file.path file.bytes) files
-
-same_spoiled : (old : Journal) (files : List FileValue) → (and_read_files old files).spoiled ≡ old.spoiled
-same_spoiled old [] = refl
-same_spoiled old (file ∷ files) = same_spoiled (and_read old file.path file.bytes) files
-
-same_copies : (old : Journal) (files : List FileValue) → (and_read_files old files).copies ≡ old.copies
-same_copies old [] = refl
-same_copies old (file ∷ files) = same_copies (and_read old file.path file.bytes) files
-
-pub only_reports : (old between new : Journal) (files : List FileValue) → between ≡ and_read_files old files → OnlyReports between new → OnlyReports old new
-only_reports old between new files read is = record {
-  reported = subst (λ (n : ℕ). n < new.reported) (ap (λ (j : Journal). j.reported) read ∙ same_reported old files) is.reported;
-  written = is.written ∙ ap (λ (j : Journal). j.written) read ∙ same_written old files;
-  spoiled = is.spoiled ∙ ap (λ (j : Journal). j.spoiled) read ∙ same_spoiled old files;
-  copies = is.copies ∙ ap (λ (j : Journal). j.copies) read ∙ same_copies old files;
-}
-
-pub reports_after : {A E : Type 0} (old between new : Journal) (files : List FileValue) (r : Result A E) → between ≡ and_read_files old files
-    → IfErr r (λ _. OnlyReports between new) → IfErr r (λ _. OnlyReports old new)
-reports_after old between new files (Ok x) read is = tt
-reports_after old between new files (Err e) read is = only_reports old between new files read is
+use Rattle.plm80_console.specs.Answer.GivesUp.{before, within}
 
 pub err_from : {A E P : Type 0} (r : Result A E) → P → IfErr r (λ _. P)
 err_from (Ok x) p = tt
 err_from (Err e) p = p
 
--- a report behind what was read
-pub reported : (old between new : Journal) (files : List FileValue) → between ≡ and_read_files old files → new ≡ and_reported between → OnlyReports old new
-reported old between new files read is =
-    only_reports old between new files read
-    (record {
-      reported = let more : new.reported ≡ between.reported + 1 = ap (λ (j : Journal). j.reported) is in omega (arith, more);
-      written = ap (λ (j : Journal). j.written) is;
-      spoiled = ap (λ (j : Journal). j.spoiled) is;
-      copies = ap (λ (j : Journal). j.copies) is;
-    })
+-- a fault behind files that were read
+pub reports_after : {A E : Type 0} (old between new : Journal) (files : List FileValue) (r : Result A E) → FaultsFollowReading
+    → between ≡ and_read_files old files → IfErr r (λ _. OnlyReports between new) → IfErr r (λ _. OnlyReports old new)
+reports_after old between new files r follow read is =
+    IfErr-weaker r (λ _. OnlyReports between new) (λ _. OnlyReports old new) (λ _ only. follow old between new files read only) is
 
-gave_up_after : (old between new : Journal) (files written : List FileValue) → between ≡ and_read_files old files → GaveUp written between new
-    → GaveUp written old new
-gave_up_after old between new files written read is =
-    record {
-      reported = subst (λ (n : ℕ). n < new.reported) (ap (λ (j : Journal). j.reported) read ∙ same_reported old files) is.reported;
-      written = subst (λ (w : List FileValue). AddsSome written w new.written) (ap (λ (j : Journal). j.written) read ∙ same_written old files) is.written;
-      spoiled = subst (λ (s : List (List ℕ)). AddsSome (paths_of written) s new.spoiled) (ap (λ (j : Journal). j.spoiled) read ∙ same_spoiled old files) is.spoiled;
-      copies = is.copies ∙ ap (λ (j : Journal). j.copies) read ∙ same_copies old files;
-    }
+-- a push that went well
+pub pushed : {X : Type 0} (ok : Bool) (old more new : List X) → new ≡ (if ok then more else old) → ok ≡ true → new ≡ more
+pushed ok old more new is well = is ∙ cond-true ok more old well
+
+-- what becomes of a part of a command whose answers are these
+abbrev pub IsAnsweredOrGivenUp : {E : Type 0} (Part : AnswerValue → Type 0) (old new : Journal) → Result ℕ E → Type 0
+IsAnsweredOrGivenUp Part old new r = IfOk r (IsAnswered Part old new) × IfErr r (λ _. IsGivenUp Part old new)
+
+-- what becomes of a command whose answers to the files of these paths are these
+abbrev pub GivesOrGivesUp : {E : Type 0} (Answers : List FileValue → AnswerValue → Type 0) (paths : List (List ℕ)) (old new : Journal)
+    → Result ℕ E → Type 0
+GivesOrGivesUp Answers paths old new r = IfOk r (Gives Answers paths old new) × IfErr r (λ _. GivesUp Answers paths old new)
+
+-- ---- an answer that was made
+
+pub answered_if_made : {E F : Type 0} (Part : AnswerValue → Type 0) (old new : Journal) (made : Result AnswerValue F) (r : Result ℕ E)
+    → IfOk made Part → IfOk r (λ status. IsOkAnd made (λ answer. IsGiven answer old new status)) → IfOk r (IsAnswered Part old new)
+answered_if_made Part old new (Ok answer) r part gave =
+    IfOk-weaker r (IsGiven answer old new) (IsAnswered Part old new)
+    (λ status given. record { answer = answer; answers = part; given = given }) gave
+answered_if_made Part old new (Err f) (Ok status) part gave = absurd gave
+answered_if_made Part old new (Err f) (Err e) part gave = tt
+
+pub given_up_if_made : {A E F : Type 0} (Part : AnswerValue → Type 0) (old new : Journal) (made : Result AnswerValue F) (r : Result A E)
+    → IfOk made Part → IfErr r (λ _. IsGivenUp (λ answer. made ≡ Ok answer) old new) → IfErr r (λ _. IsGivenUp Part old new)
+given_up_if_made {F = F} Part old new made r part gave =
+    IfErr-weaker r (λ _. IsGivenUp (λ answer. made ≡ Ok answer) old new) (λ _. IsGivenUp Part old new) (λ _ up. of_made up) gave
+  where
+    of_made : IsGivenUp (λ answer. made ≡ Ok answer) old new → IsGivenUp Part old new
+    of_made (before_it only) = before_it only
+    of_made (within_it answer is up) = within_it answer (subst (λ (m : Result AnswerValue F). IfOk m Part) is part) up
+
+pub made_or_given_up : {E F : Type 0} (Part : AnswerValue → Type 0) (old between new : Journal) (made : Result AnswerValue F) (r : Result ℕ E)
+    → between ≡ old → IfOk made Part → IfOk r (λ status. IsOkAnd made (λ answer. IsGiven answer between new status))
+    → IfErr r (λ _. IsGivenUp (λ answer. made ≡ Ok answer) between new) → IsAnsweredOrGivenUp Part old new r
+made_or_given_up Part old between new made r same part gave up =
+    subst (λ (j : Journal). IsAnsweredOrGivenUp Part j new r) same
+    (answered_if_made Part between new made r part gave, given_up_if_made Part between new made r part up)
 
 -- ---- an answer to files that were read
 
 module _ (Answers : List FileValue → AnswerValue → Type 0) (paths : List (List ℕ)) (old between new : Journal) (files : List FileValue)
     (named : paths_of files ≡ paths) (read : between ≡ and_read_files old files) where
-  pub gives : {E : Type 0} (answer : AnswerValue) (r : Result ℕ E) → Answers files answer → IfOk r (IsGiven answer between new)
-      → IfOk r (Gives Answers paths old new)
-  gives answer (Ok status) answers gave = record {
+  gives_status : (answer : AnswerValue) (status : ℕ) → Answers files answer → IsGiven answer between new status → Gives Answers paths old new status
+  gives_status answer status answers gave = record {
     files = files;
     paths_are = named;
     answer = answer;
     answers = answers;
     given = subst (λ (j : Journal). IsGiven answer j new status) read gave;
   }
-  gives answer (Err e) answers gave = tt
 
-  -- if it was made
-  pub gives_made : {E F : Type 0} (made : Result AnswerValue F) (r : Result ℕ E) → IfOk made (Answers files)
-      → IfOk r (λ status. IsOkAnd made (λ answer. IsGiven answer between new status)) → IfOk r (Gives Answers paths old new)
-  gives_made (Ok answer) r answers gave = gives answer r answers gave
-  gives_made (Err f) (Ok status) answers gave = absurd gave
-  gives_made (Err f) (Err e) answers gave = tt
+  gives_up_within : (answer : AnswerValue) → Answers files answer → GaveUp answer.files between new → GivesUp Answers paths old new
+  gives_up_within answer answers up = within files answer named answers (subst (λ (j : Journal). GaveUp answer.files j new) read up)
 
-  pub gives_up : {A E : Type 0} (answer : AnswerValue) (r : Result A E) → Answers files answer → IfErr r (λ _. GaveUp answer.files between new)
-      → IfErr r (λ _. GivesUp Answers paths old new)
-  gives_up answer (Ok x) answers gave = tt
-  gives_up answer (Err e) answers gave = within files answer named answers (gave_up_after old between new files answer.files read gave)
+  pub gives : {E : Type 0} (answer : AnswerValue) (r : Result ℕ E) → Answers files answer → IfOk r (IsGiven answer between new)
+      → IfOk r (Gives Answers paths old new)
+  gives answer r answers gave =
+      IfOk-weaker r (IsGiven answer between new) (Gives Answers paths old new) (λ status. gives_status answer status answers) gave
 
-  -- of answers to what was read
-  pub gives_up_it : {A E : Type 0} (Of : AnswerValue → Type 0) (r : Result A E) → ((answer : AnswerValue) → Of answer → Answers files answer)
-      → IfErr r (λ _. IsGivenUp Of between new) → IfErr r (λ _. GivesUp Answers paths old new)
-  gives_up_it Of (Ok x) are gave = tt
-  gives_up_it Of (Err e) are gave = go gave
-    where
-      go : IsGivenUp Of between new → GivesUp Answers paths old new
-      go (before_it only) = before (only_reports old between new files read only)
-      go (within_it answer of gave) = within files answer named (are answer of) (gave_up_after old between new files answer.files read gave)
+  pub gives_or_gives_up : {E : Type 0} (answer : AnswerValue) (r : Result ℕ E) → Answers files answer → IfOk r (IsGiven answer between new)
+      → IfErr r (λ _. GaveUp answer.files between new) → GivesOrGivesUp Answers paths old new r
+  gives_or_gives_up answer r answers gave up = (
+    gives answer r answers gave,
+    IfErr-weaker r (λ _. GaveUp answer.files between new) (λ _. GivesUp Answers paths old new) (λ _. gives_up_within answer answers) up,
+  )
 
-  -- a fault before the answer
-  pub gives_up_before : {A E : Type 0} (r : Result A E) → IfErr r (λ _. OnlyReports between new) → IfErr r (λ _. GivesUp Answers paths old new)
-  gives_up_before (Ok x) only = tt
-  gives_up_before (Err e) only = before (only_reports old between new files read only)
+  -- an answer that is one to these files by what is known of it
+  module _ (Part : AnswerValue → Type 0) (whole : (answer : AnswerValue) → Part answer → Answers files answer) where
+    pub part_given : {E : Type 0} (r : Result ℕ E) → IfOk r (IsAnswered Part between new) → IfOk r (Gives Answers paths old new)
+    part_given r gave =
+        IfOk-weaker r (IsAnswered Part between new) (Gives Answers paths old new)
+        (λ status is. gives_status is.answer status (whole is.answer is.answers) is.given) gave
 
-  -- of an answer that was made
-  pub gives_up_made : {F : Type 0} (made : Result AnswerValue F) → IfOk made (Answers files) → IsGivenUp (λ a. made ≡ Ok a) between new
-      → GivesUp Answers paths old new
-  gives_up_made {F = F} made answers gave = go gave
-    where
-      go : IsGivenUp (λ a. made ≡ Ok a) between new → GivesUp Answers paths old new
-      go (before_it only) = before (only_reports old between new files read only)
-      go (within_it answer is gave) =
-          within files answer named (subst (λ (m : Result AnswerValue F). IfOk m (Answers files)) is answers)
-          (gave_up_after old between new files answer.files read gave)
+    pub part_given_up : {A E : Type 0} (r : Result A E) → FaultsFollowReading → IfErr r (λ _. IsGivenUp Part between new)
+        → IfErr r (λ _. GivesUp Answers paths old new)
+    part_given_up r follow gave =
+        IfErr-weaker r (λ _. IsGivenUp Part between new) (λ _. GivesUp Answers paths old new) (λ _ up. of_part up) gave
+      where
+        of_part : IsGivenUp Part between new → GivesUp Answers paths old new
+        of_part (before_it only) = before (follow old between new files read only)
+        of_part (within_it answer part up) = gives_up_within answer (whole answer part) up
 
--- a push that went well
-pub pushed : {X : Type 0} (ok : Bool) (old more new : List X) → new ≡ (if ok then more else old) → ok ≡ true → new ≡ more
-pushed ok old more new is well = is ∙ cond-true ok more old well
+    pub part_gives_or_gives_up : {E : Type 0} (r : Result ℕ E) → FaultsFollowReading → IsAnsweredOrGivenUp Part between new r
+        → GivesOrGivesUp Answers paths old new r
+    part_gives_or_gives_up r follow is = (part_given r is.0, part_given_up r follow is.1)

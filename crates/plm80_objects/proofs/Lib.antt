@@ -4,3 +4,4 @@ mod FindLemmas
 mod LinkLemmas
 mod PathLemmas
 mod RomFileLemmas
+mod Names

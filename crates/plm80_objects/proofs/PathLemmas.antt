@@ -1,25 +1,13 @@
--- The paths of the files that were read.
-use Rattle.std.specs.Prelude.{◌≡◌, ℕ, zero, suc, ◌+◌, ◌<◌, List, [], ◌∷◌, ◌++◌, length, map, take, slice_index_or}
-use Rattle.std.specs.Borrow.{Bor}
-use Rattle.std.specs.List.{repeat}
-use Rattle.std.proofs.Common.{◌∙◌, ap, sym, refl, add-one, append_assoc, length-append, arith}
-use Rattle.plm80_files.specs.declared.link_feed.LinkFile.{LinkFile}
-use Rattle.plm80_files.specs.declared.link_feed.LinkFile.TheVariants.{Modules, Library}
-use Rattle.std.proofs.lemmas.List.{flat_map_more, take_more}
-use Rattle.plm80_objects.specs.Link.{paths_of, root_paths}
-use Rattle.plm80_objects.specs.declared.link.RootFile.{RootFile}
-use Rattle.plm80_objects.specs.declared.link.LinkFiles.{LinkFiles}
+-- A path that is appended several times.
+use Rattle.plm80_objects.proofs.Names.{◌≡◌, ℕ, zero, suc, ◌+◌, List, [], ◌∷◌, ◌++◌, map, Bor, repeat, ◌∙◌, ap, sym, refl, add-one}
+use Rattle.plm80_objects.proofs.Names.{append_assoc, map-append}
+use Rattle.plm80_objects.proofs.ReadLemmas.{text_of, texts}
 
 -- one more lent text behind the others
-map_behind : (ps : List (Bor (List ℕ))) (p : Bor (List ℕ)) → map (λ q. q.now) (ps ++ p ∷ []) ≡ map (λ q. q.now) ps ++ p.now ∷ []
-map_behind [] p = refl
-map_behind (q ∷ ps) p = ap (λ (ts : List (List ℕ)). q.now ∷ ts) (map_behind ps p)
-
 pub path_behind : (before after : List (Bor (List ℕ))) (p : Bor (List ℕ)) (path : List ℕ) → after ≡ before ++ p ∷ [] → p.now ≡ path
     → map (λ q. q.now) after ≡ map (λ q. q.now) before ++ path ∷ []
 path_behind before after p path is same =
-    ap (λ (ps : List (Bor (List ℕ))). map (λ q. q.now) ps) is
-    ∙ (map_behind before p ∙ ap (λ (t : List ℕ). map (λ q. q.now) before ++ t ∷ []) same)
+    ap texts is ∙ map-append text_of before (p ∷ []) ∙ ap (λ (t : List ℕ). texts before ++ t ∷ []) same
 
 -- one more time behind the others
 repeat_behind : (path : List ℕ) (n : ℕ) → repeat n (path ∷ []) ++ path ∷ [] ≡ repeat (suc n) (path ∷ [])
@@ -39,23 +27,3 @@ pub paths_more : (path : List ℕ) (n : ℕ) (before : List (List ℕ)) (so_far 
     → map (λ q. q.now) after ≡ before ++ repeat (n + 1) (path ∷ [])
 paths_more path n before so_far after p is more same =
     repeat_more path n before (map (λ q. q.now) so_far) (map (λ q. q.now) after) is (path_behind so_far after p path more same)
-
-length_repeat : (path : List ℕ) (n : ℕ) → length (repeat n (path ∷ [])) ≡ n
-length_repeat path zero = refl
-length_repeat path (suc n) = ap (λ (m : ℕ). suc m) (length_repeat path n)
-
--- a list of lent texts is as long as that of the texts
-length_texts : (ps : List (Bor (List ℕ))) → length (map (λ p. p.now) ps) ≡ length ps
-length_texts [] = refl
-length_texts (p ∷ ps) = ap (λ (m : ℕ). suc m) (length_texts ps)
-
--- the paths with those of one more file
-pub file_behind : (before after : List RootFile) (file : RootFile) → after ≡ before ++ file ∷ []
-    → root_paths after ≡ root_paths before ++ paths_of file
-file_behind before after file is = ap root_paths is ∙ sym (flat_map_more paths_of [] before file)
-
-pub one_more_file : (files : List RootFile) (n : ℕ) (file : RootFile) → n < length files → slice_index_or files n file ≡ file
-    → root_paths (take n files) ++ paths_of file ≡ root_paths (take (n + 1) files)
-one_more_file files n file less is =
-    flat_map_more paths_of [] (take n files) file
-    ∙ sym (ap root_paths (take_more files n file less ∙ ap (λ (f : RootFile). take n files ++ f ∷ []) is))

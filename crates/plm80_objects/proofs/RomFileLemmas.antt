@@ -1,12 +1,6 @@
 -- The files of dumps, one after another.
-use Rattle.std.specs.Prelude.{◌≡◌, ℕ, ◌+◌, ◌<◌, List, [], ◌∷◌, ◌++◌, length, take}
-use Rattle.std.specs.Borrow.{Bor}
-use Rattle.std.specs.List.{AllZip}
-use Rattle.std.proofs.Common.{sym, subst, get_or}
-use Rattle.std.proofs.lemmas.List.{take_more}
-use Rattle.plm80_console.specs.NumberText.{word_value}
-use Rattle.plm80_objects.specs.Absolute.{AreRomFiles, IsRomFile}
-use Rattle.plm80_objects.specs.declared.absolute.RomFile.{RomFile}
+use Rattle.plm80_objects.proofs.Names.{◌≡◌, ℕ, ◌+◌, ◌<◌, List, [], ◌∷◌, ◌++◌, length, take, Bor, AllZip, sym, subst, get_or, take_more}
+use Rattle.plm80_objects.proofs.Names.{AreRomFiles, IsRomFile, RomFile}
 
 zip_pushed : {A B : Type 0} (R : A → B → Type 0) (xs : List A) (ys : List B) (x : A) (y : B) → AllZip R xs ys → R x y
     → AllZip R (xs ++ x ∷ []) (ys ++ y ∷ [])
@@ -14,14 +8,6 @@ zip_pushed R [] [] x y zip one = (one, tt)
 zip_pushed R [] (z ∷ ys) x y zip one = absurd zip
 zip_pushed R (w ∷ xs) [] x y zip one = absurd zip
 zip_pushed R (w ∷ xs) (z ∷ ys) x y zip one = (zip.0, zip_pushed R xs ys x y zip.1 one)
-
--- the first file alone
-pub rom_none : (path first : List ℕ) (xs : List (Bor (List ℕ))) (file : RomFile) (files : List RomFile) → files ≡ file ∷ []
-    → file.path.now ≡ path → file.first ≡ word_value first → AreRomFiles path first (take 0 xs) files
-rom_none path first [] file files is path_is first_is =
-    subst (λ (fs : List RomFile). AreRomFiles path first [] fs) (sym is) (path_is, first_is, tt)
-rom_none path first (x ∷ xs) file files is path_is first_is =
-    subst (λ (fs : List RomFile). AreRomFiles path first [] fs) (sym is) (path_is, first_is, tt)
 
 -- one more file behind the first
 pushed : (path first : List ℕ) (xs : List (Bor (List ℕ))) (files : List RomFile) (text : Bor (List ℕ)) (file : RomFile)

@@ -1,19 +1,15 @@
 -- What `absolute` writes: the image of dumps; and `extract`: bytes of an image.
 -- (ISIS-II User's Guide: absolute object modules.)
 use Rattle.std.specs.Prelude.{◌≡◌, ℕ, if◌then◌else◌, List, [], ◌∷◌, ◌++◌, map}
-use Rattle.std.specs.Borrow.{Bor}
-use Rattle.std.specs.List.{AllZip}
+use Rattle.std.specs.{Borrow.Bor, List.AllZip}
 use Rattle.image80.specs.Image.{Located, PlacedBytes}
 use Rattle.image80_file.specs.ImageFile.{SpellsImage, image_bytes, without_regions}
 use Rattle.rom80.specs.Rom.{bytes_over, chunks_of, sum_line}
-use Rattle.plm80_console.specs.Answer.{AnswerValue, Gives, GivesUp, paths_of, writes}
-use Rattle.plm80_console.specs.Journal.{FileValue, Journal, OnlyReports, and_read_files}
-use Rattle.plm80_console.specs.NumberText.{IsWordText, word_value}
-use Rattle.plm80_objects.specs.declared.absolute.AbsoluteArguments.{AbsoluteArguments}
-use Rattle.plm80_objects.specs.declared.absolute.RomFile.{RomFile}
-use Rattle.plm80_objects.specs.declared.extract.Extent.{Extent}
-use Rattle.plm80_objects.specs.declared.extract.ExtractArguments.{ExtractArguments}
-use Rattle.plm80_objects.specs.Arguments.{IsExtentOf}
+use Rattle.plm80_console.specs.Answer.{AnswerValue, Gives, GivesUp, writes}
+use Rattle.plm80_console.specs.{Journal.FileValue, Journal.Journal, Journal.OnlyReports, NumberText.IsWordText, NumberText.word_value}
+use Rattle.plm80_objects.specs.{declared.absolute.AbsoluteArguments.AbsoluteArguments, declared.absolute.RomFile.RomFile}
+use Rattle.plm80_objects.specs.{declared.extract.Extent.Extent, declared.extract.ExtractArguments.ExtractArguments, Arguments.IsExtentOf}
+use Rattle.plm80_objects.specs.{Read.AreRead}
 
 -- the image of a name, with these chunks and this start, goes to its path
 pub record WritesImage (path name : List ℕ) (chunks : List PlacedBytes) (start : ℕ) (answer : AnswerValue) : Type 0 where
@@ -45,11 +41,8 @@ abbrev pub rom_paths : List RomFile → List (List ℕ)
 rom_paths roms = map (λ (rom : RomFile). rom.path.now) roms
 
 -- all of these files were read, and these are the chunks of their bytes
-pub record AreDumpsRead (roms : List RomFile) (old new : Journal) (chunks : List PlacedBytes) : Type 0 where
-  pub files : List FileValue
-  pub paths_are : paths_of files ≡ rom_paths roms
-  pub chunks_are : chunks ≡ chunks_from roms files
-  pub journal : new ≡ and_read_files old files
+abbrev pub AreDumpsRead : (roms : List RomFile) → (old new : Journal) → (chunks : List PlacedBytes) → Type 0
+AreDumpsRead roms = AreRead (λ files chunks. chunks ≡ chunks_from roms files) (rom_paths roms)
 
 -- the image of their dumps goes to its path
 abbrev pub WritesDumps : AbsoluteArguments → List RomFile → List FileValue → AnswerValue → Type 0

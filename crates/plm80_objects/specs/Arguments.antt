@@ -1,22 +1,15 @@
 -- Which argument of the command line each value of a command is, and the numbers that options write.
 use Rattle.std.specs.Prelude.{◌≡◌, ℕ, List, Option, map, option_map, unwrap_or, codes}
-use Rattle.clap.specs.declared.parser.matches.ArgMatches.{ArgMatches}
-use Rattle.clap.specs.Matches.{first_value, found_of}
+use Rattle.clap.specs.{declared.parser.matches.ArgMatches.ArgMatches, Matches.first_value, Matches.found_of}
 use Rattle.place80.specs.declared.options.Options.{Options}
 use Rattle.plm80_console.specs.Arguments.{argument_text, argument_values}
-use Rattle.plm80_console.specs.declared.options.OptionText.{OptionText}
-use Rattle.plm80_console.specs.NumberText.{word_value}
+use Rattle.plm80_console.specs.{declared.options.OptionText.OptionText, NumberText.word_value}
 use Rattle.plm80_names.specs.Arguments.{IsFlag}
-use Rattle.plm80_objects.specs.declared.absolute.AbsoluteArguments.{AbsoluteArguments}
-use Rattle.plm80_objects.specs.declared.compare.CompareArguments.{CompareArguments}
-use Rattle.plm80_objects.specs.declared.extract.Extent.{Extent}
-use Rattle.plm80_objects.specs.declared.extract.ExtractArguments.{ExtractArguments}
-use Rattle.plm80_objects.specs.declared.find.FindArguments.{FindArguments}
-use Rattle.plm80_objects.specs.declared.helpers.locate_options.LocateTexts.{LocateTexts}
-use Rattle.plm80_objects.specs.declared.library.LibraryArguments.{LibraryArguments}
-use Rattle.plm80_objects.specs.declared.link.LinkArguments.{LinkArguments}
-use Rattle.plm80_objects.specs.declared.locate.LocateArguments.{LocateArguments}
-use Rattle.plm80_objects.specs.declared.map.MapArguments.{MapArguments}
+use Rattle.plm80_objects.specs.{declared.absolute.AbsoluteArguments.AbsoluteArguments, declared.compare.CompareArguments.CompareArguments}
+use Rattle.plm80_objects.specs.{declared.extract.Extent.Extent, declared.extract.ExtractArguments.ExtractArguments}
+use Rattle.plm80_objects.specs.{declared.find.FindArguments.FindArguments, declared.helpers.locate_options.LocateTexts.LocateTexts}
+use Rattle.plm80_objects.specs.{declared.library.LibraryArguments.LibraryArguments, declared.link.LinkArguments.LinkArguments}
+use Rattle.plm80_objects.specs.{declared.locate.LocateArguments.LocateArguments, declared.map.MapArguments.MapArguments}
 
 -- the text of an option that needn't be given
 abbrev pub text_if_given : Option OptionText → Option (List ℕ)

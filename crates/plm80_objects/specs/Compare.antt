@@ -5,13 +5,9 @@ use Rattle.omf_model.specs.declared.symbols.Public.{Public}
 use Rattle.image80.specs.Image.{Located, PlacedBytes}
 use Rattle.image80_file.specs.ImageFile.{SpellsImage, without_regions}
 use Rattle.image80_text.specs.NameText.{named_text}
-use Rattle.rom80.specs.declared.comparing.Difference.{Difference}
 use Rattle.rom80.specs.Compare.{AreDifferences, comparison_text}
-use Rattle.rom80.specs.Ranges.{byte_ranges}
-use Rattle.rom80.specs.Rom.{bytes_over}
-use Rattle.plm80_console.specs.Answer.{AnswerValue, prints}
-use Rattle.plm80_console.specs.Journal.{FileValue}
-use Rattle.plm80_console.specs.NumberText.{word_value}
+use Rattle.rom80.specs.{declared.comparing.Difference.Difference, Ranges.byte_ranges, Rom.bytes_over}
+use Rattle.plm80_console.specs.{Answer.AnswerValue, Answer.prints, Journal.FileValue, NumberText.word_value}
 use Rattle.plm80_names.specs.Printed.{AreNamesOf}
 use Rattle.plm80_objects.specs.declared.compare.CompareArguments.{CompareArguments}
 

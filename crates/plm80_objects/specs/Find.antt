@@ -1,15 +1,11 @@
 -- What `find` prints of the files in which it looks for modules.
 -- (The form of the lines and the status are this project's own.)
 use Rattle.std.specs.Prelude.{◌≡◌, ℕ, Bool, true, false, ◌&&◌, List, [], ◌∷◌, ◌++◌}
-use Rattle.rom80_find.specs.Dump.{DumpValue}
-use Rattle.rom80_find.specs.Found.{PrintsMembers, PrintsModules}
-use Rattle.plm80_files.specs.declared.link_feed.LinkFile.{LinkFile}
+use Rattle.rom80_find.specs.{Dump.DumpValue, Found.PrintsMembers, Found.PrintsModules}
 use Rattle.plm80_files.specs.declared.link_feed.LinkFile.TheVariants.{Modules, Library}
-use Rattle.plm80_console.specs.Answer.{AnswerValue, paths_of, prints}
-use Rattle.plm80_console.specs.Journal.{FileValue, Journal, and_read_files}
-use Rattle.plm80_files.specs.LinkFiles.{SpellsEither}
-use Rattle.plm80_console.specs.NumberText.{word_value}
-use Rattle.plm80_objects.specs.declared.find.FindArguments.{FindArguments}
+use Rattle.plm80_files.specs.{declared.link_feed.LinkFile.LinkFile, LinkFiles.SpellsEither}
+use Rattle.plm80_console.specs.{Answer.AnswerValue, Answer.prints, Journal.FileValue, Journal.Journal, NumberText.word_value}
+use Rattle.plm80_objects.specs.{declared.find.FindArguments.FindArguments, Read.AreRead}
 
 -- what is found of a file's modules behind a text, and whether all of an object file's are there; of a library's some may be missing
 abbrev pub PrintsFile : DumpValue → LinkFile → (are_there : Bool) → (before after : List ℕ) → Type 0
@@ -41,11 +37,8 @@ pub data AreLinkFiles : List FileValue → List LinkFile → Type 0 where
       → AreLinkFiles files are → SpellsEither file.bytes is → AreLinkFiles (files ++ file ∷ []) (are ++ is ∷ [])
 
 -- all of these files were read, and this is what they are
-pub record AreFilesRead (paths : List (List ℕ)) (old new : Journal) (are : List LinkFile) : Type 0 where
-  pub files : List FileValue
-  pub paths_are : paths_of files ≡ paths
-  pub are_files : AreLinkFiles files are
-  pub journal : new ≡ and_read_files old files
+abbrev pub AreFilesRead : (paths : List (List ℕ)) → (old new : Journal) → List LinkFile → Type 0
+AreFilesRead = AreRead AreLinkFiles
 
 -- what is printed of a dump and of files
 pub record FindsIn (dump : DumpValue) (files : List FileValue) (answer : AnswerValue) : Type 0 where

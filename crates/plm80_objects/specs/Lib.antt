@@ -1,4 +1,5 @@
 pub mod Arguments
+pub mod Read
 pub mod Compare
 pub mod Find
 pub mod Modules

@@ -4,21 +4,14 @@ use Rattle.std.specs.Prelude.{◌≡◌, ◌⊎◌, ℕ, Bool, true, false, Opti
 use Rattle.std.specs.List.{flat_map, repeat}
 use Rattle.omf_model.specs.Modules.{ModuleValue}
 use Rattle.omf_module.specs.Writing.{file_bytes}
-use Rattle.link80_select.specs.declared.chosen.Chosen.{Chosen}
-use Rattle.link80_select.specs.Selected.{module_at}
-use Rattle.link80.specs.declared.linking.Linked.{Linked}
-use Rattle.link80.specs.Selection.{IsSelection}
-use Rattle.link80_text.specs.Parts.{IsMade, modules_of, parts_text, unresolved_text}
-use Rattle.link80_text.specs.Reasons.{PrintsReasons}
-use Rattle.plm80_console.specs.Answer.{AnswerValue, paths_of as paths_read, writes}
-use Rattle.plm80_console.specs.Journal.{FileValue, Journal, and_read_files}
-use Rattle.plm80_files.specs.LinkFiles.{SpellsEither}
-use Rattle.plm80_files.specs.declared.link_feed.LinkFile.{LinkFile}
+use Rattle.link80_select.specs.{declared.chosen.Chosen.Chosen, Selected.module_at}
+use Rattle.link80.specs.{declared.linking.Linked.Linked, Selection.IsSelection}
+use Rattle.link80_text.specs.{Parts.IsMade, Parts.modules_of, Parts.parts_text, Parts.unresolved_text, Reasons.PrintsReasons}
+use Rattle.plm80_console.specs.{Answer.AnswerValue, Answer.writes, Journal.FileValue, Journal.Journal}
 use Rattle.plm80_files.specs.declared.link_feed.LinkFile.TheVariants.{Modules, Library}
-use Rattle.plm80_objects.specs.declared.link.LinkArguments.{LinkArguments}
-use Rattle.plm80_objects.specs.declared.link.LinkFiles.{LinkFiles}
-use Rattle.plm80_objects.specs.declared.link.RootFile.{RootFile}
-use Rattle.plm80_objects.specs.declared.helpers.link_lines.LinkLines.{LinkLines}
+use Rattle.plm80_files.specs.{LinkFiles.SpellsEither, declared.link_feed.LinkFile.LinkFile}
+use Rattle.plm80_objects.specs.{declared.link.LinkArguments.LinkArguments, declared.link.LinkFiles.LinkFiles}
+use Rattle.plm80_objects.specs.{declared.link.RootFile.RootFile, declared.helpers.link_lines.LinkLines.LinkLines, Read.AreRead}
 
 -- the path of each module of a file
 abbrev pub paths_of : RootFile → List (List ℕ)
@@ -53,11 +46,9 @@ pub data AreLinkFilesOf : List FileValue → LinkFiles → Type 0 where
   more : (read : List FileValue) (before after : LinkFiles) (file : FileValue) (is : LinkFile) → AreLinkFilesOf read before
       → SpellsEither file.bytes is → AddsFile is file.path before after → AreLinkFilesOf (read ++ file ∷ []) after
 
-pub record AreLinkFilesRead (paths : List (List ℕ)) (old new : Journal) (files : LinkFiles) : Type 0 where
-  pub read : List FileValue
-  pub paths_are : paths_read read ≡ paths
-  pub are : AreLinkFilesOf read files
-  pub journal : new ≡ and_read_files old read
+-- all of these files were read, and this is what they have
+abbrev pub AreLinkFilesRead : (paths : List (List ℕ)) → (old new : Journal) → LinkFiles → Type 0
+AreLinkFilesRead = AreRead AreLinkFilesOf
 
 -- a word, a name, and a line feed
 abbrev pub named_line : (word name : List ℕ) → List ℕ

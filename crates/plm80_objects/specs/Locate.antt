@@ -3,23 +3,17 @@
 use Rattle.std.specs.Prelude.{◌≡◌, ◌⊎◌, ℕ, ◌==◌, Bool, true, false, ◌||◌, not, if◌then◌else◌, Option, None, Some, List, [], ◌∷◌, length}
 use Rattle.omf_model.specs.Modules.{ModuleValue}
 use Rattle.omf_module.specs.Writing.{file_bytes}
-use Rattle.image80.specs.declared.range.Range.{Range}
-use Rattle.image80.specs.Image.{Located}
-use Rattle.image80.specs.RegionsText.{regions_text}
+use Rattle.image80.specs.{declared.range.Range.Range, Image.Located, RegionsText.regions_text}
 use Rattle.image80_file.specs.ImageFile.{image_bytes, named_module}
-use Rattle.place80.specs.declared.options.Options.{Options}
-use Rattle.place80.specs.declared.place_fault.PlaceFault.{PlaceFault}
-use Rattle.place80.specs.declared.place_fault.PlaceFault.TheVariants.{Memory}
-use Rattle.place80.specs.Layout.{layout_of}
 use Rattle.place80.specs.Locating.{ArrangesSegments, located_chunks, program_start}
-use Rattle.place80.specs.PlaceFault.{locate_fault}
 use Rattle.place80.specs.Restart.{ArrangesWithRestart, RestartsAt, restart_fault}
+use Rattle.place80.specs.{declared.options.Options.Options, declared.place_fault.PlaceFault.PlaceFault}
+use Rattle.place80.specs.{declared.place_fault.PlaceFault.TheVariants.Memory, Layout.layout_of, PlaceFault.locate_fault}
 use Rattle.place80_text.specs.Board.{first_unmapped, places_of}
-use Rattle.place80_text.specs.declared.board.Unmapped.{Unmapped as UnmappedAddress}
-use Rattle.place80_text.specs.ImagePublics.{publics_at}
+use Rattle.place80_text.specs.{declared.board.Unmapped.Unmapped as UnmappedAddress, ImagePublics.publics_at}
 use Rattle.plm80_console.specs.Answer.{AnswerValue, writes_both}
-use Rattle.plm80_objects.specs.declared.locate.LocateFault.{LocateFault}
 use Rattle.plm80_objects.specs.declared.locate.LocateFault.TheVariants.{Place, Unmapped}
+use Rattle.plm80_objects.specs.declared.locate.LocateFault.{LocateFault}
 
 -- why a program can't be located, with a restart or without
 abbrev pub fault_of : (restart : Bool) → Options → ModuleValue → Option PlaceFault

@@ -7,19 +7,13 @@ use Rattle.omf_module.specs.Spelled.{SpellsFile}
 use Rattle.image80.specs.declared.range.Range.{Range}
 use Rattle.omf_library.specs.Writing.{library_bytes}
 use Rattle.omf_text.specs.ModuleText.{module_text}
-use Rattle.place80.specs.declared.options.Options.{Options}
-use Rattle.place80.specs.Layout.{layout_of}
-use Rattle.place80.specs.PlaceFault.{locate_fault}
+use Rattle.place80.specs.{declared.options.Options.Options, Layout.layout_of, PlaceFault.locate_fault}
 use Rattle.place80_text.specs.Map.{IsMap}
-use Rattle.plm80_console.specs.Answer.{AnswerValue, paths_of, prints}
-use Rattle.plm80_console.specs.Ranges.{AreRangesOf}
-use Rattle.plm80_console.specs.Replaced.{GaveUpKeeping, IsReplacedKeeping}
-use Rattle.plm80_console.specs.Journal.{FileValue, Journal, OnlyReports, and_read_files}
-use Rattle.plm80_objects.specs.declared.library.LibraryArguments.{LibraryArguments}
-use Rattle.plm80_objects.specs.declared.locate.LocateArguments.{LocateArguments}
-use Rattle.plm80_objects.specs.declared.map.MapArguments.{MapArguments}
-use Rattle.plm80_objects.specs.Arguments.{AreNumbersOf}
+use Rattle.plm80_console.specs.Journal.{FileValue, Journal, OnlyReports}
+use Rattle.plm80_console.specs.{Answer.AnswerValue, Answer.prints, Ranges.AreRangesOf, Replaced.GaveUpKeeping, Replaced.IsReplacedKeeping}
 use Rattle.plm80_objects.specs.Locate.{WritesProgram, unmapped_of}
+use Rattle.plm80_objects.specs.{declared.library.LibraryArguments.LibraryArguments, declared.locate.LocateArguments.LocateArguments}
+use Rattle.plm80_objects.specs.{declared.map.MapArguments.MapArguments, Arguments.AreNumbersOf, Read.AreRead}
 
 -- an answer to the modules of one object file
 pub record AnswersModules (Answers : List ModuleValue → AnswerValue → Type 0) (files : List FileValue) (answer : AnswerValue) : Type 0 where
@@ -74,16 +68,13 @@ pub data AreModulesOf : List FileValue → List ModuleValue → Type 0 where
       → AreModulesOf files modules → SpellsFile file.bytes own → AreModulesOf (files ++ file ∷ []) (modules ++ own)
 
 -- all of these files were read, and these are their modules
-pub record AreAllRead (paths : List (List ℕ)) (old new : Journal) (modules : List ModuleValue) : Type 0 where
-  pub files : List FileValue
-  pub paths_are : paths_of files ≡ paths
-  pub are : AreModulesOf files modules
-  pub journal : new ≡ and_read_files old files
+abbrev pub AreAllRead : (paths : List (List ℕ)) → (old new : Journal) → List ModuleValue → Type 0
+AreAllRead = AreRead AreModulesOf
 
 abbrev pub library_paths : LibraryArguments → List (List ℕ)
 library_paths arguments = map (λ path. path.now) arguments.files.items
 
--- they were read, and the library of their modules was written; a copy of an object file in its place was kept before
+-- The files were read, and the library of their modules was written; a copy of an object file in its place was kept before.
 pub record WritesLibrary (arguments : LibraryArguments) (old new : Journal) (status : ℕ) : Type 0 where
   pub between : Journal
   pub modules : List ModuleValue
@@ -91,7 +82,9 @@ pub record WritesLibrary (arguments : LibraryArguments) (old new : Journal) (sta
   pub replaced : IsReplacedKeeping arguments.library.now (library_bytes modules) between new
   pub status_is : status ≡ 0
 
--- it wasn't, which was reported; the library's path may be spoiled, or a copy kept
-pub data GivesUpLibrary (path : List ℕ) (old new : Journal) : Type 0 where
-  before : OnlyReports old new → GivesUpLibrary path old new
-  within : (files : List FileValue) → GaveUpKeeping path (and_read_files old files) new → GivesUpLibrary path old new
+-- No library was written, which was reported: nothing was written at all; or the files were read, and then the library's path may be
+-- spoiled, or a copy kept.
+pub data GivesUpLibrary (arguments : LibraryArguments) (old new : Journal) : Type 0 where
+  before : OnlyReports old new → GivesUpLibrary arguments old new
+  within : (between : Journal) (modules : List ModuleValue) → AreAllRead (library_paths arguments) old between modules
+      → GaveUpKeeping arguments.library.now between new → GivesUpLibrary arguments old new

@@ -2,9 +2,8 @@
 -- (The names of the faults are this project's own.)
 use Rattle.std.specs.Prelude.{◌≡◌, ℕ, ◌+◌, ◌<◌, ◌≤◌, List, length}
 use Rattle.image80.specs.Image.{PlacedBytes}
-use Rattle.rom80.specs.Rom.{ShareAnAddress}
-use Rattle.rom80.specs.declared.fault.RomFault.{RomFault}
 use Rattle.rom80.specs.declared.fault.RomFault.TheVariants.{PastMemory, Memory, EmptyFile, DumpsOverlap}
+use Rattle.rom80.specs.{Rom.ShareAnAddress, declared.fault.RomFault.RomFault}
 
 abbrev pub IsRefused : (first : ℕ) → (bytes : List ℕ) → RomFault → Type 0
 IsRefused first bytes PastMemory = 65536 < first + length bytes

@@ -4,14 +4,14 @@ ghost use Rattle.std.specs.Prelude.{◌≡◌, ◌||◌, ◌++◌, ◌∷◌, �
 ghost use Rattle.rom80.specs.Rom.{chunks_of, is_among, is_covered};
 ghost use Rattle.plm80_console.specs.Journal.{OnlyReports};
 ghost use Rattle.plm80_objects.specs.Absolute.{AreDumpsRead, AreRomFiles, GivesDumps, GivesUpDumps, IsRomFile, WritesImage};
-ghost use Rattle.plm80_objects.specs.Arguments.{AreAbsoluteArguments};
-ghost use Rattle.plm80_objects.specs.RomFaults.{IsRefusedWith};
+ghost use Rattle.plm80_objects.specs.{Arguments.AreAbsoluteArguments, RomFaults.IsRefusedWith};
 
 use crate::helpers::dump_words::DumpWords;
 use crate::helpers::rom_faults::report_rom_fault;
 use clap::ArgMatches;
 use image80_file::write_image;
 use omf_core::Name;
+use plm80_console::laws::reading_leaves_files_alone;
 use plm80_console::{
     Answer, Argument, Console, FaultOf, Kind, OptionText, ReadFile, Reported, Syntax,
     argument_text, argument_values, word_of_digits,
@@ -19,7 +19,7 @@ use plm80_console::{
 use rom80::{Dumps, RomFault};
 use std::alloc::{AllocError, Global};
 
-/// The arguments of `absolute`.
+/// The arguments of the command `absolute`.
 #[derive(Drop)]
 pub struct AbsoluteArguments<'a> {
     bytes: &'a str,
@@ -27,7 +27,7 @@ pub struct AbsoluteArguments<'a> {
     first: OptionText<'a>,
     start: OptionText<'a>,
     name: OptionText<'a>,
-    /// Further dumps, each as `hhhh=FILE`.
+    /// Further dumps, each as `hhhh=FILE`: the address of the first byte in hexadecimal, and the path.
     further: Vec<&'a str>,
 }
 
@@ -44,10 +44,10 @@ Example: plm80 absolute rom.bin rom.img --first 0 --start 0 --name ROM
 
 Faults and what to do: docs/FAULTS.md (installed: share/doc/plm80), man plm80.";
 
-/// The name of the option for further dumps.
+/// The name of the option `--rom`, for further dumps.
 const FURTHER: &str = "rom";
 
-/// `absolute` and its arguments.
+/// The command `absolute`: its name, its help and its arguments.
 pub const ABSOLUTE: Syntax<'static> = Syntax {
     name: "absolute",
     about: ABOUT,
@@ -87,7 +87,7 @@ pub const ABSOLUTE: Syntax<'static> = Syntax {
 };
 
 impl<'a> AbsoluteArguments<'a> {
-    /// The arguments as clap has read them.
+    /// Takes the arguments of `absolute` from what clap has matched. `AllocError` if memory runs out.
     pub fn of(alloc: Global, matches: &ArgMatches<'a>) -> Result<AbsoluteArguments<'a>, AllocError>
         ensures { IfOk result (AreAbsoluteArguments matches.now) }
     {
@@ -102,15 +102,15 @@ impl<'a> AbsoluteArguments<'a> {
     }
 }
 
-/// A file of bytes, and the address of the first of them.
+/// A dump on the command line: the path of its file, and the address of its first byte.
 #[derive(Clone, Copy)]
 struct RomFile<'a> {
     first: u16,
     path: &'a str,
 }
 
-/// Writes the image of the bytes. No file is created or changed before every other fault is excluded. Then it says what the dumps seem to
-/// be, if that is asked for.
+/// Does `absolute`: writes the image of the dumps' bytes to its file, and returns the exit status. No file is created or changed before
+/// every other fault is excluded. Behind all it says what the dumps seem to be, if words are asked for.
 pub fn write_absolute<C: Console>(
     console: &mut C,
     arguments: &AbsoluteArguments<'_>,
@@ -128,7 +128,7 @@ pub fn write_absolute<C: Console>(
     done
 }
 
-/// Writes the image, without words on the dumps.
+/// Reads the dumps of `absolute`, writes their image, and returns the exit status. Nothing is said of what the dumps seem to be.
 fn write_dumps<C: Console>(
     console: &mut C,
     arguments: &AbsoluteArguments<'_>,
@@ -136,6 +136,7 @@ fn write_dumps<C: Console>(
     ensures done { IfOk result (GivesDumps arguments.now (C.journal console.old) (C.journal console.new)) }
     ensures fault { IfErr result (λ _. GivesUpDumps arguments.now (C.journal console.old) (C.journal console.new)) }
 {
+    reading_leaves_files_alone();
     let start = arguments.start.word(console)?;
     let files = files_of(console, arguments)?;
     let name = arguments.name.module_name(console)?;
@@ -148,7 +149,8 @@ fn write_dumps<C: Console>(
     given
 }
 
-/// The files of the arguments with their addresses, in order.
+/// The dumps on the command line of `absolute`, in order: the first one, then that of each `--rom`. Reports the first text that is none,
+/// and opens no file.
 fn files_of<'a, C: Console>(
     console: &mut C,
     arguments: &AbsoluteArguments<'a>,
@@ -171,6 +173,7 @@ fn files_of<'a, C: Console>(
     Ok(files)
 }
 
+/// Appends a dump to `files`, or reports that memory ran out.
 fn add_file<'a, C: Console>(
     console: &mut C,
     files: &mut Vec<RomFile<'a>>,
@@ -186,7 +189,8 @@ fn add_file<'a, C: Console>(
     }
 }
 
-/// The file that an address, an equals sign and a path name.
+/// The address and the path of a `--rom` such as `1000=high.bin`. Reports a text without an equals sign, or without an address of one to
+/// four hexadecimal digits before it.
 fn file_of<'a, C: Console>(console: &mut C, text: &'a str) -> Result<RomFile<'a>, Reported>
     ensures file { IfOk result (IsRomFile text.now) }
     ensures unchanged { IfOk result (λ _. C.journal console.new ≡ C.journal console.old) }
@@ -202,7 +206,8 @@ fn file_of<'a, C: Console>(console: &mut C, text: &'a str) -> Result<RomFile<'a>
     }
 }
 
-/// The dumps that the files hold, and whether one of them has a byte at the start. Each file is checked before the next one is opened.
+/// Reads the files of dumps, in order, and returns their bytes at their addresses, and whether there is one at `start`. Each file is
+/// checked before the next one is opened, and the first fault is reported.
 fn read_dumps<C: Console>(
     console: &mut C,
     files: &[RomFile<'_>],
@@ -212,6 +217,7 @@ fn read_dumps<C: Console>(
     ensures start { IfOk result (λ read. read.1 ≡ is_covered read.0 start) }
     ensures fault { IfErr result (λ _. OnlyReports (C.journal console.old) (C.journal console.new)) }
 {
+    reading_leaves_files_alone();
     let mut dumps = Dumps::new(console.alloc());
     let mut has_start = false;
     for rom in files {
@@ -225,7 +231,7 @@ fn read_dumps<C: Console>(
     Ok((dumps, has_start))
 }
 
-/// Whether bytes from a first address on have one at another.
+/// Whether `count` bytes from the address `first` on include the one at `address`.
 fn has_byte(first: u16, count: usize, address: u16) -> bool
     ensures { result ≡ is_among first count address }
 {
@@ -235,7 +241,8 @@ fn has_byte(first: u16, count: usize, address: u16) -> bool
     }
 }
 
-/// Adds the dump that a file holds.
+/// Adds the bytes of a file, from the address `first` on, to `dumps`. The fault, with the file's path, is that there are no bytes, that
+/// they go past FFFF, that another dump has one of their addresses, or that memory ran out.
 fn add_dump<'a>(
     alloc: Global,
     dumps: &mut Dumps,
@@ -253,7 +260,7 @@ fn add_dump<'a>(
     }
 }
 
-/// The image of dumps, which goes to the file of this path.
+/// What `absolute` answers: the image of `dumps`, with this name and this start, goes to the file `path`, and nothing is printed.
 fn answer<'a>(
     alloc: Global,
     path: &'a str,

@@ -2,13 +2,9 @@
 
 ghost use Rattle.std.specs.Prelude.{◌≡◌, ◌∷◌, [], codes, length, IfOk, IfErr};
 ghost use Rattle.image80_text.specs.NameText.{named_text};
-ghost use Rattle.rom80.specs.Ranges.{byte_ranges};
-ghost use Rattle.rom80.specs.Rom.{bytes_over};
-ghost use Rattle.plm80_console.specs.Answer.{Gives};
-ghost use Rattle.plm80_console.specs.Journal.{OnlyReports};
-ghost use Rattle.plm80_objects.specs.Arguments.{AreCompareArguments};
-ghost use Rattle.plm80_objects.specs.Compare.{ComparesFiles, PrintsDifferences};
-ghost use Rattle.plm80_objects.specs.RomFaults.{IsRefused};
+ghost use Rattle.rom80.specs.{Ranges.byte_ranges, Rom.bytes_over};
+ghost use Rattle.plm80_console.specs.{Answer.Gives, Journal.OnlyReports};
+ghost use Rattle.plm80_objects.specs.{Arguments.AreCompareArguments, Compare.ComparesFiles, Compare.PrintsDifferences, RomFaults.IsRefused};
 
 use crate::extract::{FILL, fill_of};
 use crate::helpers::byte_words::explain_bytes;
@@ -24,7 +20,7 @@ use plm80_names::{NAMES, Names, explain_given};
 use rom80::{RomFault, byte_ranges, compare, no_regions};
 use std::alloc::{AllocError, Global};
 
-/// The arguments of `compare`.
+/// The arguments of the command `compare`.
 #[derive(Clone, Copy)]
 pub struct CompareArguments<'a> {
     image: &'a str,
@@ -52,7 +48,7 @@ Example: plm80 compare readings.img readings.bin --first 3000 --fill FF
 
 Faults and what to do: docs/FAULTS.md (installed: share/doc/plm80), man plm80.";
 
-/// `compare` and its arguments.
+/// The command `compare`: its name, its help and its arguments.
 pub const COMPARE: Syntax<'static> = Syntax {
     name: "compare",
     about: ABOUT,
@@ -75,7 +71,7 @@ pub const COMPARE: Syntax<'static> = Syntax {
 };
 
 impl<'a> CompareArguments<'a> {
-    /// The arguments as clap has read them.
+    /// Takes the arguments of `compare` from what clap has matched.
     pub fn of(matches: &ArgMatches<'a>) -> CompareArguments<'a>
         ensures { AreCompareArguments matches.now result }
     {
@@ -89,8 +85,8 @@ impl<'a> CompareArguments<'a> {
     }
 }
 
-/// Prints where the image and the dump differ; the status is 1 if they do. Both files are read before either is checked. Then it says what
-/// the dump seems to be, if that is asked for.
+/// Does `compare`: prints where the image and the dump differ, and returns the exit status, 1 if they do. Both files are read before either
+/// is checked. Behind all it says what the dump seems to be, if words are asked for.
 pub fn compare_files<C: Console>(
     console: &mut C,
     arguments: CompareArguments<'_>,
@@ -109,7 +105,8 @@ pub fn compare_files<C: Console>(
     done
 }
 
-/// Prints where the image and the dump differ; the status is 1 if they do. It says nothing of the dump.
+/// Reads an image and a dump, prints where they differ, and returns the exit status, 1 if they do. Nothing is said of what the dump seems
+/// to be.
 fn print_differences<C: Console>(
     console: &mut C,
     arguments: CompareArguments<'_>,
@@ -131,7 +128,8 @@ fn print_differences<C: Console>(
     }
 }
 
-/// Where an image and a dump from an address on differ.
+/// What `compare` answers: the lines of where `image` and the dump from the address `first` on differ, and the status. Where the image has
+/// no byte, `fill` is compared. The fault has the dump's path: no bytes, bytes past FFFF, or out of memory.
 fn compare_dump<'a>(
     alloc: Global,
     image: &Image,
@@ -156,7 +154,7 @@ fn compare_dump<'a>(
     }
 }
 
-/// The lines of a comparison, each with the name of its first address.
+/// The lines of a comparison with `image`, each with the name of its first address behind it, if `names` has one for it.
 fn with_names(
     alloc: Global,
     image: &Image,

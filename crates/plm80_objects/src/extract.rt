@@ -2,10 +2,8 @@
 
 ghost use Rattle.std.specs.Prelude.{◌≡◌, ◌+◌, ◌<◌, ◌↔◌, ◌∷◌, [], if◌then◌else◌, IfErr, IfOk, IsErrOf, codes};
 ghost use Rattle.rom80.specs.Rom.{bytes_over, sum_line};
-ghost use Rattle.plm80_console.specs.Answer.{Gives, GivesUp, writes};
-ghost use Rattle.plm80_console.specs.Journal.{OnlyReports, and_reported};
-ghost use Rattle.plm80_objects.specs.Arguments.{AreExtractArguments, IsExtentOf, fill_text};
-ghost use Rattle.plm80_objects.specs.Absolute.{ExtractsFile};
+ghost use Rattle.plm80_console.specs.{Answer.Gives, Answer.GivesUp, Answer.writes, Journal.OnlyReports, Journal.and_reported};
+ghost use Rattle.plm80_objects.specs.{Arguments.AreExtractArguments, Arguments.IsExtentOf, Arguments.fill_text, Absolute.ExtractsFile};
 
 use crate::helpers::byte_words::explain_bytes;
 use crate::helpers::decimal_words::decimal_size;
@@ -16,7 +14,7 @@ use plm80_files::{IMAGE, image_of};
 use rom80::{RomFault, bytes_over, no_regions, sum_text};
 use std::alloc::{AllocError, Global};
 
-/// The arguments of `extract`.
+/// The arguments of the command `extract`.
 #[derive(Clone, Copy)]
 pub struct ExtractArguments<'a> {
     image: &'a str,
@@ -42,7 +40,7 @@ Example: plm80 extract readings.img readings.bin --first 3000 --length 0800 \\
 
 Faults and what to do: docs/FAULTS.md (installed: share/doc/plm80), man plm80.";
 
-/// `extract` and its arguments.
+/// The command `extract`: its name, its help and its arguments.
 pub const EXTRACT: Syntax<'static> = Syntax {
     name: "extract",
     about: ABOUT,
@@ -73,7 +71,7 @@ pub const EXTRACT: Syntax<'static> = Syntax {
     ],
 };
 
-/// The byte where an image has none.
+/// The option `--fill`: the byte that stands where an image has none.
 pub const FILL: Argument<'static> = Argument {
     name: "fill",
     kind: Kind::Number("FILL"),
@@ -81,7 +79,7 @@ pub const FILL: Argument<'static> = Argument {
 };
 
 impl<'a> ExtractArguments<'a> {
-    /// The arguments as clap has read them.
+    /// Takes the arguments of `extract` from what clap has matched.
     pub fn of(matches: &ArgMatches<'a>) -> ExtractArguments<'a>
         ensures { AreExtractArguments matches.now result }
     {
@@ -96,7 +94,7 @@ impl<'a> ExtractArguments<'a> {
     }
 }
 
-/// The option of the byte where an image has none.
+/// The text of the option `--fill`, the byte that stands where an image has none.
 pub fn fill_of<'a>(matches: &ArgMatches<'a>) -> OptionText<'a>
     ensures name { result.name.now ≡ codes "fill" }
     ensures text { result.text.now ≡ fill_text matches.now }
@@ -104,7 +102,7 @@ pub fn fill_of<'a>(matches: &ArgMatches<'a>) -> OptionText<'a>
     OptionText::or(matches, FILL.name, "00")
 }
 
-/// The bytes of an image that are asked for.
+/// The numbers of the options of `extract`: the first address, how many bytes, and the byte that stands where the image has none.
 #[derive(Clone, Copy)]
 struct Extent {
     first: u16,
@@ -112,8 +110,8 @@ struct Extent {
     fill: u8,
 }
 
-/// Writes the bytes of the range, and prints their sum if it is asked for. No file is created or changed before every other
-/// fault is excluded.
+/// Does `extract`: writes the bytes of the image over the range to their file, prints the line of their sum if it is asked for, and returns
+/// the exit status. No file is created or changed before every other fault is excluded.
 pub fn extract_file<C: Console>(
     console: &mut C,
     arguments: ExtractArguments<'_>,
@@ -145,7 +143,7 @@ pub fn extract_file<C: Console>(
     }
 }
 
-/// Reports why there are no bytes of a range.
+/// Reports why there are no bytes of the range that the options give.
 fn report_range<C: Console>(console: &mut C, fault: RomFault) -> Reported
     ensures { C.journal console.new ≡ and_reported (C.journal console.old) }
 {
@@ -156,7 +154,7 @@ fn report_range<C: Console>(console: &mut C, fault: RomFault) -> Reported
     reported
 }
 
-/// The numbers of the arguments.
+/// The numbers that the options of `extract` write. Reports the first text that is no number.
 fn extent_of<C: Console>(
     console: &mut C,
     arguments: ExtractArguments<'_>,
@@ -175,7 +173,8 @@ fn extent_of<C: Console>(
     })
 }
 
-/// The bytes of an image over a range, which go to the file, and the line of their sum if it is asked for.
+/// What `extract` answers: the bytes of `image` over the range go to their file, and the line of their sum is printed if it is asked for.
+/// `PastMemory` exactly if the range goes past FFFF.
 fn extract_bytes<'a>(
     alloc: Global,
     arguments: ExtractArguments<'a>,
@@ -191,7 +190,7 @@ fn extract_bytes<'a>(
     Ok(Answer::writes(arguments.out, bytes, lines))
 }
 
-/// The line of the sum of bytes, if it is asked for.
+/// The line of the sum of `bytes`, or no line if it isn't asked for.
 fn sum_of(alloc: Global, asked: bool, bytes: &[u8]) -> Result<Vec<u8>, AllocError>
     ensures { IfOk result (λ lines. lines.items ≡ (if asked then sum_line bytes.now else [])) }
 {

@@ -2,17 +2,16 @@
 
 ghost use Rattle.std.specs.Prelude.{◌≡◌, ◌+◌, ◌≤◌, ◌∷◌, [], length, map, IfOk, IfErr};
 ghost use Rattle.rom80_find.specs.Dump.{dump_of};
-ghost use Rattle.plm80_console.specs.Answer.{Gives};
-ghost use Rattle.plm80_console.specs.Journal.{OnlyReports};
-ghost use Rattle.plm80_objects.specs.Arguments.{AreFindArguments};
+ghost use Rattle.plm80_console.specs.{Answer.Gives, Journal.OnlyReports};
 ghost use Rattle.plm80_objects.specs.Find.{AreFilesRead, FindsIn, FindsModules, PrintsFile, PrintsFound};
-ghost use Rattle.plm80_objects.specs.RomFaults.{IsRefused};
+ghost use Rattle.plm80_objects.specs.{Arguments.AreFindArguments, RomFaults.IsRefused};
 
 use crate::helpers::dump_words::DumpWords;
 use crate::helpers::image_words::explain_images;
 use crate::helpers::rom_faults::report_rom_fault;
 use clap::ArgMatches;
 use omf_core::RecordKind;
+use plm80_console::laws::reading_leaves_files_alone;
 use plm80_console::{
     Answer, Argument, Console, FaultOf, Kind, OptionText, ReadFile, Reported, Syntax,
     argument_text, argument_values,
@@ -22,7 +21,7 @@ use rom80::RomFault;
 use rom80_find::{Dump, append_members, append_modules};
 use std::alloc::{AllocError, Global};
 
-/// The arguments of `find`.
+/// The arguments of the command `find`.
 #[derive(Drop)]
 pub struct FindArguments<'a> {
     dump: &'a str,
@@ -47,7 +46,7 @@ Example: plm80 find meter.rom meter.obj routines.lib --first 0000
 
 Faults and what to do: docs/FAULTS.md (installed: share/doc/plm80), man plm80.";
 
-/// `find` and its arguments.
+/// The command `find`: its name, its help and its arguments.
 pub const FIND: Syntax<'static> = Syntax {
     name: "find",
     about: ABOUT,
@@ -72,7 +71,7 @@ pub const FIND: Syntax<'static> = Syntax {
 };
 
 impl<'a> FindArguments<'a> {
-    /// The arguments as clap has read them.
+    /// Takes the arguments of `find` from what clap has matched. `AllocError` if memory runs out.
     pub fn of(alloc: Global, matches: &ArgMatches<'a>) -> Result<FindArguments<'a>, AllocError>
         ensures { IfOk result (AreFindArguments matches.now) }
     {
@@ -84,8 +83,9 @@ impl<'a> FindArguments<'a> {
     }
 }
 
-/// Prints where the modules of the files lie in the dump, and gives the exit status. The dump is checked before another file is
-/// opened, and each of these before the next one. Then it says what the dump seems to be and which files are images, if that is asked for.
+/// Does `find`: prints where the modules of the files lie in the dump, and returns the exit status, 1 if a module of an object file is
+/// missing. The dump is checked before another file is opened, and each of these before the next one. Behind all it says what the dump
+/// seems to be and which files are images, if words are asked for.
 pub fn find_modules<C: Console>(
     console: &mut C,
     arguments: &FindArguments<'_>,
@@ -107,13 +107,13 @@ pub fn find_modules<C: Console>(
     done
 }
 
-/// What to do with an image among the files.
+/// What to do with an image among the files of `find`, in words.
 const IMAGE_ADVICE: &str = "plm80 compare shows where a dump differs from it";
 
-/// The first byte of a library.
+/// The type byte of the record with which a library begins.
 const LIBRARY_HEADER: u8 = RecordKind::LibraryHeader as u8;
 
-/// Says of libraries that short modules count as not found.
+/// Says of each of these files that is a library that its short modules count as missing, if words are asked for.
 fn explain_libraries<C: Console>(console: &C, paths: &[&str]) {
     for path in paths {
         if let Some(bytes) = console.text_to_explain(path) {
@@ -126,7 +126,8 @@ fn explain_libraries<C: Console>(console: &C, paths: &[&str]) {
     }
 }
 
-/// Prints where the modules of the files lie in the dump, and gives the exit status. It says nothing of the files.
+/// Reads the dump and the other files of `find`, prints where their modules lie, and returns the exit status, 1 if a module of an object
+/// file is missing. Nothing is said of what the files seem to be.
 fn find_in_dump<C: Console>(console: &mut C, arguments: &FindArguments<'_>) -> Result<u8, Reported>
     ensures done { IfOk result (Gives (FindsModules arguments.now) (arguments.now.dump.now ∷ map (λ path. path.now) arguments.now.files.items)
         (C.journal console.old) (C.journal console.new)) }
@@ -140,23 +141,27 @@ fn find_in_dump<C: Console>(console: &mut C, arguments: &FindArguments<'_>) -> R
     }
 }
 
-/// Prints where the modules of these files lie in the dump.
+/// Reads the files of these paths, prints where their modules lie in `dump`, and returns the exit status, 1 if a module of an object file
+/// is missing.
 fn find_in<C: Console>(console: &mut C, dump: Dump<'_>, paths: &[&str]) -> Result<u8, Reported>
     ensures done { IfOk result (Gives (FindsIn (dump_of dump.entry)) (map (λ path. path.now) paths.now)
         (C.journal console.old) (C.journal console.new)) }
     ensures fault { IfErr result (λ _. OnlyReports (C.journal console.old) (C.journal console.new)) }
 {
+    reading_leaves_files_alone();
     let files = read_all(console, paths)?;
     let answer = find_all(console.alloc(), dump, &files);
     console.give_if_made(answer)
 }
 
-/// What the files of these paths are, in order. Each file is checked before the next one is opened.
+/// Reads the object files and libraries of these paths, in order. Each file is checked before the next one is opened, and the first fault
+/// is reported.
 fn read_all<C: Console>(console: &mut C, paths: &[&str]) -> Result<Vec<LinkFile>, Reported>
     ensures read { IfOk result (λ files. AreFilesRead (map (λ path. path.now) paths.now)
         (C.journal console.old) (C.journal console.new) files.items) }
     ensures fault { IfErr result (λ _. OnlyReports (C.journal console.old) (C.journal console.new)) }
 {
+    reading_leaves_files_alone();
     let mut files = Vec::new(console.alloc());
     for path in paths {
         let file = read_link_file(console, path)?;
@@ -167,7 +172,7 @@ fn read_all<C: Console>(console: &mut C, paths: &[&str]) -> Result<Vec<LinkFile>
     Ok(files)
 }
 
-/// The dump of the bytes of a file, from an address on.
+/// The bytes of a file as a dump from the address `first` on. The fault has the file's path: no bytes, or bytes past FFFF.
 fn dump_of<'a, 'b>(first: u16, file: &'b ReadFile<'a>) -> Result<Dump<'b>, FaultOf<'a, RomFault>>
     ensures dump { IfOk result (λ dump. (dump.first ≡ first) × (dump.bytes.now ≡ file.now.bytes.items)) }
     ensures within { IfOk result (λ dump. first + length file.now.bytes.items ≤ 65536) }
@@ -185,7 +190,7 @@ fn dump_of<'a, 'b>(first: u16, file: &'b ReadFile<'a>) -> Result<Dump<'b>, Fault
     })
 }
 
-/// What is found of the modules of files, one after another. The status is 1 if a module of an object file is missing.
+/// What `find` answers: the lines of what is found of each file, in order, and the status, 1 if a module of an object file is missing.
 fn find_all(
     alloc: Global,
     dump: Dump<'_>,
@@ -204,7 +209,8 @@ fn find_all(
     Ok(Answer::prints(text, status))
 }
 
-/// Appends what is found of the modules of a file; whether none of an object file is missing.
+/// Appends the lines of what is found of a file in `dump`. Returns whether no module of an object file is missing, which is true of every
+/// library.
 fn look_for(
     alloc: Global,
     dump: Dump<'_>,

@@ -3,18 +3,18 @@
 ghost use Rattle.std.specs.Prelude.{◌≡◌, map, IfErr, IfOk, IsErrOf, IsTrue};
 ghost use Rattle.omf_library.specs.Writing.{library_bytes, is_too_large};
 ghost use Rattle.plm80_console.specs.Journal.{OnlyReports};
-ghost use Rattle.plm80_objects.specs.Arguments.{AreLibraryArguments};
-ghost use Rattle.plm80_objects.specs.Modules.{AreAllRead, GivesUpLibrary, WritesLibrary};
+ghost use Rattle.plm80_objects.specs.{Arguments.AreLibraryArguments, Modules.AreAllRead, Modules.GivesUpLibrary, Modules.WritesLibrary};
 
 use clap::ArgMatches;
 use omf_library::{LibraryPutFault, write_library};
 use omf_module::Module;
+use plm80_console::laws::reading_leaves_files_alone;
 use plm80_console::{Argument, Console, Kind, Reported, Syntax, argument_text, argument_values};
 use plm80_files::{append_modules, read_modules};
 use std::alloc::{AllocError, Global};
 use stream80::TEXT_LIMIT;
 
-/// The arguments of `lib`.
+/// The arguments of the command `lib`.
 #[derive(Drop)]
 pub struct LibraryArguments<'a> {
     library: &'a str,
@@ -35,7 +35,7 @@ Example: plm80 lib routines.lib routines.obj
 
 Faults and what to do: docs/FAULTS.md (installed: share/doc/plm80), man plm80.";
 
-/// `lib` and its arguments.
+/// The command `lib`: its name, its help and its arguments.
 pub const LIB: Syntax<'static> = Syntax {
     name: "lib",
     about: ABOUT,
@@ -55,7 +55,7 @@ pub const LIB: Syntax<'static> = Syntax {
 };
 
 impl<'a> LibraryArguments<'a> {
-    /// The arguments as clap has read them.
+    /// Takes the arguments of `lib` from what clap has matched. `AllocError` if memory runs out.
     pub fn of(alloc: Global, matches: &ArgMatches<'a>) -> Result<LibraryArguments<'a>, AllocError>
         ensures { IfOk result (AreLibraryArguments matches.now) }
     {
@@ -66,15 +66,16 @@ impl<'a> LibraryArguments<'a> {
     }
 }
 
-/// Writes the library of all modules of the object files. No file is created or changed before every other fault is
-/// excluded.
+/// Does `lib`: writes the library of all modules of the object files, and returns the exit status. No file is created or changed before
+/// every other fault is excluded; of an object file in the library's place a copy is kept.
 pub fn write_library_file<C: Console>(
     console: &mut C,
     arguments: &LibraryArguments<'_>,
 ) -> Result<u8, Reported>
     ensures done { IfOk result (WritesLibrary arguments.now (C.journal console.old) (C.journal console.new)) }
-    ensures fault { IfErr result (λ _. GivesUpLibrary arguments.now.library.now (C.journal console.old) (C.journal console.new)) }
+    ensures fault { IfErr result (λ _. GivesUpLibrary arguments.now (C.journal console.old) (C.journal console.new)) }
 {
+    reading_leaves_files_alone();
     let modules = modules_of(console, &arguments.files)?;
     match library_of(console.alloc(), &modules) {
         Ok(library) => {
@@ -93,7 +94,7 @@ pub fn write_library_file<C: Console>(
     }
 }
 
-/// The library of these modules, as a file has it.
+/// The bytes of the library of these modules. `TooLarge` if there are too many modules, names or bytes for one.
 fn library_of(alloc: Global, modules: &[Module]) -> Result<Vec<u8>, LibraryPutFault>
     ensures library { IfOk result (λ library. library.items ≡ library_bytes modules.now) }
     ensures too_large { IsErrOf result LibraryPutFault.TooLarge → IsTrue (is_too_large modules.now) }
@@ -103,12 +104,14 @@ fn library_of(alloc: Global, modules: &[Module]) -> Result<Vec<u8>, LibraryPutFa
     Ok(library)
 }
 
-/// The modules of the object files of these paths, in order. Each file is checked before the next one is opened.
+/// Reads the object files of these paths, in order, and returns their modules, those of one file behind those of another. Each file is
+/// checked before the next one is opened, and the first fault is reported.
 fn modules_of<C: Console>(console: &mut C, paths: &[&str]) -> Result<Vec<Module>, Reported>
     ensures read { IfOk result (λ modules. AreAllRead (map (λ path. path.now) paths.now)
         (C.journal console.old) (C.journal console.new) modules.items) }
     ensures fault { IfErr result (λ _. OnlyReports (C.journal console.old) (C.journal console.new)) }
 {
+    reading_leaves_files_alone();
     let mut modules = Vec::new(console.alloc());
     for path in paths {
         let mut read = read_modules(console, path)?;

@@ -3,10 +3,9 @@
 ghost use Rattle.std.specs.Prelude.{◌≡◌, ◌++◌, map, IfErr, IfOk, OnOk};
 ghost use Rattle.link80.specs.Selection.{IsSelection};
 ghost use Rattle.link80_text.specs.Parts.{IsMade};
-ghost use Rattle.plm80_objects.specs.Arguments.{AreLinkArguments};
-ghost use Rattle.plm80_console.specs.Answer.{Gives, GivesUp, IsAnswered, IsGivenUp};
-ghost use Rattle.plm80_console.specs.Journal.{OnlyReports};
 ghost use Rattle.plm80_objects.specs.Link.{AddsFile, AddsLibrary, AddsModules, AreLinkFilesRead, LinksFiles, LinksInto, WritesLinked};
+ghost use Rattle.plm80_objects.specs.Arguments.{AreLinkArguments};
+ghost use Rattle.plm80_console.specs.{Answer.Gives, Answer.GivesUp, Answer.IsAnswered, Answer.IsGivenUp, Journal.OnlyReports};
 
 use crate::helpers::causes::report_link_fault;
 use crate::helpers::image_words::explain_images;
@@ -16,6 +15,7 @@ use link80::{Linked, link};
 use omf_core::Name;
 use omf_library::Library;
 use omf_module::{Module, write_file};
+use plm80_console::laws::reading_leaves_files_alone;
 use plm80_console::{
     Answer, Argument, Console, Kind, OptionText, Reported, Syntax, argument_text, argument_values,
 };
@@ -23,7 +23,7 @@ use plm80_files::{LinkFile, read_link_file};
 use std::alloc::{AllocError, Global};
 use std::slice;
 
-/// The arguments of `link`.
+/// The arguments of the command `link`.
 #[derive(Drop)]
 pub struct LinkArguments<'a> {
     name: OptionText<'a>,
@@ -51,7 +51,7 @@ Example: plm80 link --name CONTROL --out linked.obj main.obj routines.lib
 
 Faults and what to do: docs/FAULTS.md (installed: share/doc/plm80), man plm80.";
 
-/// `link` and its arguments.
+/// The command `link`: its name, its help and its arguments.
 pub const LINK: Syntax<'static> = Syntax {
     name: "link",
     about: ABOUT,
@@ -86,7 +86,7 @@ pub const LINK: Syntax<'static> = Syntax {
 };
 
 impl<'a> LinkArguments<'a> {
-    /// The arguments as clap has read them.
+    /// Takes the arguments of `link` from what clap has matched. `AllocError` if memory runs out.
     pub fn of(alloc: Global, matches: &ArgMatches<'a>) -> Result<LinkArguments<'a>, AllocError>
         ensures { IfOk result (AreLinkArguments matches.now) }
     {
@@ -102,18 +102,18 @@ impl<'a> LinkArguments<'a> {
     }
 }
 
-/// What to do with an image among the files.
+/// What to do with an image among the files of `link`, in words.
 const IMAGE_ADVICE: &str =
     "its bytes keep their addresses; link the object files that it was made of";
 
-/// The path of an object file, and how many modules it has.
+/// An object file that is linked whole: its path, and how many modules it has.
 #[derive(Clone, Copy)]
 pub(crate) struct RootFile<'a> {
     pub path: &'a [u8],
     pub modules: usize,
 }
 
-/// The modules of object files, and these files; and libraries with their paths: in the order of the files.
+/// What the files of `link` have, each kind in their order: the modules of object files, and these files; the libraries, and their paths.
 #[derive(Drop)]
 pub(crate) struct LinkFiles<'a> {
     pub roots: Vec<Module>,
@@ -122,8 +122,9 @@ pub(crate) struct LinkFiles<'a> {
     pub paths: Vec<&'a [u8]>,
 }
 
-/// Links the modules of the files, writes the linked one and prints which were taken and which names are unresolved. No file
-/// is created or changed before every other fault is excluded. Then it says which files are images, if that is asked for.
+/// Does `link`: links the modules of the files, writes the linked one, prints which modules were taken and which names are unresolved, and
+/// returns the exit status. No file is created or changed before every other fault is excluded. Behind all it says which files are images,
+/// if words are asked for.
 pub fn link_files<C: Console>(
     console: &mut C,
     arguments: &LinkArguments<'_>,
@@ -133,6 +134,7 @@ pub fn link_files<C: Console>(
     ensures fault { IfErr result (λ _. GivesUp (LinksFiles arguments.now) (map (λ path. path.now) arguments.now.files.items)
         (C.journal console.old) (C.journal console.new)) }
 {
+    reading_leaves_files_alone();
     let name = arguments.name.module_name(console)?;
     let files = read_files(console, &arguments.files)?;
     let done = link_read(console, arguments, &name, &files);
@@ -140,7 +142,8 @@ pub fn link_files<C: Console>(
     done
 }
 
-/// Links what was read, and writes the linked module.
+/// Links the modules of `files` into one called `name`, writes that, prints the lines that the arguments ask for, and returns the exit
+/// status.
 fn link_read<C: Console>(
     console: &mut C,
     arguments: &LinkArguments<'_>,
@@ -158,11 +161,13 @@ fn link_read<C: Console>(
     console.give_if_made(answer)
 }
 
-/// What the files of these paths have. Each file is checked before the next one is opened.
+/// Reads the object files and libraries of these paths, in order. Each file is checked before the next one is opened, and the first fault
+/// is reported.
 fn read_files<'a, C: Console>(console: &mut C, paths: &[&'a str]) -> Result<LinkFiles<'a>, Reported>
     ensures read { IfOk result (AreLinkFilesRead (map (λ path. path.now) paths.now) (C.journal console.old) (C.journal console.new)) }
     ensures fault { IfErr result (λ _. OnlyReports (C.journal console.old) (C.journal console.new)) }
 {
+    reading_leaves_files_alone();
     let mut files = LinkFiles {
         roots: Vec::new(console.alloc()),
         root_files: Vec::new(console.alloc()),
@@ -183,7 +188,7 @@ fn read_files<'a, C: Console>(console: &mut C, paths: &[&'a str]) -> Result<Link
 }
 
 impl<'a> LinkFiles<'a> {
-    /// Adds what the file of this path has.
+    /// Appends the modules or the library that the file of this path has.
     fn add(&mut self, file: LinkFile, path: &'a str) -> Result<(), AllocError>
         ensures { OnOk result (AddsFile file path.now self.old self.new) }
     {
@@ -193,7 +198,7 @@ impl<'a> LinkFiles<'a> {
         }
     }
 
-    /// Adds the modules of an object file, with its path.
+    /// Appends the modules of an object file, and its path with their number.
     fn add_modules(&mut self, modules: Vec<Module>, path: &'a str) -> Result<(), AllocError>
         ensures { OnOk result (AddsModules modules.items path.now self.old self.new) }
     {
@@ -204,7 +209,7 @@ impl<'a> LinkFiles<'a> {
         push_modules(&mut self.roots, modules)
     }
 
-    /// Adds a library with its path.
+    /// Appends a library and its path.
     fn add_library(&mut self, library: Library, path: &'a str) -> Result<(), AllocError>
         ensures { OnOk result (AddsLibrary library path.now self.old self.new) }
     {
@@ -214,7 +219,7 @@ impl<'a> LinkFiles<'a> {
     }
 }
 
-/// Appends modules. The first ones stay where they are, since to move them takes as much memory again.
+/// Appends `modules` to `roots`. If `roots` has none, it becomes `modules`, since to move them takes as much memory again.
 fn push_modules(roots: &mut Vec<Module>, mut modules: Vec<Module>) -> Result<(), AllocError>
     ensures { OnOk result (roots.new.items ≡ roots.old.items ++ modules.items) }
 {
@@ -228,7 +233,7 @@ fn push_modules(roots: &mut Vec<Module>, mut modules: Vec<Module>) -> Result<(),
     }
 }
 
-/// What the files are linked into.
+/// The linked module of these files, called `name`, and which library modules were taken for it. Reports why the modules can't be linked.
 fn link_modules<C: Console>(
     console: &mut C,
     name: &Name,
@@ -246,7 +251,7 @@ fn link_modules<C: Console>(
     }
 }
 
-/// The linked object file, which goes to this path, and the lines that are printed.
+/// What `link` answers: the object file of the linked module goes to the file `path`, and the wanted lines are printed.
 fn answer<'a>(
     alloc: Global,
     path: &'a str,

@@ -3,12 +3,10 @@
 ghost use Rattle.std.specs.Prelude.{◌≡◌, ◌⊎◌, ◌∷◌, None, Some, [], length, IfOk, IfErr, OnOk};
 ghost use Rattle.image80.specs.RegionsText.{regions_text};
 ghost use Rattle.place80.specs.declared.place_fault.PlaceFault.TheVariants.{Memory};
-ghost use Rattle.plm80_console.specs.Answer.{Gives, GivesUp};
-ghost use Rattle.plm80_console.specs.Journal.{OnlyReports, and_reported};
+ghost use Rattle.plm80_console.specs.{Answer.Gives, Answer.GivesUp, Journal.OnlyReports, Journal.and_reported};
 ghost use Rattle.plm80_files.specs.LinkFiles.{AreModulesRead};
-ghost use Rattle.plm80_objects.specs.Arguments.{AreLocateArguments};
 ghost use Rattle.plm80_objects.specs.Locate.{IsImageOf, IsLocateFault, WritesProgram, fault_of, image_file, unmapped_of};
-ghost use Rattle.plm80_objects.specs.Modules.{LocatesFile};
+ghost use Rattle.plm80_objects.specs.{Arguments.AreLocateArguments, Modules.LocatesFile};
 
 use crate::helpers::board_options::{RAM_RANGE, ROM_RANGE, unmapped_of};
 use crate::helpers::causes::{report_place_fault, report_unmapped};
@@ -30,16 +28,16 @@ use plm80_console::{
 use plm80_files::read_modules;
 use std::alloc::{AllocError, Global};
 
-/// The arguments of `locate`.
+/// The arguments of the command `locate`.
 #[derive(Drop)]
 pub struct LocateArguments<'a> {
     object: &'a str,
     image: &'a str,
     regions: &'a str,
     options: LocateTexts<'a>,
-    /// Ranges of the board's ROM, each as `ffff:llll`.
+    /// Ranges of the board's ROM, each as `ffff:llll`: the first address and the length in hexadecimal.
     rom: Vec<&'a str>,
-    /// Ranges of its RAM.
+    /// Ranges of the board's RAM, each as `ffff:llll`: the first address and the length in hexadecimal.
     ram: Vec<&'a str>,
     restart: bool,
     publics: bool,
@@ -69,7 +67,7 @@ Example: plm80 locate readings.obj readings.img readings.regions --data 4000
 
 Faults and what to do: docs/FAULTS.md (installed: share/doc/plm80), man plm80.";
 
-/// `locate` and its arguments.
+/// The command `locate`: its name, its help and its arguments.
 pub const LOCATE: Syntax<'static> = Syntax {
     name: "locate",
     about: ABOUT,
@@ -113,7 +111,7 @@ pub const LOCATE: Syntax<'static> = Syntax {
 };
 
 impl<'a> LocateArguments<'a> {
-    /// The arguments as clap has read them.
+    /// Takes the arguments of `locate` from what clap has matched. `AllocError` if memory runs out.
     pub fn of(alloc: Global, matches: &ArgMatches<'a>) -> Result<LocateArguments<'a>, AllocError>
         ensures { IfOk result (AreLocateArguments matches.now) }
     {
@@ -130,8 +128,8 @@ impl<'a> LocateArguments<'a> {
     }
 }
 
-/// Locates the module of the object file, and writes its image and regions. No file is created or changed before every
-/// other fault is excluded.
+/// Does `locate`: places the one module of the object file, writes its image and its regions, and returns the exit status. No file is
+/// created or changed before every other fault is excluded.
 pub fn locate_file<C: Console>(
     console: &mut C,
     arguments: &LocateArguments<'_>,
@@ -162,12 +160,12 @@ pub fn locate_file<C: Console>(
     }
 }
 
-/// Why a program isn't located.
+/// Why `locate` doesn't locate a program.
 #[derive(Drop)]
 enum LocateFault {
-    /// The segments of the program can't be placed.
+    /// The segments can't be placed by the options, or memory ran out.
     Place(PlaceFault),
-    /// The board has no memory for a segment.
+    /// The board has no memory at an address of a segment.
     Unmapped(Unmapped),
 }
 
@@ -176,6 +174,7 @@ impl From<PlaceFault> for LocateFault {
 
     ghost from_gives = { λ given fault. fault ≡ Place given };
 
+    /// Passes on why the segments can't be placed.
     fn from(fault: PlaceFault) -> LocateFault {
         LocateFault::Place(fault)
     }
@@ -186,12 +185,13 @@ impl From<AllocError> for LocateFault {
 
     ghost from_gives = { λ _ fault. fault ≡ Place Memory };
 
+    /// Out of memory, as a fault of placing.
     fn from(_: AllocError) -> LocateFault {
         LocateFault::Place(PlaceFault::Memory)
     }
 }
 
-/// Reports why a program isn't located, and says where the cause is if that is asked for.
+/// Reports why `program` isn't located by these options, and shows where the cause is, if words are asked for.
 fn report_fault<C: Console>(
     console: &mut C,
     program: &Module,
@@ -206,7 +206,8 @@ fn report_fault<C: Console>(
     }
 }
 
-/// The files of a program at its places, with a restart and with its publics if they are asked for.
+/// What `locate` answers: the files of the image of `program` and of its regions, with a restart and with its publics if they are asked
+/// for. The fault says why it can't be located, or at which address the board has no memory.
 fn locate_program<'a>(
     alloc: Global,
     arguments: &LocateArguments<'a>,
@@ -237,7 +238,8 @@ fn locate_program<'a>(
     Ok(Answer::writes_both(alloc, file, regions))
 }
 
-/// The image of a program, with a restart if it is asked for.
+/// The image of `program`, placed by these options; with `restart` it has a jump to its start at address 0. The fault says why it can't be
+/// placed.
 fn image_of(
     alloc: Global,
     restart: bool,
@@ -255,7 +257,7 @@ fn image_of(
     }
 }
 
-/// The object file of the program's image, with its publics if they are asked for.
+/// The object file of `image`; with `publics` it has the public names of `program` at their addresses.
 fn file_of(
     alloc: Global,
     publics: bool,
@@ -284,7 +286,7 @@ fn file_of(
     Ok(bytes)
 }
 
-/// The text of the image's regions.
+/// The text of the regions of `image`, as a file has it.
 fn text_of(alloc: Global, image: &Image) -> Result<Vec<u8>, AllocError>
     ensures { IfOk result (λ text. text.items ≡ regions_text image.now.regions) }
 {
@@ -293,7 +295,8 @@ fn text_of(alloc: Global, image: &Image) -> Result<Vec<u8>, AllocError>
     Ok(text)
 }
 
-/// The object file of this path, which has one module.
+/// Reads the object file of this path and returns its modules, of which there is exactly one. Reports any fault of the file, among them
+/// another number of modules.
 pub fn read_program<C: Console>(console: &mut C, path: &str) -> Result<Vec<Module>, Reported>
     ensures one { IfOk result (λ modules. length modules.items ≡ 1) }
     ensures read { IfOk result (λ modules. AreModulesRead path.now (C.journal console.old) (C.journal console.new) modules.items) }

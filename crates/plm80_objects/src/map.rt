@@ -1,14 +1,10 @@
 //! `plm80 map`: where LOCATE would put a module's segments and public names.
 
 ghost use Rattle.std.specs.Prelude.{◌≡◌, ◌⊎◌, ◌∷◌, None, Some, [], IfOk, IfErr, OnOk};
-ghost use Rattle.place80.specs.Layout.{layout_of};
-ghost use Rattle.place80.specs.PlaceFault.{locate_fault};
-ghost use Rattle.place80.specs.declared.place_fault.PlaceFault.TheVariants.{Memory};
+ghost use Rattle.place80.specs.{Layout.layout_of, PlaceFault.locate_fault, declared.place_fault.PlaceFault.TheVariants.Memory};
 ghost use Rattle.place80_text.specs.Map.{IsMap};
-ghost use Rattle.plm80_console.specs.Answer.{Gives, prints};
-ghost use Rattle.plm80_console.specs.Journal.{OnlyReports};
-ghost use Rattle.plm80_objects.specs.Arguments.{AreMapArguments};
-ghost use Rattle.plm80_objects.specs.Modules.{MapsFile};
+ghost use Rattle.plm80_console.specs.{Answer.Gives, Answer.prints, Journal.OnlyReports};
+ghost use Rattle.plm80_objects.specs.{Arguments.AreMapArguments, Modules.MapsFile};
 
 use crate::helpers::causes::report_place_fault;
 use crate::helpers::locate_options::{
@@ -23,7 +19,7 @@ use place80_text::map_text;
 use plm80_console::{Answer, Argument, Console, Kind, Reported, Syntax, argument_text};
 use std::alloc::Global;
 
-/// The arguments of `map`.
+/// The arguments of the command `map`.
 #[derive(Clone, Copy)]
 pub struct MapArguments<'a> {
     object: &'a str,
@@ -43,7 +39,7 @@ Example: plm80 map control.obj --data 4000
 
 Faults and what to do: docs/FAULTS.md (installed: share/doc/plm80), man plm80.";
 
-/// `map` and its arguments.
+/// The command `map`: its name, its help and its arguments.
 pub const MAP: Syntax<'static> = Syntax {
     name: "map",
     about: ABOUT,
@@ -65,7 +61,7 @@ pub const MAP: Syntax<'static> = Syntax {
 };
 
 impl<'a> MapArguments<'a> {
-    /// The arguments as clap has read them.
+    /// Takes the arguments of `map` from what clap has matched.
     pub fn of(matches: &ArgMatches<'a>) -> MapArguments<'a>
         ensures { AreMapArguments matches.now result }
     {
@@ -76,7 +72,8 @@ impl<'a> MapArguments<'a> {
     }
 }
 
-/// Prints the map of the module of the object file.
+/// Does `map`: prints where LOCATE would put the segments and the public names of the object file's one module, and returns the exit
+/// status.
 pub fn map_file<C: Console>(console: &mut C, arguments: MapArguments<'_>) -> Result<u8, Reported>
     ensures done { IfOk result (Gives (MapsFile arguments.entry) (arguments.entry.object.now ∷ [])
         (C.journal console.old) (C.journal console.new)) }
@@ -91,7 +88,7 @@ pub fn map_file<C: Console>(console: &mut C, arguments: MapArguments<'_>) -> Res
     }
 }
 
-/// The map of a program.
+/// What `map` answers: the lines of the map of `program`, placed by these options. The fault says why it can't be placed.
 fn map_program(
     alloc: Global,
     program: &Module,

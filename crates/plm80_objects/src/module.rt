@@ -2,9 +2,7 @@
 
 ghost use Rattle.std.specs.Prelude.{◌≡◌, ◌∷◌, ℕ, List, [], IfErr, IfOk, IfSome, codes};
 ghost use Rattle.omf_core.specs.Record.{SpellsRecord};
-ghost use Rattle.plm80_console.specs.Answer.{Gives};
-ghost use Rattle.plm80_console.specs.Arguments.{argument_text};
-ghost use Rattle.plm80_console.specs.Journal.{OnlyReports};
+ghost use Rattle.plm80_console.specs.{Answer.Gives, Arguments.argument_text, Journal.OnlyReports};
 ghost use Rattle.plm80_files.specs.LinkFiles.{AreModulesRead};
 ghost use Rattle.plm80_objects.specs.Modules.{AnswersModules, DescribesModules};
 
@@ -18,7 +16,7 @@ use plm80_files::read_modules;
 use std::alloc::{AllocError, Global};
 use std::str;
 
-/// The arguments of `module`.
+/// The arguments of the command `module`.
 #[derive(Clone, Copy)]
 pub struct ModuleArguments<'a> {
     object: &'a str,
@@ -38,7 +36,7 @@ Example: plm80 module readings.obj
 
 Faults and what to do: docs/FAULTS.md (installed: share/doc/plm80), man plm80.";
 
-/// `module` and its arguments.
+/// The command `module`: its name, its help and its arguments.
 pub const MODULE: Syntax<'static> = Syntax {
     name: "module",
     about: ABOUT,
@@ -51,7 +49,7 @@ pub const MODULE: Syntax<'static> = Syntax {
 };
 
 impl<'a> ModuleArguments<'a> {
-    /// The arguments as clap has read them.
+    /// Takes the arguments of `module` from what clap has matched.
     pub fn of(matches: &ArgMatches<'a>) -> ModuleArguments<'a>
         ensures { result.object.now ≡ argument_text matches.now (codes "FILE") }
     {
@@ -61,7 +59,7 @@ impl<'a> ModuleArguments<'a> {
     }
 }
 
-/// Prints what the object file holds.
+/// Does `module`: prints what the object file has, module by module, and returns the exit status.
 pub fn describe_file<C: Console>(
     console: &mut C,
     arguments: ModuleArguments<'_>,
@@ -75,7 +73,8 @@ pub fn describe_file<C: Console>(
     console.give_if_made(answer)
 }
 
-/// The modules of an object file. If it is a library in its place, the names of its modules are said.
+/// Reads the modules of the object file of this path. Reports its fault; of a library in its place it says which modules that has, if words
+/// are asked for.
 fn read_described<C: Console>(console: &mut C, path: &str) -> Result<Vec<Module>, Reported>
     ensures read { IfOk result (λ modules. AreModulesRead path.now (C.journal console.old) (C.journal console.new) modules.items) }
     ensures fault { IfErr result (λ _. OnlyReports (C.journal console.old) (C.journal console.new)) }
@@ -85,7 +84,8 @@ fn read_described<C: Console>(console: &mut C, path: &str) -> Result<Vec<Module>
     read
 }
 
-/// Says which modules a library has, and the places of their first records, unless it was read as an object file.
+/// Says which modules a library has, and the places of their first records, if words are asked for. Nothing is said if `is_read`, since the
+/// file is an object file then.
 fn explain_library<C: Console>(console: &C, is_read: bool, path: &str) {
     if is_read {
         return;
@@ -108,7 +108,7 @@ fn explain_library<C: Console>(console: &C, is_read: bool, path: &str) {
     }
 }
 
-/// The place of the first record from a place on that begins a module, and the place after it.
+/// The place of the first record from the place `from` on that begins a module, and the place after it. `None` if no record does.
 fn header_from(bytes: &[u8], from: usize) -> Option<(usize, usize)>
     ensures { IfSome result (λ found. (body : List ℕ) × SpellsRecord bytes.now found.0 found.1 2 body) }
 {
@@ -123,7 +123,7 @@ fn header_from(bytes: &[u8], from: usize) -> Option<(usize, usize)>
     None
 }
 
-/// The lines of all modules, in order.
+/// What `module` answers: the lines of all modules, in order.
 fn describe_modules(alloc: Global, modules: &[Module]) -> Result<Answer<'static>, AllocError>
     ensures described { IfOk result (DescribesModules modules.now) }
     ensures no_file { IfOk result (λ answer. answer.files ≡ []) }

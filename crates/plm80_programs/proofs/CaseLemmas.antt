@@ -1,21 +1,10 @@
 -- The cases and the notes of the addresses below one.
-use Rattle.std.specs.Prelude.{◌≡◌, ℕ, zero, suc, ◌+◌, ◌<◌, Bool, true, false, if◌then◌else◌, List, [], ◌∷◌, ◌++◌, IfSome, Option, None, Some, filter, filter_map, length, codes, refl}
-use Rattle.std.specs.List.{cons_option, range_with_len}
-use Rattle.std.proofs.Common.{◌∙◌, ap, append-nil, arith, subst, sym}
-use Rattle.std.specs.Io.KnownBytes.{Appends}
-use Rattle.std.proofs.KnownBytes.{Appends-nil, Appends-trans}
-use Rattle.std.proofs.lemmas.Grind.{flat_map-append}
-use Rattle.std.proofs.lemmas.List.{map-append}
-use Rattle.std.proofs.lemmas.List.Elements.{All-nil, All-push, filter-append, filter_map-append}
-use Rattle.image80.specs.Case.{DeclaredCase}
-use Rattle.image80.specs.Image.{Located}
-use Rattle.image80.specs.RegionsText.{case_text, cases_text}
-use Rattle.verify80_cases.specs.declared.search.Note.{Note}
-use Rattle.verify80_cases.specs.declared.search.SuggestedCase.{SuggestedCase}
-use Rattle.verify80_cases.specs.Suggested.{Finding, IsFinding, IsNote, IsSearched, IsSuggestedCase, case_of, is_open}
-use Rattle.plm80_programs.specs.declared.cases.FoundCase.{FoundCase}
-use Rattle.stream80.specs.WholeText.{text_limit}
-use Rattle.plm80_programs.specs.Cases.{AreFoundBelow, FindsCases, HasLongCases, IsFoundAt}
+use Rattle.plm80_programs.proofs.Names.{◌≡◌, ℕ, zero, suc, ◌+◌, ◌<◌, Bool, true, false, if◌then◌else◌, List, [], ◌∷◌, ◌++◌, IfNone, IfSome}
+use Rattle.plm80_programs.proofs.Names.{Option, None, Some, filter, filter_map, length, codes, refl, cons_option, range_with_len, ◌∙◌, ap}
+use Rattle.plm80_programs.proofs.Names.{append-nil, arith, subst, sym, Appends, Appends-nil, Appends-trans, flat_map-append, map-append}
+use Rattle.plm80_programs.proofs.Names.{All-nil, All-push, filter-append, filter_map-append, DeclaredCase, Located, case_text, cases_text}
+use Rattle.plm80_programs.proofs.Names.{Note, Finding, IsFinding, IsSearched, Searched, case_of, is_open, FoundCase, text_limit}
+use Rattle.plm80_programs.proofs.Names.{AreFoundBelow, FindsCases, HasLongCases, IsFoundAt}
 
 range_more : (a n j : ℕ) → a + n ≡ j → range_with_len a (suc n) ≡ range_with_len a n ++ j ∷ []
 range_more a zero j e = ap (λ (k : ℕ). k ∷ []) (let is : a ≡ j = omega (arith, e) in is)
@@ -51,29 +40,21 @@ module _ (image : Located) (reached taken : List Bool) where
     }
 
     -- something is
-    pub one_more : (found : FoundCase) → IsFoundAt image reached taken at found
-        → AreFoundBelow image reached taken (at + 1) (cases ++ cons_option found.case []) (notes ++ cons_option found.note [])
-    one_more found here =
+    pub one_more : (found : FoundCase) (after_cases : List DeclaredCase) (after_notes : List Note) → IsFoundAt image reached taken at found
+        → after_cases ≡ cases ++ cons_option found.case [] → after_notes ≡ notes ++ cons_option found.note []
+        → AreFoundBelow image reached taken (at + 1) after_cases after_notes
+    one_more found after_cases after_notes here cases_are notes_are =
         let finding : Finding = record { at = at; found = here.suggested; note = found.note } in
         record {
           findings = so_far.findings ++ finding ∷ [];
           each = All-push (IsFinding image reached taken) so_far.findings finding so_far.each here.finding;
           of_all = map-append at_of so_far.findings (finding ∷ []) ∙ ap (λ (l : List ℕ). l ++ at ∷ []) so_far.of_all ∙ sym (filtered at true here.here);
-          cases_are = ap (λ (cs : List DeclaredCase). cs ++ cons_option found.case []) so_far.cases_are
+          cases_are = cases_are ∙ ap (λ (cs : List DeclaredCase). cs ++ cons_option found.case []) so_far.cases_are
               ∙ ap (λ (o : Option DeclaredCase). filter_map (λ (f : Finding). case_of f.found) so_far.findings ++ cons_option o []) here.case_is
               ∙ sym (filter_map-append (λ (f : Finding). case_of f.found) so_far.findings (finding ∷ []));
-          notes_are = ap (λ (ns : List Note). ns ++ cons_option found.note []) so_far.notes_are
+          notes_are = notes_are ∙ ap (λ (ns : List Note). ns ++ cons_option found.note []) so_far.notes_are
               ∙ sym (filter_map-append (λ (f : Finding). f.note) so_far.findings (finding ∷ []));
         }
-
-    -- these are kept
-    pub kept_more : (found : FoundCase) (after_cases : List DeclaredCase) (after_notes : List Note) → IsFoundAt image reached taken at found
-        → after_cases ≡ cases ++ cons_option found.case [] → after_notes ≡ notes ++ cons_option found.note []
-        → AreFoundBelow image reached taken (at + 1) after_cases after_notes
-    kept_more found after_cases after_notes here cases_are notes_are =
-        subst (λ (cs : List DeclaredCase). AreFoundBelow image reached taken (at + 1) cs after_notes) (sym cases_are)
-        (subst (λ (ns : List Note). AreFoundBelow image reached taken (at + 1) (cases ++ cons_option found.case []) ns) (sym notes_are)
-        (one_more found here))
 
 -- ---- lines
 
@@ -84,6 +65,26 @@ pub lines_more : (cases one after : List DeclaredCase) (lines new : List ℕ) �
     → after ≡ cases ++ one → new ≡ cases_text after
 lines_more cases one after lines new so_far added after_is =
     added ∙ ap (λ (l : List ℕ). l ++ cases_text one) so_far ∙ sym (cases_more cases one) ∙ ap cases_text (sym after_is)
+
+-- ---- what a search says, of the lists that it has inside
+
+module _ (image : Located) {inside search : Searched} (same : inside ≡ search) where
+  pub is_searched : (code : Located) → code ≡ image → IsSearched code search.reached search.taken → IsSearched image inside.reached inside.taken
+  is_searched code is searched =
+      subst (λ (s : Searched). IsSearched image s.reached s.taken) (sym same)
+      (subst (λ (i : Located). IsSearched i search.reached search.taken) is searched)
+
+  pub found_inside : (at : ℕ) (o : Option FoundCase) (found : FoundCase) → o ≡ Some found
+      → IfSome o (IsFoundAt image search.reached search.taken at) → IsFoundAt image inside.reached inside.taken at found
+  found_inside at o found is some =
+      subst (λ (s : Searched). IsFoundAt image s.reached s.taken at found) (sym same)
+      (subst (λ (p : Option FoundCase). IfSome p (IsFoundAt image search.reached search.taken at)) is some)
+
+  pub closed_inside : (at : ℕ) (o : Option FoundCase) → o ≡ None → IfNone o (is_open image search.reached at ≡ false)
+      → is_open image inside.reached at ≡ false
+  closed_inside at o is none =
+      subst (λ (s : Searched). is_open image s.reached at ≡ false) (sym same)
+      (subst (λ (p : Option FoundCase). IfNone p (is_open image search.reached at ≡ false)) is none)
 
 -- what is found of the PCHLs below 65536
 pub finds_cases : (image : Located) (reached taken : List Bool) (limit : ℕ) (cases : List DeclaredCase) (notes : List Note)
@@ -119,7 +120,7 @@ module _ (image : Located) (reached taken : List Bool) where
         → after_lines ≡ lines ++ cases_text (cons_option found.case []) → after_notes ≡ notes ++ cons_option found.note []
         → Kept image reached taken (at + 1) after_cases after_notes after_lines
     kept_next found after_cases after_notes after_lines here cases_are lines_are notes_are = record {
-      found = kept_more image reached taken at cases notes kept.found found after_cases after_notes here cases_are notes_are;
+      found = one_more image reached taken at cases notes kept.found found after_cases after_notes here cases_are notes_are;
       lines_are = lines_more cases (cons_option found.case []) after_cases lines after_lines kept.lines_are lines_are cases_are;
     }
 
@@ -135,7 +136,8 @@ long_cases image reached taken at cases notes lines kept searched found here lon
   limit = at + 1;
   cases = cases ++ cons_option found.case [];
   notes = notes ++ cons_option found.note [];
-  found = one_more image reached taken at cases notes kept.found found here;
+  found = one_more image reached taken at cases notes kept.found found (cases ++ cons_option found.case []) (notes ++ cons_option found.note [])
+      here refl refl;
   too_long = subst (λ (l : List ℕ). text_limit < length l)
       (ap (λ (l : List ℕ). l ++ cases_text (cons_option found.case [])) kept.lines_are ∙ sym (cases_more cases (cons_option found.case []))) long;
 }
@@ -164,8 +166,7 @@ module _ (image : Located) (reached taken : List Bool) where
         → Shown image reached taken (at + 1) after old new
     shown_more found after new here written noted = record {
       cases = shown.cases ++ cons_option found.case [];
-      found = subst (λ (ns : List Note). AreFoundBelow image reached taken (at + 1) (shown.cases ++ cons_option found.case []) ns) (sym noted)
-          (one_more image reached taken at shown.cases notes shown.found found here);
+      found = one_more image reached taken at shown.cases notes shown.found found (shown.cases ++ cons_option found.case []) after here refl noted;
       written = subst (λ (l : List ℕ). Appends old new l)
           (sym (cases_more shown.cases (cons_option found.case [])))
           (Appends-trans old now new (cases_text shown.cases) (cases_text (cons_option found.case [])) shown.written written);

@@ -1,16 +1,8 @@
 -- What is printed of a refusal.
-use Rattle.std.specs.Prelude.{◌≡◌, ◌≢◌, ℕ, ◌+◌, List, ◌++◌, All, Bool, Some, length}
-use Rattle.std.specs.List.{flat_map}
-use Rattle.std.proofs.Common.{◌∙◌, ap, subst}
-use Rattle.verify80_flow.specs.declared.refusal.Refusal.{Refusal}
+use Rattle.plm80_programs.proofs.Names.{◌≡◌, ◌≢◌, ℕ, ◌+◌, List, ◌++◌, All, Bool, Some, length, flat_map, ◌∙◌, ap, subst, Refusal, Public}
+use Rattle.plm80_programs.proofs.Names.{Located, GoesOnWithChain, GoesOnWithWays, code_of, IsShown, ShownRefusal, ShowsAll, ShowsRest}
+use Rattle.plm80_programs.proofs.Names.{count_line, limit_line, needed_stack, shown_lines}
 use Rattle.verify80_flow.specs.declared.refusal.Refusal.TheVariants.{Memory}
-use Rattle.omf_model.specs.declared.symbols.Public.{Public}
-use Rattle.image80.specs.Image.{Located}
-use Rattle.verify80_explain_text.specs.Printed.{GoesOnWithChain, GoesOnWithWays}
-use Rattle.verify80.specs.Looking.{code_of}
-use Rattle.verify80_explain.specs.Shows.{IsShown}
-use Rattle.verify80_explain.specs.declared.explaining_all.ShownRefusal.{ShownRefusal}
-use Rattle.plm80_programs.specs.Explanations.{ShowsAll, ShowsRest, count_line, limit_line, needed_stack, shown_lines}
 
 -- a refusal that compares bytes of stack isn't out of memory
 pub no_memory : (refusal : Refusal) (need : ℕ) → Some need ≡ needed_stack refusal → refusal ≢ Memory

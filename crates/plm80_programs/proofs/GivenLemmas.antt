@@ -1,91 +1,44 @@
 -- Answers that are given to files that were read.
-use Rattle.std.specs.Prelude.{◌≡◌, ℕ, ◌+◌, ◌<◌, ◌==◌, ◌&&◌, not, is_none, Bool, true, false, List, [], ◌∷◌, ◌++◌, Option, None, Some, Result, Ok, Err, IfOk, IfErr, IsOkAnd, map, option_map, refl}
-use Rattle.std.specs.Bool.{MatchBool}
-use Rattle.std.proofs.Common.{◌∙◌, ap, arith, subst, sym}
-use Rattle.omf_model.specs.declared.symbols.Public.{Public}
-use Rattle.image80.specs.Image.{Located}
-use Rattle.loader80.specs.InputsText.{bad_line, inputs_of}
-use Rattle.verify80.specs.Vouched.{Voucher}
-use Rattle.plm80_console.specs.Answer.{AnswerValue, GaveUp, Gives, GivesUp, IsAnswered, IsGiven, IsGivenUp, paths_of, prints}
-use Rattle.plm80_console.specs.Answer.GivesUp.{before, within}
+use Rattle.plm80_programs.proofs.Names.{◌≡◌, ℕ, ◌==◌, ◌&&◌, not, is_none, Bool, false, List, [], ◌∷◌, Option, None, Some, Result, Ok, Err}
+use Rattle.plm80_programs.proofs.Names.{IfOk, IfErr, IsOkAnd, option_map, refl, MatchBool, ◌∙◌, ap, subst, sym, IfErr-weaker, IfOk-weaker}
+use Rattle.plm80_programs.proofs.Names.{Public, Located, bad_line, inputs_of, Voucher, AnswerValue, GaveUp, Gives, GivesUp, IsAnswered}
+use Rattle.plm80_programs.proofs.Names.{IsGiven, IsGivenUp, paths_of, prints, FileValue, Journal, OnlyReports, and_read_files, file_value}
+use Rattle.plm80_programs.proofs.Names.{FaultsFollowReading, count_value, Limits, AnswersProgram, AnswersVerdict, IsAccepted, IsProgramRead}
+use Rattle.plm80_programs.proofs.Names.{IsRefusal, RunFiles, RunArguments, dump_of, run_paths, AnswersCases, PrintsCases, AnswersRun}
+use Rattle.plm80_programs.proofs.Names.{AnswersSession, AreLimitsOf, EndsRun, IsRunRead, RunsFiles, is_session}
 use Rattle.plm80_console.specs.Answer.IsGivenUp.{before as before_it, within as within_it}
-use Rattle.plm80_console.specs.Journal.{AddsSome, FileValue, Journal, OnlyReports, and_read, and_read_files, and_reported}
-use Rattle.plm80_console.specs.NumberText.{count_value}
-use Rattle.image80.specs.declared.range.Range.{Range}
-use Rattle.loader80_trace.specs.declared.limits.Limits.{Limits}
-use Rattle.plm80_names.specs.Arguments.{asks_names}
-use Rattle.plm80_names.specs.Verdict.{AnswersProgram, AnswersVerdict, AreOfFiles, IsAccepted, IsProgramRead, IsRefusal}
+use Rattle.plm80_console.specs.Answer.GivesUp.{before, within}
 use Rattle.plm80_names.specs.Verdict.AnswersVerdict.{accepted, refused}
-use Rattle.plm80_programs.specs.declared.helpers.run_arguments.RunFiles.{RunFiles}
-use Rattle.plm80_programs.specs.declared.run.RunArguments.{RunArguments}
-use Rattle.plm80_programs.specs.declared.stores.StoresArguments.{StoresArguments}
-use Rattle.plm80_programs.specs.Arguments.{dump_of, run_paths}
-use Rattle.plm80_programs.specs.Cases.{AnswersCases, PrintsCases}
-use Rattle.plm80_programs.specs.Printed.{AnswersStores, PrintsStores}
-use Rattle.plm80_console.specs.Ranges.{AreRangesOf}
-use Rattle.plm80_programs.specs.Running.{AnswersRun, AnswersSession, AreLimitsOf, EndsRun, IsRunRead, RunsFiles, is_session}
 
-abbrev pub file_value : (path bytes : List ℕ) → FileValue
-file_value path bytes = record { path = path; bytes = bytes }
-
--- ---- files that were read
-
--- the same was done but for reading
-record IsUntouched (old new : Journal) : Type 0 where
-  reported : new.reported ≡ old.reported
-  written : new.written ≡ old.written
-  spoiled : new.spoiled ≡ old.spoiled
-  copies : new.copies ≡ old.copies
-
-only_read : (old : Journal) (files : List FileValue) → IsUntouched old (and_read_files old files)
-only_read old [] = record { reported = refl; written = refl; spoiled = refl; copies = refl }
-only_read old (file ∷ files) =
-    let so = only_read (and_read old file.path file.bytes) files in
-    record { reported = so.reported; written = so.written; spoiled = so.spoiled; copies = so.copies }
-
-pub only_reports : (old between new : Journal) (files : List FileValue) → between ≡ and_read_files old files → OnlyReports between new → OnlyReports old new
-only_reports old between new files read is =
-    let so = only_read old files in
-    let up = subst (λ (j : Journal). OnlyReports j new) read is in
-    record {
-      reported = subst (λ (n : ℕ). n < new.reported) so.reported up.reported;
-      written = up.written ∙ so.written;
-      spoiled = up.spoiled ∙ so.spoiled;
-      copies = up.copies ∙ so.copies;
-    }
-
-gave_up_after : (old between new : Journal) (files written : List FileValue) → between ≡ and_read_files old files → GaveUp written between new
-    → GaveUp written old new
-gave_up_after old between new files written read is =
-    let so = only_read old files in
-    let up = subst (λ (j : Journal). GaveUp written j new) read is in
-    record {
-      reported = subst (λ (n : ℕ). n < new.reported) so.reported up.reported;
-      written = subst (λ (w : List FileValue). AddsSome written w new.written) so.written up.written;
-      spoiled = subst (λ (s : List (List ℕ)). AddsSome (paths_of written) s new.spoiled) so.spoiled up.spoiled;
-      copies = up.copies ∙ so.copies;
-    }
-
--- a report behind what was read
-pub reported : (old between new : Journal) (files : List FileValue) → between ≡ and_read_files old files → new ≡ and_reported between → OnlyReports old new
-reported old between new files read is =
-    only_reports old between new files read
-    (record {
-      reported = let more : new.reported ≡ between.reported + 1 = ap (λ (j : Journal). j.reported) is in omega (arith, more);
-      written = ap (λ (j : Journal). j.written) is;
-      spoiled = ap (λ (j : Journal). j.spoiled) is;
-      copies = ap (λ (j : Journal). j.copies) is;
-    })
+-- a fault behind files that were read
+reports_after : {A E : Type 0} (old between new : Journal) (files : List FileValue) (r : Result A E) → FaultsFollowReading
+    → between ≡ and_read_files old files → IfErr r (λ _. OnlyReports between new) → IfErr r (λ _. OnlyReports old new)
+reports_after old between new files r follow read is =
+    IfErr-weaker r (λ _. OnlyReports between new) (λ _. OnlyReports old new) (λ _ only. follow old between new files read only) is
 
 -- nothing at all came before
 pub reports_same : {A E : Type 0} (old between new : Journal) (r : Result A E) → between ≡ old → IfErr r (λ _. OnlyReports between new)
     → IfErr r (λ _. OnlyReports old new)
 reports_same old between new r same is = subst (λ (j : Journal). IfErr r (λ _. OnlyReports j new)) same is
 
-reports_after : {A E : Type 0} (old between new : Journal) (files : List FileValue) (r : Result A E) → between ≡ and_read_files old files
-    → IfErr r (λ _. OnlyReports between new) → IfErr r (λ _. OnlyReports old new)
-reports_after old between new files (Ok x) read is = tt
-reports_after old between new files (Err e) read is = only_reports old between new files read is
+-- what becomes of a part of a command whose answers are these
+abbrev pub IsAnsweredOrGivenUp : {E : Type 0} (Part : AnswerValue → Type 0) (old new : Journal) → Result ℕ E → Type 0
+IsAnsweredOrGivenUp Part old new r = IfOk r (IsAnswered Part old new) × IfErr r (λ _. IsGivenUp Part old new)
+
+-- what becomes of a command whose answers to the files of these paths are these
+abbrev pub GivesOrGivesUp : {E : Type 0} (Answers : List FileValue → AnswerValue → Type 0) (paths : List (List ℕ)) (old new : Journal)
+    → Result ℕ E → Type 0
+GivesOrGivesUp Answers paths old new r = IfOk r (Gives Answers paths old new) × IfErr r (λ _. GivesUp Answers paths old new)
+
+-- ---- an answer that was made
+
+pub answered_if_made : {E F : Type 0} (Part : AnswerValue → Type 0) (old new : Journal) (made : Result AnswerValue F) (r : Result ℕ E)
+    → IfOk made Part → IfOk r (λ status. IsOkAnd made (λ answer. IsGiven answer old new status)) → IfOk r (IsAnswered Part old new)
+answered_if_made Part old new (Ok answer) r part gave =
+    IfOk-weaker r (IsGiven answer old new) (IsAnswered Part old new)
+    (λ status given. record { answer = answer; answers = part; given = given }) gave
+answered_if_made Part old new (Err f) (Ok status) part gave = absurd gave
+answered_if_made Part old new (Err f) (Err e) part gave = tt
 
 -- ---- an answer to files that were read
 
@@ -100,78 +53,87 @@ module _ (Answers : List FileValue → AnswerValue → Type 0) (paths : List (Li
     given = subst (λ (j : Journal). IsGiven answer j new status) read gave;
   }
 
+  gives_up_within : (answer : AnswerValue) → Answers files answer → GaveUp answer.files between new → GivesUp Answers paths old new
+  gives_up_within answer answers up = within files answer named answers (subst (λ (j : Journal). GaveUp answer.files j new) read up)
+
   pub gives : {E : Type 0} (answer : AnswerValue) (r : Result ℕ E) → Answers files answer → IfOk r (IsGiven answer between new)
       → IfOk r (Gives Answers paths old new)
-  gives answer (Ok status) answers gave = gives_status answer status answers gave
-  gives answer (Err e) answers gave = tt
+  gives answer r answers gave =
+      IfOk-weaker r (IsGiven answer between new) (Gives Answers paths old new) (λ status. gives_status answer status answers) gave
 
-  pub gives_up : {A E : Type 0} (answer : AnswerValue) (r : Result A E) → Answers files answer → IfErr r (λ _. GaveUp answer.files between new)
-      → IfErr r (λ _. GivesUp Answers paths old new)
-  gives_up answer (Ok x) answers gave = tt
-  gives_up answer (Err e) answers gave = within files answer named answers (gave_up_after old between new files answer.files read gave)
+  pub gives_or_gives_up : {E : Type 0} (answer : AnswerValue) (r : Result ℕ E) → Answers files answer → IfOk r (IsGiven answer between new)
+      → IfErr r (λ _. GaveUp answer.files between new) → GivesOrGivesUp Answers paths old new r
+  gives_or_gives_up answer r answers gave up = (
+    gives answer r answers gave,
+    IfErr-weaker r (λ _. GaveUp answer.files between new) (λ _. GivesUp Answers paths old new) (λ _. gives_up_within answer answers) up,
+  )
 
-  -- an answer that is one to these files by what is known of them
+  -- an answer that is one to these files by what is known of it
   module _ (Part : AnswerValue → Type 0) (whole : (answer : AnswerValue) → Part answer → Answers files answer) where
-    pub made_given : {E F : Type 0} (made : Result AnswerValue F) (r : Result ℕ E) → IfOk made Part
-        → IfOk r (λ status. IsOkAnd made (λ answer. IsGiven answer between new status)) → IfOk r (Gives Answers paths old new)
-    made_given (Ok answer) (Ok status) part gave = gives_status answer status (whole answer part) gave
-    made_given (Err f) (Ok status) part gave = absurd gave
-    made_given made (Err e) part gave = tt
-
     pub part_given : {E : Type 0} (r : Result ℕ E) → IfOk r (IsAnswered Part between new) → IfOk r (Gives Answers paths old new)
-    part_given (Ok status) gave = gives_status gave.answer status (whole gave.answer gave.answers) gave.given
-    part_given (Err e) gave = tt
+    part_given r gave =
+        IfOk-weaker r (IsAnswered Part between new) (Gives Answers paths old new)
+        (λ status is. gives_status is.answer status (whole is.answer is.answers) is.given) gave
 
-    pub part_given_up : {A E : Type 0} (r : Result A E) → IfErr r (λ _. IsGivenUp Part between new) → IfErr r (λ _. GivesUp Answers paths old new)
-    part_given_up (Ok x) is = tt
-    part_given_up (Err e) is = go is
+    pub part_given_up : {A E : Type 0} (r : Result A E) → FaultsFollowReading → IfErr r (λ _. IsGivenUp Part between new)
+        → IfErr r (λ _. GivesUp Answers paths old new)
+    part_given_up r follow gave =
+        IfErr-weaker r (λ _. IsGivenUp Part between new) (λ _. GivesUp Answers paths old new) (λ _ up. of_part up) gave
       where
-        go : IsGivenUp Part between new → GivesUp Answers paths old new
-        go (before_it only) = before (only_reports old between new files read only)
-        go (within_it answer part gave) =
-            within files answer named (whole answer part) (gave_up_after old between new files answer.files read gave)
+        of_part : IsGivenUp Part between new → GivesUp Answers paths old new
+        of_part (before_it only) = before (follow old between new files read only)
+        of_part (within_it answer part up) = gives_up_within answer (whole answer part) up
 
--- what is given or given up of some answers is of others, if nothing came before
-pub gives_more : {E : Type 0} (Answers More : List FileValue → AnswerValue → Type 0) (paths : List (List ℕ)) (old between new : Journal) (r : Result ℕ E)
-    → ((files : List FileValue) (answer : AnswerValue) → Answers files answer → More files answer) → between ≡ old
-    → IfOk r (Gives Answers paths between new) → IfOk r (Gives More paths old new)
-gives_more Answers More paths old between new (Ok status) more same gives = record {
-  files = gives.files;
-  paths_are = gives.paths_are;
-  answer = gives.answer;
-  answers = more gives.files gives.answer gives.answers;
-  given = subst (λ (j : Journal). IsGiven gives.answer (and_read_files j gives.files) new status) same gives.given;
-}
-gives_more Answers More paths old between new (Err e) more same gives = tt
+    pub part_gives_or_gives_up : {E : Type 0} (r : Result ℕ E) → FaultsFollowReading → IsAnsweredOrGivenUp Part between new r
+        → GivesOrGivesUp Answers paths old new r
+    part_gives_or_gives_up r follow is = (part_given r is.0, part_given_up r follow is.1)
 
-pub gives_up_more : {A E : Type 0} (Answers More : List FileValue → AnswerValue → Type 0) (paths : List (List ℕ)) (old between new : Journal) (r : Result A E)
-    → ((files : List FileValue) (answer : AnswerValue) → Answers files answer → More files answer) → between ≡ old
-    → IfErr r (λ _. GivesUp Answers paths between new) → IfErr r (λ _. GivesUp More paths old new)
-gives_up_more Answers More paths old between new (Ok x) more same gave = tt
-gives_up_more Answers More paths old between new (Err e) more same gave = go (subst (λ (j : Journal). GivesUp Answers paths j new) same gave)
-  where
-    go : GivesUp Answers paths old new → GivesUp More paths old new
-    go (before only) = before only
-    go (within files answer named answers up) = within files answer named (more files answer answers) up
+-- ---- an answer of one kind that is one of another, if nothing came before
+
+module _ (Answers More : List FileValue → AnswerValue → Type 0) (paths : List (List ℕ)) (old between new : Journal)
+    (more : (files : List FileValue) (answer : AnswerValue) → Answers files answer → More files answer) (same : between ≡ old) where
+  pub gives_more : {E : Type 0} (r : Result ℕ E) → IfOk r (Gives Answers paths between new) → IfOk r (Gives More paths old new)
+  gives_more r gave =
+      IfOk-weaker r (Gives Answers paths between new) (Gives More paths old new)
+      (λ status is. record {
+        files = is.files;
+        paths_are = is.paths_are;
+        answer = is.answer;
+        answers = more is.files is.answer is.answers;
+        given = subst (λ (j : Journal). IsGiven is.answer (and_read_files j is.files) new status) same is.given;
+      })
+      gave
+
+  pub more_or_gives_up : {E : Type 0} (r : Result ℕ E) → GivesOrGivesUp Answers paths between new r → GivesOrGivesUp More paths old new r
+  more_or_gives_up r is = (
+    gives_more r is.0,
+    IfErr-weaker r (λ _. GivesUp Answers paths between new) (λ _. GivesUp More paths old new)
+        (λ _ up. of_up (subst (λ (j : Journal). GivesUp Answers paths j new) same up)) is.1,
+  )
+    where
+      of_up : GivesUp Answers paths old new → GivesUp More paths old new
+      of_up (before only) = before only
+      of_up (within files answer named answers up) = within files answer named (more files answer answers) up
 
 -- ---- an image and its regions
 
 -- nothing came behind the reading of an image and its regions
-pub program_read_on : (image_path regions_path : List ℕ) (asked : Bool) (old between after : Journal) (image : Located) (publics : List Public)
-    → IsProgramRead image_path regions_path asked old between image publics → after ≡ between → IsProgramRead image_path regions_path asked old after image publics
-program_read_on image_path regions_path asked old between after image publics read unchanged =
-    record { file = read.file; text = read.text; are_read = read.are_read; journal = unchanged ∙ read.journal }
+pub program_read_on : {image_path regions_path : List ℕ} {asked : Bool} {old between after : Journal} {image : Located} {publics : List Public}
+    → IsProgramRead image_path regions_path asked old between image publics → after ≡ between
+    → IsProgramRead image_path regions_path asked old after image publics
+program_read_on read unchanged = record { file = read.file; text = read.text; are_read = read.are_read; journal = unchanged ∙ read.journal }
 
-module _ (image_path regions_path : List ℕ) (asked : Bool) (old between new : Journal) (image : Located) (publics : List Public)
-    (read : IsProgramRead image_path regions_path asked old between image publics) where
+module _ {image_path regions_path : List ℕ} {asked : Bool} {old between : Journal} {image : Located} {publics : List Public}
+    (read : IsProgramRead image_path regions_path asked old between image publics) (new : Journal) where
   abbrev program_files : List FileValue
   program_files = file_value image_path read.file ∷ file_value regions_path read.text ∷ []
 
-  pub program_reports : {A E : Type 0} (r : Result A E) → IfErr r (λ _. OnlyReports between new) → IfErr r (λ _. OnlyReports old new)
-  program_reports r is = reports_after old between new program_files r read.journal is
+  pub program_reports : {A E : Type 0} (r : Result A E) → FaultsFollowReading → IfErr r (λ _. OnlyReports between new)
+      → IfErr r (λ _. OnlyReports old new)
+  program_reports r follow is = reports_after old between new program_files r follow read.journal is
 
   module _ (Answers : Located → List Public → AnswerValue → Type 0) where
-    pub answers_program : (answer : AnswerValue) → Answers image publics answer → AnswersProgram Answers asked program_files answer
+    answers_program : (answer : AnswerValue) → Answers image publics answer → AnswersProgram Answers asked program_files answer
     answers_program answer answers = record {
       image_file = file_value image_path read.file;
       regions_file = file_value regions_path read.text;
@@ -192,100 +154,93 @@ module _ (image_path regions_path : List ℕ) (asked : Bool) (old between new : 
         → IfOk r (λ status. IsOkAnd made (λ answer. IsGiven answer between new status))
         → IfOk r (Gives (AnswersProgram Answers asked) (image_path ∷ regions_path ∷ []) old new)
     program_given made r answers gave =
-        made_given (AnswersProgram Answers asked) (image_path ∷ regions_path ∷ []) old between new program_files refl read.journal
-        (Answers image publics) answers_program made r answers gave
-
--- the stores of a program, with the ranges that the options write
-pub stores_give : (arguments : StoresArguments) (quiet : List Range) (paths : List (List ℕ)) (old first new : Journal) (status : ℕ)
-    → AreRangesOf (map (λ range. range.now) arguments.quiet.items) quiet → first ≡ old
-    → Gives (AnswersProgram (PrintsStores quiet) (asks_names arguments.files)) paths first new status → Gives (AnswersStores arguments) paths old new status
-stores_give arguments quiet paths old first new status written same gives =
-    gives_more {E = Unit {0}} (AnswersProgram (PrintsStores quiet) (asks_names arguments.files)) (AnswersStores arguments) paths old first new (Ok status)
-    (λ files answer is. record { quiet = quiet; written = written; is = is }) same gives
+        part_given (AnswersProgram Answers asked) (image_path ∷ regions_path ∷ []) old between new program_files refl read.journal
+        (Answers image publics) answers_program r (answered_if_made (Answers image publics) between new made r answers gave)
 
 -- ---- cases
 
-module _ (out : Option (List ℕ)) (image_path regions_path : List ℕ) (old between new : Journal) (image : Located) (publics : List Public)
-    (read : IsProgramRead image_path regions_path false old between image publics) where
-  abbrev cases_files : List FileValue
-  cases_files = file_value image_path read.file ∷ file_value regions_path read.text ∷ []
-
-  answers_cases : (answer : AnswerValue) → PrintsCases out image answer → AnswersCases out cases_files answer
-  answers_cases answer answers = record {
-    is = answers_program image_path regions_path false old between new image publics read (λ i ps. PrintsCases out i) answer answers;
-  }
-
-  pub cases_give : {E : Type 0} (r : Result ℕ E) → IfOk r (IsAnswered (PrintsCases out image) between new)
-      → IfOk r (Gives (AnswersCases out) (image_path ∷ regions_path ∷ []) old new)
-  cases_give r gave =
-      part_given (AnswersCases out) (image_path ∷ regions_path ∷ []) old between new cases_files refl read.journal (PrintsCases out image)
-      answers_cases r gave
-
-  pub cases_give_up : {A E : Type 0} (r : Result A E) → IfErr r (λ _. IsGivenUp (PrintsCases out image) between new)
-      → IfErr r (λ _. GivesUp (AnswersCases out) (image_path ∷ regions_path ∷ []) old new)
-  cases_give_up r gave =
-      part_given_up (AnswersCases out) (image_path ∷ regions_path ∷ []) old between new cases_files refl read.journal (PrintsCases out image)
-      answers_cases r gave
+module _ {image_path regions_path : List ℕ} {old between : Journal} {image : Located} {publics : List Public}
+    (read : IsProgramRead image_path regions_path false old between image publics) (new : Journal) (out : Option (List ℕ)) where
+  pub cases_or_gives_up : {E : Type 0} (r : Result ℕ E) → FaultsFollowReading → IsAnsweredOrGivenUp (PrintsCases out image) between new r
+      → GivesOrGivesUp (AnswersCases out) (image_path ∷ regions_path ∷ []) old new r
+  cases_or_gives_up r follow is =
+      part_gives_or_gives_up (AnswersCases out) (image_path ∷ regions_path ∷ []) old between new (program_files read new) refl read.journal
+      (PrintsCases out image) (λ answer answers. record { is = answers_program read new (λ i ps. PrintsCases out i) answer answers }) r follow is
 
 -- ---- the inputs of a run, too
 
+-- three files were read; the image, the names and the inputs are those that they have
+pub record IsRunKnown (paths : RunFiles) (asked : Bool) (old new : Journal) (image : Located) (publics : List Public)
+    (inputs : List (ℕ × ℕ)) : Type 0 where
+  pub text : List ℕ
+  pub read : IsRunRead paths asked old new image publics text
+  pub good : bad_line text ≡ None
+  pub spelled : inputs ≡ inputs_of text
+
 -- nothing came of reading the inputs from their text
-pub run_read_on : (paths : RunFiles) (asked : Bool) (old between after : Journal) (image : Located) (publics : List Public) (text same : List ℕ)
-    → IsRunRead paths asked old between image publics text → after ≡ between → same ≡ text → IsRunRead paths asked old after image publics same
-run_read_on paths asked old between after image publics text same read unchanged is =
-    subst (λ (t : List ℕ). IsRunRead paths asked old after image publics t) (sym is)
-    (record { file = read.file; text = read.text; are_read = read.are_read; journal = unchanged ∙ read.journal })
+pub run_known : {paths : RunFiles} {asked : Bool} {old between new : Journal} {image : Located} {publics : List Public} {text same : List ℕ}
+    {inputs : List (ℕ × ℕ)} → IsRunRead paths asked old between image publics text → new ≡ between → same ≡ text → bad_line same ≡ None
+    → inputs ≡ inputs_of same → IsRunKnown paths asked old new image publics inputs
+run_known {text = text} read unchanged is good spelled = record {
+  text = text;
+  read = record { file = read.file; text = read.text; are_read = read.are_read; journal = unchanged ∙ read.journal };
+  good = subst (λ (t : List ℕ). bad_line t ≡ None) is good;
+  spelled = spelled ∙ ap inputs_of is;
+}
 
-module _ (paths : RunFiles) (asked : Bool) (old between new : Journal) (image : Located) (publics : List Public) (text : List ℕ)
-    (inputs : List (ℕ × ℕ)) (read : IsRunRead paths asked old between image publics text) (good : bad_line text ≡ None)
-    (spelled : inputs ≡ inputs_of text) where
+module _ {paths : RunFiles} {asked : Bool} {old between : Journal} {image : Located} {publics : List Public} {inputs : List (ℕ × ℕ)}
+    (known : IsRunKnown paths asked old between image publics inputs) (new : Journal) where
   abbrev files_read : List FileValue
-  files_read = file_value paths.image.now read.file ∷ file_value paths.regions.now read.text ∷ file_value paths.inputs.now text ∷ []
+  files_read = file_value paths.image.now known.read.file ∷ file_value paths.regions.now known.read.text
+      ∷ file_value paths.inputs.now known.text ∷ []
 
-  pub run_reports : {A E : Type 0} (r : Result A E) → IfErr r (λ _. OnlyReports between new) → IfErr r (λ _. OnlyReports old new)
-  run_reports r is = reports_after old between new files_read r read.journal is
+  pub run_reports : {A E : Type 0} (r : Result A E) → FaultsFollowReading → IfErr r (λ _. OnlyReports between new)
+      → IfErr r (λ _. OnlyReports old new)
+  run_reports r follow is = reports_after old between new files_read r follow known.read.journal is
 
   module _ (Answers : List (ℕ × ℕ) → List Public → Voucher → AnswerValue → Type 0) where
     answers_run : (answer : AnswerValue) → AnswersVerdict (Answers inputs publics) image publics answer
         → AnswersRun Answers asked files_read answer
     answers_run answer answers = record {
-      image_file = file_value paths.image.now read.file;
-      regions_file = file_value paths.regions.now read.text;
-      inputs_file = file_value paths.inputs.now text;
+      image_file = file_value paths.image.now known.read.file;
+      regions_file = file_value paths.regions.now known.read.text;
+      inputs_file = file_value paths.inputs.now known.text;
       files_are = refl;
       image = image;
       publics = publics;
-      are_read = read.are_read;
-      good = good;
-      answers = subst (λ (pairs : List (ℕ × ℕ)). AnswersVerdict (Answers pairs publics) image publics answer) spelled answers;
+      are_read = known.read.are_read;
+      good = known.good;
+      answers = subst (λ (pairs : List (ℕ × ℕ)). AnswersVerdict (Answers pairs publics) image publics answer) known.spelled answers;
     }
 
     pub run_given : {E F : Type 0} (made : Result AnswerValue F) (r : Result ℕ E)
         → IfOk made (AnswersVerdict (Answers inputs publics) image publics) → IfOk r (λ status. IsOkAnd made (λ answer. IsGiven answer between new status))
         → IfOk r (Gives (AnswersRun Answers asked) (run_paths paths) old new)
     run_given made r answers gave =
-        made_given (AnswersRun Answers asked) (run_paths paths) old between new files_read refl read.journal
-        (AnswersVerdict (Answers inputs publics) image publics) answers_run made r answers gave
+        part_given (AnswersRun Answers asked) (run_paths paths) old between new files_read refl known.read.journal
+        (AnswersVerdict (Answers inputs publics) image publics) answers_run r
+        (answered_if_made (AnswersVerdict (Answers inputs publics) image publics) between new made r answers gave)
 
     -- of another one, its refusal
-    pub run_refused : {E : Type 0} (line : List ℕ) (r : Result ℕ E) → IsRefusal image publics line → IfOk r (IsGiven (prints line 1) between new)
-        → IfOk r (Gives (AnswersRun Answers asked) (run_paths paths) old new)
-    run_refused line r is gave =
-        gives (AnswersRun Answers asked) (run_paths paths) old between new files_read refl read.journal (prints line 1) r
-        (answers_run (prints line 1) (refused line is refl)) gave
+    pub run_refused : {E : Type 0} (line : List ℕ) (answer : AnswerValue) (r : Result ℕ E) → IsRefusal image publics line → answer ≡ prints line 1
+        → IfOk r (IsGiven answer between new) → IfOk r (Gives (AnswersRun Answers asked) (run_paths paths) old new)
+    run_refused line answer r is answer_is gave =
+        gives (AnswersRun Answers asked) (run_paths paths) old between new files_read refl known.read.journal answer r
+        (answers_run answer (refused line is answer_is)) gave
 
     -- of one that is accepted, what is answered of its run, or given up
-    pub run_accepted : {E : Type 0} (program : Voucher) (r : Result ℕ E) → IsAccepted image program
-        → IfOk r (IsAnswered (Answers inputs publics program) between new) → IfOk r (Gives (AnswersRun Answers asked) (run_paths paths) old new)
-    run_accepted program r is gave =
-        part_given (AnswersRun Answers asked) (run_paths paths) old between new files_read refl read.journal (Answers inputs publics program)
-        (λ answer answers. answers_run answer (accepted program is answers)) r gave
+    module _ (program : Voucher) (is : IsAccepted image program) where
+      pub run_accepted : {E : Type 0} (r : Result ℕ E) → IfOk r (IsAnswered (Answers inputs publics program) between new)
+          → IfOk r (Gives (AnswersRun Answers asked) (run_paths paths) old new)
+      run_accepted r gave =
+          part_given (AnswersRun Answers asked) (run_paths paths) old between new files_read refl known.read.journal
+          (Answers inputs publics program) (λ answer answers. answers_run answer (accepted program is answers)) r gave
 
-    pub run_gives_up : {A E : Type 0} (program : Voucher) (r : Result A E) → IsAccepted image program
-        → IfErr r (λ _. IsGivenUp (Answers inputs publics program) between new) → IfErr r (λ _. GivesUp (AnswersRun Answers asked) (run_paths paths) old new)
-    run_gives_up program r is gave =
-        part_given_up (AnswersRun Answers asked) (run_paths paths) old between new files_read refl read.journal (Answers inputs publics program)
-        (λ answer answers. answers_run answer (accepted program is answers)) r gave
+      pub run_or_gives_up : {E : Type 0} (r : Result ℕ E) → FaultsFollowReading
+          → IsAnsweredOrGivenUp (Answers inputs publics program) between new r → GivesOrGivesUp (AnswersRun Answers asked) (run_paths paths) old new r
+      run_or_gives_up r follow gave =
+          part_gives_or_gives_up (AnswersRun Answers asked) (run_paths paths) old between new files_read refl known.read.journal
+          (Answers inputs publics program) (λ answer answers. answers_run answer (accepted program is answers)) r follow gave
 
 -- ---- run
 

@@ -8,3 +8,4 @@ pub mod StoresLemmas
 pub mod SuggestLemmas
 pub mod VerdictLemmas
 pub mod WordLemmas
+mod Names

@@ -1,28 +1,13 @@
 -- What was written to an output that was taken back.
-use Rattle.std.specs.Prelude.{◌≡◌, ℕ, List, [], ◌++◌, Option, None, Some, Result, Ok, Err, IfErr, IfOk, refl}
-use Rattle.std.specs.Io.KnownBytes.{Appends}
-use Rattle.std.proofs.Common.{◌∙◌, ap, subst, sym}
-use Rattle.loader80.specs.declared.replies.Outcome.{Outcome}
-use Rattle.loader80.specs.declared.fault.SessionFault.{SessionFault}
-use Rattle.loader80.specs.declared.fault.SessionFault.TheVariants.{Read, Write, Image, Regions, Inputs, Refused, Memory, TooLong}
-use Rattle.loader80.specs.Sends.{Sends}
-use Rattle.loader80.specs.Session.{Says}
-use Rattle.loader80.specs.Texts.{Texts}
-use Rattle.loader80_trace.specs.declared.limits.Limits.{Limits}
-use Rattle.image80.specs.Case.{DeclaredCase}
-use Rattle.image80.specs.Image.{Located}
-use Rattle.image80.specs.RegionsText.{cases_text}
-use Rattle.verify80_cases.specs.declared.search.Note.{Note}
-use Rattle.plm80_console.specs.Answer.{AnswerValue, GaveUp, Gives, IsAnswered, IsGiven, IsGivenUp, prints}
-use Rattle.plm80_console.specs.Answer.IsGivenUp.{within as given_up}
-use Rattle.plm80_console.specs.Journal.{IsTakenBack, Journal, OnlyReports, and_printed, and_read_files}
-use Rattle.plm80_programs.specs.declared.helpers.run_arguments.RunFiles.{RunFiles}
-use Rattle.plm80_programs.specs.declared.helpers.run_arguments.RunTexts.{RunTexts}
-use Rattle.plm80_programs.specs.Arguments.{run_paths}
-use Rattle.plm80_programs.specs.Cases.{FindsCases, PrintsCases}
+use Rattle.plm80_programs.proofs.Names.{◌≡◌, ℕ, List, [], Option, None, Some, Result, Ok, Err, IfErr, IfOk, refl, Appends, ◌∙◌, ap, subst}
+use Rattle.plm80_programs.proofs.Names.{sym, Outcome, SessionFault, Read, Write, Image, Regions, Inputs, Refused, TooLong, Sends, Says}
+use Rattle.plm80_programs.proofs.Names.{Texts, Limits, DeclaredCase, Located, cases_text, Note, AnswerValue, GaveUp, Gives, IsAnswered}
+use Rattle.plm80_programs.proofs.Names.{IsGivenUp, prints, IsTakenBack, Journal, and_printed, and_read_files, RunFiles, RunTexts, run_paths}
+use Rattle.plm80_programs.proofs.Names.{FindsCases, PrintsCases, AnswersSession, AnswersTexts, run_files, session_status, texts_of}
+use Rattle.plm80_programs.proofs.Names.{notes_status}
 use Rattle.plm80_programs.proofs.GivenLemmas.{part_given}
-use Rattle.plm80_programs.specs.Running.{AnswersSession, AnswersTexts, run_files, session_status, texts_of}
-use Rattle.plm80_programs.specs.Status.{notes_status}
+use Rattle.loader80.specs.declared.fault.SessionFault.TheVariants.{Memory}
+use Rattle.plm80_console.specs.Answer.IsGivenUp.{within as given_up}
 
 -- these bytes, which are printed then
 pub printed : (before after : Option (List ℕ)) (lines : List ℕ) (old between new : Journal) → before ≡ Some [] → between ≡ old
@@ -34,35 +19,29 @@ printed before None lines old between new empty same appended taken =
     absurd (subst (λ (w : Option (List ℕ)). Appends w None lines) empty appended)
 
 -- what a session sent, if its answer has a status
-session_sent : (limits : Limits) (texts : Texts) (said : Result Outcome SessionFault) (after : Option (List ℕ)) (old new : Journal) (status : ℕ)
-    → Sends limits.outputs limits.steps texts said (Some []) after → session_status said ≡ Ok status
-    → IsTakenBack after old new → IsAnswered (AnswersTexts limits texts) old new status
-session_sent limits texts (Ok outcome) (Some bytes) old new status sends is printed = record {
-  answer = prints bytes status;
-  answers = record { said = Ok outcome; says = subst (λ (l : List ℕ). Says limits.outputs limits.steps texts (Ok outcome) l) (sym sends.appended) sends.answers.1; status_is = is; no_file = refl };
-  given = record { journal = printed.1 ∙ ap (and_printed old) (sym printed.2); status_is = refl };
-}
-session_sent limits texts (Ok outcome) None old new status sends is printed = absurd sends.appended
-session_sent limits texts (Err (Refused refusal)) (Some bytes) old new status sends is printed = record {
-  answer = prints bytes status;
-  answers = record { said = Err (Refused refusal); says = subst (λ (l : List ℕ). Says limits.outputs limits.steps texts (Err (Refused refusal)) l) (sym sends.appended) sends.answers.1; status_is = is; no_file = refl };
-  given = record { journal = printed.1 ∙ ap (and_printed old) (sym printed.2); status_is = refl };
-}
-session_sent limits texts (Err (Refused refusal)) None old new status sends is printed = absurd sends.appended
-session_sent limits texts (Err (Read n)) after old new status sends is printed = absurd cc
-session_sent limits texts (Err Write) after old new status sends is printed = absurd cc
-session_sent limits texts (Err (Image f)) after old new status sends is printed = absurd cc
-session_sent limits texts (Err (Regions f)) after old new status sends is printed = absurd cc
-session_sent limits texts (Err (Inputs n)) after old new status sends is printed = absurd cc
-session_sent limits texts (Err Memory) after old new status sends is printed = absurd cc
-session_sent limits texts (Err (TooLong n)) after old new status sends is printed = absurd cc
+sent : (limits : Limits) (texts : Texts) (said : Result Outcome SessionFault) (before after : Option (List ℕ)) (status : ℕ)
+    → Sends limits.outputs limits.steps texts said before after → session_status said ≡ Ok status
+    → (text : List ℕ) × Says limits.outputs limits.steps texts said text × Appends before after text
+sent limits texts (Ok outcome) before after status sends is = (sends.text, sends.answers.1, sends.appended)
+sent limits texts (Err (Refused refusal)) before after status sends is = (sends.text, sends.answers.1, sends.appended)
+sent limits texts (Err (Read n)) before after status sends is = absurd cc
+sent limits texts (Err Write) before after status sends is = absurd cc
+sent limits texts (Err (Image f)) before after status sends is = absurd cc
+sent limits texts (Err (Regions f)) before after status sends is = absurd cc
+sent limits texts (Err (Inputs n)) before after status sends is = absurd cc
+sent limits texts (Err Memory) before after status sends is = absurd cc
+sent limits texts (Err (TooLong n)) before after status sends is = absurd cc
 
 pub session_given : (limits : Limits) (texts : Texts) (said : Result Outcome SessionFault) (before after : Option (List ℕ)) (old between new : Journal)
     (status : ℕ) → before ≡ Some [] → between ≡ old → Sends limits.outputs limits.steps texts said before after → session_status said ≡ Ok status
     → IsTakenBack after between new → IsAnswered (AnswersTexts limits texts) old new status
-session_given limits texts said before after old between new status empty same sends is printed =
-    session_sent limits texts said after old new status (subst (λ (w : Option (List ℕ)). Sends limits.outputs limits.steps texts said w after) empty sends) is
-    (subst (λ (j : Journal). IsTakenBack after j new) same printed)
+session_given limits texts said before after old between new status empty same sends is taken =
+    let all = sent limits texts said before after status sends is in
+    record {
+      answer = prints all.0 status;
+      answers = record { said = said; says = all.1; status_is = is; no_file = refl };
+      given = record { journal = printed before after all.0 old between new empty same all.2 taken; status_is = refl };
+    }
 
 -- of three files
 pub session_gives : {E : Type 0} (paths : RunFiles) (texts : RunTexts) (limits : Limits) (old between new : Journal) (r : Result ℕ E)

@@ -1,27 +1,14 @@
 -- Runs that are watched, and their exit statuses.
-use Rattle.std.specs.Prelude.{◌≡◌, ℕ, ◌+◌, ◌-◌, ◌≤◌, min, true, false, List, [], ◌∷◌, ◌++◌, Option, None, Some, Result, Ok, Err, IfErr, IfOk, refl}
-use Rattle.std.specs.Io.KnownBytes.{Appends}
-use Rattle.std.specs.List.{flat_map}
-use Rattle.std.proofs.Common.{◌∙◌, ap, append-nil, append_assoc, arith, subst, sym}
-use Rattle.std.proofs.Math.Nat.{min-eq_left}
-use Rattle.std.proofs.KnownBytes.{Appends-nil, Appends-trans}
-use Rattle.omf_model.specs.declared.symbols.Public.{Public}
-use Rattle.image80.specs.Regions.{Areas}
-use Rattle.machine80.specs.declared.end.End.{End}
-use Rattle.machine80.specs.Run.{IsRun}
-use Rattle.machine80.specs.Ports.{PortLists}
-use Rattle.machine80.specs.Step.{Machine, with_ports}
-use Rattle.machine80.specs.World.{World}
-use Rattle.loader80.specs.declared.running.Ended.{Ended}
-use Rattle.loader80.specs.TranscriptText.{output_line, stack_line}
-use Rattle.verify80.specs.Vouched.{Voucher}
-use Rattle.loader80_trace.specs.declared.limits.Limits.{Limits}
-use Rattle.loader80_trace.specs.declared.limits.Span.{Span}
-use Rattle.loader80_trace.specs.Traces.{last_number, run_lines}
-use Rattle.plm80_console.specs.Answer.{AnswerValue, GaveUp, IsAnswered, IsGiven, IsGivenUp, and_files, and_given, prints}
+use Rattle.plm80_programs.proofs.Names.{◌≡◌, ℕ, ◌+◌, ◌-◌, ◌≤◌, min, true, false, List, [], ◌∷◌, ◌++◌, Option, None, Some, Result, Ok, Err}
+use Rattle.plm80_programs.proofs.Names.{IfErr, IfOk, refl, Appends, flat_map, ◌∙◌, ap, append_assoc, arith, subst, sym, min-eq_left}
+use Rattle.plm80_programs.proofs.Names.{Appends-nil, Appends-trans, IfErr-weaker, IfOk-weaker, Public, Areas, End, IsRun, PortLists}
+use Rattle.plm80_programs.proofs.Names.{Machine, with_ports, World, Ended, output_line, stack_line, Voucher, Limits, Span, last_number}
+use Rattle.plm80_programs.proofs.Names.{AnswerValue, GaveUp, IsAnswered, IsGiven, IsGivenUp, and_files, and_given, prints, FileValue}
+use Rattle.plm80_programs.proofs.Names.{Journal, and_printed, and_written, EndsRun, TracesRun, IsTraceOf, WatchesRun, ending, last_lines}
+use Rattle.plm80_programs.proofs.Names.{start_of, trace_ending, trace_lines, with_memory}
+use Rattle.plm80_programs.proofs.GivenLemmas.{IsAnsweredOrGivenUp}
+use Rattle.loader80_trace.specs.Traces.{run_lines}
 use Rattle.plm80_console.specs.Answer.IsGivenUp.{within as unfinished}
-use Rattle.plm80_console.specs.Journal.{FileValue, Journal, and_printed, and_written}
-use Rattle.plm80_programs.specs.Running.{EndsRun, TracesRun, IsTraceOf, WatchesRun, ending, last_lines, start_of, trace_ending, trace_lines, with_memory}
 
 -- a run makes no more steps than it may
 pub steps_within : (regions : Areas) (most : Option ℕ) (start : World) (limit steps : ℕ) (m : Machine) (ending : Option End)
@@ -56,11 +43,6 @@ last_span inputs limits last publics program ended span within counted reaches =
     ap (run_lines program.image.regions (Some limits.outputs) (start_of program inputs) publics false span.from) (min-eq_left fits ∙ counted)
     ∙ ap (λ (n : ℕ). run_lines program.image.regions (Some limits.outputs) (start_of program inputs) publics false n (min last (number + 1)))
     (begins ∙ ap (λ (n : ℕ). number + 1 - n) counted)
-
-abbrev OneAtMost : List FileValue → Type 0
-OneAtMost [] = Unit {0}
-OneAtMost (file ∷ []) = Unit {0}
-OneAtMost (file ∷ other ∷ files) = ⊥
 
 module _ (inputs : List (ℕ × ℕ)) (limits : Limits) (last : ℕ) (publics : List Public) (program : Voucher) (ended : Ended) where
   -- no instruction is written
@@ -105,33 +87,26 @@ watches inputs limits last dump publics program ended memory ports line answer r
 behind_lines : (old : Journal) (lines more : List ℕ) → and_printed (and_printed old lines) more ≡ and_printed old (lines ++ more)
 behind_lines old lines more = ap (λ (l : List ℕ). record old { printed = l }) (append_assoc old.printed lines more)
 
--- an answer of one file at most, behind lines
-behind : (answer : AnswerValue) (old : Journal) (lines : List ℕ) → OneAtMost answer.files
-    → and_given (and_printed old lines) answer ≡ and_given old (record answer { lines = lines ++ answer.lines })
-behind answer old lines few = go answer.files few
-  where
-    go : (files : List FileValue) → OneAtMost files → and_printed (and_files (and_printed old lines) files) answer.lines
-        ≡ and_printed (and_files old files) (lines ++ answer.lines)
-    go [] few = behind_lines old lines answer.lines
-    go (file ∷ []) few = behind_lines (and_written old file.path file.bytes) lines answer.lines
-    go (file ∷ other ∷ files) few = absurd few
+-- files behind lines
+files_behind : (old : Journal) (lines : List ℕ) (files : List FileValue)
+    → and_files (and_printed old lines) files ≡ and_printed (and_files old files) lines
+files_behind old lines [] = refl
+files_behind old lines (file ∷ files) = files_behind (and_written old file.path file.bytes) lines files
+
+-- an answer behind lines
+given_behind : (answer : AnswerValue) (old between new : Journal) (lines : List ℕ) (status : ℕ) → between ≡ and_printed old lines
+    → IsGiven answer between new status → IsGiven (record answer { lines = lines ++ answer.lines }) old new status
+given_behind answer old between new lines status printed given = record {
+  journal = given.journal ∙ ap (λ (j : Journal). and_given j answer) printed
+      ∙ ap (λ (j : Journal). and_printed j answer.lines) (files_behind old lines answer.files)
+      ∙ behind_lines (and_files old answer.files) lines answer.lines;
+  status_is = given.status_is;
+}
 
 -- no file is written of an ending
 pub trace_files : (program : Voucher) (publics : List Public) (ended : Option Ended) → (trace_ending program publics ended).files ≡ []
 trace_files program publics None = refl
 trace_files program publics (Some ended) = refl
-
-few_of : (dump : Option (List ℕ)) (memory : List ℕ) (program : Voucher) (publics : List Public) (ended : Ended)
-    → OneAtMost (with_memory dump memory (ending program publics ended)).files
-few_of None memory program publics ended = tt
-few_of (Some path) memory program publics ended = tt
-
-given_behind : (answer : AnswerValue) (old between new : Journal) (lines : List ℕ) (status : ℕ) → OneAtMost answer.files → between ≡ and_printed old lines
-    → IsGiven answer between new status → IsGiven (record answer { lines = lines ++ answer.lines }) old new status
-given_behind answer old between new lines status few printed given = record {
-  journal = given.journal ∙ ap (λ (j : Journal). and_given j answer) printed ∙ behind answer old lines few;
-  status_is = given.status_is;
-}
 
 -- ---- answers that were given
 
@@ -151,31 +126,32 @@ trace_answered inputs limits span publics program ended old between new (Ok stat
   where
     of_ending : (e : Option Ended) (lines : List ℕ) → IsGiven (trace_ending program publics e) between new status → between ≡ and_printed old lines
         → IsGiven (prints (lines ++ (trace_ending program publics e).lines) (trace_ending program publics e).status) old new status
-    of_ending None lines gave printed = given_behind (trace_ending program publics None) old between new lines status tt printed gave
-    of_ending (Some e) lines gave printed = given_behind (trace_ending program publics (Some e)) old between new lines status tt printed gave
+    of_ending None lines gave printed = given_behind (trace_ending program publics None) old between new lines status printed gave
+    of_ending (Some e) lines gave printed = given_behind (trace_ending program publics (Some e)) old between new lines status printed gave
 trace_answered inputs limits span publics program ended old between new (Err e) traced printed gave = tt
 
 module _ (inputs : List (ℕ × ℕ)) (limits : Limits) (last : ℕ) (dump : Option (List ℕ)) (publics : List Public) (program : Voucher)
     (text : List ℕ) (ended : Ended) (answer : AnswerValue) (old between new : Journal)
     (watched : WatchesRun inputs limits last dump publics program text ended answer) (printed : between ≡ and_printed old text) where
-  few : OneAtMost answer.files
-  few = subst (λ (a : AnswerValue). OneAtMost a.files) (sym watched.answer_is) (few_of dump watched.transcript.last.memory program publics ended)
+  ends : EndsRun inputs limits last dump publics program (record answer { lines = text ++ answer.lines })
+  ends = record { text = text; ended = ended; behind = answer; watched = watched; answer_is = refl }
 
-  -- a run that was watched: its text was printed, its memory written, and its last line printed
-  pub run_answered : {E : Type 0} (r : Result ℕ E) → IfOk r (IsGiven answer between new)
-      → IfOk r (IsAnswered (EndsRun inputs limits last dump publics program) old new)
-  run_answered (Ok status) gave = record {
-    answer = record answer { lines = text ++ answer.lines };
-    answers = record { text = text; ended = ended; behind = answer; watched = watched; answer_is = refl };
-    given = given_behind answer old between new text status few printed gave;
-  }
-  run_answered (Err e) gave = tt
+  gave_up : GaveUp answer.files (and_printed old text) new → IsGivenUp (EndsRun inputs limits last dump publics program) old new
+  gave_up up =
+      unfinished (record answer { lines = text ++ answer.lines }) ends
+      (record { reported = up.reported; read = up.read; written = up.written; spoiled = up.spoiled; copies = up.copies })
 
-  pub run_given_up : {A E : Type 0} (r : Result A E) → IfErr r (λ _. GaveUp answer.files between new)
-      → IfErr r (λ _. IsGivenUp (EndsRun inputs limits last dump publics program) old new)
-  run_given_up (Ok x) gave = tt
-  run_given_up (Err e) gave =
-      let up = subst (λ (j : Journal). GaveUp answer.files j new) printed gave in
-      unfinished (record answer { lines = text ++ answer.lines })
-      (record { text = text; ended = ended; behind = answer; watched = watched; answer_is = refl })
-      (record { reported = up.reported; written = up.written; spoiled = up.spoiled; copies = up.copies })
+  -- a run that was watched: its text was printed, its memory written, and its last line printed; or that was given up
+  pub run_or_given_up : {E : Type 0} (r : Result ℕ E) → IfOk r (IsGiven answer between new) → IfErr r (λ _. GaveUp answer.files between new)
+      → IsAnsweredOrGivenUp (EndsRun inputs limits last dump publics program) old new r
+  run_or_given_up r gave up = (
+    IfOk-weaker r (IsGiven answer between new) (IsAnswered (EndsRun inputs limits last dump publics program) old new)
+        (λ status given. record {
+          answer = record answer { lines = text ++ answer.lines };
+          answers = ends;
+          given = given_behind answer old between new text status printed given;
+        })
+        gave,
+    IfErr-weaker r (λ _. GaveUp answer.files between new) (λ _. IsGivenUp (EndsRun inputs limits last dump publics program) old new)
+        (λ _ was. gave_up (subst (λ (j : Journal). GaveUp answer.files j new) printed was)) up,
+  )

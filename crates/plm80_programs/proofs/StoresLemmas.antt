@@ -1,15 +1,6 @@
 -- What is printed of stores.
-use Rattle.std.specs.Prelude.{◌≡◌, ℕ, List, codes}
-use Rattle.std.proofs.Common.{◌∙◌, ap}
-use Rattle.omf_model.specs.declared.symbols.Public.{Public}
-use Rattle.image80.specs.declared.range.Range.{Range}
-use Rattle.image80.specs.Image.{Located}
-use Rattle.image80_text.specs.NameText.{named_text}
-use Rattle.verify80_stores.specs.declared.stores.Stores.{Stores}
-use Rattle.verify80_stores.specs.StoresText.{stores_text_of}
-use Rattle.plm80_console.specs.Answer.{AnswerValue, prints}
-use Rattle.plm80_programs.specs.Printed.{stores_lines}
-use Rattle.plm80_programs.specs.Status.{stores_status}
+use Rattle.plm80_programs.proofs.Names.{◌≡◌, ℕ, List, codes, ◌∙◌, ap, Public, Range, Located, named_text, Stores, stores_text_of}
+use Rattle.plm80_programs.proofs.Names.{AnswerValue, prints, stores_lines, stores_status}
 
 -- the lines get names in two steps
 pub stores_answered : (quiet : List Range) (start : ℕ) (image : Located) (publics : List Public) (stores : Stores) (code : List Range)

@@ -1,11 +1,5 @@
 -- What is suggested of an image doesn't depend on the regions that it has.
-use Rattle.std.specs.Prelude.{ℕ, List, Option}
-use Rattle.image80.specs.declared.range.Range.{Range}
-use Rattle.image80.specs.Image.{Located}
-use Rattle.image80.specs.Regions.{Areas}
-use Rattle.verify80_cases.specs.declared.search.Note.{Note}
-use Rattle.verify80_suggest.specs.declared.setters.Setter.{Setter}
-use Rattle.verify80_suggest.specs.Suggestion.{IsSuggestion, with_regions}
+use Rattle.plm80_programs.proofs.Names.{ℕ, List, Option, Range, Located, Areas, Note, Setter, IsSuggestion, with_regions}
 
 pub of_any_regions : (image : Located) (areas : Areas) (rom ram : List Range) (first second : Option Setter) (tableless : List ℕ)
     (notes : List Note) (new : Located) → IsSuggestion (with_regions image areas) rom ram first second tableless notes new

@@ -1,11 +1,5 @@
 -- Answers to what the verifier says.
-use Rattle.std.specs.Prelude.{List, Result, IfOk}
-use Rattle.std.proofs.lemmas.Result.{IfOk-weaker}
-use Rattle.omf_model.specs.declared.symbols.Public.{Public}
-use Rattle.image80.specs.Image.{Located}
-use Rattle.verify80.specs.Vouched.{Voucher}
-use Rattle.plm80_console.specs.Answer.{AnswerValue}
-use Rattle.plm80_names.specs.Verdict.{AnswersVerdict, IsAccepted}
+use Rattle.plm80_programs.proofs.Names.{List, Result, IfOk, IfOk-weaker, Public, Located, Voucher, AnswerValue, AnswersVerdict, IsAccepted}
 use Rattle.plm80_names.specs.Verdict.AnswersVerdict.{accepted}
 
 -- what is answered of a program that is accepted

@@ -1,15 +1,8 @@
 -- Words of the command line, one after another.
-use Rattle.std.specs.Prelude.{◌≡◌, ◌≢◌, ℕ, ◌+◌, ◌<◌, List, [], ◌∷◌, ◌++◌, All, None, Option, Some, IfSome, unwrap_or, length, map, take, drop}
-use Rattle.std.specs.Borrow.{Bor}
-use Rattle.std.proofs.Common.{◌∙◌, ap, append-nil, get_or, refl, subst, sym}
-use Rattle.std.proofs.lemmas.Grind.{flat_map-append}
-use Rattle.std.proofs.lemmas.List.{drop_more, map-append, take-append-drop, take_more}
-use Rattle.std.proofs.lemmas.List.Elements.{All-push}
-use Rattle.loader80_text.specs.declared.inputs.repeated.Repeated.{Repeated}
-use Rattle.loader80_text.specs.Words.{word_of}
-use Rattle.plm80_programs.specs.InputWords.{FaultsFile, FaultsWords, IsFirstBadWord, IsGoodWord, inputs_named}
-use Rattle.plm80_programs.specs.declared.inputs.InputsFileFault.{InputsFileFault}
-use Rattle.plm80_programs.specs.declared.inputs.InputsFileFault.TheVariants.{BadInput, TooLong, Memory}
+use Rattle.plm80_programs.proofs.Names.{◌≡◌, ◌≢◌, ℕ, ◌+◌, ◌<◌, List, [], ◌∷◌, ◌++◌, All, None, Option, Some, IfSome, unwrap_or, length, map}
+use Rattle.plm80_programs.proofs.Names.{take, drop, Bor, ◌∙◌, ap, append-nil, get_or, refl, subst, sym, flat_map-append, drop_more}
+use Rattle.plm80_programs.proofs.Names.{map-append, take-append-drop, take_more, All-push, Repeated, word_of, IsFirstBadWord, IsGoodWord}
+use Rattle.plm80_programs.proofs.Names.{inputs_named}
 
 abbrev text_of : Bor (List ℕ) → List ℕ
 text_of text = text.now

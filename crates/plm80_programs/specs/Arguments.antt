@@ -1,21 +1,15 @@
 -- Which argument of the command line each path and each flag of a command is.
 use Rattle.std.specs.Prelude.{◌≡◌, ℕ, List, [], ◌∷◌, Option, codes, map, option_map}
 use Rattle.std.specs.Borrow.{Bor}
-use Rattle.clap.specs.declared.parser.matches.ArgMatches.{ArgMatches}
-use Rattle.clap.specs.Matches.{first_value, found_of}
+use Rattle.clap.specs.{declared.parser.matches.ArgMatches.ArgMatches, Matches.first_value, Matches.found_of}
 use Rattle.plm80_console.specs.Arguments.{argument_text, argument_values}
 use Rattle.plm80_names.specs.Arguments.{AreNamedFiles, IsFlag}
-use Rattle.plm80_programs.specs.declared.calls.CallsArguments.{CallsArguments}
-use Rattle.plm80_programs.specs.declared.cases.CasesArguments.{CasesArguments}
-use Rattle.plm80_programs.specs.declared.cover.CoverArguments.{CoverArguments}
-use Rattle.plm80_programs.specs.declared.helpers.run_arguments.LimitTexts.{LimitTexts}
-use Rattle.plm80_programs.specs.declared.helpers.run_arguments.RunFiles.{RunFiles}
-use Rattle.plm80_programs.specs.declared.explain.ExplainArguments.{ExplainArguments}
-use Rattle.plm80_programs.specs.declared.list.ListArguments.{ListArguments}
-use Rattle.plm80_programs.specs.declared.regions.RegionsArguments.{RegionsArguments}
-use Rattle.plm80_programs.specs.declared.run.RunArguments.{RunArguments}
-use Rattle.plm80_programs.specs.declared.stores.StoresArguments.{StoresArguments}
-use Rattle.plm80_programs.specs.declared.trace.TraceArguments.{TraceArguments}
+use Rattle.plm80_programs.specs.{declared.calls.CallsArguments.CallsArguments, declared.cases.CasesArguments.CasesArguments}
+use Rattle.plm80_programs.specs.{declared.cover.CoverArguments.CoverArguments, declared.helpers.run_arguments.LimitTexts.LimitTexts}
+use Rattle.plm80_programs.specs.{declared.helpers.run_arguments.RunFiles.RunFiles, declared.explain.ExplainArguments.ExplainArguments}
+use Rattle.plm80_programs.specs.{declared.list.ListArguments.ListArguments, declared.regions.RegionsArguments.RegionsArguments}
+use Rattle.plm80_programs.specs.{declared.run.RunArguments.RunArguments, declared.stores.StoresArguments.StoresArguments}
+use Rattle.plm80_programs.specs.{declared.trace.TraceArguments.TraceArguments}
 
 pub record AreListArguments (matches : ArgMatches) (arguments : ListArguments) : Type 0 where
   pub files : AreNamedFiles matches arguments.files

@@ -2,20 +2,13 @@
 -- (That each PCHL has its line, its note or both, is this project's own.)
 use Rattle.std.specs.Prelude.{◌≡◌, ◌≤◌, ◌<◌, ℕ, Bool, true, false, List, [], ◌∷◌, All, None, Option, Some, length, map, filter, filter_map}
 use Rattle.std.specs.List.{range_with_len}
-use Rattle.image80.specs.Case.{DeclaredCase}
-use Rattle.image80.specs.Image.{Located}
-use Rattle.image80.specs.Regions.{Areas}
-use Rattle.image80.specs.RegionsText.{cases_text}
+use Rattle.image80.specs.{Case.DeclaredCase, Image.Located, Regions.Areas, RegionsText.cases_text}
 use Rattle.stream80.specs.WholeText.{text_limit}
-use Rattle.verify80_cases.specs.declared.search.Note.{Note}
-use Rattle.verify80_cases.specs.declared.search.SuggestedCase.{SuggestedCase}
-use Rattle.verify80_cases.specs.Added.{AddsCases}
 use Rattle.verify80_cases.specs.Suggested.{Finding, IsFinding, IsSearched, case_of, is_open}
-use Rattle.plm80_console.specs.Answer.{AnswerValue}
-use Rattle.plm80_console.specs.Journal.{FileValue}
+use Rattle.verify80_cases.specs.{declared.search.Note.Note, declared.search.SuggestedCase.SuggestedCase, Added.AddsCases}
+use Rattle.plm80_console.specs.{Answer.AnswerValue, Journal.FileValue}
 use Rattle.plm80_names.specs.Verdict.{AnswersProgram}
-use Rattle.plm80_programs.specs.declared.cases.FoundCase.{FoundCase}
-use Rattle.plm80_programs.specs.Status.{notes_status}
+use Rattle.plm80_programs.specs.{declared.cases.FoundCase.FoundCase, Status.notes_status}
 
 -- what is found of the PCHL at an address, which is reached and not declared: its case, if a table is seen for it, and its note
 pub record IsFoundAt (image : Located) (reached taken : List Bool) (at : ℕ) (found : FoundCase) : Type 0 where

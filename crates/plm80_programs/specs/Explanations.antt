@@ -1,24 +1,16 @@
 -- What `explain` prints of an image. (This project's own.)
 use Rattle.std.specs.Prelude.{◌≡◌, ◌≢◌, ◌+◌, ◌++◌, ◌∷◌, ◌&&◌, ◌==◌, ℕ, Bool, true, false, List, [], Option, None, Some, All, codes, length}
-use Rattle.std.specs.Fmt.{decimal}
-use Rattle.std.specs.List.{flat_map, list_any}
+use Rattle.std.specs.{Fmt.decimal, List.flat_map, List.list_any}
 use Rattle.omf_model.specs.declared.symbols.Public.{Public}
 use Rattle.image80.specs.Image.{Located}
-use Rattle.verify80_flow.specs.declared.refusal.Refusal.{Refusal}
 use Rattle.verify80_flow.specs.declared.refusal.Refusal.TheVariants.{Memory, StackTooSmall}
-use Rattle.verify80_flow.specs.declared.report.ProcRow.{ProcRow}
-use Rattle.verify80_flow.specs.Accepted.{IsMeasured}
-use Rattle.verify80_flow.specs.Faults.{Holds}
 use Rattle.verify80_flow.specs.Refusal.{refusal_address, refusal_code}
-use Rattle.verify80.specs.Looking.{code_of}
-use Rattle.verify80.specs.Vouched.{Voucher}
-use Rattle.verify80_explain.specs.declared.explaining_all.ShownRefusal.{ShownRefusal}
-use Rattle.verify80_explain_text.specs.Explained.{explanation_text}
-use Rattle.verify80_explain_text.specs.Printed.{GoesOnWithChain, GoesOnWithWays, too_many}
-use Rattle.verify80_explain.specs.Shows.{IsShown}
+use Rattle.verify80_flow.specs.{declared.refusal.Refusal.Refusal, declared.report.ProcRow.ProcRow, Accepted.IsMeasured, Faults.Holds}
+use Rattle.verify80.specs.{Looking.code_of, Vouched.Voucher}
+use Rattle.verify80_explain.specs.{declared.explaining_all.ShownRefusal.ShownRefusal, Shows.IsShown}
+use Rattle.verify80_explain_text.specs.{Explained.explanation_text, Printed.GoesOnWithChain, Printed.GoesOnWithWays, Printed.too_many}
 use Rattle.plm80_console.specs.Answer.{AnswerValue, prints}
-use Rattle.plm80_names.specs.Printed.{named_refusal_line, named_refusal_report, named_report}
-use Rattle.plm80_names.specs.Verdict.{IsAccepted}
+use Rattle.plm80_names.specs.{Printed.named_refusal_line, Printed.named_refusal_report, Printed.named_report, Verdict.IsAccepted}
 
 -- ---- one refusal
 

@@ -4,15 +4,10 @@ use Rattle.std.specs.Prelude.{◌≡◌, ◌≢◌, ◌<◌, ◌≤◌, ℕ, Lis
 use Rattle.std.specs.List.{flat_map}
 use Rattle.clap.specs.declared.parser.matches.ArgMatches.{ArgMatches}
 use Rattle.stream80.specs.WholeText.{text_limit}
-use Rattle.loader80_text.specs.declared.inputs.repeated.Repeated.{Repeated}
-use Rattle.loader80_text.specs.Text.{text_of}
-use Rattle.loader80_text.specs.Words.{word_of}
-use Rattle.plm80_console.specs.Answer.{AnswerValue, writes}
-use Rattle.plm80_console.specs.Arguments.{argument_text, argument_values}
-use Rattle.plm80_console.specs.Journal.{FileValue}
-use Rattle.plm80_programs.specs.declared.inputs.InputsArguments.{InputsArguments}
-use Rattle.plm80_programs.specs.declared.inputs.InputsFileFault.{InputsFileFault}
+use Rattle.loader80_text.specs.{declared.inputs.repeated.Repeated.Repeated, Text.text_of, Words.word_of}
+use Rattle.plm80_console.specs.{Answer.AnswerValue, Answer.writes, Arguments.argument_text, Arguments.argument_values, Journal.FileValue}
 use Rattle.plm80_programs.specs.declared.inputs.InputsFileFault.TheVariants.{BadInput, TooLong, Memory}
+use Rattle.plm80_programs.specs.{declared.inputs.InputsArguments.InputsArguments, declared.inputs.InputsFileFault.InputsFileFault}
 
 -- a word names inputs
 abbrev pub IsGoodWord : List ℕ → Type 0

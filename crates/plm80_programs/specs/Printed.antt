@@ -2,36 +2,19 @@
 -- with status 1, is this project's own.)
 use Rattle.std.specs.Prelude.{◌≡◌, ℕ, Bool, true, false, List, [], Some, All, codes, map}
 use Rattle.omf_model.specs.declared.symbols.Public.{Public}
-use Rattle.image80.specs.declared.range.Range.{Range}
-use Rattle.image80.specs.Image.{Located}
-use Rattle.image80_text.specs.Listing.{listing_of}
-use Rattle.image80_text.specs.NameText.{labelled_text, named_text}
-use Rattle.machine80.specs.Ports.{lists_of}
-use Rattle.machine80.specs.World.{world_at_start}
-use Rattle.verify80.specs.Looking.{code_of}
-use Rattle.verify80.specs.Boards.{SetsStack}
-use Rattle.verify80_calls.specs.declared.graph.call_graph.Node.{Node}
-use Rattle.verify80_calls.specs.GraphText.{graph_text}
-use Rattle.verify80_calls.specs.ListText.{list_text}
+use Rattle.image80.specs.{declared.range.Range.Range, Image.Located}
+use Rattle.image80_text.specs.{Listing.listing_of, NameText.labelled_text, NameText.named_text}
+use Rattle.machine80.specs.{Ports.lists_of, World.world_at_start}
+use Rattle.verify80.specs.{Looking.code_of, Boards.SetsStack, Vouched.Voucher}
 use Rattle.verify80_calls.specs.Nodes.{HasItsCalls, heading_of, headings}
-use Rattle.verify80_stores.specs.declared.stores.Stores.{Stores}
+use Rattle.verify80_calls.specs.{declared.graph.call_graph.Node.Node, GraphText.graph_text, ListText.list_text}
 use Rattle.verify80_stores.specs.Boards.{PromiseHoldsOnBoards, PromiseHoldsOnQuietBoards, is_quiet}
-use Rattle.verify80_stores.specs.Stores.{AreStoresOf}
-use Rattle.verify80_stores.specs.StoresText.{stores_text_of}
+use Rattle.verify80_stores.specs.{declared.stores.Stores.Stores, Stores.AreStoresOf, StoresText.stores_text_of}
 use Rattle.loader80.specs.declared.running.Ended.{Ended}
-use Rattle.verify80.specs.Vouched.{Voucher}
-use Rattle.loader80_trace.specs.declared.limits.Limits.{Limits}
-use Rattle.loader80_trace.specs.Counts.{CountsSteps}
-use Rattle.loader80_trace.specs.Cover.{CoversReached, ListsReached}
-use Rattle.loader80_trace.specs.Traces.{EndsSo}
-use Rattle.plm80_console.specs.Answer.{AnswerValue, prints}
-use Rattle.plm80_console.specs.Journal.{FileValue}
-use Rattle.plm80_names.specs.Printed.{named_report}
-use Rattle.plm80_names.specs.Verdict.{AnswersProgram, AnswersVerdict}
-use Rattle.plm80_names.specs.Arguments.{asks_names}
-use Rattle.plm80_programs.specs.declared.stores.StoresArguments.{StoresArguments}
-use Rattle.plm80_console.specs.Ranges.{AreRangesOf}
-use Rattle.plm80_programs.specs.Status.{stores_status}
+use Rattle.loader80_trace.specs.{declared.limits.Limits.Limits, Counts.CountsSteps, Cover.CoversReached, Cover.ListsReached, Traces.EndsSo}
+use Rattle.plm80_console.specs.{Answer.AnswerValue, Answer.prints, Journal.FileValue, Ranges.AreRangesOf}
+use Rattle.plm80_names.specs.{Printed.named_report, Verdict.AnswersProgram, Verdict.AnswersVerdict, Arguments.asks_names}
+use Rattle.plm80_programs.specs.{declared.stores.StoresArguments.StoresArguments, Status.stores_status}
 
 -- ---- check
 

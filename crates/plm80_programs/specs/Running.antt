@@ -1,38 +1,26 @@
 -- What commands print of a run, and how it is left. (That a run's transcript goes on with its last instructions, and the exit statuses,
 -- are this project's own.)
-use Rattle.std.specs.Prelude.{◌≡◌, ℕ, ◌+◌, ◌-◌, ◌==◌, ◌&&◌, not, is_none, min, Bool, true, false, List, [], ◌∷◌, ◌++◌, Option, None, Some, Result, Ok, Err, codes}
+use Rattle.std.specs.Prelude.{◌≡◌, ℕ, ◌+◌, ◌-◌, ◌==◌, ◌&&◌, not, is_none, min, Bool, true, false, List, [], ◌∷◌, ◌++◌, Option, None, Some}
+use Rattle.std.specs.Prelude.{Result, Ok, Err, codes}
 use Rattle.std.specs.Bool.{MatchBool}
 use Rattle.omf_model.specs.declared.symbols.Public.{Public}
-use Rattle.image80.specs.declared.range.Range.{Range}
-use Rattle.image80.specs.Image.{Located}
+use Rattle.image80.specs.{declared.range.Range.Range, Image.Located}
 use Rattle.image80_text.specs.NameText.{named_text}
-use Rattle.machine80.specs.Ports.{lists_of}
-use Rattle.machine80.specs.World.{World, world_at_start}
-use Rattle.loader80.specs.declared.replies.Outcome.{Outcome}
-use Rattle.loader80.specs.declared.running.Ended.{Ended}
-use Rattle.loader80.specs.declared.fault.SessionFault.{SessionFault}
+use Rattle.machine80.specs.{Ports.lists_of, World.World, World.world_at_start}
 use Rattle.loader80.specs.declared.fault.SessionFault.TheVariants.{Image, Regions, Inputs, Refused}
 use Rattle.loader80.specs.InputsText.{bad_line, inputs_of}
-use Rattle.loader80.specs.Session.{IsTranscript, Says}
-use Rattle.loader80.specs.Texts.{Texts}
-use Rattle.loader80.specs.TranscriptText.{end_line}
+use Rattle.loader80.specs.{declared.replies.Outcome.Outcome, declared.running.Ended.Ended, declared.fault.SessionFault.SessionFault}
+use Rattle.loader80.specs.{Session.IsTranscript, Session.Says, Texts.Texts, TranscriptText.end_line}
 use Rattle.verify80.specs.Vouched.{Voucher}
-use Rattle.loader80_trace.specs.declared.limits.Limits.{Limits}
-use Rattle.loader80_trace.specs.declared.limits.Span.{Span}
 use Rattle.loader80_trace.specs.Traces.{IsTraced, count_within, last_number, run_lines}
-use Rattle.plm80_console.specs.Answer.{AnswerValue, behind_file, prints}
+use Rattle.loader80_trace.specs.{declared.limits.Limits.Limits, declared.limits.Span.Span}
 use Rattle.plm80_console.specs.Journal.{FileValue, Journal, and_read}
-use Rattle.plm80_console.specs.NumberText.{count_value}
+use Rattle.plm80_console.specs.{Answer.AnswerValue, Answer.behind_file, Answer.prints, NumberText.count_value}
 use Rattle.plm80_names.specs.Verdict.{AnswersVerdict, AreOfFiles}
-use Rattle.plm80_programs.specs.declared.cover.CoverArguments.{CoverArguments}
-use Rattle.plm80_programs.specs.declared.helpers.run_arguments.LimitTexts.{LimitTexts}
-use Rattle.plm80_programs.specs.declared.helpers.run_arguments.RunFiles.{RunFiles}
-use Rattle.plm80_programs.specs.declared.run.RunArguments.{RunArguments}
-use Rattle.plm80_programs.specs.declared.trace.TraceArguments.{TraceArguments}
-use Rattle.plm80_programs.specs.declared.helpers.run_arguments.RunTexts.{RunTexts}
-use Rattle.plm80_programs.specs.Arguments.{dump_of}
-use Rattle.plm80_programs.specs.Printed.{CountsRun}
-use Rattle.plm80_programs.specs.Status.{end_status}
+use Rattle.plm80_programs.specs.{declared.cover.CoverArguments.CoverArguments, declared.helpers.run_arguments.LimitTexts.LimitTexts}
+use Rattle.plm80_programs.specs.{declared.helpers.run_arguments.RunFiles.RunFiles, declared.run.RunArguments.RunArguments}
+use Rattle.plm80_programs.specs.{declared.trace.TraceArguments.TraceArguments, declared.helpers.run_arguments.RunTexts.RunTexts}
+use Rattle.plm80_programs.specs.{Arguments.dump_of, Printed.CountsRun, Status.end_status}
 
 -- where a program's run on some inputs begins
 abbrev pub start_of : Voucher → List (ℕ × ℕ) → World

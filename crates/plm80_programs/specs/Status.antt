@@ -1,13 +1,13 @@
 -- The exit statuses of commands, and words on the end of a run. (This project's own.)
 use Rattle.std.specs.Prelude.{ℕ, ◌==◌, ◌&&◌, Bool, true, false, Option, None, Some, List, length, if◌then◌else◌}
 use Rattle.std.specs.List.{list_any}
-use Rattle.machine80.specs.declared.end.End.{End}
 use Rattle.machine80.specs.declared.end.End.TheVariants.{Halt, InputEnd, OutputRefused, StoreOutside, JumpOutside}
+use Rattle.machine80.specs.declared.end.End.{End}
 use Rattle.plm80_programs.specs.declared.status.EndWords.{EndWords}
-use Rattle.plm80_programs.specs.declared.status.EndWords.TheVariants as words
-use Rattle.verify80_cases.specs.declared.search.Note.{Note}
 use Rattle.verify80_cases.specs.declared.search.Note.TheVariants.{MayEnd, Tableless, Returns}
+use Rattle.verify80_cases.specs.declared.search.Note.{Note}
 use Rattle.verify80_stores.specs.declared.stores.Stores.{Stores}
+use Rattle.plm80_programs.specs.declared.status.EndWords.TheVariants as words
 
 -- of a run: 0 if it halted, 4 if its steps were used up, and 3 if it ended otherwise
 abbrev pub end_status : Option End → ℕ

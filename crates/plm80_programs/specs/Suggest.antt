@@ -1,23 +1,16 @@
 -- What `suggest` prints of an image, and reports.
 -- (The status is this project's own.)
-use Rattle.std.specs.Prelude.{◌≡◌, ◌≤◌, ℕ, List, [], ◌∷◌, Option, None, Some, codes, length, map}
+use Rattle.std.specs.Prelude.{◌≡◌, ◌≤◌, List, [], ◌∷◌, Option, None, Some, codes, length, map}
 use Rattle.clap.specs.declared.parser.matches.ArgMatches.{ArgMatches}
-use Rattle.image80.specs.declared.range.Range.{Range}
-use Rattle.image80.specs.Image.{Located}
-use Rattle.image80.specs.RegionsText.{regions_text}
+use Rattle.image80.specs.{declared.range.Range.Range, Image.Located, RegionsText.regions_text}
 use Rattle.image80_file.specs.ImageFile.{SpellsImage, without_regions}
 use Rattle.stream80.specs.WholeText.{text_limit}
-use Rattle.verify80_suggest.specs.declared.suggesting.Advice.{Advice}
-use Rattle.verify80_suggest.specs.declared.setters.Setter.{Setter}
-use Rattle.verify80_suggest.specs.Suggestion.{IsSuggestion}
-use Rattle.plm80_console.specs.Answer.{AnswerValue, prints}
-use Rattle.plm80_console.specs.Journal.{FileValue}
+use Rattle.verify80_suggest.specs.{declared.suggesting.Advice.Advice, declared.setters.Setter.Setter, Suggestion.IsSuggestion}
 use Rattle.plm80_console.specs.Arguments.{argument_text, argument_values}
-use Rattle.plm80_programs.specs.declared.suggest.SuggestArguments.{SuggestArguments}
-use Rattle.plm80_console.specs.Ranges.{AreRangesOf}
-use Rattle.plm80_programs.specs.declared.suggest.StackWords.{StackWords}
+use Rattle.plm80_console.specs.{Answer.AnswerValue, Answer.prints, Journal.FileValue, Ranges.AreRangesOf}
+use Rattle.plm80_programs.specs.{declared.suggest.SuggestArguments.SuggestArguments, declared.suggest.StackWords.StackWords}
+use Rattle.plm80_programs.specs.{Status.notes_status}
 use Rattle.plm80_programs.specs.declared.suggest.StackWords.TheVariants as words
-use Rattle.plm80_programs.specs.Status.{notes_status}
 
 -- of which stacks there are words: of one that no LXI SP sets, and of one that several set
 abbrev pub stack_words : (first second : Option Setter) → Option StackWords

@@ -2,8 +2,7 @@
 -- (The text of regions is this project's own.)
 use Rattle.std.specs.Prelude.{◌≡◌, ℕ, List, [], ◌∷◌}
 use Rattle.image80.specs.RegionsText.{Migrates}
-use Rattle.plm80_console.specs.Answer.{AnswerValue, writes}
-use Rattle.plm80_console.specs.Journal.{FileValue}
+use Rattle.plm80_console.specs.{Answer.AnswerValue, Answer.writes, Journal.FileValue}
 
 -- the text of version 2 of the regions that another text spells goes to a file
 pub record WritesMigrated (old path : List ℕ) (answer : AnswerValue) : Type 0 where

@@ -13,8 +13,8 @@ use std::alloc::{AllocError, Global};
 use verify80_explain::{ShownRefusal, explain_all};
 use verify80_explain_text::explanation_text;
 
-/// All refusals of points that are found of an image, each with its way; behind them the verifier's, if it is none of these; and how many
-/// there are. Out of memory is no answer about the image.
+/// The text of all refusals of points that are found of `image`, each with what shows it; behind them the verifier's own, `refusal`, if it
+/// is none of these; and how many there are. `AllocError` if memory runs out, and if `refusal` is that it did.
 pub(crate) fn all_refused(
     alloc: Global,
     image: &Image,
@@ -35,14 +35,14 @@ pub(crate) fn all_refused(
     Ok(text)
 }
 
-/// Whether memory ran out.
+/// Whether a refusal is that memory ran out.
 fn is_memory(refusal: Refusal) -> bool
     ensures { (result ≡ true) ↔ (refusal ≡ Memory) }
 {
     matches!(refusal, Refusal::Memory)
 }
 
-/// The line of each refusal, and what shows it.
+/// The lines of these refusals, in order, each followed by what shows it.
 fn shown_text(
     alloc: Global,
     image: &Image,
@@ -58,7 +58,7 @@ fn shown_text(
     Ok(text)
 }
 
-/// Appends the line of a refusal, and what shows it.
+/// Appends the line of a refusal, followed by what shows it.
 fn append_shown(
     alloc: Global,
     text: &mut Vec<u8>,
@@ -74,7 +74,7 @@ fn append_shown(
     text.extend_from_slice(&ways)
 }
 
-/// Appends the line that there is more to show, if there is.
+/// Appends the line that there are more refusals to show, unless `are_all`.
 fn append_limit(text: &mut Vec<u8>, are_all: bool) -> Result<(), AllocError>
     ensures { OnOk result (text.new.items ≡ text.old.items ++ limit_line are_all) }
 {
@@ -84,7 +84,8 @@ fn append_limit(text: &mut Vec<u8>, are_all: bool) -> Result<(), AllocError>
     text.extend_from_slice(b"TOO MANY WAYS TO SHOW\n".as_slice())
 }
 
-/// Appends the refusal of the verifier with what shows it, unless one of those that are shown is it, and answers how many it appended.
+/// Appends the verifier's `refusal`, followed by what shows it, unless one of `shown` has its number and its address. Returns how many
+/// refusals were appended, 0 or 1.
 fn append_rest(
     alloc: Global,
     text: &mut Vec<u8>,
@@ -103,21 +104,21 @@ fn append_rest(
     Ok(1)
 }
 
-/// Whether one of the shown refusals has the number and the address of this one.
+/// Whether one of `shown` has the number and the address of `refusal`.
 fn is_among(shown: &[ShownRefusal], refusal: Refusal) -> bool
     ensures { result ≡ list_any (is_of refusal) shown.now }
 {
     shown.iter().any(|one| is_of(one, refusal))
 }
 
-/// Whether a shown refusal has the number and the address of this one.
+/// Whether `one` has the number and the address of `refusal`.
 fn is_of(one: &ShownRefusal, refusal: Refusal) -> bool
     ensures { result ≡ is_of refusal one.now }
 {
     one.refusal.code() == refusal.code() && one.refusal.address() == refusal.address()
 }
 
-/// Appends how many refusals there are.
+/// Appends the line of how many refusals there are, `shown` and `further` together.
 fn append_count(
     alloc: Global,
     text: &mut Vec<u8>,

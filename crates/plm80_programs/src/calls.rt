@@ -1,23 +1,21 @@
 //! `plm80 calls`: the calls of a located program, or its refusal.
 
 ghost use Rattle.std.specs.Prelude.{◌≡◌, [], IfErr, IfOk};
-ghost use Rattle.plm80_console.specs.Answer.{Gives};
-ghost use Rattle.plm80_console.specs.Journal.{OnlyReports};
-ghost use Rattle.plm80_names.specs.Arguments.{asks_names, program_paths};
-ghost use Rattle.plm80_names.specs.Verdict.{AnswersProgram};
-ghost use Rattle.plm80_programs.specs.Arguments.{AreCallsArguments};
-ghost use Rattle.plm80_programs.specs.Printed.{IsCallsText, PrintsCalls};
+ghost use Rattle.plm80_console.specs.{Answer.Gives, Journal.OnlyReports};
+ghost use Rattle.plm80_names.specs.{Arguments.asks_names, Arguments.program_paths, Verdict.AnswersProgram};
+ghost use Rattle.plm80_programs.specs.{Arguments.AreCallsArguments, Printed.IsCallsText, Printed.PrintsCalls};
 
 use clap::ArgMatches;
 use image80::Image;
 use loader80::Vouched;
+use plm80_console::laws::reading_leaves_files_alone;
 use plm80_console::{Answer, Argument, Console, Kind, Reported, Syntax};
 use plm80_files::{IMAGE, REGIONS};
 use plm80_names::{NAMES, NamedFiles, Names, Verdict, explain_given, judge};
 use std::alloc::{AllocError, Global};
 use verify80_calls::{CallGraph, graph_text, list_text};
 
-/// The arguments of `calls`.
+/// The arguments of the command `calls`.
 #[derive(Clone, Copy)]
 pub struct CallsArguments<'a> {
     files: NamedFiles<'a>,
@@ -40,7 +38,7 @@ Example: plm80 calls readings.img readings.regions
 
 Faults and what to do: docs/FAULTS.md (installed: share/doc/plm80), man plm80.";
 
-/// `calls` and its arguments.
+/// The command `calls`: its name, its help and its arguments.
 pub const CALLS: Syntax<'static> = Syntax {
     name: "calls",
     about: ABOUT,
@@ -58,7 +56,7 @@ pub const CALLS: Syntax<'static> = Syntax {
 };
 
 impl<'a> CallsArguments<'a> {
-    /// The arguments as clap has read them.
+    /// Takes the arguments of `calls` from what clap has matched.
     pub fn of(matches: &ArgMatches<'a>) -> CallsArguments<'a>
         ensures { AreCallsArguments matches.now result }
     {
@@ -69,7 +67,7 @@ impl<'a> CallsArguments<'a> {
     }
 }
 
-/// Prints the calls of the image, or its refusal, and gives the exit status.
+/// Does `calls`: prints the calls of the image, or its refusal, and returns the exit status, 1 for a refusal.
 pub fn show_calls<C: Console>(
     console: &mut C,
     arguments: CallsArguments<'_>,
@@ -78,6 +76,7 @@ pub fn show_calls<C: Console>(
         (program_paths asked.files) (C.journal console.old) (C.journal console.new)) }
     ensures fault { IfErr result (λ _. OnlyReports (C.journal console.old) (C.journal console.new)) }
 {
+    reading_leaves_files_alone();
     let (image, names) = arguments.files.read(console)?;
     let answer = shown(console.alloc(), image, arguments.dot, &names);
     let given = console.give_if_made(answer);
@@ -92,7 +91,7 @@ pub fn show_calls<C: Console>(
     given
 }
 
-/// The calls of an image, or its refusal.
+/// What `calls` answers: the calls of `image` as lines, or with `dot` as a graph; the line of its refusal if the verifier refuses it.
 fn shown(
     alloc: Global,
     image: Image,
@@ -111,7 +110,7 @@ fn shown(
     }
 }
 
-/// The calls of a program, as lines or as a graph.
+/// The calls of a program as lines, or with `dot` as a graph.
 fn calls_text(
     alloc: Global,
     vouched: &Vouched,

@@ -1,23 +1,22 @@
 //! `plm80 cases`: the CASE lines that the tables of an image suggest.
 
-ghost use Rattle.std.specs.Prelude.{◌≡◌, ◌<◌, ◌++◌, ◌∷◌, [], List, false, None, Some, length, option_map, IfErr, IfNone, IfOk, IfSome, IsErrOf, OnOk};
-ghost use Rattle.std.specs.Io.KnownBytes.{Appends};
-ghost use Rattle.std.specs.List.{cons_option, list_any};
-ghost use Rattle.image80.specs.Case.{DeclaredCase};
-ghost use Rattle.image80.specs.RegionsText.{cases_text};
+ghost use Rattle.std.specs.Prelude.{◌≡◌, ◌<◌, ◌++◌, ◌∷◌, [], List, false, None, Some, length, option_map, IfErr, IfNone, IfOk, IfSome};
+ghost use Rattle.std.specs.Prelude.{IsErrOf, OnOk};
+ghost use Rattle.std.specs.{Io.KnownBytes.Appends, List.cons_option, List.list_any};
+ghost use Rattle.image80.specs.{Case.DeclaredCase, RegionsText.cases_text};
 ghost use Rattle.stream80.specs.WholeText.{text_limit};
 ghost use Rattle.verify80_cases.specs.Suggested.{case_of, is_open};
-ghost use Rattle.plm80_console.specs.Answer.{Gives, GivesUp, IsAnswered, IsGivenUp};
 ghost use Rattle.plm80_console.specs.Journal.{OnlyReports, and_reported};
-ghost use Rattle.plm80_programs.specs.Arguments.{AreCasesArguments, cases_path};
+ghost use Rattle.plm80_console.specs.Answer.{Gives, GivesUp, IsAnswered, IsGivenUp};
 ghost use Rattle.plm80_programs.specs.Cases.{AnswersCases, FindsCases, HasLongCases, IsFoundAt, PrintsCases};
-ghost use Rattle.plm80_programs.specs.Status.{lacks_table, notes_status};
+ghost use Rattle.plm80_programs.specs.{Arguments.AreCasesArguments, Arguments.cases_path, Status.lacks_table, Status.notes_status};
 
 use crate::helpers::endings::report_lines;
 use clap::ArgMatches;
 use image80::{Case, Image, RegionsFault, case_lines};
 use loader80::TEXT_LIMIT;
 use loader80_trace::TraceFault;
+use plm80_console::laws::reading_leaves_files_alone;
 use plm80_console::{Answer, Argument, Console, Kind, Reported, Syntax, argument_text};
 use plm80_files::{IMAGE, REGIONS};
 use plm80_names::ProgramTexts;
@@ -26,7 +25,7 @@ use stream80::{Sink, write_all};
 use verify80::ImageCode;
 use verify80_cases::{Note, Search, SuggestedCase, regions_with_cases};
 
-/// The arguments of `cases`.
+/// The arguments of the command `cases`.
 #[derive(Clone, Copy)]
 pub struct CasesArguments<'a> {
     image: &'a str,
@@ -50,7 +49,7 @@ Example: plm80 cases adder.img adder.regions --out adder.regions
 
 Faults and what to do: docs/FAULTS.md (installed: share/doc/plm80), man plm80.";
 
-/// `cases` and its arguments.
+/// The command `cases`: its name, its help and its arguments.
 pub const CASES: Syntax<'static> = Syntax {
     name: "cases",
     about: ABOUT,
@@ -70,7 +69,7 @@ pub const CASES: Syntax<'static> = Syntax {
 };
 
 impl<'a> CasesArguments<'a> {
-    /// The arguments as clap has read them.
+    /// Takes the arguments of `cases` from what clap has matched.
     pub fn of(matches: &ArgMatches<'a>) -> CasesArguments<'a>
         ensures { AreCasesArguments matches.now result }
     {
@@ -82,8 +81,8 @@ impl<'a> CasesArguments<'a> {
     }
 }
 
-/// Prints the CASE lines, writes the regions with them if a file is named, and reports what there is to say of the PCHLs; gives status 1
-/// if no table is seen for one of them.
+/// Does `cases`: prints the CASE lines that the image's tables suggest, writes the regions with them if a file is named, says what there is
+/// to say of the PCHLs, and returns the exit status, 1 if no table is seen for one of them.
 pub fn suggest_for_files<C: Console>(
     console: &mut C,
     arguments: CasesArguments<'_>,
@@ -93,12 +92,14 @@ pub fn suggest_for_files<C: Console>(
     ensures fault { let asked = arguments.entry in IfErr result (λ _. GivesUp (AnswersCases (cases_path asked))
         (asked.image.now ∷ asked.regions.now ∷ []) (C.journal console.old) (C.journal console.new)) }
 {
+    reading_leaves_files_alone();
     let texts = ProgramTexts::read(console, arguments.image, arguments.regions)?;
     let (image, _) = texts.program(console, false)?;
     suggest(console, arguments.out, &image)
 }
 
-/// Prints the CASE lines, and writes the regions with them if a file is named; gives the exit status.
+/// Prints the CASE lines that the tables of `image` suggest, writes its regions with them to the file `out` if one is named, and returns
+/// the exit status.
 fn suggest<C: Console>(console: &mut C, out: Option<&str>, image: &Image) -> Result<u8, Reported>
     ensures done { IfOk result (IsAnswered (PrintsCases (option_map (λ path. path.now) out.entry) image.now)
         (C.journal console.old) (C.journal console.new)) }
@@ -111,7 +112,7 @@ fn suggest<C: Console>(console: &mut C, out: Option<&str>, image: &Image) -> Res
     }
 }
 
-/// Prints the line of each case as it is found, and gives the exit status.
+/// Prints the line of each case of `image` as it is found, and returns the exit status.
 fn print_cases<C: Console>(console: &mut C, image: &Image) -> Result<u8, Reported>
     ensures done { IfOk result (IsAnswered (PrintsCases None image.now) (C.journal console.old) (C.journal console.new)) }
     ensures fault { IfErr result (λ _. OnlyReports (C.journal console.old) (C.journal console.new)) }
@@ -128,8 +129,8 @@ fn print_cases<C: Console>(console: &mut C, image: &Image) -> Result<u8, Reporte
     }
 }
 
-/// Writes the line of each case as it is found, and gives what there is to say of the PCHLs. No case is kept: together they may have
-/// thousands of times as many targets as the image has bytes.
+/// Writes the line of each case of `image` as it is found, and returns what there is to say of its PCHLs. No case is kept: together they
+/// may have thousands of times as many targets as the image has bytes.
 fn write_cases<K: Sink>(alloc: Global, image: &Image, out: &mut K) -> Result<Vec<Note>, TraceFault>
     requires { K.failed out.old < u64.MAX }
     ensures { IfOk result (λ notes. (cases : List DeclaredCase) × FindsCases image.now cases notes.items
@@ -146,7 +147,7 @@ fn write_cases<K: Sink>(alloc: Global, image: &Image, out: &mut K) -> Result<Vec
     Ok(notes)
 }
 
-/// Writes the line of a case, if there is one, and appends the note of its PCHL, if there is one.
+/// Writes the line of the case that is found of a PCHL, if there is one, and appends what there is to say of the PCHL to `notes`.
 fn write_found<K: Sink>(
     alloc: Global,
     found: FoundCase,
@@ -166,7 +167,7 @@ fn write_found<K: Sink>(
     Ok(())
 }
 
-/// Writes the regions with the cases to the file of this path, prints the line of each case, and gives the exit status.
+/// Writes the regions of `image` with its cases to the file `path`, prints the line of each case, and returns the exit status.
 fn add_cases<C: Console>(console: &mut C, path: &str, image: &Image) -> Result<u8, Reported>
     ensures done { IfOk result (IsAnswered (PrintsCases (Some path.now) image.now) (C.journal console.old) (C.journal console.new)) }
     ensures fault { IfErr result (λ _. IsGivenUp (PrintsCases (Some path.now) image.now) (C.journal console.old) (C.journal console.new)) }
@@ -181,14 +182,15 @@ fn add_cases<C: Console>(console: &mut C, path: &str, image: &Image) -> Result<u
     }
 }
 
-/// Cases that are added to regions: the file of these, the lines of the cases, and what there is to say of the PCHLs.
+/// What is done of cases that are added to regions: the answer with the file and the lines, and what there is to say of the PCHLs.
 #[derive(Drop)]
 struct AddedCases<'a> {
     answer: Answer<'a>,
     notes: Vec<Note>,
 }
 
-/// The cases of an image that are added to its regions, whose text goes to the file of this path.
+/// The cases of `image`, added to its regions, whose text goes to the file `path`; the lines of the cases; and what there is to say of the
+/// PCHLs. `TooLong` if the text has more bytes than a text of regions may have.
 fn added_cases<'a>(
     alloc: Global,
     path: &'a str,
@@ -208,12 +210,12 @@ fn added_cases<'a>(
     })
 }
 
-/// Why cases aren't added to regions.
+/// Why cases can't be added to regions.
 #[derive(Clone, Copy)]
 pub(crate) enum AddingFault {
-    /// The text would have more bytes than a text of regions may have.
+    /// The text with the cases has more bytes than a text of regions may have.
     TooLong,
-    /// The text with the lines is no text of regions; or out of memory.
+    /// The text with the cases is no text of regions, or memory ran out.
     Regions(RegionsFault),
 }
 
@@ -242,7 +244,7 @@ impl From<AllocError> for AddingFault {
     }
 }
 
-/// Reports why cases aren't added to the regions that are to be written to the file of this path.
+/// Reports why cases can't be added to the regions that were to go to the file `path`. Out of memory is reported without the path.
 fn report_regions_fault<C: Console>(console: &mut C, path: &str, fault: AddingFault) -> Reported
     ensures { C.journal console.new ≡ and_reported (C.journal console.old) }
 {
@@ -253,7 +255,7 @@ fn report_regions_fault<C: Console>(console: &mut C, path: &str, fault: AddingFa
     }
 }
 
-/// Cases with their lines, no more than a text of regions can have, and what there is to say of the PCHLs.
+/// Cases with their lines, which have no more bytes than a text of regions may have, and what there is to say of the PCHLs.
 #[derive(Drop)]
 pub(crate) struct KeptCases {
     cases: Vec<Case>,
@@ -261,7 +263,7 @@ pub(crate) struct KeptCases {
     notes: Vec<Note>,
 }
 
-/// The cases that an image suggests.
+/// All cases that the tables of `image` suggest, with their lines. `TooLong` if the lines have more bytes than a text of regions may have.
 pub(crate) fn kept_cases(alloc: Global, image: &Image) -> Result<KeptCases, AddingFault>
     ensures found { IfOk result (λ kept. FindsCases image.now kept.cases.items kept.notes.items) }
     ensures lines { IfOk result (λ kept. kept.lines.items ≡ cases_text kept.cases.items) }
@@ -283,7 +285,8 @@ pub(crate) fn kept_cases(alloc: Global, image: &Image) -> Result<KeptCases, Addi
 }
 
 impl KeptCases {
-    /// Adds what is found of a PCHL, unless the lines are then too long for a text of regions.
+    /// Appends the case that is found of a PCHL, its line, and what there is to say of the PCHL. `TooLong` if the lines would then have
+    /// more bytes than a text of regions may have.
     fn add(&mut self, alloc: Global, found: FoundCase) -> Result<(), AddingFault>
         ensures cases { OnOk result (self.new.cases.items ≡ self.old.cases.items ++ cons_option found.case []) }
         ensures lines { OnOk result (self.new.lines.items ≡ self.old.lines.items ++ cases_text (cons_option found.case [])) }
@@ -306,14 +309,15 @@ impl KeptCases {
     }
 }
 
-/// What is found of a PCHL that is reached and has no declared targets: its case, if a table is seen, and what there is to say of it.
+/// What is found of a PCHL that is reached and has no declared targets: its case, if a table is seen for it, and what there is to say of
+/// it.
 #[derive(Drop)]
 struct FoundCase {
     case: Option<Case>,
     note: Option<Note>,
 }
 
-/// What is found of the PCHL at an address, if one stands there that is reached and has no declared targets.
+/// What is found of the PCHL at the address `at`. `None` if no PCHL is there, if it isn't reached, or if its targets are declared.
 fn found_at(
     alloc: Global,
     image: &Image,
@@ -336,7 +340,7 @@ fn found_at(
     }))
 }
 
-/// The case of what is suggested, if something is.
+/// The case that a search suggests for a PCHL; `None` if it suggests none.
 fn case_of(found: Option<SuggestedCase>) -> Option<Case>
     ensures { result ≡ case_of found }
 {
@@ -346,7 +350,7 @@ fn case_of(found: Option<SuggestedCase>) -> Option<Case>
     }
 }
 
-/// Appends a note, if there is one.
+/// Appends `note` to `notes` if there is one.
 fn push_given(notes: &mut Vec<Note>, note: Option<Note>) -> Result<(), AllocError>
     ensures { OnOk result (notes.new.items ≡ notes.old.items ++ cons_option note []) }
 {
@@ -356,21 +360,21 @@ fn push_given(notes: &mut Vec<Note>, note: Option<Note>) -> Result<(), AllocErro
     Ok(())
 }
 
-/// The exit status: 1 if there is a note of a PCHL without a table.
+/// The exit status of `cases` and `suggest`: 1 if one of `notes` is of a PCHL for which no table is seen, else 0.
 pub(crate) fn notes_status(notes: &[Note]) -> u8
     ensures { result ≡ notes_status notes.now }
 {
     if some_lacks_table(notes) { 1 } else { 0 }
 }
 
-/// Whether there is a note of a PCHL without a table.
+/// Whether one of `notes` is of a PCHL for which no table is seen.
 fn some_lacks_table(notes: &[Note]) -> bool
     ensures { result ≡ list_any lacks_table notes.now }
 {
     notes.iter().any(|note| lacks_table(note))
 }
 
-/// Whether a note is that of a PCHL without a table.
+/// Whether `note` is of a PCHL for which no table is seen, be it that it returns.
 fn lacks_table(note: &Note) -> bool
     ensures { result ≡ lacks_table note.now }
 {
@@ -380,7 +384,7 @@ fn lacks_table(note: &Note) -> bool
     }
 }
 
-/// Says what there is to say of PCHLs.
+/// Prints what there is to say of PCHLs on standard error, a line for each note, and what to do, if words are asked for.
 pub(crate) fn remark_notes<C: Console>(console: &C, notes: &[Note]) {
     for note in notes {
         match *note {

@@ -1,13 +1,12 @@
 //! `plm80 check`: the verifier's report on a located program, or its refusal.
 
 ghost use Rattle.std.specs.Prelude.{◌≡◌, [], IfErr, IfOk};
-ghost use Rattle.plm80_console.specs.Answer.{Gives};
-ghost use Rattle.plm80_console.specs.Journal.{OnlyReports};
-ghost use Rattle.plm80_names.specs.Arguments.{asks_names, program_paths};
-ghost use Rattle.plm80_names.specs.Verdict.{AnswersProgram};
+ghost use Rattle.plm80_console.specs.{Answer.Gives, Journal.OnlyReports};
+ghost use Rattle.plm80_names.specs.{Arguments.asks_names, Arguments.program_paths, Verdict.AnswersProgram};
 ghost use Rattle.plm80_programs.specs.Printed.{PrintsReport};
 
 use image80::Image;
+use plm80_console::laws::reading_leaves_files_alone;
 use plm80_console::{Answer, Console, Reported, Syntax};
 use plm80_names::{NAMED_FILES, NamedFiles, Names, Verdict, explain_given, judge, named_report};
 use std::alloc::{AllocError, Global};
@@ -29,7 +28,7 @@ Example: plm80 check readings.img readings.regions
 
 Faults and what to do: docs/FAULTS.md (installed: share/doc/plm80), man plm80.";
 
-/// `check` and its arguments.
+/// The command `check`: its name, its help and its arguments.
 pub const CHECK: Syntax<'static> = Syntax {
     name: "check",
     about: ABOUT,
@@ -37,12 +36,13 @@ pub const CHECK: Syntax<'static> = Syntax {
     arguments: NAMED_FILES,
 };
 
-/// Prints the report on the image, or its refusal, and gives the exit status.
+/// Does `check`: prints the report on the image, or its refusal, and returns the exit status, 1 for a refusal.
 pub fn check_files<C: Console>(console: &mut C, files: NamedFiles<'_>) -> Result<u8, Reported>
     ensures done { IfOk result (Gives (AnswersProgram PrintsReport (asks_names files.entry)) (program_paths files.entry)
         (C.journal console.old) (C.journal console.new)) }
     ensures fault { IfErr result (λ _. OnlyReports (C.journal console.old) (C.journal console.new)) }
 {
+    reading_leaves_files_alone();
     let (image, names) = files.read(console)?;
     let answer = checked(console.alloc(), image, &names);
     let given = console.give_if_made(answer);
@@ -56,7 +56,7 @@ pub fn check_files<C: Console>(console: &mut C, files: NamedFiles<'_>) -> Result
     given
 }
 
-/// The report on an image, or its refusal.
+/// What `check` answers: the report on `image`; the line of its refusal if the verifier refuses it.
 fn checked(alloc: Global, image: Image, names: &Names) -> Result<Answer<'static>, AllocError>
     ensures report { IfOk result (PrintsReport image names.now) }
     ensures no_file { IfOk result (λ answer. answer.files ≡ []) }

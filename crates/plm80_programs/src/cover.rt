@@ -1,11 +1,9 @@
 //! `plm80 cover`: the code of a located program, with how often a run began each instruction.
 
 ghost use Rattle.std.specs.Prelude.{◌≡◌, [], IfErr, IfOk};
-ghost use Rattle.plm80_console.specs.Answer.{Gives};
-ghost use Rattle.plm80_console.specs.Journal.{OnlyReports};
+ghost use Rattle.plm80_console.specs.{Answer.Gives, Journal.OnlyReports};
 ghost use Rattle.plm80_programs.specs.Arguments.{AreCoverArguments, run_paths};
-ghost use Rattle.plm80_programs.specs.Printed.{CountsRun, PrintsCover};
-ghost use Rattle.plm80_programs.specs.Running.{AnswersRun, CoversFiles};
+ghost use Rattle.plm80_programs.specs.{Printed.CountsRun, Printed.PrintsCover, Running.AnswersRun, Running.CoversFiles};
 
 use crate::helpers::run_arguments::{INPUTS, LimitTexts, OUTPUTS, RunFiles, STEPS};
 use clap::ArgMatches;
@@ -13,12 +11,13 @@ use image80::Image;
 use loader80::Vouched;
 use loader80_trace::{Limits, count_steps, cover};
 use machine80::Inputs;
+use plm80_console::laws::reading_leaves_files_alone;
 use plm80_console::{Answer, Console, Reported, Syntax};
 use plm80_files::{IMAGE, REGIONS};
 use plm80_names::{NAMES, Names, Verdict, explain_given, judge};
 use std::alloc::{AllocError, Global};
 
-/// The arguments of `cover`.
+/// The arguments of the command `cover`.
 #[derive(Clone, Copy)]
 pub struct CoverArguments<'a> {
     files: RunFiles<'a>,
@@ -39,7 +38,7 @@ Example: plm80 cover readings.img readings.regions readings.inputs
 
 Faults and what to do: docs/FAULTS.md (installed: share/doc/plm80), man plm80.";
 
-/// `cover` and its arguments.
+/// The command `cover`: its name, its help and its arguments.
 pub const COVER: Syntax<'static> = Syntax {
     name: "cover",
     about: ABOUT,
@@ -48,7 +47,7 @@ pub const COVER: Syntax<'static> = Syntax {
 };
 
 impl<'a> CoverArguments<'a> {
-    /// The arguments as clap has read them.
+    /// Takes the arguments of `cover` from what clap has matched.
     pub fn of(matches: &ArgMatches<'a>) -> CoverArguments<'a>
         ensures { AreCoverArguments matches.now result }
     {
@@ -60,7 +59,8 @@ impl<'a> CoverArguments<'a> {
     }
 }
 
-/// Prints the code with the counts of the run, and gives the exit status.
+/// Does `cover`: runs the image and prints its code with the counts of the run, or its refusal, and returns the exit status, 1 for a
+/// refusal.
 pub fn cover_files<C: Console>(
     console: &mut C,
     arguments: CoverArguments<'_>,
@@ -76,7 +76,8 @@ pub fn cover_files<C: Console>(
     given
 }
 
-/// Prints the code with the counts of the run within these limits, and gives the exit status.
+/// Reads the files of a run, runs the image within these limits, prints its code with the counts of the run, or its refusal, and returns
+/// the exit status.
 fn cover_within<C: Console>(
     console: &mut C,
     files: RunFiles<'_>,
@@ -87,6 +88,7 @@ fn cover_within<C: Console>(
         (C.journal console.old) (C.journal console.new)) }
     ensures fault { IfErr result (λ _. OnlyReports (C.journal console.old) (C.journal console.new)) }
 {
+    reading_leaves_files_alone();
     let program = files.read(console, names)?;
     let inputs = files.inputs_of(console, &program.inputs)?;
     let answer = covered(
@@ -99,7 +101,7 @@ fn cover_within<C: Console>(
     console.give_if_made(answer)
 }
 
-/// The code of an image with the counts of its run, or its refusal.
+/// What `cover` answers: the code of `image` with the counts of its run; the line of its refusal if the verifier refuses it.
 fn covered(
     alloc: Global,
     image: Image,
@@ -116,7 +118,7 @@ fn covered(
     }
 }
 
-/// The code of a program with the counts of its run.
+/// The code of a program, each instruction with how often its run on these inputs comes to it.
 fn counted(
     alloc: Global,
     vouched: &Vouched,

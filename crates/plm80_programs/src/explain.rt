@@ -3,18 +3,17 @@
 ghost use Rattle.std.specs.Prelude.{◌≡◌, ◌≢◌, [], IfErr, IfOk, OnOk};
 ghost use Rattle.verify80_flow.specs.declared.refusal.Refusal.TheVariants.{Memory};
 ghost use Rattle.verify80_explain_text.specs.Printed.{GoesOnWithChain, GoesOnWithWays};
-ghost use Rattle.plm80_console.specs.Answer.{Gives};
-ghost use Rattle.plm80_console.specs.Journal.{OnlyReports};
+ghost use Rattle.plm80_console.specs.{Answer.Gives, Journal.OnlyReports};
 ghost use Rattle.plm80_names.specs.Arguments.{asks_names, program_paths};
-ghost use Rattle.plm80_names.specs.Printed.{named_refusal_line, named_report};
-ghost use Rattle.plm80_names.specs.Verdict.{AnswersProgram};
-ghost use Rattle.plm80_programs.specs.Arguments.{AreExplainArguments};
+ghost use Rattle.plm80_names.specs.{Printed.named_refusal_line, Printed.named_report, Verdict.AnswersProgram};
 ghost use Rattle.plm80_programs.specs.Explanations.{PrintsExplanation, ShowsOverrun, ShowsRefusal, ShowsRefused, needed_stack};
+ghost use Rattle.plm80_programs.specs.Arguments.{AreExplainArguments};
 
 use crate::all_refusals::all_refused;
 use clap::ArgMatches;
 use image80::Image;
 use loader80::{Refusal, Vouched, vouch};
+use plm80_console::laws::reading_leaves_files_alone;
 use plm80_console::{Answer, Argument, Console, Kind, Reported, Syntax};
 use plm80_files::{IMAGE, REGIONS};
 use plm80_names::{
@@ -28,7 +27,7 @@ use verify80_explain_text::{append_chain, append_explanation};
 /// much again for each declared target. So as many points as `check` follows, 262,144, each with its return address.
 pub(crate) const LIMIT: usize = 2_359_296;
 
-/// The arguments of `explain`.
+/// The arguments of the command `explain`.
 #[derive(Clone, Copy)]
 pub struct ExplainArguments<'a> {
     files: NamedFiles<'a>,
@@ -62,7 +61,7 @@ Example: plm80 explain readings.img readings.regions
 
 Faults and what to do: docs/FAULTS.md (installed: share/doc/plm80), man plm80.";
 
-/// `explain` and its arguments.
+/// The command `explain`: its name, its help and its arguments.
 pub const EXPLAIN: Syntax<'static> = Syntax {
     name: "explain",
     about: ABOUT,
@@ -80,7 +79,7 @@ pub const EXPLAIN: Syntax<'static> = Syntax {
 };
 
 impl<'a> ExplainArguments<'a> {
-    /// The arguments as clap has read them.
+    /// Takes the arguments of `explain` from what clap has matched.
     pub fn of(matches: &ArgMatches<'a>) -> ExplainArguments<'a>
         ensures { AreExplainArguments matches.now result }
     {
@@ -91,7 +90,8 @@ impl<'a> ExplainArguments<'a> {
     }
 }
 
-/// Prints the report on the image, or its refusal and what shows it, and gives the exit status.
+/// Does `explain`: prints the report on the image and its chain of calls, or its refusal and what shows it, and returns the exit status, 1
+/// for a refusal.
 pub fn explain_files<C: Console>(
     console: &mut C,
     arguments: ExplainArguments<'_>,
@@ -100,6 +100,7 @@ pub fn explain_files<C: Console>(
         (program_paths asked.files) (C.journal console.old) (C.journal console.new)) }
     ensures fault { IfErr result (λ _. OnlyReports (C.journal console.old) (C.journal console.new)) }
 {
+    reading_leaves_files_alone();
     let (image, names) = arguments.files.read(console)?;
     let answer = explained(console.alloc(), image, arguments.all, &names);
     let given = console.give_if_made(answer);
@@ -108,7 +109,8 @@ pub fn explain_files<C: Console>(
     given
 }
 
-/// The report on an image and its chain of calls, or its refusal, or all of them, and what shows them.
+/// What `explain` answers: the report on `image` and the chain of calls that needs most stack; or, if the verifier refuses it, its refusal,
+/// with `all` all that are found, and what shows them.
 fn explained(
     alloc: Global,
     image: Image,
@@ -130,7 +132,8 @@ fn explained(
     }
 }
 
-/// The refusal of an image, or all that are found, and what shows them; out of memory is no answer about the image.
+/// The verifier's `refusal` of `image`, with `all` all refusals that are found, and what shows them. `AllocError` if memory runs out, and
+/// if `refusal` is that it did.
 fn one_or_all(
     alloc: Global,
     image: &Image,
@@ -148,7 +151,7 @@ fn one_or_all(
     }
 }
 
-/// The report on a program, and the chain of calls that needs most.
+/// The report on a program, and the chain of calls that needs most stack.
 fn with_chain(alloc: Global, vouched: &Vouched, names: &Names) -> Result<Vec<u8>, AllocError>
     ensures { let program = vouched.now in IfOk result (λ text.
         GoesOnWithChain program.image names.now program.stack_bytes (named_report program names.now) text.items) }
@@ -159,7 +162,7 @@ fn with_chain(alloc: Global, vouched: &Vouched, names: &Names) -> Result<Vec<u8>
     Ok(text)
 }
 
-/// The refusal of an image, and what shows it; out of memory is no answer about the image.
+/// The line of a refusal of `image`, and what shows it. `AllocError` if memory runs out, and if `refusal` is that it did.
 pub(crate) fn refused(
     alloc: Global,
     image: &Image,
@@ -175,7 +178,7 @@ pub(crate) fn refused(
     }
 }
 
-/// The bytes of stack that an image needs whose stack is too small; `None` for every other refusal.
+/// The bytes of stack that an image needs, if `refusal` is that its stack is too small; `None` for every other refusal.
 fn needed_stack(refusal: Refusal) -> Option<u64>
     ensures { result ≡ needed_stack refusal }
 {
@@ -185,7 +188,7 @@ fn needed_stack(refusal: Refusal) -> Option<u64>
     }
 }
 
-/// The refusal of an image, and the ways that show it.
+/// The line of a refusal of `image`, and the ways that show it.
 fn with_ways(
     alloc: Global,
     image: &Image,
@@ -201,7 +204,8 @@ fn with_ways(
     Ok(text)
 }
 
-/// The refusal of an image whose stack is too small, its procedures, and the chain of calls that needs most.
+/// The line of the refusal of an image whose stack is smaller than `need` bytes, its procedures, and the chain of calls that needs most
+/// stack.
 fn overrun(
     alloc: Global,
     image: &Image,

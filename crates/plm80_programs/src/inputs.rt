@@ -3,8 +3,7 @@
 ghost use Rattle.std.specs.Prelude.{◌≡◌, ◌≤◌, [], All, length, map, IfOk, IfErr, OnOk};
 ghost use Rattle.stream80.specs.WholeText.{text_limit};
 ghost use Rattle.loader80_text.specs.Text.{text_of};
-ghost use Rattle.plm80_console.specs.Answer.{Gives, GivesUp, writes};
-ghost use Rattle.plm80_console.specs.Journal.{and_reported};
+ghost use Rattle.plm80_console.specs.{Answer.Gives, Answer.GivesUp, Answer.writes, Journal.and_reported};
 ghost use Rattle.plm80_programs.specs.InputWords.{AnswersWords, AreInputsArguments, FaultsFile, FaultsWords, IsGoodWord, inputs_named};
 
 use clap::ArgMatches;
@@ -14,7 +13,7 @@ use plm80_console::{
 };
 use std::alloc::{AllocError, Global};
 
-/// The arguments of `inputs`.
+/// The arguments of the command `inputs`.
 #[derive(Drop)]
 pub struct InputsArguments<'a> {
     out: &'a str,
@@ -33,7 +32,7 @@ Example: plm80 inputs polled.inputs 02=3*2A,00 10=5000*00
 
 Faults and what to do: docs/FAULTS.md (installed: share/doc/plm80), man plm80.";
 
-/// `inputs` and its arguments.
+/// The command `inputs`: its name, its help and its arguments.
 pub const INPUTS: Syntax<'static> = Syntax {
     name: "inputs",
     about: ABOUT,
@@ -53,7 +52,7 @@ pub const INPUTS: Syntax<'static> = Syntax {
 };
 
 impl<'a> InputsArguments<'a> {
-    /// The arguments as clap has read them.
+    /// Takes the arguments of `inputs` from what clap has matched. `AllocError` if memory runs out.
     pub fn of(alloc: Global, matches: &ArgMatches<'a>) -> Result<InputsArguments<'a>, AllocError>
         ensures { IfOk result (AreInputsArguments matches.now) }
     {
@@ -64,7 +63,8 @@ impl<'a> InputsArguments<'a> {
     }
 }
 
-/// Writes the text of the inputs. No file is created or changed before every other fault is excluded.
+/// Does `inputs`: writes the text of the inputs that the words name to the file, and returns the exit status. No file is created or changed
+/// before every other fault is excluded.
 pub fn write_inputs_file<C: Console>(
     console: &mut C,
     arguments: &InputsArguments<'_>,
@@ -81,15 +81,16 @@ pub fn write_inputs_file<C: Console>(
 /// Why words give no file of inputs.
 #[derive(Clone, Copy)]
 enum InputsFileFault<'a> {
-    /// A word that names no inputs.
+    /// The first word that names no inputs.
     BadInput(&'a str),
-    /// The text would have more bytes than a loader reads.
+    /// The text of the inputs has more bytes than a loader reads.
     TooLong,
-    /// Out of memory.
+    /// Memory ran out.
     Memory,
 }
 
-/// The file of the inputs that words name.
+/// What `inputs` answers: the text of the inputs that the words name goes to the file `out`. The fault is the first word that names none, a
+/// text of more bytes than a loader reads, or out of memory.
 fn inputs_file<'a, 'b>(
     alloc: Global,
     out: &'b str,
@@ -110,7 +111,7 @@ fn inputs_file<'a, 'b>(
     }
 }
 
-/// The bytes that the words name.
+/// The inputs that the words name, in order. `BadInput` with the first word that names none.
 fn inputs_of<'a>(alloc: Global, words: &[&'a str]) -> Result<WordInputs, InputsFileFault<'a>>
     ensures inputs { IfOk result (λ inputs. inputs ≡ inputs_named (map (λ word. word.now) words.now)) }
     ensures good { OnOk result (All IsGoodWord (map (λ word. word.now) words.now)) }
@@ -127,7 +128,7 @@ fn inputs_of<'a>(alloc: Global, words: &[&'a str]) -> Result<WordInputs, InputsF
     Ok(inputs)
 }
 
-/// Reports why words give no file of this path.
+/// Reports why words give no file of inputs: the word that names none, or the path of the file that would be too long.
 fn report_inputs<C: Console>(console: &mut C, path: &str, fault: InputsFileFault<'_>) -> Reported
     ensures { C.journal console.new ≡ and_reported (C.journal console.old) }
 {
@@ -138,7 +139,7 @@ fn report_inputs<C: Console>(console: &mut C, path: &str, fault: InputsFileFault
     }
 }
 
-/// Reports the word that names no inputs.
+/// Reports a word that names no inputs, and says what such a word is like, if words are asked for.
 fn report_bad_input<C: Console>(console: &mut C, word: &str) -> Reported
     ensures { C.journal console.new ≡ and_reported (C.journal console.old) }
 {

@@ -1,24 +1,22 @@
 //! `plm80 list`: the instructions of a located program.
 
 ghost use Rattle.std.specs.Prelude.{◌≡◌, [], IfErr, IfOk, true};
-ghost use Rattle.plm80_console.specs.Answer.{Gives};
-ghost use Rattle.plm80_console.specs.Journal.{OnlyReports};
-ghost use Rattle.plm80_names.specs.Arguments.{asks_names, program_paths};
-ghost use Rattle.plm80_names.specs.Verdict.{AnswersProgram};
-ghost use Rattle.plm80_programs.specs.Arguments.{AreListArguments};
-ghost use Rattle.plm80_programs.specs.Printed.{ListsCode, PrintsListing};
+ghost use Rattle.plm80_console.specs.{Answer.Gives, Journal.OnlyReports};
+ghost use Rattle.plm80_names.specs.{Arguments.asks_names, Arguments.program_paths, Verdict.AnswersProgram};
+ghost use Rattle.plm80_programs.specs.{Arguments.AreListArguments, Printed.ListsCode, Printed.PrintsListing};
 
 use clap::ArgMatches;
 use image80::Image;
 use image80_text::listing;
 use loader80::Vouched;
 use loader80_trace::list_reached;
+use plm80_console::laws::reading_leaves_files_alone;
 use plm80_console::{Answer, Argument, Console, Kind, Reported, Syntax};
 use plm80_files::{IMAGE, REGIONS};
 use plm80_names::{NAMES, NamedFiles, Names, Verdict, explain_given, judge};
 use std::alloc::{AllocError, Global};
 
-/// The arguments of `list`.
+/// The arguments of the command `list`.
 #[derive(Clone, Copy)]
 pub struct ListArguments<'a> {
     files: NamedFiles<'a>,
@@ -44,7 +42,7 @@ Example: plm80 list readings.img readings.regions
 
 Faults and what to do: docs/FAULTS.md (installed: share/doc/plm80), man plm80.";
 
-/// `list` and its arguments.
+/// The command `list`: its name, its help and its arguments.
 pub const LIST: Syntax<'static> = Syntax {
     name: "list",
     about: ABOUT,
@@ -62,7 +60,7 @@ pub const LIST: Syntax<'static> = Syntax {
 };
 
 impl<'a> ListArguments<'a> {
-    /// The arguments as clap has read them.
+    /// Takes the arguments of `list` from what clap has matched.
     pub fn of(matches: &ArgMatches<'a>) -> ListArguments<'a>
         ensures { AreListArguments matches.now result }
     {
@@ -73,12 +71,14 @@ impl<'a> ListArguments<'a> {
     }
 }
 
-/// Prints the listing of the image, and gives the exit status.
+/// Does `list`: prints the code of the image, or with `--reached` what its program may reach of it, and returns the exit status, 1 for a
+/// refusal.
 pub fn list_files<C: Console>(console: &mut C, arguments: ListArguments<'_>) -> Result<u8, Reported>
     ensures done { let asked = arguments.entry in IfOk result (Gives (AnswersProgram (PrintsListing asked.reached) (asks_names asked.files))
         (program_paths asked.files) (C.journal console.old) (C.journal console.new)) }
     ensures fault { IfErr result (λ _. OnlyReports (C.journal console.old) (C.journal console.new)) }
 {
+    reading_leaves_files_alone();
     let (image, names) = arguments.files.read(console)?;
     let answer = listed(console.alloc(), image, arguments.reached, &names);
     let given = console.give_if_made(answer);
@@ -93,7 +93,7 @@ pub fn list_files<C: Console>(console: &mut C, arguments: ListArguments<'_>) -> 
     given
 }
 
-/// The listing of an image: of all its code, or of that to which the program may come if the verifier accepts it.
+/// What `list` answers: all code of `image`, or with `reached` what its program may reach of it.
 fn listed(
     alloc: Global,
     image: Image,
@@ -111,7 +111,7 @@ fn listed(
     Ok(Answer::prints(text, 0))
 }
 
-/// The code to which the program of an image may come, or its refusal.
+/// The code that the program of `image` may reach; the line of its refusal if the verifier refuses it.
 fn listed_as_reached(
     alloc: Global,
     image: Image,
@@ -126,7 +126,7 @@ fn listed_as_reached(
     }
 }
 
-/// The code to which the program may come, with its names.
+/// The code that a program may reach, with names.
 fn named_reached(
     alloc: Global,
     vouched: &Vouched,

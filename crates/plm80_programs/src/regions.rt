@@ -3,8 +3,7 @@
 ghost use Rattle.std.specs.Prelude.{◌≡◌, ◌∷◌, [], IfOk, IfErr};
 ghost use Rattle.image80.specs.RegionsText.{Refuses};
 ghost use Rattle.plm80_console.specs.Answer.{Gives, GivesUp};
-ghost use Rattle.plm80_programs.specs.Arguments.{AreRegionsArguments};
-ghost use Rattle.plm80_programs.specs.Written.{AnswersRegions, WritesMigrated};
+ghost use Rattle.plm80_programs.specs.{Arguments.AreRegionsArguments, Written.AnswersRegions, Written.WritesMigrated};
 
 use clap::ArgMatches;
 use image80::{RegionsFault, migrate_regions};
@@ -14,7 +13,7 @@ use plm80_console::{
 use plm80_files::report_regions;
 use std::alloc::Global;
 
-/// The arguments of `regions`.
+/// The arguments of the command `regions`.
 #[derive(Clone, Copy)]
 pub struct RegionsArguments<'a> {
     old: &'a str,
@@ -32,7 +31,7 @@ Example: plm80 regions readings.regions readings.regions2
 
 Faults and what to do: docs/FAULTS.md (installed: share/doc/plm80), man plm80.";
 
-/// `regions` and its arguments.
+/// The command `regions`: its name, its help and its arguments.
 pub const REGIONS: Syntax<'static> = Syntax {
     name: "regions",
     about: ABOUT,
@@ -53,7 +52,7 @@ pub const REGIONS: Syntax<'static> = Syntax {
 };
 
 impl<'a> RegionsArguments<'a> {
-    /// The arguments as clap has read them.
+    /// Takes the arguments of `regions` from what clap has matched.
     pub fn of(matches: &ArgMatches<'a>) -> RegionsArguments<'a>
         ensures { AreRegionsArguments matches.now result }
     {
@@ -64,7 +63,8 @@ impl<'a> RegionsArguments<'a> {
     }
 }
 
-/// Writes the text of version 2. No file is created or changed before every other fault is excluded.
+/// Does `regions`: writes the regions that a file's text spells to another file, as a text of version 2, and returns the exit status. No
+/// file is created or changed before every other fault is excluded.
 pub fn migrate_file<C: Console>(
     console: &mut C,
     arguments: RegionsArguments<'_>,
@@ -81,7 +81,8 @@ pub fn migrate_file<C: Console>(
     }
 }
 
-/// The text of version 2 of the regions that a file's text spells, which goes to another file.
+/// What `regions` answers: the regions that the text of `old` spells go to the file `new`, as a text of version 2. The fault of the text
+/// has the path of `old`.
 fn migrated<'a, 'b>(
     alloc: Global,
     old: &ReadFile<'a>,

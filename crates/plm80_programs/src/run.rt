@@ -2,8 +2,7 @@
 
 ghost use Rattle.std.specs.Prelude.{◌≡◌, ◌==◌, ◌&&◌, not, is_none, IfErr, IfOk};
 ghost use Rattle.plm80_console.specs.Answer.{Gives, GivesUp};
-ghost use Rattle.plm80_programs.specs.Arguments.{AreRunArguments, run_paths};
-ghost use Rattle.plm80_programs.specs.Running.{RunsFiles};
+ghost use Rattle.plm80_programs.specs.{Arguments.AreRunArguments, Arguments.run_paths, Running.RunsFiles};
 
 use crate::helpers::run_arguments::{INPUTS, LimitTexts, OUTPUTS, RunFiles, STEPS};
 use crate::helpers::session_files::run_session;
@@ -13,7 +12,7 @@ use plm80_console::{Argument, Console, Kind, OptionText, Reported, Syntax};
 use plm80_files::{IMAGE, REGIONS};
 use plm80_names::{NAMES, explain_given};
 
-/// The arguments of `run`.
+/// The arguments of the command `run`.
 #[derive(Clone, Copy)]
 pub struct RunArguments<'a> {
     files: RunFiles<'a>,
@@ -42,7 +41,7 @@ Example: plm80 run readings.img readings.regions readings.inputs --steps 5000
 
 Faults and what to do: docs/FAULTS.md (installed: share/doc/plm80), man plm80.";
 
-/// `run` and its arguments.
+/// The command `run`: its name, its help and its arguments.
 pub const RUN: Syntax<'static> = Syntax {
     name: "run",
     about: ABOUT,
@@ -68,7 +67,7 @@ pub const RUN: Syntax<'static> = Syntax {
 };
 
 impl<'a> RunArguments<'a> {
-    /// The arguments as clap has read them.
+    /// Takes the arguments of `run` from what clap has matched.
     pub fn of(matches: &ArgMatches<'a>) -> RunArguments<'a>
         ensures { AreRunArguments matches.now result }
     {
@@ -81,7 +80,7 @@ impl<'a> RunArguments<'a> {
         }
     }
 
-    /// Whether nothing but the transcript is asked for. `last` is how many of the last instructions are.
+    /// Whether nothing but the transcript is asked for: none of the last instructions, of which `last` are wanted, no memory and no names.
     fn is_session(self, last: u64) -> bool
         ensures { let asked = self.entry in result ≡ ((last == 0 && is_none asked.dump) && not asked.names) }
     {
@@ -89,7 +88,8 @@ impl<'a> RunArguments<'a> {
     }
 }
 
-/// Runs the image of the files, and gives the exit status: a session, if nothing but its transcript is asked for.
+/// Does `run`: runs the image and returns the exit status. The run is a session if nothing but its transcript is asked for, else it is
+/// watched.
 pub fn run_files<C: Console>(console: &mut C, arguments: RunArguments<'_>) -> Result<u8, Reported>
     ensures done { let asked = arguments.entry in IfOk result (Gives (RunsFiles asked) (run_paths asked.files)
         (C.journal console.old) (C.journal console.new)) }

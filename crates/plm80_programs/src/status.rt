@@ -6,7 +6,7 @@ ghost use Rattle.plm80_programs.specs.Status.{end_status, end_words};
 use machine80::End;
 use thiserror::Error;
 
-/// The exit status of a run that ended so; `None` if its steps were used up.
+/// The exit status of a run that ended in the way `end`; `None` means that its steps were used up.
 pub fn status_of(end: Option<End>) -> u8
     ensures { result ≡ end_status «end» }
 {
@@ -17,7 +17,7 @@ pub fn status_of(end: Option<End>) -> u8
     }
 }
 
-/// Words on a run that ended at a port, a store or a PCHL: where the instruction stands, which its last line doesn't say.
+/// Words on a run that ended at a port, a store or a PCHL: the address of that instruction, which the run's last line doesn't have.
 #[derive(Clone, Copy, Debug, Error)]
 pub enum EndWords {
     #[error("the IN at {at:04X} finds no byte at port {port:02X}: INPUTS has none left for it")]
@@ -31,7 +31,8 @@ pub enum EndWords {
 }
 
 impl EndWords {
-    /// Words on a run that ended so; none if it ended in another way. The program counter is that before the step that ended it.
+    /// Words on a run that ended in the way `end`; `None` if that isn't at a port, a store or a PCHL. The program counter before the step
+    /// that ended it was `at`.
     pub fn of(end: Option<End>, at: u16) -> Option<EndWords>
         ensures { result ≡ end_words «end» at }
     {

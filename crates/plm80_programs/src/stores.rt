@@ -2,12 +2,10 @@
 
 ghost use Rattle.std.specs.Prelude.{◌≡◌, false, [], IfErr, IfOk, IfSome};
 ghost use Rattle.image80.specs.Regions.{in_data};
-ghost use Rattle.plm80_console.specs.Answer.{Gives};
-ghost use Rattle.plm80_console.specs.Journal.{OnlyReports};
+ghost use Rattle.plm80_console.specs.{Answer.Gives, Journal.OnlyReports};
 ghost use Rattle.plm80_names.specs.Arguments.{program_paths};
-ghost use Rattle.plm80_programs.specs.Arguments.{AreStoresArguments};
 ghost use Rattle.plm80_programs.specs.Printed.{AnswersStores, ListsStores, PrintsStores};
-ghost use Rattle.plm80_programs.specs.Status.{stores_status};
+ghost use Rattle.plm80_programs.specs.{Arguments.AreStoresArguments, Status.stores_status};
 
 use clap::ArgMatches;
 use image80::{Image, Range, Regions};
@@ -49,7 +47,7 @@ Example: plm80 stores readings.img readings.regions --quiet-ram 2000:0100
 
 Faults and what to do: docs/FAULTS.md (installed: share/doc/plm80), man plm80.";
 
-/// `stores` and its arguments.
+/// The command `stores`: its name, its help and its arguments.
 pub const STORES: Syntax<'static> = Syntax {
     name: "stores",
     about: ABOUT,
@@ -66,19 +64,19 @@ pub const STORES: Syntax<'static> = Syntax {
     ],
 };
 
-/// The name of the option for RAM that only the program writes.
+/// The name of the option `--quiet-ram`, for RAM that only the program writes.
 const QUIET: &str = "quiet-ram";
 
-/// The arguments of `stores`.
+/// The arguments of the command `stores`.
 #[derive(Drop)]
 pub struct StoresArguments<'a> {
     files: NamedFiles<'a>,
-    /// Ranges that only the program writes, each as `ffff:llll`.
+    /// Ranges that only the program writes, each as `ffff:llll`: the first address and the length in hexadecimal.
     quiet: Vec<&'a str>,
 }
 
 impl<'a> StoresArguments<'a> {
-    /// The arguments as clap has read them.
+    /// Takes the arguments of `stores` from what clap has matched. `AllocError` if memory runs out.
     pub fn of(alloc: Global, matches: &ArgMatches<'a>) -> Result<StoresArguments<'a>, AllocError>
         ensures { IfOk result (AreStoresArguments matches.now) }
     {
@@ -89,7 +87,7 @@ impl<'a> StoresArguments<'a> {
     }
 }
 
-/// Prints what is known of the image's stores, or its refusal, and gives the exit status.
+/// Does `stores`: prints what is known of the image's stores and jumps, or its refusal, and returns the exit status.
 pub fn list_stores<C: Console>(
     console: &mut C,
     arguments: &StoresArguments<'_>,
@@ -120,7 +118,7 @@ pub fn list_stores<C: Console>(
     }
 }
 
-/// Reports the first of the quiet ranges that isn't all data.
+/// Reports the first of the quiet ranges that isn't all data of `regions`; nothing if all of them are.
 fn require_data<C: Console>(
     console: &mut C,
     regions: &Regions,
@@ -140,7 +138,7 @@ fn require_data<C: Console>(
     }
 }
 
-/// The text of the first of the quiet ranges that isn't all data, and the first address there that isn't.
+/// The text of the first of the quiet ranges that isn't all data of `regions`, and its first address that isn't. `None` if all of them are.
 fn first_no_data<'a>(
     regions: &Regions,
     texts: &[&'a str],
@@ -156,15 +154,16 @@ fn first_no_data<'a>(
     None
 }
 
-/// The lines of a program's stores, and what leaves them open.
+/// What `stores` answers, and what leaves each listed store and jump open.
 #[derive(Drop)]
 struct ListedStores {
     answer: Answer<'static>,
-    /// None unless they are asked for.
+    /// What leaves each listed store and jump open; empty unless words are asked for.
     causes: Vec<Cause>,
 }
 
-/// The stores of an image, or its refusal.
+/// What `stores` answers, and the causes if `explains`: the lines of the stores and jumps of `image`; the line of its refusal if the
+/// verifier refuses it.
 fn judged(
     alloc: Global,
     image: Image,
@@ -184,14 +183,14 @@ fn judged(
     }
 }
 
-/// Where a program starts.
+/// The address at which a program starts.
 fn start_of(vouched: &Vouched) -> u16
     ensures { result ≡ vouched.now.image.start }
 {
     vouched.image().start
 }
 
-/// The lines of a program's stores, with their names.
+/// The lines of a program's stores and jumps, with names, their exit status, and the causes if `explains`.
 fn stores_of(
     alloc: Global,
     vouched: &Vouched,
@@ -218,14 +217,14 @@ fn stores_of(
     })
 }
 
-/// Says what sets the pair of each store and jump that is listed.
+/// Says of each listed store and jump what sets its pair, if words are asked for.
 fn explain_causes<C: Console>(console: &C, causes: &[Cause]) {
     for cause in causes {
         console.explain(format_args!("{cause}"));
     }
 }
 
-/// The exit status: whether something is listed.
+/// The exit status of `stores` for a program: 0 if no store and no jump is listed and the stack pointer is set first, else 1.
 fn stores_status(stores: &Stores) -> u8
     ensures { result ≡ stores_status stores.now }
 {

@@ -2,10 +2,9 @@
 
 ghost use Rattle.std.specs.Prelude.{◌≡◌, ◌∷◌, [], IfErr, IfOk, IsErrOf};
 ghost use Rattle.image80_file.specs.ImageFile.{SpellsImage, without_regions};
-ghost use Rattle.plm80_console.specs.Answer.{Gives};
-ghost use Rattle.plm80_console.specs.Journal.{OnlyReports};
-ghost use Rattle.plm80_programs.specs.Cases.{HasLongCases};
+ghost use Rattle.plm80_console.specs.{Answer.Gives, Journal.OnlyReports};
 ghost use Rattle.plm80_programs.specs.Suggest.{AdvisesRegions, AnswersAdvice, AreSuggestArguments, stack_words};
+ghost use Rattle.plm80_programs.specs.Cases.{HasLongCases};
 
 use crate::cases::{AddingFault, kept_cases, notes_status, remark_notes};
 use clap::ArgMatches;
@@ -21,13 +20,13 @@ use std::alloc::{AllocError, Global};
 use thiserror::Error;
 use verify80_suggest::{Advice, Setter, base_regions, suggest_regions};
 
-/// The arguments of `suggest`.
+/// The arguments of the command `suggest`.
 #[derive(Drop)]
 pub struct SuggestArguments<'a> {
     image: &'a str,
-    /// Ranges of the ROM, each as `ffff:llll`.
+    /// Ranges of the ROM, each as `ffff:llll`: the first address and the length in hexadecimal.
     rom: Vec<&'a str>,
-    /// Ranges of the RAM.
+    /// Ranges of the RAM, each as `ffff:llll`: the first address and the length in hexadecimal.
     ram: Vec<&'a str>,
 }
 
@@ -51,12 +50,13 @@ Example: plm80 suggest gauge.obj --ram-range 2000:0100
 
 Faults and what to do: docs/FAULTS.md (installed: share/doc/plm80), man plm80.";
 
-/// The names of the options for ranges.
+/// The name of the option `--rom-range`, for ranges of ROM.
 const ROM: &str = "rom-range";
 
+/// The name of the option `--ram-range`, for ranges of RAM.
 const RAM: &str = "ram-range";
 
-/// `suggest` and its arguments.
+/// The command `suggest`: its name, its help and its arguments.
 pub const SUGGEST: Syntax<'static> = Syntax {
     name: "suggest",
     about: ABOUT,
@@ -77,7 +77,7 @@ pub const SUGGEST: Syntax<'static> = Syntax {
 };
 
 impl<'a> SuggestArguments<'a> {
-    /// The arguments as clap has read them.
+    /// Takes the arguments of `suggest` from what clap has matched. `AllocError` if memory runs out.
     pub fn of(alloc: Global, matches: &ArgMatches<'a>) -> Result<SuggestArguments<'a>, AllocError>
         ensures { IfOk result (AreSuggestArguments matches.now) }
     {
@@ -89,7 +89,8 @@ impl<'a> SuggestArguments<'a> {
     }
 }
 
-/// Prints the regions that the image suggests, and reports what is uncertain of them; gives status 1 if a PCHL has no table.
+/// Does `suggest`: prints the regions that the image suggests, says what is uncertain of them, and returns the exit status, 1 if no table
+/// is seen for a PCHL.
 pub fn advise_file<C: Console>(
     console: &mut C,
     arguments: &SuggestArguments<'_>,
@@ -116,14 +117,14 @@ pub fn advise_file<C: Console>(
     }
 }
 
-/// The regions that an image suggests, as they are printed, and what there is to say of them.
+/// What `suggest` answers, and what there is to say of the regions in it.
 #[derive(Drop)]
 struct PrintedAdvice {
     advice: Advice,
     answer: Answer<'static>,
 }
 
-/// The image of a file, without regions.
+/// The image that a file's bytes spell, without regions. Reports the fault of the bytes.
 fn bare_image<C: Console>(console: &mut C, file: &ReadFile<'_>) -> Result<Image, Reported>
     ensures image { IfOk result (λ image. SpellsImage file.now.bytes.items (without_regions image)) }
     ensures unchanged { IfOk result (λ _. C.journal console.new ≡ C.journal console.old) }
@@ -133,7 +134,8 @@ fn bare_image<C: Console>(console: &mut C, file: &ReadFile<'_>) -> Result<Image,
     image_of(console, file.path, &file.bytes, none)
 }
 
-/// The regions that an image suggests; `TooLong` if their text has more bytes than a text of regions may have.
+/// What `suggest` answers to an image and to ranges of ROM and RAM. `TooLong` if the text of the regions has more bytes than a text of
+/// regions may have.
 fn advised(
     alloc: Global,
     image: Image,
@@ -160,7 +162,7 @@ fn advised(
     })
 }
 
-/// Refuses an image whose tables suggest cases that have more bytes in their lines than a text of regions may have.
+/// `TooLong` if the tables of `image` suggest cases whose lines have more bytes than a text of regions may have.
 fn refuse_long_cases(alloc: Global, image: &Image) -> Result<(), LengthFault>
     ensures { IsErrOf result LengthFault.TooLong → HasLongCases image.now }
 {
@@ -171,7 +173,7 @@ fn refuse_long_cases(alloc: Global, image: &Image) -> Result<(), LengthFault>
     }
 }
 
-/// Words on the stack that is suggested, unless there is one LXI SP alone.
+/// Words on the suggested stack of an image that doesn't reach exactly one LXI SP.
 #[derive(Clone, Copy, Debug, Error)]
 enum StackWords {
     #[error("there is no LXI SP: the stack is empty")]
@@ -181,7 +183,7 @@ enum StackWords {
 }
 
 impl StackWords {
-    /// Words on the first LXI SP that is reached, and the second one.
+    /// Words on a suggested stack, by the first LXI SP that is reached and the second one; `None` if the first is the only one.
     fn of(first: Option<Setter>, second: Option<Setter>) -> Option<StackWords>
         ensures { result ≡ stack_words first second }
     {

@@ -2,10 +2,9 @@
 
 ghost use Rattle.std.specs.Prelude.{◌≡◌, ◌<◌, true, IfErr, IfOk, OnOk};
 ghost use Rattle.std.specs.Io.KnownBytes.{Appends};
-ghost use Rattle.plm80_console.specs.Answer.{Gives, IsAnswered, IsGiven};
-ghost use Rattle.plm80_console.specs.Journal.{OnlyReports};
-ghost use Rattle.plm80_programs.specs.Arguments.{AreTraceArguments, run_paths};
+ghost use Rattle.plm80_console.specs.{Answer.Gives, Answer.IsAnswered, Answer.IsGiven, Journal.OnlyReports};
 ghost use Rattle.plm80_programs.specs.Running.{AnswersRun, IsSpanOf, IsTraceOf, TracesFiles, TracesRun, trace_ending, trace_lines};
+ghost use Rattle.plm80_programs.specs.Arguments.{AreTraceArguments, run_paths};
 
 use crate::EndWords;
 use crate::helpers::endings::{Traced, report_lines, trace_ending_of, write_traced};
@@ -14,13 +13,14 @@ use clap::ArgMatches;
 use loader80::{Ended, Vouched};
 use loader80_trace::{Limits, Span, TraceFault};
 use machine80::Inputs;
+use plm80_console::laws::reading_leaves_files_alone;
 use plm80_console::{Answer, Argument, Console, Kind, OptionText, Reported, Syntax};
 use plm80_files::{IMAGE, REGIONS};
 use plm80_names::{NAMES, Names, Verdict, explain_given, judge};
 use std::alloc::{AllocError, Global};
 use stream80::Sink;
 
-/// The arguments of `trace`.
+/// The arguments of the command `trace`.
 #[derive(Clone, Copy)]
 pub struct TraceArguments<'a> {
     files: RunFiles<'a>,
@@ -46,7 +46,7 @@ Example: plm80 trace readings.img readings.regions readings.inputs --count 20
 
 Faults and what to do: docs/FAULTS.md (installed: share/doc/plm80), man plm80.";
 
-/// `trace` and its arguments.
+/// The command `trace`: its name, its help and its arguments.
 pub const TRACE: Syntax<'static> = Syntax {
     name: "trace",
     about: ABOUT,
@@ -72,7 +72,7 @@ pub const TRACE: Syntax<'static> = Syntax {
 };
 
 impl<'a> TraceArguments<'a> {
-    /// The arguments as clap has read them.
+    /// Takes the arguments of `trace` from what clap has matched.
     pub fn of(matches: &ArgMatches<'a>) -> TraceArguments<'a>
         ensures { AreTraceArguments matches.now result }
     {
@@ -85,7 +85,7 @@ impl<'a> TraceArguments<'a> {
         }
     }
 
-    /// The instructions that are asked for.
+    /// The instructions of a run that `--from` and `--count` ask for. Reports the first text that is no number.
     fn span<C: Console>(self, console: &mut C) -> Result<Span, Reported>
         ensures span { IfOk result (IsSpanOf self.entry) }
         ensures unchanged { IfOk result (λ _. C.journal console.new ≡ C.journal console.old) }
@@ -97,7 +97,7 @@ impl<'a> TraceArguments<'a> {
     }
 }
 
-/// Prints the instructions of the run, and gives the exit status.
+/// Does `trace`: runs the image and prints the instructions that are asked for, or its refusal, and returns the exit status.
 pub fn trace_files<C: Console>(
     console: &mut C,
     arguments: TraceArguments<'_>,
@@ -114,7 +114,8 @@ pub fn trace_files<C: Console>(
     given
 }
 
-/// Prints some instructions of the run within these limits, and gives the exit status.
+/// Reads the files of a run, runs the image within `limits`, prints the instructions of `span`, or the image's refusal, and returns the
+/// exit status.
 fn trace_within<C: Console>(
     console: &mut C,
     files: RunFiles<'_>,
@@ -126,6 +127,7 @@ fn trace_within<C: Console>(
         (C.journal console.old) (C.journal console.new)) }
     ensures fault { IfErr result (λ _. OnlyReports (C.journal console.old) (C.journal console.new)) }
 {
+    reading_leaves_files_alone();
     let program = files.read(console, names)?;
     let inputs = files.inputs_of(console, &program.inputs)?;
     match judge(console.alloc(), program.image, &program.names) {
@@ -137,7 +139,7 @@ fn trace_within<C: Console>(
     }
 }
 
-/// Prints the lines of the run, and how it ended if they come so far.
+/// Prints the instructions of `span` of a program's run, and how the run ended if they reach that, and returns the exit status.
 fn print_trace<C: Console>(
     console: &mut C,
     vouched: &Vouched,
@@ -167,7 +169,8 @@ fn print_trace<C: Console>(
     }
 }
 
-/// Writes the lines of the run, with their numbers, and gives how it ended, if they come so far.
+/// Writes the instructions of `span` of a program's run, with their numbers, and returns how the run ended; `None` if they don't reach
+/// that.
 fn write_trace<K: Sink>(
     alloc: Global,
     vouched: &Vouched,
@@ -192,7 +195,7 @@ fn write_trace<K: Sink>(
     write_traced(alloc, traced, inputs, out)
 }
 
-/// Prints how a run ended, if it is known, and gives the exit status.
+/// Prints how a run ended, if its lines reached that, and returns the exit status: 0 if they didn't.
 fn end_trace<C: Console>(
     console: &mut C,
     vouched: &Vouched,

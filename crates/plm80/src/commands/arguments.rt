@@ -1,12 +1,9 @@
 //! The command line, read by clap.
 
 ghost use Rattle.std.specs.Prelude.{◌≡◌, ◌⊎◌, false, None, IfOk, IfErr, IfSome, OnOk};
-ghost use Rattle.clap.specs.Matches.{has_subcommand};
-ghost use Rattle.clap.specs.Values.{kind_of};
+ghost use Rattle.clap.specs.{Matches.has_subcommand, Values.kind_of, declared.parser.matches.ArgMatches.ArgMatches};
 ghost use Rattle.plm80_console.specs.Refusals.{IsConflict};
-ghost use Rattle.clap.specs.declared.parser.matches.ArgMatches.{ArgMatches};
-ghost use Rattle.plm80.specs.Apart.{AreApartIn};
-ghost use Rattle.plm80.specs.Requests.{AreArgumentsOf, IsRequestOf, command_name};
+ghost use Rattle.plm80.specs.{Apart.AreApartIn, Requests.AreArgumentsOf, Requests.IsRequestOf, Requests.command_name};
 
 use super::program_syntax::{program, shown_error};
 use clap::error::ErrorKind;
@@ -50,7 +47,8 @@ pub enum Request<'a> {
     Suggest(SuggestArguments<'a>),
 }
 
-/// The command of a command line, whose first argument is the program's own name, and whether its faults are explained.
+/// Reads a command line, whose first argument is the program's own name: its command, and whether `--why` asks for words about faults. The
+/// error is one of clap, or the help text if that is asked for.
 pub fn read_arguments<'a, C: Console>(
     console: &C,
     arguments: &'a [String],
@@ -68,7 +66,7 @@ pub fn read_arguments<'a, C: Console>(
     }
 }
 
-/// Whether the faults of the command are explained.
+/// Whether `--why` behind the command's name asks for words about faults; `false` without a command.
 fn is_explained(matches: &ArgMatches<'_>) -> bool
     ensures { has_subcommand matches.now ≡ false → result ≡ false }
 {
@@ -89,7 +87,7 @@ pub fn no_text(alloc: Global) -> Error
     )
 }
 
-/// An error of the command line, as clap prints it.
+/// An error of the command line of this kind and text, as clap prints it; if memory runs out for it, clap's error of that.
 fn refusal(alloc: Global, kind: ErrorKind, text: &str) -> Error
     ensures { (kind_of result ≡ kind) ⊎ (kind_of result ≡ ErrorKind.OutOfMemory) }
 {
@@ -99,14 +97,15 @@ fn refusal(alloc: Global, kind: ErrorKind, text: &str) -> Error
     }
 }
 
-/// An error of the command line, if memory doesn't run out for it.
+/// An error of the command line of this kind and text. `AllocError` only if memory runs out for it.
 fn refuse(alloc: Global, kind: ErrorKind, text: &str) -> Result<Error, AllocError>
     ensures { IfOk result (λ error. kind_of error ≡ kind) }
 {
     program(alloc, "")?.error(kind, text)
 }
 
-/// The command that clap has read. Arguments are refused by which it would write over a file that it reads, or write a file twice.
+/// The request that clap has read; `None` without a command. Arguments are refused by which a file would be written that is read, or
+/// written twice.
 fn asked_for<'a, C: Console>(
     console: &C,
     matches: &ArgMatches<'a>,
@@ -124,7 +123,7 @@ fn asked_for<'a, C: Console>(
     }
 }
 
-/// The request, unless an argument of it has the path of a file that it writes.
+/// The request itself, unless one of its arguments has the path of a file that another one writes: then an error of clap.
 fn unless_shared<'a, C: Console>(
     console: &C,
     request: Request<'a>,
@@ -138,7 +137,7 @@ fn unless_shared<'a, C: Console>(
     Ok(request)
 }
 
-/// Refuses the arguments of a command by which it would write a file that it reads, or write a file twice.
+/// Refuses arguments by which this request would write a file that it reads, or write a file twice. The error is one of clap.
 fn refuse_shared_paths<C: Console>(
     console: &C,
     request: &Request<'_>,

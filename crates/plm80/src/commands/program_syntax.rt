@@ -48,7 +48,7 @@ pub(crate) fn verifier_commands() -> [Syntax<'static>; 4]
     [CHECK, EXPLAIN, CALLS, STORES]
 }
 
-/// The commands that run one, in the order of the help text.
+/// The commands that run a located program, in the order of the help text.
 pub(crate) fn run_commands() -> [Syntax<'static>; 4]
     ensures { map (λ command. command.name.now) result ≡ codes "run" ∷ codes "trace" ∷ codes "cover" ∷ codes "inputs" ∷ [] }
 {
@@ -68,7 +68,7 @@ pub(crate) fn prom_commands() -> [Syntax<'static>; 8]
 /// What `--version` prints.
 const VERSION: &str = "1.2";
 
-/// The program with its commands, for clap; `after` follows the list of its options.
+/// The program with its commands, for clap; the text `after` follows the list of its options. `AllocError` only if memory runs out.
 pub(crate) fn program<'a>(alloc: Global, after: &'a str) -> Result<Command<'a>, AllocError> {
     let mut program = Command::new(alloc, "plm80")
         .version(VERSION)
@@ -102,7 +102,7 @@ pub(crate) fn shown_error(alloc: Global, arguments: &[String], error: Error) -> 
     }
 }
 
-/// The error of these arguments with control characters shown; `None` if there is none.
+/// The error of these arguments, read again with their control characters shown; `None` if there is none then.
 fn refused_again(alloc: Global, arguments: &[String]) -> Result<Option<Error>, AllocError> {
     let mut shown = Vec::new(alloc);
     for argument in arguments {

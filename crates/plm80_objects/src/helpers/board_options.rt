@@ -9,21 +9,22 @@ use place80_text::{Board, Unmapped, first_unmapped};
 use plm80_console::{Argument, Kind};
 use std::alloc::{AllocError, Global};
 
-/// Ranges of read-only memory.
+/// The option `--rom-range` of `locate`: a range of the board's read-only memory.
 pub const ROM_RANGE: Argument<'static> = Argument {
     name: "rom-range",
     kind: Kind::PathsAt("FIRST:LENGTH"),
     help: "ROM of the board, which only CODE may use",
 };
 
-/// Ranges of memory that can be written.
+/// The option `--ram-range` of `locate`: a range of the board's memory that can be written.
 pub const RAM_RANGE: Argument<'static> = Argument {
     name: "ram-range",
     kind: Kind::PathsAt("FIRST:LENGTH"),
     help: "RAM of the board",
 };
 
-/// The first address at which the board has no memory for a program that can be located; none if no range of it is named.
+/// The first address at which the board has no memory for `program`, which these options place. `None` if there is no such address, or if
+/// the board has no range.
 pub(crate) fn unmapped_of(
     alloc: Global,
     program: &Module,
@@ -43,7 +44,7 @@ pub(crate) fn unmapped_of(
     }
 }
 
-/// Whether a range is named.
+/// Whether a board has a range, of ROM or of RAM.
 fn names_board(board: Board<'_>) -> bool
     ensures { result ≡ names_board board.entry.rom.now board.entry.ram.now }
 {

@@ -4,9 +4,9 @@ use image80_file::read_image;
 use plm80_console::{Console, word_of_digits};
 use rom80::{bytes_over, no_regions};
 
-/// Says where an image has bytes, if it has none at the addresses of the bytes of another file, from this one on, or few of these are the
-/// same; else what was compared where the image has no byte, if that is 00. Both files are read again; if they can't be, or memory runs out,
-/// nothing is said.
+/// Says where the image of this path has bytes, if it has none at the addresses of the bytes of the file `other`, from `first` on, or if
+/// few of them are the same. Else says that 00 was compared where the image has no byte, if `fill` is 00. Both files are read again;
+/// nothing is said if they can't be, if memory runs out, or if words aren't asked for.
 pub(crate) fn explain_bytes<C: Console>(
     console: &C,
     path: &str,

@@ -4,8 +4,7 @@ ghost use Rattle.std.specs.Prelude.{◌≡◌, ◌++◌, ◌∷◌, [], map, IfO
 ghost use Rattle.std.specs.List.{repeat};
 ghost use Rattle.link80_text.specs.Causes.{PrintsCause};
 ghost use Rattle.plm80_console.specs.Journal.{and_reported};
-ghost use Rattle.place80.specs.Causes.{cause_text};
-ghost use Rattle.place80.specs.Layout.{layout_of};
+ghost use Rattle.place80.specs.{Causes.cause_text, Layout.layout_of};
 ghost use Rattle.place80_text.specs.Board.{unmapped_text};
 ghost use Rattle.plm80_objects.specs.Link.{root_paths};
 
@@ -20,7 +19,7 @@ use plm80_console::{Console, Reported};
 use std::alloc::{AllocError, Global};
 use std::str;
 
-/// Reports why the modules of these files can't be linked, and says where the cause is if that is asked for.
+/// Reports why the modules of these files can't be linked, and shows where the cause is, if words are asked for.
 pub(crate) fn report_link_fault<C: Console>(
     console: &mut C,
     files: &LinkFiles<'_>,
@@ -47,7 +46,7 @@ pub(crate) fn report_link_fault<C: Console>(
     reported
 }
 
-/// The lines of a fault of these files.
+/// The lines that show where the cause of a fault of linking these files is.
 fn link_lines(
     alloc: Global,
     files: &LinkFiles<'_>,
@@ -68,7 +67,7 @@ fn link_lines(
     Ok(lines)
 }
 
-/// The path of each module's file.
+/// The path of the file of each module, in order: that of a file as often as it has modules.
 fn root_paths<'a>(alloc: Global, files: &[RootFile<'a>]) -> Result<Vec<&'a [u8]>, AllocError>
     ensures { IfOk result (λ paths. map (λ p. p.now) paths.items ≡ root_paths files.now) }
 {
@@ -79,7 +78,7 @@ fn root_paths<'a>(alloc: Global, files: &[RootFile<'a>]) -> Result<Vec<&'a [u8]>
     Ok(paths)
 }
 
-/// Appends the path `count` times.
+/// Appends `path` to `paths`, `count` times.
 fn push_paths<'a>(paths: &mut Vec<&'a [u8]>, count: usize, path: &'a [u8]) -> Result<(), AllocError>
     ensures { OnOk result (map (λ p. p.now) paths.new.items ≡ map (λ p. p.now) paths.old.items ++ repeat count (path.now ∷ [])) }
 {
@@ -89,7 +88,7 @@ fn push_paths<'a>(paths: &mut Vec<&'a [u8]>, count: usize, path: &'a [u8]) -> Re
     Ok(())
 }
 
-/// Reports why a module can't be placed by these options, and says where the cause is if that is asked for.
+/// Reports why LOCATE can't place `program` by these options, and shows where the cause is, if words are asked for.
 pub(crate) fn report_place_fault<C: Console>(
     console: &mut C,
     program: &Module,
@@ -120,7 +119,7 @@ pub(crate) fn report_place_fault<C: Console>(
     reported
 }
 
-/// The lines of a fault of this module.
+/// The lines that show where the cause of a fault of placing `program` is.
 fn place_lines(
     alloc: Global,
     program: &Module,
@@ -134,7 +133,7 @@ fn place_lines(
     Ok(lines)
 }
 
-/// Reports the address of this module at which a board has no memory for it, and shows its segment if that is asked for.
+/// Reports the address at which a board has no memory for `program`, and shows the segment there, if words are asked for.
 pub(crate) fn report_unmapped<C: Console>(
     console: &mut C,
     program: &Module,
@@ -153,7 +152,7 @@ pub(crate) fn report_unmapped<C: Console>(
     reported
 }
 
-/// The words for an address without memory.
+/// The lines that show the segment of `program` at an address for which a board has no memory.
 fn unmapped_lines(
     alloc: Global,
     program: &Module,
@@ -170,7 +169,7 @@ fn unmapped_lines(
     Ok(lines)
 }
 
-/// Shows lines, each of which begins as words about a fault do, if there are any.
+/// Prints these lines, each of which begins as words below a fault do. Nothing is printed if there are none.
 fn explain_lines<C: Console>(console: &C, lines: Option<Vec<u8>>) {
     let Some(lines) = lines else { return };
     if let Ok(text) = str::from_utf8(&lines) {

@@ -5,7 +5,7 @@ ghost use Rattle.plm80_console.specs.NumberText.{IsCountText, count_value};
 
 use plm80_console::count_of_digits;
 
-/// The number that a text writes in decimal, if that is a power of two, as sizes of memories are.
+/// The number that `text` writes in decimal, if that is a power of two, as sizes of memories are; else `None`.
 pub(crate) fn decimal_size(text: &str) -> Option<u64>
     ensures { IfSome result (λ number. IsCountText text.now × (number ≡ count_value text.now)) }
 {

@@ -8,7 +8,7 @@ use rom80::DumpKind;
 use std::fmt;
 use std::fmt::{Display, Formatter};
 
-/// Words on a dump that doesn't seem to be bytes as they are: what it seems to be, and which command makes bytes of it.
+/// Words on a dump that doesn't seem to be raw bytes: what it seems to be, and which command makes raw bytes of it.
 #[derive(Clone, Copy)]
 pub(crate) struct DumpWords<'a> {
     path: &'a str,
@@ -16,7 +16,7 @@ pub(crate) struct DumpWords<'a> {
 }
 
 impl<'a> DumpWords<'a> {
-    /// Words on the dump of this path; none if it seems to be bytes, can't be read again, or words aren't asked for.
+    /// Words on the dump of this path. `None` if it seems to be raw bytes, if it can't be read again, or if words aren't asked for.
     pub(crate) fn of<C: Console>(console: &C, path: &'a str) -> Option<DumpWords<'a>>
         ensures path { IfSome result (λ words. words.path.now ≡ path.now) }
         ensures kind { IfSome result (λ words. (bytes : List ℕ) × (dump_kind bytes ≡ Some words.kind)) }
@@ -26,7 +26,7 @@ impl<'a> DumpWords<'a> {
         Some(DumpWords { path, kind })
     }
 
-    /// Whether the dump seems to be an object file.
+    /// Whether the words are on a dump that seems to be an object file.
     pub(crate) fn is_of_object_file(self) -> bool
         ensures { result ≡ true → self.entry.kind ≡ DumpKind.ObjectFile }
     {

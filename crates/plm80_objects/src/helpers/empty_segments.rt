@@ -1,8 +1,8 @@
 //! Words on options of LOCATE: that they are hexadecimal, and on bases of segments that are empty.
 
 ghost use Rattle.std.specs.Prelude.{◌≡◌, ◌⊎◌, ◌==◌, ◌||◌, not, []};
-ghost use Rattle.omf_core.specs.SegmentId.{segment_word};
 ghost use Rattle.std.specs.List.{list_all};
+ghost use Rattle.omf_core.specs.SegmentId.{segment_word};
 
 use crate::helpers::decimal_words::decimal_size;
 use crate::helpers::locate_options::LocateTexts;
@@ -12,8 +12,8 @@ use place80::{Options, Placed, layout};
 use plm80_console::Console;
 use std::str;
 
-/// Says which options may have been meant in decimal; and which bases are those of empty segments, and where the segments are that aren't empty: there is what was to be at these bases. If
-/// memory runs out for it, it says nothing.
+/// Says which options of `locate` may have been meant in decimal; which bases are those of empty segments, and then where the other
+/// segments of `program` are, since what was to be at these bases is there. Nothing is said if memory runs out.
 pub(crate) fn explain_empty_segments<C: Console>(
     console: &C,
     program: &Module,
@@ -53,7 +53,7 @@ pub(crate) fn explain_empty_segments<C: Console>(
     }
 }
 
-/// Whether the segment of this id has no bytes.
+/// Whether each of `segments` with this id has no bytes.
 fn is_empty(segments: &[Placed], id: u8) -> bool
     ensures { result ≡ list_all (λ placed. not (placed.id == id) || placed.length == 0) segments.now }
 {
@@ -62,7 +62,7 @@ fn is_empty(segments: &[Placed], id: u8) -> bool
         .all(|placed| placed.id != id || placed.length == 0)
 }
 
-/// The word for the segment of this id.
+/// The word for the segment with this id, such as `CODE`.
 fn segment_word(id: u8) -> &'static str
     ensures { (result.now ≡ segment_word id) ⊎ (result.now ≡ []) }
 {

@@ -8,7 +8,8 @@ use plm80_console::Console;
 use rom80::no_regions;
 use std::alloc::Global;
 
-/// Says of each of these files that is an image what to do with one. A file that can't be read again is passed over.
+/// Says of each of these files that is an image that it is one, and what to do with it, which is `advice`, if words are asked for. A file
+/// that can't be read again is passed over.
 pub(crate) fn explain_images<C: Console>(console: &C, paths: &[&str], advice: &str) {
     for path in paths {
         if let Some(bytes) = console.text_to_explain(path) {
@@ -19,7 +20,7 @@ pub(crate) fn explain_images<C: Console>(console: &C, paths: &[&str], advice: &s
     }
 }
 
-/// Whether the bytes are those of an image; false, too, if memory runs out.
+/// Whether `bytes` are those of an image. Also false if memory runs out.
 fn is_image(alloc: Global, bytes: &[u8]) -> bool
     ensures { result ≡ true → (program : AbsoluteProgram) × SpellsImage bytes.now program }
 {

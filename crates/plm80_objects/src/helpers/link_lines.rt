@@ -14,15 +14,15 @@ use omf_library::Library;
 use omf_module::Module;
 use std::alloc::{AllocError, Global};
 
-/// Which lines are printed beside those of the modules that were taken and of the unresolved names.
+/// Which lines `link` prints beside those of the modules that were taken and of the unresolved names.
 #[derive(Clone, Copy)]
 pub(crate) struct LinkLines {
     pub map: bool,
     pub reasons: bool,
 }
 
-/// A line for each module that was taken, with its reason if it is wanted; one for each unresolved name, or with the map one for
-/// each module that needs it; and with the map one for each part.
+/// The lines that `link` prints: one for each module that was taken, with its reason if that is wanted; then one for each unresolved name,
+/// or with the map one for each module that needs it, and one for each part.
 pub(crate) fn lines_of(
     alloc: Global,
     wanted: LinkLines,
@@ -39,7 +39,7 @@ pub(crate) fn lines_of(
     Ok(lines)
 }
 
-/// A line for each module that was taken, with its reason if reasons are wanted and found.
+/// A line for each module that was taken from a library, with its reason if reasons are wanted and found.
 fn taken_lines(
     alloc: Global,
     reasons: bool,
@@ -59,7 +59,7 @@ fn taken_lines(
     Ok(lines)
 }
 
-/// Appends a line for each unresolved name; with the map one for each module that needs it, and one for each part.
+/// Appends a line for each unresolved name; with `map` in its place one for each module that needs it, and one for each part.
 fn append_rest(
     alloc: Global,
     lines: &mut Vec<u8>,
@@ -81,7 +81,7 @@ fn append_rest(
     }
 }
 
-/// Appends a line for each module that was taken.
+/// Appends a line TAKEN for each of these places in the libraries.
 fn append_taken(
     lines: &mut Vec<u8>,
     taken: &[Chosen],
@@ -95,7 +95,7 @@ fn append_taken(
     Ok(())
 }
 
-/// Appends the line of the module at a place.
+/// Appends the line TAKEN of the module at a place in the libraries, or nothing if no module is there.
 fn append_chosen(
     lines: &mut Vec<u8>,
     libraries: &[Library],
@@ -109,7 +109,7 @@ fn append_chosen(
     }
 }
 
-/// The module at a place in the libraries.
+/// The module at a place in the libraries; `None` if no module is there.
 fn module_at(libraries: &[Library], place: Chosen) -> Option<&Module>
     ensures { option_copied result ≡ module_at libraries.now place }
 {
@@ -117,7 +117,7 @@ fn module_at(libraries: &[Library], place: Chosen) -> Option<&Module>
     library.modules.get(place.module)
 }
 
-/// Appends a line for each name that no module declares.
+/// Appends a line UNRESOLVED for each of these names.
 fn append_names(lines: &mut Vec<u8>, names: &[Name]) -> Result<(), AllocError>
     ensures { OnOk result (lines.new.items ≡ lines.old.items ++ names_text names.now) }
 {
@@ -127,7 +127,7 @@ fn append_names(lines: &mut Vec<u8>, names: &[Name]) -> Result<(), AllocError>
     Ok(())
 }
 
-/// Appends a line of a word and a name.
+/// Appends `word`, `name` and a line feed.
 fn append_line(lines: &mut Vec<u8>, word: &[u8], name: &Name) -> Result<(), AllocError>
     ensures { OnOk result (lines.new.items ≡ lines.old.items ++ named_line word.now name.now) }
 {

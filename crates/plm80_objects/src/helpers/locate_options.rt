@@ -9,56 +9,56 @@ use omf_core::segment_id::{CODE, DATA, MEMORY, STACK, UNNAMED_COMMON};
 use place80::Options;
 use plm80_console::{Argument, Console, Kind, OptionText, Reported};
 
-/// The base of CODE.
+/// The option `--code`: the base of CODE.
 pub const CODE_BASE: Argument<'static> = Argument {
     name: "code",
     kind: Kind::Number("BASE"),
     help: "Base of CODE [default: 3000]",
 };
 
-/// The base of STACK.
+/// The option `--stack`: the base of STACK.
 pub const STACK_BASE: Argument<'static> = Argument {
     name: "stack",
     kind: Kind::Number("BASE"),
     help: "Base of STACK, its lowest address",
 };
 
-/// The base of the unnamed common.
+/// The option `--common`: the base of the unnamed common.
 pub const COMMON_BASE: Argument<'static> = Argument {
     name: "common",
     kind: Kind::Number("BASE"),
     help: "Base of the unnamed common",
 };
 
-/// The base of DATA.
+/// The option `--data`: the base of DATA.
 pub const DATA_BASE: Argument<'static> = Argument {
     name: "data",
     kind: Kind::Number("BASE"),
     help: "Base of DATA",
 };
 
-/// The base of MEMORY.
+/// The option `--memory`: the base of MEMORY.
 pub const MEMORY_BASE: Argument<'static> = Argument {
     name: "memory",
     kind: Kind::Number("BASE"),
     help: "Base of MEMORY",
 };
 
-/// The length of STACK.
+/// The option `--stack-size`: the length of STACK.
 pub const STACK_SIZE: Argument<'static> = Argument {
     name: "stack-size",
     kind: Kind::Number("SIZE"),
     help: "Length of STACK, in place of the module's",
 };
 
-/// The length of MEMORY.
+/// The option `--memory-size`: the length of MEMORY.
 pub const MEMORY_SIZE: Argument<'static> = Argument {
     name: "memory-size",
     kind: Kind::Number("SIZE"),
     help: "Length of MEMORY, in place of the module's",
 };
 
-/// The values of the options, if they are given.
+/// The texts of the options of LOCATE, `None` for each that isn't given.
 #[derive(Clone, Copy)]
 pub struct LocateTexts<'a> {
     code: Option<OptionText<'a>>,
@@ -71,7 +71,7 @@ pub struct LocateTexts<'a> {
 }
 
 impl<'a> LocateTexts<'a> {
-    /// The options as clap has read them.
+    /// Takes the options of LOCATE from what clap has matched.
     pub fn of(matches: &ArgMatches<'a>) -> LocateTexts<'a>
         ensures { AreLocateTexts matches.now result }
     {
@@ -86,7 +86,7 @@ impl<'a> LocateTexts<'a> {
         }
     }
 
-    /// The bases that are given, each with the id of its segment.
+    /// The text of each of the five bases, `None` if it isn't given, behind the id of its segment.
     pub fn bases(self) -> [(u8, Option<OptionText<'a>>); 5]
         ensures { let texts = self.entry in result ≡ (CODE, texts.code) ∷ (STACK, texts.stack) ∷ (UNNAMED_COMMON, texts.common)
             ∷ (DATA, texts.data_base) ∷ (MEMORY, texts.memory) ∷ [] }
@@ -100,7 +100,7 @@ impl<'a> LocateTexts<'a> {
         ]
     }
 
-    /// All options, if they are given.
+    /// The texts of all seven options of LOCATE, `None` for each that isn't given.
     pub fn all(self) -> [Option<OptionText<'a>>; 7]
         ensures { let texts = self.entry in result ≡ texts.code ∷ texts.stack ∷ texts.common ∷ texts.data_base ∷ texts.memory
             ∷ texts.stack_size ∷ texts.memory_size ∷ [] }
@@ -116,7 +116,7 @@ impl<'a> LocateTexts<'a> {
         ]
     }
 
-    /// The numbers of the options.
+    /// The numbers that the options of LOCATE write, `None` for each that isn't given. Reports the first text that is no number.
     pub fn numbers<C: Console>(self, console: &mut C) -> Result<Options, Reported>
         ensures numbers { IfOk result (AreNumbersOf self.entry) }
         ensures unchanged { IfOk result (λ _. C.journal console.new ≡ C.journal console.old) }

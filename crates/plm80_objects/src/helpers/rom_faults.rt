@@ -6,7 +6,7 @@ ghost use Rattle.plm80_console.specs.Journal.{and_reported};
 use plm80_console::{Console, FaultOf, Reported};
 use rom80::RomFault;
 
-/// Reports the fault of a dump. Out of memory is no fault of a file.
+/// Reports the fault of a dump with the path of its file, and what to do, if words are asked for. Out of memory is reported without a path.
 pub(crate) fn report_rom_fault<C: Console>(
     console: &mut C,
     fault: FaultOf<'_, RomFault>,
@@ -25,7 +25,7 @@ pub(crate) fn report_rom_fault<C: Console>(
     }
 }
 
-/// Words for a fault of a dump; none if memory ran out.
+/// What to do about a fault of a dump, in words; `None` exactly if memory ran out.
 fn words_for(fault: RomFault) -> Option<&'static str>
     ensures { (result ≡ None) ↔ (fault ≡ RomFault.Memory) }
 {

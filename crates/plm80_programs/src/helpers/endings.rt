@@ -1,7 +1,6 @@
 //! How runs end: the lines of a run's instructions, its last line, and the exit status.
 
-ghost use Rattle.std.specs.Prelude.{◌≡◌, ◌+◌, ◌<◌, IfOk, OnOk};
-ghost use Rattle.std.specs.Io.KnownBytes.{Appends};
+ghost use Rattle.std.specs.{Prelude.◌≡◌, Prelude.◌+◌, Prelude.◌<◌, Prelude.IfOk, Prelude.OnOk, Io.KnownBytes.Appends};
 ghost use Rattle.loader80_trace.specs.Traces.{trace_failures};
 ghost use Rattle.plm80_console.specs.Journal.{and_reported};
 ghost use Rattle.plm80_programs.specs.Running.{IsTraceOf, ending, trace_ending, trace_lines};
@@ -16,18 +15,18 @@ use std::alloc::{AllocError, Global};
 use std::io::ErrorKind;
 use stream80::Sink;
 
-/// Some instructions of a program's run.
+/// Which instructions of a program's run are written, and with which names.
 #[derive(Clone, Copy)]
 pub struct Traced<'a> {
     pub vouched: &'a Vouched,
     pub names: &'a Names,
     pub limits: Limits,
     pub span: Span,
-    /// Whether the number of the steps before it comes first in a line.
+    /// Whether each line begins with the number of the steps before its instruction.
     pub numbered: bool,
 }
 
-/// Writes the lines of instructions, with their names, as they come; and gives how the run ended, if it did among them or before.
+/// Writes the lines of instructions of a run as they come, with names, and returns how the run ended; `None` if the lines don't reach that.
 ///
 /// # Errors
 /// `Write` if a write fails, and `Memory` if memory runs out; a front part of the lines is then written.
@@ -58,7 +57,7 @@ pub fn write_traced<K: Sink>(
     )
 }
 
-/// What is printed of how a run ended: its last line, with the name of its address, and the exit status.
+/// What is printed of how a run ended: its last line, with a name for the address in it, and the exit status.
 pub fn ending_of(
     alloc: Global,
     vouched: &Vouched,
@@ -75,7 +74,7 @@ pub fn ending_of(
     Ok(Answer::prints(text, status_of(ended.end)))
 }
 
-/// What is printed behind the lines of a run, which reached this end of it, or none.
+/// What `trace` prints behind the lines of a run: how the run ended; if the lines didn't reach that, nothing with status 0.
 pub fn trace_ending_of(
     alloc: Global,
     vouched: &Vouched,
@@ -90,7 +89,7 @@ pub fn trace_ending_of(
     }
 }
 
-/// Reports why not all lines of a run were printed.
+/// Reports why lines that come one by one weren't all printed: standard output took no more, or memory ran out.
 pub fn report_lines<C: Console>(
     console: &mut C,
     fault: TraceFault,

@@ -6,8 +6,8 @@ ghost use Rattle.image80_file.specs.ImageFile.{SpellsImage, without_regions};
 ghost use Rattle.loader80.specs.InputsText.{bad_line, inputs_of};
 ghost use Rattle.plm80_console.specs.Journal.{OnlyReports, and_read_files};
 ghost use Rattle.plm80_names.specs.Printed.{AreNamesOf};
-ghost use Rattle.plm80_programs.specs.Arguments.{AreLimitTexts, AreRunFiles};
 ghost use Rattle.plm80_programs.specs.Running.{AreLimitsOf, IsRunRead, run_files};
+ghost use Rattle.plm80_programs.specs.Arguments.{AreLimitTexts, AreRunFiles};
 
 use clap::ArgMatches;
 use image80::Image;
@@ -26,35 +26,35 @@ pub struct RunFiles<'a> {
     inputs: &'a str,
 }
 
-/// The argument of the inputs of a run.
+/// The argument INPUTS: the path of the inputs of a run.
 pub const INPUTS: Argument<'static> = Argument {
     name: "INPUTS",
     kind: Kind::Path,
     help: "The text of the bytes that it reads from ports",
 };
 
-/// The option of the steps at most.
+/// The option `--steps`: how many steps a run makes at most.
 pub const STEPS: Argument<'static> = Argument {
     name: "steps",
     kind: Kind::Count("1000000"),
     help: "Steps at most; a step is one instruction",
 };
 
-/// The option of the outputs at most.
+/// The option `--outputs`: how many outputs a run makes at most.
 pub const OUTPUTS: Argument<'static> = Argument {
     name: "outputs",
     kind: Kind::Count("65536"),
     help: "Outputs at most; the next one is refused",
 };
 
-/// The bytes of an image's file, the text of its regions and that of the inputs of its run, each with its path.
+/// The bytes of an image's file, the text of its regions and the text of the inputs of its run, each with its path.
 #[derive(Drop)]
 pub struct RunTexts<'a> {
     pub program: ProgramTexts<'a>,
     pub inputs: ReadFile<'a>,
 }
 
-/// An image that was read, the names of its addresses if they are asked for, and the text of its inputs.
+/// An image that was read, its names if they are asked for, and the text of the inputs of its run.
 #[derive(Drop)]
 pub struct RunProgram {
     pub image: Image,
@@ -63,7 +63,7 @@ pub struct RunProgram {
 }
 
 impl<'a> RunFiles<'a> {
-    /// The arguments as clap has read them.
+    /// Takes the paths of the files of a run from what clap has matched.
     pub fn of(matches: &ArgMatches<'a>) -> RunFiles<'a>
         ensures { AreRunFiles matches.now result }
     {
@@ -74,8 +74,8 @@ impl<'a> RunFiles<'a> {
         }
     }
 
-    /// The image with its regions, as the files have them, its names if they are asked for, and the text of its inputs. All three
-    /// files are read before one is checked, and they are checked in the order of `run`.
+    /// Reads an image with its regions, its names if they are asked for, and the text of the inputs of its run. All three files are read
+    /// before one is checked, and they are checked in the order of `run`; the first fault is reported.
     pub fn read<C: Console>(self, console: &mut C, names: bool) -> Result<RunProgram, Reported>
         ensures read { IfOk result (λ read. IsRunRead self.entry names (C.journal console.old) (C.journal console.new)
             read.image read.names read.inputs.items) }
@@ -85,7 +85,7 @@ impl<'a> RunFiles<'a> {
         texts.program(console, names)
     }
 
-    /// All three files, in this order.
+    /// Reads the three files of a run whole: the image, its regions, then its inputs.
     pub fn texts<C: Console>(self, console: &mut C) -> Result<RunTexts<'a>, Reported>
         ensures image { IfOk result (λ texts. texts.program.image.path.now ≡ self.entry.image.now) }
         ensures regions { IfOk result (λ texts. texts.program.regions.path.now ≡ self.entry.regions.now) }
@@ -98,7 +98,7 @@ impl<'a> RunFiles<'a> {
         Ok(RunTexts { program, inputs })
     }
 
-    /// The inputs that the text of their file spells.
+    /// The inputs that `text` spells. Reports its first bad line, with the path of the inputs.
     pub fn inputs_of<C: Console>(self, console: &mut C, text: &[u8]) -> Result<Inputs, Reported>
         ensures good { OnOk result (bad_line text.now ≡ None) }
         ensures inputs { IfOk result (λ inputs. inputs.pairs.items ≡ inputs_of text.now) }
@@ -118,7 +118,8 @@ impl<'a> RunFiles<'a> {
 }
 
 impl<'a> RunTexts<'a> {
-    /// The image with its regions, its names if they are asked for, and the text of its inputs.
+    /// The image that the texts spell, with its regions, its names if they are asked for, and the text of the inputs. Reports the first
+    /// fault of the image and its regions.
     fn program<C: Console>(self, console: &mut C, asked: bool) -> Result<RunProgram, Reported>
         ensures contents { IfOk result (λ read. SpellsImage self.entry.program.image.bytes.items (without_regions read.image)) }
         ensures regions { IfOk result (λ read. Spells self.entry.program.regions.bytes.items read.image.regions) }
@@ -136,7 +137,7 @@ impl<'a> RunTexts<'a> {
     }
 }
 
-/// The texts of the options that say how far an image runs.
+/// The texts of the options that say how long a run may last.
 #[derive(Clone, Copy)]
 pub struct LimitTexts<'a> {
     steps: OptionText<'a>,
@@ -144,7 +145,7 @@ pub struct LimitTexts<'a> {
 }
 
 impl<'a> LimitTexts<'a> {
-    /// The options as clap has read them.
+    /// Takes the options that say how long a run may last from what clap has matched.
     pub fn of(matches: &ArgMatches<'a>) -> LimitTexts<'a>
         ensures { AreLimitTexts matches.now result }
     {
@@ -154,7 +155,7 @@ impl<'a> LimitTexts<'a> {
         }
     }
 
-    /// The numbers of the options.
+    /// The numbers of the options that say how long a run may last. Reports the first text that is no number.
     pub fn numbers<C: Console>(self, console: &mut C) -> Result<Limits, Reported>
         ensures limits { IfOk result (AreLimitsOf self.entry) }
         ensures unchanged { IfOk result (λ _. C.journal console.new ≡ C.journal console.old) }

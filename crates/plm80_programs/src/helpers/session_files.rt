@@ -2,10 +2,9 @@
 
 ghost use Rattle.std.specs.Prelude.{◌≡◌, ◌<◌, IfErr, IfOk, option_map};
 ghost use Rattle.loader80.specs.Sends.{Sends};
-ghost use Rattle.plm80_console.specs.Answer.{Gives, IsAnswered};
-ghost use Rattle.plm80_console.specs.Journal.{OnlyReports, and_reported};
-ghost use Rattle.plm80_programs.specs.Arguments.{run_paths};
+ghost use Rattle.plm80_console.specs.{Answer.Gives, Answer.IsAnswered, Journal.OnlyReports, Journal.and_reported};
 ghost use Rattle.plm80_programs.specs.Running.{AnswersSession, AnswersTexts, fault_path, session_status, texts_of};
+ghost use Rattle.plm80_programs.specs.Arguments.{run_paths};
 
 use crate::helpers::run_arguments::{RunFiles, RunTexts};
 use crate::{EndWords, status_of};
@@ -20,7 +19,7 @@ use std::alloc::Global;
 use std::io::ErrorKind;
 use stream80::{Reading, Sink};
 
-/// Does a session on the files, and gives the exit status.
+/// Reads the files of a run, does a session on them, prints its transcript, and returns the exit status.
 pub fn run_session<C: Console>(
     console: &mut C,
     files: RunFiles<'_>,
@@ -35,7 +34,7 @@ pub fn run_session<C: Console>(
     given
 }
 
-/// Does a session on the texts, prints its transcript, and gives the exit status.
+/// Does a session on `texts`, prints its transcript, and returns the exit status. Reports every fault but a refusal, which is printed.
 fn print_session<C: Console>(
     console: &mut C,
     texts: &RunTexts<'_>,
@@ -58,7 +57,7 @@ fn print_session<C: Console>(
     }
 }
 
-/// The exit status of a session's answer: that of the run, or 1 of a refusal.
+/// The exit status of a session by what it answers: that of its run, or 1 of a refusal. Every other fault is returned as it is.
 fn session_status(answer: Result<Outcome, SessionFault>) -> Result<u8, SessionFault>
     ensures { result ≡ session_status answer }
 {
@@ -69,7 +68,7 @@ fn session_status(answer: Result<Outcome, SessionFault>) -> Result<u8, SessionFa
     }
 }
 
-/// The answer of a session on the texts, whose transcript is written.
+/// Does a session on `texts`, writes its transcript to `out`, and returns its answer.
 fn session_of<K: Sink>(
     alloc: Global,
     texts: &RunTexts<'_>,
@@ -93,7 +92,8 @@ fn session_of<K: Sink>(
     )
 }
 
-/// Reports the fault of a session, with the path of its file.
+/// Reports the fault of a session, with the path of the file of whose bytes it is, and says why standard output takes no more if it is of
+/// that.
 fn report_session<C: Console>(
     console: &mut C,
     texts: &RunTexts<'_>,
@@ -109,7 +109,7 @@ fn report_session<C: Console>(
     }
 }
 
-/// The file that a fault of a session is of; `None` if it is of none.
+/// The file of whose bytes a fault of a session is; `None` if it is of no file's bytes.
 fn file_of_fault<'t, 'a>(texts: &'t RunTexts<'a>, fault: SessionFault) -> Option<&'t ReadFile<'a>>
     ensures { option_map (λ file. file.now.path.now) result ≡ fault_path texts.now fault }
 {
@@ -125,7 +125,7 @@ fn file_of_fault<'t, 'a>(texts: &'t RunTexts<'a>, fault: SessionFault) -> Option
     }
 }
 
-/// Reports the fault of the bytes of this file, and says what is wrong with them.
+/// Reports a fault of the bytes of `file`, and says what is wrong with them, if words are asked for.
 fn report_text<C: Console>(console: &mut C, file: &ReadFile<'_>, fault: SessionFault) -> Reported
     ensures { C.journal console.new ≡ and_reported (C.journal console.old) }
 {

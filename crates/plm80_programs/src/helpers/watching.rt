@@ -1,12 +1,11 @@
 //! `plm80 run` with `--last` or `--dump`: a run, its last instructions, and the memory that it leaves.
 
-ghost use Rattle.std.specs.Prelude.{◌≡◌, ◌<◌, ◌≤◌, ◌++◌, ℕ, List, [], IfErr, IfOk, OnOk};
-ghost use Rattle.std.specs.Io.KnownBytes.{Appends};
-ghost use Rattle.std.specs.List.{flat_map};
+ghost use Rattle.std.specs.Prelude.{◌≡◌, ◌<◌, ◌≤◌, ◌++◌, ℕ, List, IfErr, IfOk, OnOk};
+ghost use Rattle.std.specs.{Io.KnownBytes.Appends, List.flat_map};
 ghost use Rattle.loader80.specs.TranscriptText.{output_line, stack_line};
 ghost use Rattle.plm80_console.specs.Answer.{GaveUp, Gives, GivesUp, IsAnswered, IsGiven, IsGivenUp};
-ghost use Rattle.plm80_programs.specs.Arguments.{dump_path, run_paths};
 ghost use Rattle.plm80_programs.specs.Running.{AnswersRun, EndsRun, WatchesRun, last_lines, with_memory};
+ghost use Rattle.plm80_programs.specs.Arguments.{dump_path, run_paths};
 
 use crate::EndWords;
 use crate::helpers::endings::{Traced, ending_of, report_lines, write_traced};
@@ -14,22 +13,23 @@ use crate::helpers::run_arguments::RunFiles;
 use loader80::{Ended, Vouched, front_text};
 use loader80_trace::{Finished, Limits, Span, TraceFault, finish, memory_bytes};
 use machine80::{Inputs, PagedBus};
+use plm80_console::laws::reading_leaves_files_alone;
 use plm80_console::{Answer, Console, Reported};
 use plm80_names::{Names, Verdict, judge};
 use std::alloc::{AllocError, Global};
 use stream80::{Sink, write_all};
 
-/// What is seen of a run beside its transcript.
+/// What is asked for of a run beside its transcript, and how long it may last.
 #[derive(Clone, Copy)]
 pub struct Watch<'a> {
     pub limits: Limits,
-    /// How many of its last instructions are shown at most.
+    /// How many of the run's last instructions are shown at most.
     pub last: u64,
-    /// The file that its memory is written to, if one is given.
+    /// The path of the file that gets the memory at the end of the run, if one is given.
     pub dump: Option<&'a str>,
 }
 
-/// The inputs of a run, twice: the image runs once more if its last instructions are shown.
+/// The inputs of a run, twice, since an image runs once more if its last instructions are shown.
 #[derive(Drop)]
 struct InputsTwice {
     first: Inputs,
@@ -40,11 +40,12 @@ struct InputsTwice {
 #[derive(Drop)]
 struct Watched<'a> {
     ended: Ended,
-    /// The file of its memory, if one is given, the last line, and the exit status.
+    /// The file of the memory at the end, if one is given, the last line of the transcript, and the exit status.
     answer: Answer<'a>,
 }
 
-/// Runs the image of the files, prints its transcript with its last instructions, writes its memory, and gives the exit status.
+/// Reads the files of a run and runs the image: prints its transcript with its last instructions, writes its memory if a file is named, and
+/// returns the exit status. Prints the refusal of an image that the verifier refuses.
 pub fn watch_run<C: Console>(
     console: &mut C,
     files: RunFiles<'_>,
@@ -56,6 +57,7 @@ pub fn watch_run<C: Console>(
     ensures fault { let w = watch.entry in IfErr result (λ _. GivesUp (AnswersRun (λ inputs. EndsRun inputs w.limits w.last (dump_path w.dump)) names)
         (run_paths files.entry) (C.journal console.old) (C.journal console.new)) }
 {
+    reading_leaves_files_alone();
     let program = files.read(console, names)?;
     let first = files.inputs_of(console, &program.inputs)?;
     let second = files.inputs_of(console, &program.inputs)?;
@@ -69,7 +71,8 @@ pub fn watch_run<C: Console>(
     }
 }
 
-/// Runs the image, and prints its transcript; its memory is written before the last line.
+/// Runs a program and prints its transcript with its last instructions; before its last line its memory is written, if a file is named.
+/// Returns the exit status.
 fn print_run<C: Console>(
     console: &mut C,
     vouched: &Vouched,
@@ -92,7 +95,7 @@ fn print_run<C: Console>(
     }
 }
 
-/// Writes the memory, and then prints the last line, and gives the exit status.
+/// Writes the memory of a run that was watched, if a file is named, prints the last line of its transcript, and returns the exit status.
 fn end_run<C: Console>(console: &mut C, watched: Watched<'_>) -> Result<u8, Reported>
     ensures given { IfOk result (IsGiven watched.entry.answer (C.journal console.old) (C.journal console.new)) }
     ensures fault { IfErr result (λ _. GaveUp watched.entry.answer.files (C.journal console.old) (C.journal console.new)) }
@@ -103,7 +106,7 @@ fn end_run<C: Console>(console: &mut C, watched: Watched<'_>) -> Result<u8, Repo
     Ok(status)
 }
 
-/// Runs the image; writes its transcript but for the last line, and its last instructions behind it.
+/// Runs a program and writes its transcript but for the last line, and its last instructions behind that. Returns what is left to do.
 fn write_run<'a, K: Sink>(
     alloc: Global,
     vouched: &Vouched,
@@ -137,7 +140,7 @@ fn write_run<'a, K: Sink>(
     })
 }
 
-/// Writes the transcript of a run but for its last line.
+/// Writes the transcript of a finished run, but for its last line.
 fn write_front<K: Sink>(
     alloc: Global,
     vouched: &Vouched,
@@ -154,7 +157,7 @@ fn write_front<K: Sink>(
     Ok(())
 }
 
-/// Writes the last instructions of a run that ended so.
+/// Writes the last instructions of a run that ended as `ended`, by running the program once more.
 fn write_last<K: Sink>(
     alloc: Global,
     vouched: &Vouched,
@@ -183,7 +186,7 @@ fn write_last<K: Sink>(
     Ok(())
 }
 
-/// The answer behind the file of the memory that a run leaves, if one is given.
+/// The answer behind the file `path` with the memory that a run leaves; the answer as it is if no path is given.
 fn with_memory<'a>(
     alloc: Global,
     bus: &PagedBus,

@@ -1,6 +1,5 @@
-use Rattle.std.proofs.Common.{◌≡◌, false, take}
+use Rattle.std.proofs.Common.{◌≡◌, false, take, bytes_eq}
 use Rattle.std.specs.List.{list_any}
-use Rattle.std.specs.Str.{bytes_eq}
 use Rattle.plm80_console.specs.declared.comparison.Comparison.TheVariants.{Letters}
 use Rattle.plm80_console.proofs.shared_paths.is_among.Given as goal
 

@@ -1,7 +1,6 @@
 use Rattle.std.proofs.Common.{◌≡◌, false, take}
 use Rattle.std.specs.List.{list_any}
-use Rattle.plm80_console.specs.ApartPaths.{stands_behind}
-use Rattle.plm80_console.specs.declared.comparison.Comparison.TheVariants.{Letters}
+use Rattle.plm80_console.specs.{ApartPaths.stands_behind, declared.comparison.Comparison.TheVariants.Letters}
 use Rattle.plm80_console.proofs.shared_paths.is_behind.Given as goal
 
 -- the path is that of none of those so far

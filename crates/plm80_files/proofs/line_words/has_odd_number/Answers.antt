@@ -1,7 +1,5 @@
-use Rattle.std.specs.Prelude.{◌==◌, ℕ}
-use Rattle.std.proofs.Common.{rules, tests}
-use Rattle.std.proofs.lemmas.Iterator.Search.{any_from_yields_List}
-use Rattle.std.proofs.lemmas.Iterator.Splits.{YieldsList-from_slice_split}
+use Rattle.std.proofs.Common.{◌==◌, ℕ, rules, tests}
+use Rattle.std.proofs.lemmas.Iterator.{Search.any_from_yields_List, Splits.YieldsList-from_slice_split}
 use Rattle.plm80_files.specs.Lines.{is_odd_number}
 use Rattle.plm80_files.proofs.line_words.has_odd_number.Goals as goal
 

@@ -1,7 +1,5 @@
-use Rattle.std.specs.Prelude.{◌==◌, ℕ}
-use Rattle.std.proofs.Common.{rules, tests}
-use Rattle.std.proofs.lemmas.Iterator.Consumers.{nth_from_yields_List}
-use Rattle.std.proofs.lemmas.Iterator.Splits.{YieldsList-from_slice_split}
+use Rattle.std.proofs.Common.{◌==◌, ℕ, rules, tests}
+use Rattle.std.proofs.lemmas.Iterator.{Consumers.nth_from_yields_List, Splits.YieldsList-from_slice_split}
 use Rattle.plm80_files.proofs.line_words.part_of.Goals as goal
 
 pub returns : goal.returns

@@ -1,6 +1,5 @@
 use Rattle.std.specs.Prelude.{Some, codes}
-use Rattle.std.proofs.lemmas.Bool.Decides.{Decides-eqb}
-use Rattle.std.proofs.lemmas.Slice.Eq.{strip_prefix_is}
+use Rattle.std.proofs.lemmas.{Bool.Decides.Decides-eqb, Slice.Eq.strip_prefix_is}
 use Rattle.plm80_files.proofs.RangeLemmas.{behind_code, behind_stack, data_behind}
 use Rattle.plm80_files.proofs.regions_words.extent_of.Goals as goal
 

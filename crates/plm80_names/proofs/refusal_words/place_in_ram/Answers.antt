@@ -1,9 +1,5 @@
-use Rattle.std.specs.Borrow.{Bor}
-use Rattle.std.specs.Prelude.{List, Option, find, option_copied, refl}
-use Rattle.std.proofs.Common.{◌∙◌, ap, inl, sym}
-use Rattle.image80.specs.declared.range.Range.{Range}
-use Rattle.image80.specs.Image.{Located}
-use Rattle.image80.specs.Range.{in_range}
+use Rattle.std.proofs.Common.{Bor, List, Option, find, option_copied, refl, ◌∙◌, ap, inl, sym}
+use Rattle.image80.specs.{declared.range.Range.Range, Image.Located, Range.in_range}
 use Rattle.plm80_names.proofs.refusal_words.place_in_ram.Goals as goal
 
 pub returns-in-Some-clause-some : goal.returns-in-Some-clause-some

@@ -1,5 +1,4 @@
-use Rattle.std.proofs.Common.{◌∙◌}
-use Rattle.plm80_objects.proofs.RomFileLemmas.{rom_more}
+use Rattle.plm80_objects.proofs.{Names.◌∙◌, RomFileLemmas.rom_more}
 use Rattle.plm80_objects.proofs.absolute.files_of.Goals as goal
 
 pub loop-further-preserved : goal.loop-further-preserved

@@ -1,5 +1,4 @@
-use Rattle.std.proofs.Common.{◌≡◌, take}
-use Rattle.plm80_objects.specs.Absolute.{AreRomFiles}
+use Rattle.plm80_objects.proofs.Names.{◌≡◌, take, AreRomFiles}
 use Rattle.plm80_objects.proofs.absolute.files_of.Given as goal
 
 -- the files so far

@@ -1,7 +1,5 @@
 -- the files that were read so far, and whether one of their dumps has a byte at the start
-use Rattle.std.specs.Prelude.{◌≡◌, take}
-use Rattle.rom80.specs.Rom.{is_covered}
-use Rattle.plm80_objects.specs.Absolute.{AreDumpsRead}
+use Rattle.plm80_objects.proofs.Names.{◌≡◌, take, is_covered, AreDumpsRead}
 use Rattle.plm80_objects.proofs.absolute.read_dumps.Given as goal
 
 abbrev pub invariant-loop-rom : goal.invariant-loop-rom

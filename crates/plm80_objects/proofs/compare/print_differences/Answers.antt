@@ -1,10 +1,6 @@
-use Rattle.std.specs.Prelude.{ℕ, List, [], ◌∷◌, refl}
-use Rattle.std.proofs.Common.{◌∙◌, ap, subst}
-use Rattle.image80_file.specs.ImageFile.{SpellsImage, without_regions}
-use Rattle.plm80_console.specs.Journal.{Journal, and_read}
-use Rattle.plm80_names.specs.Printed.{AreNamesOf}
-use Rattle.plm80_objects.specs.Compare.{ComparesFiles}
-use Rattle.plm80_objects.proofs.GivenLemmas.{file_value, gives}
+use Rattle.plm80_objects.proofs.Names.{ℕ, List, [], ◌∷◌, refl, ◌∙◌, ap, subst, SpellsImage, without_regions, Journal, and_read, file_value}
+use Rattle.plm80_objects.proofs.Names.{AreNamesOf, ComparesFiles}
+use Rattle.plm80_objects.proofs.GivenLemmas.{gives}
 use Rattle.plm80_objects.proofs.compare.print_differences.Goals as goal
 
 pub returns-in-Ok-clause-done : goal.returns-in-Ok-clause-done

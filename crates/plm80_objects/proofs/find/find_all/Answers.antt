@@ -1,9 +1,7 @@
-use Rattle.std.specs.Prelude.{Bool, ◌&&◌}
-use Rattle.std.proofs.Common.{◌∙◌, ap, sym}
-use Rattle.rom80_find.specs.Dump.{dump_of}
+use Rattle.plm80_objects.proofs.Names.{Bool, ◌&&◌, ◌∙◌, ap, sym, dump_of}
+use Rattle.plm80_objects.proofs.find.find_all.Goals.{then-are_there, else-are_there}
 use Rattle.plm80_objects.proofs.FindLemmas.{files_more, files_none}
 use Rattle.plm80_objects.proofs.find.find_all.Goals as goal
-use Rattle.plm80_objects.proofs.find.find_all.Goals.{then-are_there, else-are_there}
 
 pub loop-file-init : goal.loop-file-init
 loop-file-init c = files_none (dump_of c.args.dump) c.args.files.now c.new-text.result.items c.new-text.ensures.items

@@ -1,7 +1,5 @@
 -- the files so far
-use Rattle.std.specs.Prelude.{take}
-use Rattle.rom80_find.specs.Dump.{dump_of}
-use Rattle.plm80_objects.specs.Find.{PrintsFiles}
+use Rattle.plm80_objects.proofs.Names.{take, dump_of, PrintsFiles}
 use Rattle.plm80_objects.proofs.find.find_all.Given as goal
 
 abbrev pub invariant-loop-file : goal.invariant-loop-file

@@ -1,24 +1,27 @@
-use Rattle.std.specs.Borrow.{Bor}
-use Rattle.std.specs.Prelude.{ℕ, List, IfOk}
-use Rattle.std.proofs.Common.{◌∙◌, ap, subst}
-use Rattle.rom80_find.specs.Dump.{dump_of}
-use Rattle.plm80_console.specs.Answer.{Gives}
-use Rattle.plm80_console.specs.Journal.{Journal, and_read}
-use Rattle.plm80_console.specs.NumberText.{word_value}
-use Rattle.plm80_objects.specs.Find.{FindsIn}
-use Rattle.plm80_objects.proofs.GivenLemmas.{texts}
-use Rattle.plm80_objects.proofs.ReadLemmas.{dump_is, finds}
+use Rattle.plm80_objects.proofs.Names.{◌≡◌, ℕ, List, ◌∷◌, ◌∙◌, ap, subst, IfOk-weaker, DumpValue, dump_of, Gives, IsGiven, Journal}
+use Rattle.plm80_objects.proofs.Names.{and_read, and_read_files, file_value, word_value, FindsIn, FindsModules}
+use Rattle.plm80_objects.proofs.ReadLemmas.{texts}
 use Rattle.plm80_objects.proofs.find.find_in_dump.Goals as goal
 
 pub returns-in-Ok-clause-done : goal.returns-in-Ok-clause-done
 returns-in-Ok-clause-done g c =
     let asked = c.args.arguments.now in
+    let path = asked.dump.now in
     let bytes = c.in_ok-file.file.bytes.items in
     let dump = c.in-Ok.dump in
-    finds asked (dump_of dump) asked.dump.now bytes (texts asked.files.items) (g.C.Console.journal c.args.console.now) (g.C.Console.journal c.read_file.new.self)
-    (g.C.Console.journal c.find_in.new.console) c.find_in.result
-    (dump_is c.in_ok-first.first (word_value asked.first.text.now) dump.bytes.now bytes dump.first c.in-Ok.ensures.dump.0 c.in-Ok.ensures.dump.1
-    c.in_ok-first.ensures.word.1)
-    (c.in_ok-file.ensures.read ∙ ap (λ (j : Journal). and_read j asked.dump.now bytes) c.in_ok-first.ensures.unchanged)
-    (subst (λ (ps : List (Bor (List ℕ))). IfOk c.find_in.result (Gives (FindsIn (dump_of dump)) (texts ps) (g.C.Console.journal c.read_file.new.self)
-    (g.C.Console.journal c.find_in.new.console))) c.deref.ensures.value c.find_in.ensures.done)
+    let old = g.C.Console.journal c.args.console.now in
+    let between = g.C.Console.journal c.read_file.new.self in
+    let new = g.C.Console.journal c.find_in.new.console in
+    let read = c.in_ok-file.ensures.read ∙ ap (λ (j : Journal). and_read j path bytes) c.in_ok-first.ensures.unchanged in
+    let same : dump_of dump ≡ record { first = word_value asked.first.text.now; bytes = bytes } =
+    λ k. record { first = (c.in-Ok.ensures.dump.0 ∙ c.in_ok-first.ensures.word.1) k; bytes = c.in-Ok.ensures.dump.1 k } in
+    IfOk-weaker c.find_in.result (Gives (FindsIn (dump_of dump)) (texts c.deref.result.now) between new)
+    (Gives (FindsModules asked) (path ∷ texts asked.files.items) old new)
+    (λ status gives. record {
+      files = file_value path bytes ∷ gives.files;
+      paths_are = ap (λ (ps : List (List ℕ)). path ∷ ps) (gives.paths_are ∙ ap texts c.deref.ensures.value);
+      answer = gives.answer;
+      answers = subst (λ (d : DumpValue). FindsIn d gives.files gives.answer) same gives.answers;
+      given = subst (λ (j : Journal). IsGiven gives.answer (and_read_files j gives.files) new status) read gives.given;
+    })
+    c.find_in.ensures.done

@@ -1,30 +1,34 @@
-use Rattle.std.specs.Prelude.{◌+◌, ◌++◌, ◌∷◌, [], take}
-use Rattle.plm80_objects.proofs.GivenLemmas.{err_from, file_value, only_reports, texts, texts_more}
-use Rattle.plm80_objects.proofs.ReadLemmas.{all_more, all_none, read_on}
+use Rattle.plm80_objects.proofs.Names.{◌++◌, ◌∷◌, [], ◌∙◌, file_value, AreModulesOf}
+use Rattle.plm80_objects.proofs.{GivenLemmas.err_from, ReadLemmas.none_read, ReadLemmas.one_read, ReadLemmas.text_of}
+use Rattle.plm80_objects.specs.Modules.AreModulesOf.{none, more}
 use Rattle.plm80_objects.proofs.library.modules_of.Goals as goal
 
 pub loop-path-init : goal.loop-path-init
-loop-path-init g c = all_none c.args.paths.now (g.C.Console.journal c.args.console.now) c.new-modules.result.items c.new-modules.ensures.items
+loop-path-init g c =
+    none_read text_of c.args.paths.now (g.C.Console.journal c.args.console.now) AreModulesOf c.new-modules.result.items [] c.new-modules.ensures.items none
 
 pub returns-in_err-read-clause-fault : goal.returns-in_err-read-clause-fault
 returns-in_err-read-clause-fault g c =
+    let read = c.loop-path.invariant in
     err_from c.from_residual.result
-    (only_reports (g.C.Console.journal c.args.console.now) (g.C.Console.journal c.loop-path.console) (g.C.Console.journal c.read_modules.new.console) c.loop-path.invariant.files
-    c.loop-path.invariant.journal c.in_err-read.ensures.fault)
+    (c.reading_leaves_files_alone.ensures.faults (g.C.Console.journal c.args.console.now) (g.C.Console.journal c.loop-path.console)
+    (g.C.Console.journal c.read_modules.new.console) read.files read.journal c.in_err-read.ensures.fault)
 
 pub returns-in_err-append_modules-clause-fault : goal.returns-in_err-append_modules-clause-fault
 returns-in_err-append_modules-clause-fault g c =
+    let law = c.reading_leaves_files_alone.ensures in
+    let journal = g.C.Console.journal in
     err_from c.from_residual-in_err-append_modules.result
-    (only_reports (g.C.Console.journal c.args.console.now) (g.C.Console.journal c.read_modules.new.console) (g.C.Console.journal c.append_modules.new.console)
-    (c.loop-path.invariant.files ++ file_value _ c.in_ok-read.ensures.read.0 ∷ [])
-    (read_on (g.C.Console.journal c.args.console.now) (g.C.Console.journal c.loop-path.console) (g.C.Console.journal c.read_modules.new.console) c.loop-path.invariant.files _
-    c.in_ok-read.ensures.read.0 c.loop-path.invariant.journal c.in_ok-read.ensures.read.1)
-    c.in_err-append_modules.ensures.fault)
+    (law.faults (journal c.args.console.now) (journal c.loop-path.console) (journal c.append_modules.new.console) c.loop-path.invariant.files
+    c.loop-path.invariant.journal
+    (law.faults (journal c.loop-path.console) (journal c.read_modules.new.console) (journal c.append_modules.new.console)
+    (file_value _ c.in_ok-read.ensures.read.0 ∷ []) c.in_ok-read.ensures.read.1 c.in_err-append_modules.ensures.fault))
 
 pub loop-path-preserved : goal.loop-path-preserved
 loop-path-preserved g c =
-    all_more (texts (take c.loop-path.path-index c.args.paths.now)) (texts (take (c.loop-path.path-index + 1) c.args.paths.now)) _
-    (g.C.Console.journal c.args.console.now) (g.C.Console.journal c.loop-path.console) (g.C.Console.journal c.read_modules.new.console) (g.C.Console.journal c.append_modules.new.console)
-    c.loop-path.modules.items c.in_ok-read.read.items c.append_modules.new.modules.items c.loop-path.invariant
-    (texts_more c.args.paths.now c.loop-path.path-index _ c.loop-path-test.true) c.in_ok-read.ensures.read c.in_ok-append_modules.ensures.appended
-    c.in_ok-append_modules.ensures.unchanged
+    let modules = c.loop-path.modules.items in
+    let own = c.in_ok-read.read.items in
+    one_read text_of c.args.paths.now c.loop-path.path-index _ (g.C.Console.journal c.args.console.now) (g.C.Console.journal c.loop-path.console)
+    (g.C.Console.journal c.append_modules.new.console) AreModulesOf AreModulesOf c.in_ok-read.ensures.read.0 modules c.append_modules.new.modules.items
+    (modules ++ own) c.loop-path-test.true c.loop-path.invariant (c.in_ok-append_modules.ensures.unchanged ∙ c.in_ok-read.ensures.read.1)
+    c.in_ok-append_modules.ensures.appended (λ read named have. more read modules _ own have c.in_ok-read.ensures.read.2)

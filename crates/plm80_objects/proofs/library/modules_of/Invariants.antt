@@ -1,6 +1,5 @@
 -- the files that were read so far
-use Rattle.std.specs.Prelude.{map, take}
-use Rattle.plm80_objects.specs.Modules.{AreAllRead}
+use Rattle.plm80_objects.proofs.Names.{map, take, AreAllRead}
 use Rattle.plm80_objects.proofs.library.modules_of.Given as goal
 
 abbrev pub invariant-loop-path : goal.invariant-loop-path

@@ -1,27 +1,34 @@
-use Rattle.std.specs.Prelude.{◌+◌, ◌++◌, ◌∷◌, [], take}
-use Rattle.plm80_objects.proofs.GivenLemmas.{err_from, file_value, only_reports, reported, texts, texts_more}
-use Rattle.plm80_objects.proofs.ReadLemmas.{links_more, links_none, read_on}
+use Rattle.plm80_objects.proofs.Names.{◌∷◌, [], refl, file_value, AreLinkFilesOf}
+use Rattle.plm80_objects.proofs.{GivenLemmas.err_from, ReadLemmas.none_read, ReadLemmas.one_read, ReadLemmas.text_of}
+use Rattle.plm80_objects.specs.Link.AreLinkFilesOf.{none, more}
 use Rattle.plm80_objects.proofs.link.read_files.Goals as goal
 
 pub loop-path-init : goal.loop-path-init
-loop-path-init g c = links_none [] (g.C.Console.journal c.args.console.now) _ c.new.ensures.items c.new-2.ensures.items c.new-3.ensures.items c.new-4.ensures.items
+loop-path-init g c =
+    none_read text_of c.args.paths.now (g.C.Console.journal c.args.console.now) AreLinkFilesOf _ _ refl
+    (none _ c.new.ensures.items c.new-2.ensures.items c.new-3.ensures.items c.new-4.ensures.items)
 
 pub returns-in_err-file-clause-fault : goal.returns-in_err-file-clause-fault
 returns-in_err-file-clause-fault g c =
+    let read = c.loop-path.invariant in
     err_from c.from_residual.result
-    (only_reports (g.C.Console.journal c.args.console.now) (g.C.Console.journal c.loop-path.console) (g.C.Console.journal c.read_link_file.new.console) c.loop-path.invariant.read
-    c.loop-path.invariant.journal c.in_err-file.ensures.fault)
+    (c.reading_leaves_files_alone.ensures.faults (g.C.Console.journal c.args.console.now) (g.C.Console.journal c.loop-path.console)
+    (g.C.Console.journal c.read_link_file.new.console) read.files read.journal c.in_err-file.ensures.fault)
 
 pub returns-in-Err-clause-fault : goal.returns-in-Err-clause-fault
 returns-in-Err-clause-fault g c =
-    reported (g.C.Console.journal c.args.console.now) (g.C.Console.journal c.read_link_file.new.console) (g.C.Console.journal c.report_memory.new.self)
-    (c.loop-path.invariant.read ++ file_value _ c.in_ok-file.ensures.read.0 ∷ [])
-    (read_on (g.C.Console.journal c.args.console.now) (g.C.Console.journal c.loop-path.console) (g.C.Console.journal c.read_link_file.new.console) c.loop-path.invariant.read _
-    c.in_ok-file.ensures.read.0 c.loop-path.invariant.journal c.in_ok-file.ensures.read.1)
-    c.report_memory.ensures
+    let law = c.reading_leaves_files_alone.ensures in
+    let journal = g.C.Console.journal in
+    law.faults (journal c.args.console.now) (journal c.loop-path.console) (journal c.report_memory.new.self) c.loop-path.invariant.files
+    c.loop-path.invariant.journal
+    (law.reported (journal c.loop-path.console) (journal c.read_link_file.new.console) (journal c.report_memory.new.self)
+    (file_value _ c.in_ok-file.ensures.read.0 ∷ []) c.in_ok-file.ensures.read.1 c.report_memory.ensures)
 
 pub loop-path-preserved : goal.loop-path-preserved
 loop-path-preserved g c =
-    links_more (texts (take c.loop-path.path-index c.args.paths.now)) (texts (take (c.loop-path.path-index + 1) c.args.paths.now)) _
-    (g.C.Console.journal c.args.console.now) (g.C.Console.journal c.loop-path.console) (g.C.Console.journal c.read_link_file.new.console) c.loop-path.files c.add.new.self c.in_ok-file.file
-    c.loop-path.invariant (texts_more c.args.paths.now c.loop-path.path-index _ c.loop-path-test.true) c.in_ok-file.ensures.read c.in-Ok.ensures
+    let files = c.loop-path.files in
+    let after = c.add.new.self in
+    one_read text_of c.args.paths.now c.loop-path.path-index _ (g.C.Console.journal c.args.console.now) (g.C.Console.journal c.loop-path.console)
+    (g.C.Console.journal c.read_link_file.new.console) AreLinkFilesOf AreLinkFilesOf c.in_ok-file.ensures.read.0 files after after
+    c.loop-path-test.true c.loop-path.invariant c.in_ok-file.ensures.read.1 refl
+    (λ read named have. more read files after _ c.in_ok-file.file have c.in_ok-file.ensures.read.2 c.in-Ok.ensures)

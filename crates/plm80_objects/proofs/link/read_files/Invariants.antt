@@ -1,6 +1,5 @@
 -- the files that were read so far
-use Rattle.std.specs.Prelude.{map, take}
-use Rattle.plm80_objects.specs.Link.{AreLinkFilesRead}
+use Rattle.plm80_objects.proofs.Names.{map, take, AreLinkFilesRead}
 use Rattle.plm80_objects.proofs.link.read_files.Given as goal
 
 abbrev pub invariant-loop-path : goal.invariant-loop-path

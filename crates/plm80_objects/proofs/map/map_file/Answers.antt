@@ -1,9 +1,5 @@
-use Rattle.std.specs.Prelude.{[], ◌∷◌, refl}
-use Rattle.std.proofs.Common.{◌∙◌, ap}
-use Rattle.plm80_console.specs.Journal.{Journal, and_read}
-use Rattle.plm80_objects.specs.Modules.{MapsFile, PrintsMap}
-use Rattle.plm80_objects.proofs.GivenLemmas.{file_value, gives}
-use Rattle.plm80_objects.proofs.ReadLemmas.{of_program}
+use Rattle.plm80_objects.proofs.Names.{[], ◌∷◌, refl, ◌∙◌, ap, Journal, and_read, file_value, MapsFile, PrintsMap}
+use Rattle.plm80_objects.proofs.{GivenLemmas.gives, ReadLemmas.of_program}
 use Rattle.plm80_objects.proofs.map.map_file.Goals as goal
 
 pub returns-in-Ok-clause-done : goal.returns-in-Ok-clause-done

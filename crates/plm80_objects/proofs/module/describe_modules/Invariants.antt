@@ -1,6 +1,4 @@
-use Rattle.std.proofs.Common.{◌≡◌, take}
-use Rattle.std.specs.List.{flat_map}
-use Rattle.omf_text.specs.ModuleText.{module_text}
+use Rattle.plm80_objects.proofs.Names.{◌≡◌, take, flat_map, module_text}
 use Rattle.plm80_objects.proofs.module.describe_modules.Given as goal
 
 abbrev pub invariant-loop-described : goal.invariant-loop-described

@@ -1,5 +1,4 @@
-use Rattle.std.proofs.Common.{arith}
-use Rattle.plm80_programs.proofs.ExplainLemmas.{all_shown}
+use Rattle.plm80_programs.proofs.{Names.arith, ExplainLemmas.all_shown}
 use Rattle.plm80_programs.proofs.all_refusals.all_refused.Goals as goal
 
 pub returns-clause-shows : goal.returns-clause-shows

@@ -1,6 +1,4 @@
-use Rattle.std.specs.Prelude.{ℕ, List, ◌++◌, refl}
-use Rattle.std.proofs.Common.{◌∙◌, ap}
-use Rattle.plm80_programs.specs.Explanations.ShowsRest.{behind}
+use Rattle.plm80_programs.proofs.Names.{ℕ, List, ◌++◌, refl, ◌∙◌, ap, behind}
 use Rattle.plm80_programs.proofs.all_refusals.append_rest.Goals as goal
 
 pub returns : goal.returns

@@ -1,7 +1,5 @@
 -- the lines so far
-use Rattle.std.specs.Prelude.{◌≡◌, take}
-use Rattle.std.specs.List.{flat_map}
-use Rattle.plm80_programs.specs.Explanations.{shown_lines}
+use Rattle.plm80_programs.proofs.Names.{◌≡◌, take, flat_map, shown_lines}
 use Rattle.plm80_programs.proofs.all_refusals.shown_text.Given as goal
 
 abbrev pub invariant-loop-one : goal.invariant-loop-one

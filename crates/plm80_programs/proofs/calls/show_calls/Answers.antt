@@ -1,17 +1,12 @@
-use Rattle.plm80_programs.proofs.GivenLemmas.{program_given, program_reports}
-use Rattle.plm80_programs.specs.Printed.{PrintsCalls}
+use Rattle.plm80_programs.proofs.{Names.PrintsCalls, GivenLemmas.program_given, GivenLemmas.program_reports}
 use Rattle.plm80_programs.proofs.calls.show_calls.Goals as goal
 
 pub returns-clause-done : goal.returns-clause-done
 returns-clause-done g c =
-    program_given c.args.arguments.files.image.now c.args.arguments.files.regions.now c.args.arguments.files.names
-    (g.C.Console.journal c.args.console.now) (g.C.Console.journal c.read.new.console) (g.C.Console.journal c.give_if_made-given.new.self)
-    c.in_ok-image.image c.in_ok-image.names c.in_ok-image.ensures.read (PrintsCalls c.args.arguments.dot) c.shown-answer.result c.give_if_made-given.result
-    c.shown-answer.ensures.calls c.give_if_made-given.ensures.given
+    program_given c.in_ok-image.ensures.read (g.C.Console.journal c.give_if_made-given.new.self) (PrintsCalls c.args.arguments.dot)
+    c.shown-answer.result c.give_if_made-given.result c.shown-answer.ensures.calls c.give_if_made-given.ensures.given
 
 pub returns-clause-fault : goal.returns-clause-fault
 returns-clause-fault g c =
-    program_reports c.args.arguments.files.image.now c.args.arguments.files.regions.now c.args.arguments.files.names
-    (g.C.Console.journal c.args.console.now) (g.C.Console.journal c.read.new.console) (g.C.Console.journal c.give_if_made-given.new.self)
-    c.in_ok-image.image c.in_ok-image.names c.in_ok-image.ensures.read c.give_if_made-given.result
-    (c.give_if_made-given.ensures.no_file c.shown-answer.ensures.no_file)
+    program_reports c.in_ok-image.ensures.read (g.C.Console.journal c.give_if_made-given.new.self) c.give_if_made-given.result
+    c.reading_leaves_files_alone.ensures.faults (c.give_if_made-given.ensures.no_file c.shown-answer.ensures.no_file)

@@ -1,5 +1,4 @@
-use Rattle.std.proofs.Common.{subst}
-use Rattle.plm80_names.specs.Verdict.{IsVerdict}
+use Rattle.plm80_programs.proofs.Names.{subst, IsVerdict}
 use Rattle.plm80_names.specs.Verdict.AnswersVerdict.{accepted, refused}
 use Rattle.plm80_programs.proofs.calls.shown.Goals as goal
 

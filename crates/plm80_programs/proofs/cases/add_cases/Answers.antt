@@ -1,6 +1,4 @@
-use Rattle.std.specs.Prelude.{Some}
-use Rattle.plm80_programs.specs.Cases.{PrintsCases}
-use Rattle.plm80_programs.proofs.PrintLemmas.{unfinished}
+use Rattle.plm80_programs.proofs.{Names.Some, Names.PrintsCases, PrintLemmas.unfinished}
 use Rattle.plm80_programs.proofs.cases.add_cases.Goals as goal
 
 pub returns-in_err-status-in-Ok-clause-fault : goal.returns-in_err-status-in-Ok-clause-fault

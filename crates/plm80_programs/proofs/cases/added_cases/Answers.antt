@@ -1,13 +1,5 @@
-use Rattle.std.specs.Prelude.{ℕ, List, [], ◌∷◌}
-use Rattle.std.proofs.Common.{◌∙◌, ap, arith, refl, subst}
-use Rattle.image80.specs.Case.{DeclaredCase}
-use Rattle.image80.specs.Image.{Located}
-use Rattle.image80.specs.Regions.{Areas}
-use Rattle.image80.specs.RegionsText.{cases_text}
-use Rattle.verify80_cases.specs.declared.search.Note.{Note}
-use Rattle.verify80_cases.specs.Added.{AddsCases}
-use Rattle.plm80_console.specs.Answer.{AnswerValue, behind_file, prints}
-use Rattle.plm80_programs.specs.Status.{notes_status}
+use Rattle.plm80_programs.proofs.Names.{ℕ, List, [], ◌∷◌, ◌∙◌, ap, arith, refl, subst, DeclaredCase, Located, Areas, cases_text, AddsCases}
+use Rattle.plm80_programs.proofs.Names.{behind_file, prints, notes_status}
 use Rattle.plm80_programs.proofs.cases.added_cases.Goals as goal
 
 pub returns : goal.returns

@@ -1,7 +1,4 @@
-use Rattle.std.proofs.Common.{◌∙◌, ap}
-use Rattle.image80.specs.RegionsText.{cases_text}
-use Rattle.plm80_programs.specs.Status.{notes_status}
-use Rattle.plm80_programs.proofs.PrintLemmas.{cases_printed, printed}
+use Rattle.plm80_programs.proofs.{Names.◌∙◌, Names.ap, Names.cases_text, Names.notes_status, PrintLemmas.cases_printed, PrintLemmas.printed}
 use Rattle.plm80_programs.proofs.cases.print_cases.Goals as goal
 
 pub returns-in-Ok-clause-done : goal.returns-in-Ok-clause-done

@@ -1,6 +1,5 @@
 -- the lines so far
-use Rattle.std.specs.Prelude.{◌≡◌}
-use Rattle.plm80_programs.proofs.CaseLemmas.{Shown}
+use Rattle.plm80_programs.proofs.{Names.◌≡◌, CaseLemmas.Shown}
 use Rattle.plm80_programs.proofs.cases.write_cases.Given as goal
 
 abbrev pub invariant-loop-address : goal.invariant-loop-address

@@ -1,7 +1,4 @@
-use Rattle.std.specs.Prelude.{ℕ, List}
-use Rattle.std.proofs.Common.{◌∙◌, ap, subst}
-use Rattle.plm80_console.specs.Answer.{prints}
-use Rattle.plm80_names.specs.Verdict.{IsVerdict}
+use Rattle.plm80_programs.proofs.Names.{ℕ, List, ◌∙◌, ap, subst, prints, IsVerdict}
 use Rattle.plm80_names.specs.Verdict.AnswersVerdict.{accepted, refused}
 use Rattle.plm80_programs.proofs.check.checked.Goals as goal
 

@@ -1,24 +1,22 @@
-use Rattle.plm80_programs.proofs.GivenLemmas.{run_given, run_read_on, run_reports}
-use Rattle.plm80_programs.specs.Printed.{CountsRun}
+use Rattle.plm80_programs.proofs.GivenLemmas.{IsRunKnown, run_given, run_known, run_reports}
+use Rattle.plm80_programs.proofs.Names.{CountsRun}
+use Rattle.plm80_programs.proofs.cover.cover_within.Given as given
+use Rattle.plm80_programs.proofs.cover.cover_within.Goals.{After-give_if_made}
 use Rattle.plm80_programs.proofs.cover.cover_within.Goals as goal
+
+known : (g : given.Over) (c : After-give_if_made g) → IsRunKnown c.args.files c.args.names (g.C.Console.journal c.args.console.now)
+    (g.C.Console.journal c.inputs_of.new.console) c.in_ok-program.program.image c.in_ok-program.program.names c.in_ok-inputs.inputs.pairs.items
+known g c =
+    run_known c.in_ok-program.ensures.read c.in_ok-inputs.ensures.unchanged c.deref.ensures.value c.in_ok-inputs.ensures.good
+    c.in_ok-inputs.ensures.inputs
 
 pub returns-clause-done : goal.returns-clause-done
 returns-clause-done g c =
-    let program = c.in_ok-program.program in
-    let read = run_read_on c.args.files c.args.names (g.C.Console.journal c.args.console.now) (g.C.Console.journal c.read.new.console) (g.C.Console.journal c.inputs_of.new.console)
-    program.image program.names program.inputs.items c.deref.result.now c.in_ok-program.ensures.read c.in_ok-inputs.ensures.unchanged
-    c.deref.ensures.value in
-    run_given c.args.files c.args.names (g.C.Console.journal c.args.console.now) (g.C.Console.journal c.inputs_of.new.console) (g.C.Console.journal c.give_if_made.new.self)
-    program.image program.names c.deref.result.now c.in_ok-inputs.inputs.pairs.items read c.in_ok-inputs.ensures.good c.in_ok-inputs.ensures.inputs
+    run_given (known g (goal.at.returns-clause-done g c).After-give_if_made) (g.C.Console.journal c.give_if_made.new.self)
     (λ inputs. CountsRun inputs c.args.limits) c.covered-answer.result c.give_if_made.result c.covered-answer.ensures.cover
     c.give_if_made.ensures.given
 
 pub returns-clause-fault : goal.returns-clause-fault
 returns-clause-fault g c =
-    let program = c.in_ok-program.program in
-    let read = run_read_on c.args.files c.args.names (g.C.Console.journal c.args.console.now) (g.C.Console.journal c.read.new.console) (g.C.Console.journal c.inputs_of.new.console)
-    program.image program.names program.inputs.items c.deref.result.now c.in_ok-program.ensures.read c.in_ok-inputs.ensures.unchanged
-    c.deref.ensures.value in
-    run_reports c.args.files c.args.names (g.C.Console.journal c.args.console.now) (g.C.Console.journal c.inputs_of.new.console) (g.C.Console.journal c.give_if_made.new.self)
-    program.image program.names c.deref.result.now c.in_ok-inputs.inputs.pairs.items read c.in_ok-inputs.ensures.good c.in_ok-inputs.ensures.inputs
-    c.give_if_made.result (c.give_if_made.ensures.no_file c.covered-answer.ensures.no_file)
+    run_reports (known g (goal.at.returns-clause-fault g c).After-give_if_made) (g.C.Console.journal c.give_if_made.new.self) c.give_if_made.result
+    c.reading_leaves_files_alone.ensures.faults (c.give_if_made.ensures.no_file c.covered-answer.ensures.no_file)

@@ -1,8 +1,5 @@
-use Rattle.std.proofs.Common.{subst}
-use Rattle.plm80_names.specs.Verdict.{IsVerdict}
+use Rattle.plm80_programs.proofs.{Names.subst, Names.IsVerdict, Names.CountsRun, VerdictLemmas.of_accepted}
 use Rattle.plm80_names.specs.Verdict.AnswersVerdict.{refused}
-use Rattle.plm80_programs.proofs.VerdictLemmas.{of_accepted}
-use Rattle.plm80_programs.specs.Printed.{CountsRun}
 use Rattle.plm80_programs.proofs.cover.covered.Goals as goal
 
 pub returns-in-Accepted-clause-cover : goal.returns-in-Accepted-clause-cover

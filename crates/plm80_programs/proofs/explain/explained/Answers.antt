@@ -1,8 +1,4 @@
-use Rattle.std.proofs.Common.{subst}
-use Rattle.image80.specs.Image.{Located}
-use Rattle.verify80_explain_text.specs.Printed.{GoesOnWithChain}
-use Rattle.plm80_names.specs.Printed.{named_report}
-use Rattle.plm80_programs.specs.Explanations.{ShowsRefused}
+use Rattle.plm80_programs.proofs.Names.{subst, Located, GoesOnWithChain, named_report, ShowsRefused}
 use Rattle.plm80_programs.specs.Explanations.PrintsExplanation.{accepted, refused}
 use Rattle.plm80_programs.proofs.explain.explained.Goals as goal
 

@@ -1,7 +1,4 @@
-use Rattle.std.specs.Prelude.{List}
-use Rattle.std.proofs.Common.{◌∙◌, ap, refl}
-use Rattle.verify80_flow.specs.declared.report.ProcRow.{ProcRow}
-use Rattle.plm80_names.specs.Printed.{named_refusal_report}
+use Rattle.plm80_programs.proofs.Names.{List, ◌∙◌, ap, refl, ProcRow, named_refusal_report}
 use Rattle.plm80_programs.proofs.ExplainLemmas.{same_chain}
 use Rattle.plm80_programs.proofs.explain.overrun.Goals as goal
 

@@ -1,8 +1,5 @@
-use Rattle.std.specs.Prelude.{ℕ, Option, IfOk}
-use Rattle.std.proofs.Common.{◌∙◌, subst, sym}
-use Rattle.plm80_programs.specs.Explanations.{ShowsWith}
-use Rattle.plm80_programs.proofs.ExplainLemmas.{no_memory}
-use Rattle.plm80_programs.proofs.ResultLemmas.{on_ok}
+use Rattle.plm80_programs.proofs.Names.{ℕ, Option, IfOk, ◌∙◌, subst, sym, ShowsWith}
+use Rattle.plm80_programs.proofs.{ExplainLemmas.no_memory, ResultLemmas.on_ok}
 use Rattle.plm80_programs.proofs.explain.refused.Goals as goal
 
 pub returns-in-Some-clause-shows : goal.returns-in-Some-clause-shows

@@ -1,5 +1,4 @@
-use Rattle.plm80_names.specs.Printed.{named_report}
-use Rattle.plm80_programs.proofs.ExplainLemmas.{same_chain}
+use Rattle.plm80_programs.proofs.{Names.named_report, ExplainLemmas.same_chain}
 use Rattle.plm80_programs.proofs.explain.with_chain.Goals as goal
 
 pub returns : goal.returns

@@ -1,5 +1,4 @@
-use Rattle.plm80_names.specs.Printed.{named_refusal_line}
-use Rattle.plm80_programs.proofs.ExplainLemmas.{same_ways}
+use Rattle.plm80_programs.proofs.{Names.named_refusal_line, ExplainLemmas.same_ways}
 use Rattle.plm80_programs.proofs.explain.with_ways.Goals as goal
 
 pub returns-clause-shows : goal.returns-clause-shows

@@ -1,7 +1,4 @@
-use Rattle.std.specs.Borrow.{Bor}
-use Rattle.std.specs.Prelude.{◌≡◌, ◌≢◌, ◌++◌, ℕ, List, [], IfSome, None, Err, get_or}
-use Rattle.std.proofs.Common.{◌∙◌, subst, sym, ap}
-use Rattle.loader80_text.specs.Words.{word_of}
+use Rattle.plm80_programs.proofs.Names.{Bor, ◌≡◌, ◌≢◌, ◌++◌, ℕ, List, [], IfSome, None, Err, get_or, ◌∙◌, subst, sym, ap, word_of}
 use Rattle.plm80_programs.proofs.WordLemmas.{added, first_bad, good_more, inputs_more}
 use Rattle.plm80_programs.proofs.inputs.inputs_of.Goals as goal
 

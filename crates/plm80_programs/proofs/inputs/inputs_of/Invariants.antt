@@ -1,6 +1,5 @@
 -- the inputs of the words so far
-use Rattle.std.specs.Prelude.{◌≡◌, All, map, take}
-use Rattle.plm80_programs.specs.InputWords.{IsGoodWord, inputs_named}
+use Rattle.plm80_programs.proofs.Names.{◌≡◌, All, map, take, IsGoodWord, inputs_named}
 use Rattle.plm80_programs.proofs.inputs.inputs_of.Given as goal
 
 abbrev pub invariant-loop-word : goal.invariant-loop-word

@@ -1,8 +1,5 @@
-use Rattle.std.proofs.Common.{subst}
-use Rattle.plm80_names.specs.Verdict.{IsVerdict}
+use Rattle.plm80_programs.proofs.{Names.subst, Names.IsVerdict, Names.ListsCode, VerdictLemmas.of_accepted}
 use Rattle.plm80_names.specs.Verdict.AnswersVerdict.{refused}
-use Rattle.plm80_programs.proofs.VerdictLemmas.{of_accepted}
-use Rattle.plm80_programs.specs.Printed.{ListsCode}
 use Rattle.plm80_programs.proofs.list.listed_as_reached.Goals as goal
 
 pub returns-in-Accepted-clause-listing : goal.returns-in-Accepted-clause-listing

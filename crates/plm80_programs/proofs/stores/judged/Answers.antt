@@ -1,9 +1,5 @@
-use Rattle.std.proofs.Common.{subst}
-use Rattle.plm80_names.specs.Verdict.{IsVerdict}
+use Rattle.plm80_programs.proofs.{Names.subst, Names.IsVerdict, Names.ListedStores, Names.ListsStores, VerdictLemmas.of_accepted_in}
 use Rattle.plm80_names.specs.Verdict.AnswersVerdict.{refused}
-use Rattle.plm80_programs.proofs.VerdictLemmas.{of_accepted_in}
-use Rattle.plm80_programs.specs.declared.stores.ListedStores.{ListedStores}
-use Rattle.plm80_programs.specs.Printed.{ListsStores}
 use Rattle.plm80_programs.proofs.stores.judged.Goals as goal
 
 pub returns-in-Accepted-clause-stores : goal.returns-in-Accepted-clause-stores

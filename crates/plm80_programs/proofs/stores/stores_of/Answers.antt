@@ -1,6 +1,4 @@
-use Rattle.std.proofs.Common.{◌∙◌, ap}
-use Rattle.image80.specs.Image.{Located}
-use Rattle.plm80_programs.proofs.StoresLemmas.{stores_answered}
+use Rattle.plm80_programs.proofs.{Names.◌∙◌, Names.ap, Names.Located, StoresLemmas.stores_answered}
 use Rattle.plm80_programs.proofs.stores.stores_of.Goals as goal
 
 pub returns-clause-stores : goal.returns-clause-stores

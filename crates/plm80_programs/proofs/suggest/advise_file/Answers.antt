@@ -1,11 +1,6 @@
-use Rattle.std.specs.Borrow.{Bor}
-use Rattle.std.specs.Prelude.{ℕ, List, [], ◌∷◌, map, refl}
-use Rattle.std.proofs.Common.{◌∙◌, ap, subst}
-use Rattle.image80.specs.declared.range.Range.{Range}
-use Rattle.plm80_console.specs.Journal.{Journal, and_read}
-use Rattle.plm80_console.specs.Ranges.{AreRangesOf}
-use Rattle.plm80_programs.specs.Suggest.{AdvisesRegions, AnswersAdvice}
-use Rattle.plm80_programs.proofs.GivenLemmas.{file_value, gives_status}
+use Rattle.plm80_programs.proofs.Names.{Bor, ℕ, List, [], ◌∷◌, map, refl, ◌∙◌, ap, subst, Range, Journal, and_read, file_value, AreRangesOf}
+use Rattle.plm80_programs.proofs.Names.{AdvisesRegions, AnswersAdvice}
+use Rattle.plm80_programs.proofs.GivenLemmas.{gives_status}
 use Rattle.plm80_programs.proofs.suggest.advise_file.Goals as goal
 
 pub returns-in-Ok-clause-done : goal.returns-in-Ok-clause-done

@@ -1,11 +1,5 @@
-use Rattle.std.specs.Prelude.{◌≡◌, ◌≤◌, ◌++◌, ℕ, List, length}
-use Rattle.std.proofs.Common.{◌∙◌, ap, arith, subst}
-use Rattle.image80.specs.Image.{Located}
-use Rattle.image80.specs.RegionsText.{regions_text}
-use Rattle.stream80.specs.WholeText.{text_limit}
-use Rattle.verify80_suggest.specs.Suggestion.{IsSuggestion, with_regions}
-use Rattle.plm80_console.specs.Answer.{prints}
-use Rattle.plm80_programs.specs.Status.{notes_status}
+use Rattle.plm80_programs.proofs.Names.{◌≡◌, ◌≤◌, ◌++◌, ℕ, List, length, ◌∙◌, ap, arith, subst, Located, regions_text, text_limit}
+use Rattle.plm80_programs.proofs.Names.{IsSuggestion, with_regions, prints, notes_status}
 use Rattle.plm80_programs.proofs.SuggestLemmas.{of_any_regions}
 use Rattle.plm80_programs.proofs.suggest.advised.Goals as goal
 

@@ -1,7 +1,4 @@
-use Rattle.std.specs.Prelude.{true}
-use Rattle.plm80_programs.specs.Running.{trace_lines}
-use Rattle.plm80_programs.proofs.PrintLemmas.{printed}
-use Rattle.plm80_programs.proofs.RunLemmas.{trace_answered}
+use Rattle.plm80_programs.proofs.{Names.true, Names.trace_lines, PrintLemmas.printed, RunLemmas.trace_answered}
 use Rattle.plm80_programs.proofs.trace.print_trace.Goals as goal
 
 pub returns-in-Ok-clause-done : goal.returns-in-Ok-clause-done

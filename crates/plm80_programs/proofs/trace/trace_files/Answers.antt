@@ -1,7 +1,5 @@
-use Rattle.std.proofs.Common.{◌∙◌}
 use Rattle.plm80_programs.proofs.GivenLemmas.{gives_more, reports_same}
-use Rattle.plm80_programs.specs.Arguments.{run_paths}
-use Rattle.plm80_programs.specs.Running.{AnswersRun, TracesFiles, TracesRun}
+use Rattle.plm80_programs.proofs.Names.{◌∙◌, run_paths, AnswersRun, TracesFiles, TracesRun}
 use Rattle.plm80_programs.proofs.trace.trace_files.Goals as goal
 
 pub returns-clause-done : goal.returns-clause-done
@@ -9,7 +7,7 @@ returns-clause-done g c =
     let limits = c.in_ok-limits.limits in
     let span = c.in_ok-span.span in
     gives_more (AnswersRun (λ inputs. TracesRun inputs limits span) c.args.arguments.names) (TracesFiles c.args.arguments)
-    (run_paths c.args.arguments.files) (g.C.Console.journal c.args.console.now) (g.C.Console.journal c.span.new.console) (g.C.Console.journal c.trace_within-given.new.console) c.trace_within-given.result
+    (run_paths c.args.arguments.files) (g.C.Console.journal c.args.console.now) (g.C.Console.journal c.span.new.console) (g.C.Console.journal c.trace_within-given.new.console)
     (λ files answer answers. record {
       limits = limits;
       are_limits = c.in_ok-limits.ensures.limits;
@@ -17,7 +15,7 @@ returns-clause-done g c =
       is_span = c.in_ok-span.ensures.span;
       answers = answers;
     })
-    (c.in_ok-span.ensures.unchanged ∙ c.in_ok-limits.ensures.unchanged) c.trace_within-given.ensures.done
+    (c.in_ok-span.ensures.unchanged ∙ c.in_ok-limits.ensures.unchanged) c.trace_within-given.result c.trace_within-given.ensures.done
 
 pub returns-clause-fault : goal.returns-clause-fault
 returns-clause-fault g c =

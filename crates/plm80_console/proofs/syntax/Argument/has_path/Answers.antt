@@ -1,5 +1,4 @@
-use Rattle.std.specs.Prelude.{option_map}
-use Rattle.std.proofs.Common.{refl}
+use Rattle.std.proofs.Common.{option_map, refl}
 use Rattle.clap.specs.Matches.{found_of, matched_of, raw_values}
 use Rattle.plm80_console.proofs.SharedLemmas.{has_among, has_behind, values_given}
 use Rattle.plm80_console.proofs.syntax.Argument.has_path.Goals as goal

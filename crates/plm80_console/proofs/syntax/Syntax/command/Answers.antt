@@ -1,6 +1,4 @@
-use Rattle.std.specs.Borrow.{Bor}
-use Rattle.std.specs.Prelude.{◌≡◌, ℕ, Bool, false, List, codes}
-use Rattle.std.proofs.Common.{◌∙◌, ap, arith}
+use Rattle.std.proofs.Common.{Bor, ◌≡◌, ℕ, Bool, false, List, codes, ◌∙◌, ap, arith}
 use Rattle.plm80_console.proofs.SyntaxLemmas.{table_and}
 use Rattle.plm80_console.proofs.syntax.Syntax.command.Goals as goal
 

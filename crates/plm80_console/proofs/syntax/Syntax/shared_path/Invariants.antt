@@ -1,6 +1,5 @@
 use Rattle.std.specs.Prelude.{◌≡◌, ◌<◌, ℕ}
-use Rattle.plm80_console.specs.ApartPaths.{IsApart}
-use Rattle.plm80_console.specs.declared.comparison.Comparison.TheVariants.{Letters}
+use Rattle.plm80_console.specs.{ApartPaths.IsApart, declared.comparison.Comparison.TheVariants.Letters}
 use Rattle.plm80_console.proofs.syntax.Syntax.shared_path.Given as goal
 
 -- the arguments so far are apart from all others

@@ -1,28 +1,17 @@
 -- `new` picks the empty journal. Assumes `Logic`.
 use Rattle.std.proofs.Common.{[], ◌∷◌, refl}
 use seplogic.Ra.Ura.{Ura}
-use mir.Syntax.{Fn}
-use mir.Val.{Val}
+use mir.{Syntax.Fn, Val.Val}
 use base.Logic.{SProp, ent}
-use prog.Memory.{Memory}
-use prog.Routine.{Routine}
-use prog.Wp.{Calls, Loops, WpFn, Tables}
-use contract.Monad.{Fun}
-use contract.Running.{tables, tables_of}
+use prog.{Memory.Memory, Routine.Routine, Wp.Calls, Wp.Loops, Wp.WpFn, Wp.Tables}
+use contract.{Monad.Fun, Running.tables, Running.tables_of}
 use sound.WpLaws.{WpFn-mono}
-use types.Logic.{Logic}
 use types.Kit.{‵, raw, ◌⊛◌, ◌$◌, ◌∵◌, !, qed, move, keep, drop, split, fjoin, suffices, done}
-use types.Part.{agg}
-use types.Run.{enter, returns, no_more}
 use types.ByLocal.{alloc_all, pass_all, free_all, look_at, sets}
-use denote.RattleType.{owns}
-use denote.Signature.{types_at}
-use denote.Steps.{nothing}
-use denote.Triple.Clauses.{Clauses, Ended, closing}
-use denote.Triple.Entry.{alive}
-use denote.Triple.Spec.{Meets, triple_of}
-use denote.Triple.Table.{entered}
+use types.{Logic.Logic, Part.agg, Run.enter, Run.returns, Run.no_more}
 use denote.Triple.Walked.{says, Stays, walk_of, ends_at, walk_Meets}
+use denote.{RattleType.owns, Signature.types_at, Steps.nothing, Triple.Clauses.Clauses, Triple.Clauses.Ended, Triple.Clauses.closing}
+use denote.{Triple.Entry.alive, Triple.Spec.Meets, Triple.Spec.triple_of, Triple.Table.entered}
 use Rattle.plm80_host.proofs.Walks.{none, none_made}
 use Rattle.plm80_console.specs.Journal.{nothing_done}
 use Rattle.plm80_host.specs.contracts.notes.Notes as Log

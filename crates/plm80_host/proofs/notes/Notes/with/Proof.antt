@@ -1,34 +1,22 @@
 -- `with` picks the journal with one note more. Assumes `Logic`.
 use Rattle.std.proofs.Common.{ℕ, ◌+◌, List, [], ◌∷◌, ◌++◌, refl}
 use seplogic.Ra.Ura.{Ura}
-use mir.Syntax.{Fn}
-use mir.Val.{Val, vptr}
+use mir.{Syntax.Fn, Val.Val, Val.vptr}
 use base.Logic.{SProp, ent}
-use prog.Memory.{Memory}
-use prog.Routine.{Routine}
-use prog.Wp.{Calls, Loops, WpFn, Tables}
-use contract.Monad.{Fun}
-use contract.Running.{tables, tables_of}
+use prog.{Memory.Memory, Routine.Routine, Wp.Calls, Wp.Loops, Wp.WpFn, Wp.Tables}
+use contract.{Monad.Fun, Running.tables, Running.tables_of}
 use sound.WpLaws.{WpFn-mono}
-use types.Logic.{Logic}
 use types.Kit.{‵, raw, ◌⊛◌, prop, ◌$◌, ◌∵◌, !, qed, move, keep, drop, split, fsplit, fjoin, feq_l, regoal, suffices, done}
-use types.Part.{agg}
-use types.Run.{enter, returns, no_more}
 use types.ByLocal.{alloc_all, pass_all, free_all, look_at, sets}
-use denote.Exit.{yes}
-use denote.RattleType.{owns}
-use denote.Builtin.{RefOf}
-use denote.Signature.{plain, types_at, named_lft}
-use denote.Steps.{nothing}
-use denote.Triple.Clauses.{Clauses, Ended, closing}
-use denote.Triple.Entry.{alive}
-use denote.Triple.Spec.{Meets, triple_of}
-use denote.Triple.Table.{entered}
+use types.{Logic.Logic, Part.agg, Run.enter, Run.returns, Run.no_more}
 use denote.Triple.Walked.{says, Stays, stay_dropped, walk_of, ends_at, walk_Meets, Goes-dropped}
+use denote.{Exit.yes, RattleType.owns, Builtin.RefOf, Signature.plain, Signature.types_at, Signature.named_lft, Steps.nothing}
+use denote.{Triple.Clauses.Clauses, Triple.Clauses.Ended, Triple.Clauses.closing, Triple.Entry.alive}
+use denote.{Triple.Spec.Meets, Triple.Spec.triple_of, Triple.Table.entered}
 use Rattle.plm80_host.proofs.Walks.{none, none_made}
+use Rattle.plm80_host.specs.Noted.{noted}
 use Rattle.plm80_host.specs.contracts.notes.Notes as Log
 use Rattle.plm80_host.specs.contracts.notes.Note as Note
-use Rattle.plm80_host.specs.Noted.{noted}
 use Rattle.plm80_host.specs.contracts.notes.Notes.with as F
 use Rattle.plm80_host.specs.contracts.notes.Notes.with.Key.{name as #self}
 use Rattle.plm80_host.proofs.notes.Notes.with.Statement as stated

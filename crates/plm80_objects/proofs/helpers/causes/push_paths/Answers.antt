@@ -1,5 +1,4 @@
-use Rattle.std.specs.Prelude.{map, refl}
-use Rattle.plm80_objects.proofs.PathLemmas.{paths_more}
+use Rattle.plm80_objects.proofs.{Names.map, Names.refl, PathLemmas.paths_more}
 use Rattle.plm80_objects.proofs.helpers.causes.push_paths.Goals as goal
 
 pub loop-preserved : goal.loop-preserved

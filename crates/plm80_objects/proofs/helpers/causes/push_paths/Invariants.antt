@@ -1,5 +1,4 @@
-use Rattle.std.proofs.Common.{◌≡◌, ◌++◌, ◌∷◌, [], map}
-use Rattle.std.specs.List.{repeat}
+use Rattle.plm80_objects.proofs.Names.{◌≡◌, ◌++◌, ◌∷◌, [], map, repeat}
 use Rattle.plm80_objects.proofs.helpers.causes.push_paths.Given as goal
 
 -- the path once for each round so far

@@ -1,5 +1,4 @@
-use Rattle.std.proofs.Common.{◌≡◌, map, take}
-use Rattle.plm80_objects.specs.Link.{root_paths}
+use Rattle.plm80_objects.proofs.Names.{◌≡◌, map, take, root_paths}
 use Rattle.plm80_objects.proofs.helpers.causes.root_paths.Given as goal
 
 -- the paths of the files so far

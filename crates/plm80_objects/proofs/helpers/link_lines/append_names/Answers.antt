@@ -1,6 +1,4 @@
-use Rattle.std.specs.Prelude.{ℕ, List, ◌++◌, codes}
-use Rattle.std.proofs.Common.{◌∙◌, ap}
-use Rattle.plm80_objects.specs.Link.{named_line}
+use Rattle.plm80_objects.proofs.Names.{ℕ, List, ◌++◌, codes, ◌∙◌, ap, named_line}
 use Rattle.plm80_objects.proofs.LinkLemmas.{lines_on}
 use Rattle.plm80_objects.proofs.helpers.link_lines.append_names.Goals as goal
 

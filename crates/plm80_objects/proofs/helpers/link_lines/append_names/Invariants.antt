@@ -1,7 +1,4 @@
-use Rattle.std.proofs.Common.{◌≡◌, ◌++◌, drop}
-use Rattle.std.specs.Prelude.{codes}
-use Rattle.std.specs.List.{flat_map}
-use Rattle.plm80_objects.specs.Link.{named_line}
+use Rattle.plm80_objects.proofs.Names.{◌≡◌, ◌++◌, drop, codes, flat_map, named_line}
 use Rattle.plm80_objects.proofs.helpers.link_lines.append_names.Given as goal
 
 -- the lines so far, and those of the names that are left

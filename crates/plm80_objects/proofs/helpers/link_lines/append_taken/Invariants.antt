@@ -1,6 +1,4 @@
-use Rattle.std.proofs.Common.{◌≡◌, ◌++◌, drop}
-use Rattle.std.specs.List.{flat_map}
-use Rattle.plm80_objects.specs.Link.{taken_line}
+use Rattle.plm80_objects.proofs.Names.{◌≡◌, ◌++◌, drop, flat_map, taken_line}
 use Rattle.plm80_objects.proofs.helpers.link_lines.append_taken.Given as goal
 
 -- the lines so far, and those of the places that are left

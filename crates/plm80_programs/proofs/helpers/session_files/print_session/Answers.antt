@@ -1,6 +1,4 @@
-use Rattle.std.proofs.Common.{◌∙◌, sym}
-use Rattle.plm80_programs.specs.Running.{texts_of}
-use Rattle.plm80_programs.proofs.PrintLemmas.{session_given}
+use Rattle.plm80_programs.proofs.{Names.◌∙◌, Names.sym, Names.texts_of, PrintLemmas.session_given}
 use Rattle.plm80_programs.proofs.helpers.session_files.print_session.Goals as goal
 
 pub returns-in-Ok-session_status-clause-done : goal.returns-in-Ok-session_status-clause-done

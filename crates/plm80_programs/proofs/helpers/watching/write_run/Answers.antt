@@ -1,8 +1,4 @@
-use Rattle.std.specs.Prelude.{Some, ◌++◌, option_map}
-use Rattle.std.specs.List.{flat_map}
-use Rattle.machine80.specs.Step.{with_ports}
-use Rattle.loader80.specs.TranscriptText.{output_line, stack_line}
-use Rattle.plm80_programs.specs.Running.{last_lines, start_of}
+use Rattle.plm80_programs.proofs.Names.{Some, ◌++◌, option_map, flat_map, with_ports, output_line, stack_line, last_lines, start_of}
 use Rattle.plm80_programs.proofs.RunLemmas.{steps_within, watches, writes_both}
 use Rattle.plm80_programs.proofs.helpers.watching.write_run.Goals as goal
 

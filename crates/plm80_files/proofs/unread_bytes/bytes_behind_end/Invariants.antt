@@ -1,6 +1,6 @@
 use Rattle.std.specs.Prelude.{ℕ, List}
 use Rattle.plm80_files.specs.UnreadBytes.{IsBehindEnd}
-use Rattle.plm80_files.proofs.unread_bytes.behind_end.Given as goal
+use Rattle.plm80_files.proofs.unread_bytes.bytes_behind_end.Given as goal
 
 -- what is behind the end record of the rest is behind that of all bytes
 abbrev pub invariant-loop : goal.invariant-loop

@@ -1,9 +1,7 @@
-use Rattle.std.specs.Prelude.{◌==◌, true, false}
-use Rattle.omf_core.specs.Kind.{kind_byte}
-use Rattle.omf_core.specs.declared.kind.RecordKind.TheVariants.{LibraryHeader}
-use Rattle.std.proofs.Common.{[], ap, sym}
+use Rattle.std.proofs.Common.{◌==◌, true, false, [], ap, sym}
+use Rattle.omf_core.specs.{Kind.kind_byte, declared.kind.RecordKind.TheVariants.LibraryHeader}
 use Rattle.plm80_files.proofs.PieceLemmas.{begun_by, new_file, new_library, not_header}
-use Rattle.plm80_files.proofs.link_feed.begun.Goals as goal
+use Rattle.plm80_files.proofs.link_feed.first_feed.Goals as goal
 
 pub returns-in_ok-take-in-Some-eq44 : goal.returns-in_ok-take-in-Some-eq44
 returns-in_ok-take-in-Some-eq44 c = (

@@ -1,6 +1,6 @@
 use Rattle.plm80_files.proofs.UnreadLemmas.{ends_here, goes_on}
 use Rattle.plm80_files.specs.UnreadBytes.{none}
-use Rattle.plm80_files.proofs.unread_bytes.behind_end.Goals as goal
+use Rattle.plm80_files.proofs.unread_bytes.bytes_behind_end.Goals as goal
 
 pub returns-in-Some-eq14-default : goal.returns-in-Some-eq14-default
 returns-in-Some-eq14-default c =
