@@ -103,7 +103,7 @@ abbrev pub IsFailed : Request → (old new : Journal) → Type 0
 IsFailed (request.Link arguments) old new = GivesUp (LinksFiles arguments) (map (λ path. path.now) arguments.files.items) old new
 IsFailed (request.Locate arguments) old new = GivesUp (LocatesFile arguments) (arguments.object.now ∷ []) old new
 IsFailed (request.Run arguments) old new = GivesUp (RunsFiles arguments) (run_paths arguments.files) old new
-IsFailed (request.Library arguments) old new = GivesUpLibrary arguments.library.now old new
+IsFailed (request.Library arguments) old new = GivesUpLibrary arguments old new
 IsFailed (request.Regions arguments) old new = GivesUp (AnswersRegions arguments.new.now) (arguments.old.now ∷ []) old new
 IsFailed (request.Cases arguments) old new = GivesUp (AnswersCases (cases_path arguments)) (arguments.image.now ∷ arguments.regions.now ∷ []) old new
 IsFailed (request.Extract arguments) old new = GivesUp (ExtractsFile arguments) (arguments.image.now ∷ []) old new
