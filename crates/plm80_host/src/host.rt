@@ -33,7 +33,8 @@ impl<'a> HostConsole<'a> {
         }
     }
 
-    /// Adds a thing that was done to the console's journal.
+    /// Enters in the console's journal a thing that was done. Only contracts see the journal: when the program runs, this
+    /// does nothing.
     pub(crate) fn note(&mut self, note: &Note<'_>)
         ensures { self.new.notes.journal ≡ noted self.old.notes.journal note.now }
     {

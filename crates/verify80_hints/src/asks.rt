@@ -64,8 +64,9 @@ impl Asks {
         Ok(())
     }
 
-    /// Removes the first places from the queue, with all others of their point and block that
-    /// follow them, and returns them as one; `None` if the queue is empty.
+    /// Removes the first places from the queue, with those in the heap that follow them and are of
+    /// their point and block, and returns them as one; `None` if the queue is empty. Places kept
+    /// apart that come after the first stay, even if they are of that block.
     pub(crate) fn take(&mut self) -> Option<Places> {
         let first = self.take_first()?;
         let mut bits = first.bits;

@@ -1,4 +1,4 @@
-//! An item of a word: a byte, or a count, a star and a byte.
+//! An item of an argument for inputs: a byte, or a count, a star and a byte.
 
 ghost use Rattle.std.specs.Prelude.{◌≡◌, ◌<◌, IfOk, IfSome};
 ghost use Rattle.loader80_text.specs.Text.{IsRepeated};
@@ -8,8 +8,8 @@ use crate::inputs::repeated::Repeated;
 use loader80::digits::bytes_of_digits;
 use std::alloc::{AllocError, Global};
 
-/// Reads an item of a word for a port: a byte `hh`, or `n*hh` for a byte that waits `n` times. `None` if it has
-/// another form.
+/// Reads an item of an argument such as `02=03,5*07`, for its port: a byte `hh` in hexadecimal, or `n*hh` for a byte
+/// that waits `n` times, `n` in decimal. `None` if it has another form, or if `n` is 0 or 64 bits don't hold it.
 pub(crate) fn read_item(
     alloc: Global,
     port: u8,

@@ -131,8 +131,9 @@ impl<'a, C: Code> Search<'a, C> {
         }
     }
 
-    /// Adds steps that show two walks to one point with different counts, unless such steps were
-    /// added before. `AllocError` if memory runs out.
+    /// Adds steps that show two walks to one point with different counts: the one whose step has the
+    /// number `first`, and the one that comes there by `step`. Only once in a search: nothing is
+    /// added if such steps were, for any point. `AllocError` if memory runs out.
     fn differ(&mut self, first: u32, step: Step) -> Result<(), AllocError> {
         if !self.differs {
             let other = self.add_step(step)?;
