@@ -14,9 +14,9 @@ use crate::role::Role;
 pub enum Holding {
     /// The procedure has no words of its own on the stack.
     Nothing,
-    /// Its only word is the return address.
+    /// The only word of its own is the return address.
     ReturnAddress,
-    /// It has several words, or one that isn't known to be the return address.
+    /// Several words, or one that isn't known to be the return address.
     Others,
 }
 

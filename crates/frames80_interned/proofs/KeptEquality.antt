@@ -2,12 +2,12 @@
 use Rattle.std.specs.Prelude.{◌≡◌, Bool, true, ◌&&◌, nat_eq, refl}
 use Rattle.std.specs.Cmp.{unsigned_Decides, first_so, second_so}
 use Rattle.frames80.specs.Word.{word_eq, word_decides}
-use Rattle.frames80_interned.specs.declared.kept.Kept.{Kept}
+use Rattle.frames80_interned.specs.declared.interned_frame.InternedFrame.{InternedFrame}
 
-abbrev pub kept_eq : Kept → Kept → Bool
+abbrev pub kept_eq : InternedFrame → InternedFrame → Bool
 kept_eq a b = nat_eq a.taken b.taken && (nat_eq a.words b.words && (word_eq a.bc b.bc && (word_eq a.de b.de && word_eq a.hl b.hl)))
 
-pub kept_same : (a b : Kept) → kept_eq a b ≡ true → a ≡ b
+pub kept_same : (a b : InternedFrame) → kept_eq a b ≡ true → a ≡ b
 kept_same a b same =
     let last = word_eq a.de b.de && word_eq a.hl b.hl in
     let pairs = word_eq a.bc b.bc && (word_eq a.de b.de && word_eq a.hl b.hl) in
@@ -22,5 +22,5 @@ kept_same a b same =
     let e5 : a.hl ≡ b.hl = (word_decides a.hl b.hl).0 (second_so (word_eq a.de b.de) (word_eq a.hl b.hl) h3) in
     λ i. record { taken = e1 i; words = e2 i; bc = e3 i; de = e4 i; hl = e5 i }
 
-pub kept_own : (a : Kept) → kept_eq a a ≡ true
+pub kept_own : (a : InternedFrame) → kept_eq a a ≡ true
 kept_own a = rw ((unsigned_Decides a.taken a.taken).1 refl, (unsigned_Decides a.words a.words).1 refl, (word_decides a.bc a.bc).1 refl, (word_decides a.de a.de).1 refl, (word_decides a.hl a.hl).1 refl) refl

@@ -28,8 +28,8 @@ neither : (p q : Bool) → p ≡ false → q ≡ false → (p || q) ≡ false
 neither p q e f = rw (e, f) refl
 
 -- one more pair of words meets
-module _ (one other met_words rest beside : List Word) (changed differs : Bool) (x y w : Word) (xs ys : List Word) (h : IsWalk one other met_words changed rest beside) (ex : rest ≡ x ∷ xs) (ey : beside ≡ y ∷ ys) (is : w ≡ met x y)
-    (tells : (differs ≡ false) ↔ (w ≡ x)) where
+module _ (one other met_words rest beside : List Word) (changed is_other_word : Bool) (x y w : Word) (xs ys : List Word) (h : IsWalk one other met_words changed rest beside) (ex : rest ≡ x ∷ xs) (ey : beside ≡ y ∷ ys) (is : w ≡ met x y)
+    (tells : (is_other_word ≡ false) ↔ (w ≡ x)) where
   step : words_met rest beside ≡ w ∷ words_met xs ys
   step = rw (ex, ey, is) refl
 
@@ -38,15 +38,15 @@ module _ (one other met_words rest beside : List Word) (changed differs : Bool) 
       let e : w ∷ words_met xs ys ≡ x ∷ xs = sym step ∙ h.same_rest same ∙ ex in
       (cc, cc)
 
-  pub walk_on : IsWalk one other (met_words ++ w ∷ []) (changed || differs) xs ys
+  pub walk_on : IsWalk one other (met_words ++ w ∷ []) (changed || is_other_word) xs ys
   walk_on = record {
     even = let e = h.even in let a = ap length ex in let b = ap length ey in omega arith;
     met_so_far = h.met_so_far ∙ ap (λ ws. met_words ++ ws) step ∙ sym (append_assoc met_words (w ∷ []) (words_met xs ys));
     unchanged = λ none same.
-        let both = both_false changed differs none in
+        let both = both_false changed is_other_word none in
         let e : w ≡ x = tells.0 both.1 in
         h.unchanged both.0 (step ∙ (let f = same in cc) ∙ sym ex);
-    same = λ same. neither changed differs (h.same same) (tells.1 (heads same).0);
+    same = λ same. neither changed is_other_word (h.same same) (tells.1 (heads same).0);
     same_rest = λ same. (heads same).1;
   }
 

@@ -41,15 +41,15 @@ met-answered old new stays pair number one other met unchanged = record {
     second = words_at-stays old new stays pair.other other
 
 -- more stacks leave it as it is
-pub AreMet-stays : (old new : List (List Word)) → StacksStay old new → (kept : Pair → Option ℕ) → AreMet old kept → AreMet new kept
-AreMet-stays old new stays kept h = record {
+pub AreMet-stays : (old new : List (List Word)) → StacksStay old new → (interned : Pair → Option ℕ) → AreMet old interned → AreMet new interned
+AreMet-stays old new stays interned h = record {
   one = λ pair number e. within-stays old new stays pair.one (h.one pair number e);
   other = λ pair number e. within-stays old new stays pair.other (h.other pair number e);
   met = λ pair number e. IsMet-stays old new stays pair number (h.one pair number e) (h.other pair number e) (h.met pair number e);
 }
 
-pub AreMet-inserted : (old new : List Link) (stacks : List (List Word)) → stacks_of old ≡ stacks → StacksStay stacks (stacks_of new) → (kept : Pair → Option ℕ) → AreMet (stacks_of old) kept → AreMet (stacks_of new) kept
-AreMet-inserted old new stacks view_is stays kept h = AreMet-stays stacks (stacks_of new) stays kept (subst (λ (s : List (List Word)). AreMet s kept) view_is h)
+pub AreMet-inserted : (old new : List Link) (stacks : List (List Word)) → stacks_of old ≡ stacks → StacksStay stacks (stacks_of new) → (interned : Pair → Option ℕ) → AreMet (stacks_of old) interned → AreMet (stacks_of new) interned
+AreMet-inserted old new stacks view_is stays interned h = AreMet-stays stacks (stacks_of new) stays interned (subst (λ (s : List (List Word)). AreMet s interned) view_is h)
 
 module _ (stacks : List (List Word)) {S : Type 0} where
   -- an empty map keeps none
@@ -60,9 +60,9 @@ module _ (stacks : List (List Word)) {S : Type 0} where
       none pair number e = absurd (none-some number (sym (ap (λ (entries : List (Pair × ℕ)). lookup (pair_eq pair) entries) empty) ∙ e))
 
   -- and one more that met is kept
-  pub AreMet-kept : (old new : IndexMap Pair ℕ S) (pair : Pair) (number : ℕ) → pair.one < length stacks → pair.other < length stacks → IsMet stacks pair number → Updates pair_eq old new pair (Some number)
+  pub AreMet-interned : (old new : IndexMap Pair ℕ S) (pair : Pair) (number : ℕ) → pair.one < length stacks → pair.other < length stacks → IsMet stacks pair number → Updates pair_eq old new pair (Some number)
       → AreMet stacks (get pair_eq old) → AreMet stacks (get pair_eq new)
-  AreMet-kept old new pair number one other met updates h = record {
+  AreMet-interned old new pair number one other met updates h = record {
     one = λ q n e. (all q n e).0;
     other = λ q n e. (all q n e).1;
     met = λ q n e. (all q n e).2;

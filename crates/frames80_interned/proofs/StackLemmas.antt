@@ -76,8 +76,8 @@ read_after stacks (l ∷ links) zero n link e at below =
     let stands : slice_get all (length stacks) ≡ Some words = (stays-after more links).stays (length stacks) words (slice_get-last stacks words) in
     let read : words_at all (length stacks) ≡ words = get_or_from_slice_get all (length stacks) words [] stands in
     let under : l.below < length stacks = subst (λ (k : Link). k.below < length stacks) (sym same) (subst (λ m. link.below < m) here below) in
-    let kept : words_at all l.below ≡ words_at stacks l.below = words_at-stays stacks all (stays-after stacks (l ∷ links)) l.below under in
-    ap (words_at all) here ∙ read ∙ ap (λ ws. l.word ∷ ws) (sym kept) ∙ ap (λ (k : Link). k.word ∷ words_at all k.below) same
+    let interned : words_at all l.below ≡ words_at stacks l.below = words_at-stays stacks all (stays-after stacks (l ∷ links)) l.below under in
+    ap (words_at all) here ∙ read ∙ ap (λ ws. l.word ∷ ws) (sym interned) ∙ ap (λ (k : Link). k.word ∷ words_at all k.below) same
 read_after stacks (l ∷ links) (suc i) n link e at below =
     let words = l.word ∷ words_at stacks l.below in
     read_after (stacks ++ words ∷ []) links i n link e (omega (arith, length_push stacks words)) below
@@ -151,9 +151,9 @@ AreLinks-added old new last (inr push) h l = subst AreLinks (sym push) (record {
             omega (arith, length-stacks_of old)
 
     -- what two stacks had they have
-    kept : (n m : ℕ) → n < length (stacks_of old) → m < length (stacks_of old) → LieBeneath (words_at (stacks_of old) n) (words_at (stacks_of old) m)
+    interned : (n m : ℕ) → n < length (stacks_of old) → m < length (stacks_of old) → LieBeneath (words_at (stacks_of old) n) (words_at (stacks_of old) m)
         → LieBeneath (words_at (stacks_of (old ++ last ∷ [])) n) (words_at (stacks_of (old ++ last ∷ [])) m)
-    kept n m n_there m_there lies =
+    interned n m n_there m_there lies =
         rw (words_at-stays (stacks_of old) (stacks_of (old ++ last ∷ [])) stays n n_there, words_at-stays (stacks_of old) (stacks_of (old ++ last ∷ [])) stays m m_there) lies
 
     skipped : (i : ℕ) (link : Link) → slice_get (old ++ last ∷ []) i ≡ Some link → LieBeneath (words_at (stacks_of (old ++ last ∷ [])) link.below) (words_at (stacks_of (old ++ last ∷ [])) link.skip)
@@ -164,8 +164,8 @@ AreLinks-added old new last (inr push) h l = subst AreLinks (sym push) (record {
             let within = slice_get_within old i link was in
             let b = h.before i link was in
             let s = h.skip i link was in
-            kept link.below link.skip (omega (arith, length-stacks_of old)) (omega (arith, length-stacks_of old)) (h.skipped i link was)
-        by (inr new) = subst (λ (k : Link). LieBeneath (words_at (stacks_of (old ++ last ∷ [])) k.below) (words_at (stacks_of (old ++ last ∷ [])) k.skip)) (sym new.1) (kept last.below last.skip l.below l.skip l.skipped)
+            interned link.below link.skip (omega (arith, length-stacks_of old)) (omega (arith, length-stacks_of old)) (h.skipped i link was)
+        by (inr new) = subst (λ (k : Link). LieBeneath (words_at (stacks_of (old ++ last ∷ [])) k.below) (words_at (stacks_of (old ++ last ∷ [])) k.skip)) (sym new.1) (interned last.below last.skip l.below l.skip l.skipped)
 
     before : (i : ℕ) (link : Link) → slice_get (old ++ last ∷ []) i ≡ Some link → link.below < suc i
     before i link e = by (slice_get-push old last i link e)

@@ -37,10 +37,10 @@ pub record IsMet (stacks : List (List Word)) (pair : Pair) (met : ℕ) : Type 0 
   pub unchanged : words_met (words_at stacks pair.one) (words_at stacks pair.other) ≡ words_at stacks pair.one → met ≡ pair.one
 
 -- what is kept of pairs of stacks that are there is so
-pub record AreMet (stacks : List (List Word)) (kept : Pair → Option ℕ) : Type 0 where
-  pub one : (pair : Pair) (number : ℕ) → kept pair ≡ Some number → pair.one < length stacks
-  pub other : (pair : Pair) (number : ℕ) → kept pair ≡ Some number → pair.other < length stacks
-  pub met : (pair : Pair) (number : ℕ) → kept pair ≡ Some number → IsMet stacks pair number
+pub record AreMet (stacks : List (List Word)) (interned : Pair → Option ℕ) : Type 0 where
+  pub one : (pair : Pair) (number : ℕ) → interned pair ≡ Some number → pair.one < length stacks
+  pub other : (pair : Pair) (number : ℕ) → interned pair ≡ Some number → pair.other < length stacks
+  pub met : (pair : Pair) (number : ℕ) → interned pair ≡ Some number → IsMet stacks pair number
 
 -- the second words are what is left of the first without some words from the top
 pub record LieBeneath (words beneath : List Word) : Type 0 where

@@ -29,7 +29,7 @@ pub struct Asked<'a> {
 /// A stack as the words that were gone through, some of them forgotten, and the untouched rest
 /// beneath.
 #[derive(Drop)]
-struct Lessened {
+struct LesserTop {
     /// The words that were gone through, top first.
     words: Vec<Word>,
     /// The number of the stack beneath them.
@@ -61,7 +61,7 @@ pub(crate) fn forget_words(
 ///
 /// # Errors
 /// `AllocError` if memory runs out.
-fn forget_tops(stacks: &Stacks, number: u32, heights: &[u32]) -> Result<Lessened, AllocError>
+fn forget_tops(stacks: &Stacks, number: u32, heights: &[u32]) -> Result<LesserTop, AllocError>
     requires { number < length stacks.now }
     ensures { IfOk result (λ top. IsLesserTop stacks.now (words_at stacks.now number) top.words.items top.rest) }
 {
@@ -71,7 +71,7 @@ fn forget_tops(stacks: &Stacks, number: u32, heights: &[u32]) -> Result<Lessened
         words.push(forget_word(link.word, is_asked))?;
         rest = link.below;
     }
-    Ok(Lessened { words, rest })
+    Ok(LesserTop { words, rest })
 }
 
 /// The top word of a stack and whether it is asked for. `None` if nothing more is to be forgotten:

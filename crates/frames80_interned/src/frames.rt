@@ -12,7 +12,7 @@ use crate::fault::MeetFault;
 use crate::forgetting::{Asked, forget_word, forget_words};
 use crate::frame_id::FrameId;
 use crate::holding::holding_of;
-use crate::kept::{Kept, keep, kept_at};
+use crate::interned_frame::{InternedFrame, intern, interned_at};
 use crate::meets::meet_frames;
 use crate::stacks::{EMPTY, Stacks};
 use frames80::{CallFault, Change, Effect, FrameFault, Role, Word, depth_by};
@@ -29,19 +29,19 @@ pub struct Frames {
     /// The words of all frames, as stacks by number.
     stacks: Stacks,
     /// Each distinct frame once, in order of first sight.
-    kept: IndexSet<Kept>,
+    interned: IndexSet<InternedFrame>,
 }
 
 impl Model for Frames {
     ghost use Rattle.std.specs.Prelude.{List};
     ghost use Rattle.frames80.specs.StackFrame.{StackFrame};
-    ghost use Rattle.frames80_interned.specs.Kept.{frames_of, AreKept};
+    ghost use Rattle.frames80_interned.specs.InternedFrame.{frames_of, AreInterned};
 
     ghost Value = { List StackFrame };
 
-    ghost view = { λ s. frames_of s.stacks s.kept.keys };
+    ghost view = { λ s. frames_of s.stacks s.interned.keys };
 
-    ghost invariant = { λ s. AreKept s.stacks s.kept.keys };
+    ghost invariant = { λ s. AreInterned s.stacks s.interned.keys };
 }
 
 impl Frames {
@@ -51,7 +51,7 @@ impl Frames {
     {
         Frames {
             stacks: Stacks::new(alloc),
-            kept: IndexSet::new(alloc),
+            interned: IndexSet::new(alloc),
         }
     }
 
@@ -64,7 +64,7 @@ impl Frames {
         ensures stays { StayNumbered self.old self.new }
     {
         let words = self.stacks.push(EMPTY, Word::Own)?;
-        keep(&mut self.kept, Kept::of_words(0, words))
+        intern(&mut self.interned, InternedFrame::of_words(0, words))
     }
 
     /// The number of the frame at the start of the main program: it has no words.
@@ -75,7 +75,7 @@ impl Frames {
         ensures entry { IfOk result (λ id. IsFrame self.new id main_frame) }
         ensures stays { StayNumbered self.old self.new }
     {
-        keep(&mut self.kept, Kept::of_words(0, EMPTY))
+        intern(&mut self.interned, InternedFrame::of_words(0, EMPTY))
     }
 
     /// Why an effect is refused with a frame, or `None` if it is admitted. `frame` must be the
@@ -89,8 +89,8 @@ impl Frames {
         if let Effect::Refuse(fault) = effect {
             return Some(fault);
         }
-        let kept = kept_at(&self.kept, frame);
-        holding_of(&self.stacks, kept.words).fault_of(role, effect)
+        let interned = interned_at(&self.interned, frame);
+        holding_of(&self.stacks, interned.words).fault_of(role, effect)
     }
 
     /// The number of the frame after a change of `frame`, which is kept unchanged. `frame` must be
@@ -105,9 +105,9 @@ impl Frames {
         ensures changed { IfOk result (λ id. IsFrame self.new id (changed change (frame_at self.old frame))) }
         ensures stays { StayNumbered self.old self.new }
     {
-        let kept = kept_at(&self.kept, frame);
-        let changed = change_frame(&mut self.stacks, kept, change)?;
-        keep(&mut self.kept, changed)
+        let interned = interned_at(&self.interned, frame);
+        let changed = change_frame(&mut self.stacks, interned, change)?;
+        intern(&mut self.interned, changed)
     }
 
     /// The number of a caller's frame after a call of a procedure that takes `taken` words: the top
@@ -125,12 +125,15 @@ impl Frames {
         ensures memory { result ≡ Err CallFault.Memory → taken ≤ room role (frame_at self.old frame).words }
         ensures stays { StayNumbered self.old self.new }
     {
-        let kept = kept_at(&self.kept, frame);
-        if self.stacks.room(kept.words, role) < taken {
+        let interned = interned_at(&self.interned, frame);
+        if self.stacks.room(interned.words, role) < taken {
             return Err(CallFault::ShortArguments);
         }
-        let words = self.stacks.beneath(kept.words, taken);
-        Ok(keep(&mut self.kept, Kept::of_words(kept.taken, words))?)
+        let words = self.stacks.beneath(interned.words, taken);
+        Ok(intern(
+            &mut self.interned,
+            InternedFrame::of_words(interned.taken, words),
+        )?)
     }
 
     /// The number of the frame with what is known of both frames: a word or a pair is the return
@@ -151,13 +154,13 @@ impl Frames {
         ensures memory { result ≡ Err MeetFault.Memory → agree (frame_at self.old one) (frame_at self.old other) ≡ true }
         ensures stays { StayNumbered self.old self.new }
     {
-        let first = kept_at(&self.kept, one);
-        let second = kept_at(&self.kept, other);
+        let first = interned_at(&self.interned, one);
+        let second = interned_at(&self.interned, other);
         let met = meet_frames(&mut self.stacks, first, second)?;
         if met == first {
             return Ok(one);
         }
-        Ok(keep(&mut self.kept, met)?)
+        Ok(intern(&mut self.interned, met)?)
     }
 
     /// The number of a frame like `frame`, in which words and pairs that aren't asked for may have
@@ -171,16 +174,16 @@ impl Frames {
         ensures lesser { IfOk result (λ id. IsLesserFrame self.new id (frame_at self.old frame)) }
         ensures stays { StayNumbered self.old self.new }
     {
-        let kept = kept_at(&self.kept, frame);
-        let words = forget_words(&mut self.stacks, kept.words, asked.heights)?;
-        let lesser = Kept {
-            taken: kept.taken,
+        let interned = interned_at(&self.interned, frame);
+        let words = forget_words(&mut self.stacks, interned.words, asked.heights)?;
+        let lesser = InternedFrame {
+            taken: interned.taken,
             words,
-            bc: forget_word(kept.bc, asked.bc),
-            de: forget_word(kept.de, asked.de),
-            hl: forget_word(kept.hl, asked.hl),
+            bc: forget_word(interned.bc, asked.bc),
+            de: forget_word(interned.de, asked.de),
+            hl: forget_word(interned.hl, asked.hl),
         };
-        keep(&mut self.kept, lesser)
+        intern(&mut self.interned, lesser)
     }
 
     /// How many words a frame has popped from beneath the procedure's own. `frame` must be the
@@ -189,7 +192,7 @@ impl Frames {
         requires { frame < length self.now }
         ensures { result ≡ (frame_at self.now frame).taken }
     {
-        kept_at(&self.kept, frame).taken
+        interned_at(&self.interned, frame).taken
     }
 
     /// How many own words a frame has. `frame` must be the number of one of these frames. The call
@@ -198,8 +201,8 @@ impl Frames {
         requires { frame < length self.now }
         ensures { result ≡ length (frame_at self.now frame).words }
     {
-        let kept = kept_at(&self.kept, frame);
-        self.stacks.height(kept.words)
+        let interned = interned_at(&self.interned, frame);
+        self.stacks.height(interned.words)
     }
 
     /// How many words of a caller's frame a callee may take: those above the bottom word, and in
@@ -209,8 +212,8 @@ impl Frames {
         requires { frame < length self.now }
         ensures { result ≡ room role (frame_at self.now frame).words }
     {
-        let kept = kept_at(&self.kept, frame);
-        self.stacks.room(kept.words, role)
+        let interned = interned_at(&self.interned, frame);
+        self.stacks.room(interned.words, role)
     }
 
     /// By how many bytes the stack has grown since the procedure's start: `2 * (words - 1 - taken)`
@@ -220,7 +223,7 @@ impl Frames {
         requires { frame < length self.now }
         ensures { result ≡ depth_of role (frame_at self.now frame) }
     {
-        let kept = kept_at(&self.kept, frame);
-        depth_by(role, self.stacks.height(kept.words), kept.taken)
+        let interned = interned_at(&self.interned, frame);
+        depth_by(role, self.stacks.height(interned.words), interned.taken)
     }
 }

@@ -18,10 +18,10 @@ mod forgetting;
 mod frame_id;
 mod frames;
 mod holding;
-mod kept;
+mod interned_frame;
 mod link;
 mod meets;
-mod owns;
+mod own_counts;
 mod pair;
 mod stacks;
 

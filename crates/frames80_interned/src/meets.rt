@@ -5,11 +5,11 @@ ghost use Rattle.frames80.specs.Calls.{agree, merged, words_met};
 ghost use Rattle.frames80_interned.specs.declared.link.Link.{Link};
 ghost use Rattle.frames80_interned.specs.declared.meets.Top.TheVariants as top;
 ghost use Rattle.frames80_interned.specs.Stacks.{words_at, IsLink, IsMet, IsStack, StacksStay};
-ghost use Rattle.frames80_interned.specs.Kept.{frame_of, IsKept};
+ghost use Rattle.frames80_interned.specs.InternedFrame.{frame_of, IsInterned};
 ghost use Rattle.frames80_interned.specs.Meets.{IsMeeting};
 
 use crate::fault::MeetFault;
-use crate::kept::Kept;
+use crate::interned_frame::InternedFrame;
 use crate::link::Link;
 use crate::pair::Pair;
 use crate::stacks::{STRIDE, Stacks};
@@ -43,13 +43,17 @@ enum Top {
 /// # Errors
 /// `HeightsDiffer` exactly where the frames differ in the words taken or in the number of words; `Memory` only if they don't
 /// and memory runs out.
-pub(crate) fn meet_frames(stacks: &mut Stacks, one: Kept, other: Kept) -> Result<Kept, MeetFault>
+pub(crate) fn meet_frames(
+    stacks: &mut Stacks,
+    one: InternedFrame,
+    other: InternedFrame,
+) -> Result<InternedFrame, MeetFault>
     requires one { one.words < length stacks.old }
     requires other { other.words < length stacks.old }
     ensures agree { OnOk result (agree (frame_of stacks.old one) (frame_of stacks.old other) ≡ true) }
-    ensures merged { IfOk result (λ kept. IsKept stacks.new kept (merged (frame_of stacks.old one) (frame_of stacks.old other))) }
-    ensures unchanged { IfOk result (λ kept. merged (frame_of stacks.old one) (frame_of stacks.old other)
-        ≡ frame_of stacks.old one → kept ≡ one) }
+    ensures merged { IfOk result (λ interned. IsInterned stacks.new interned (merged (frame_of stacks.old one) (frame_of stacks.old other))) }
+    ensures unchanged { IfOk result (λ interned. merged (frame_of stacks.old one) (frame_of stacks.old other)
+        ≡ frame_of stacks.old one → interned ≡ one) }
     ensures differ { result ≡ Err MeetFault.HeightsDiffer → agree (frame_of stacks.old one) (frame_of stacks.old other) ≡ false }
     ensures memory { result ≡ Err MeetFault.Memory → agree (frame_of stacks.old one) (frame_of stacks.old other) ≡ true }
     ensures stays { StacksStay stacks.old stacks.new }
@@ -58,7 +62,7 @@ pub(crate) fn meet_frames(stacks: &mut Stacks, one: Kept, other: Kept) -> Result
         return Err(MeetFault::HeightsDiffer);
     }
     let words = meet_words(stacks, one.words, other.words)?;
-    Ok(Kept {
+    Ok(InternedFrame {
         taken: one.taken,
         words,
         bc: one.bc.meet(other.bc),
@@ -190,14 +194,14 @@ fn meet_tops(stacks: &Stacks, pair: Pair) -> Result<Meeting, AllocError>
             Top::Words(link, other_link) => {
                 let word = link.word.meet(other_link.word);
                 words.push(word)?;
-                changed |= differs(word, link.word);
+                changed |= is_other_word(word, link.word);
                 left = Pair {
                     one: link.below,
                     other: other_link.below,
                 };
             }
             Top::Met(rest) => {
-                changed |= is_another(rest, left.one);
+                changed |= is_other_stack(rest, left.one);
                 return Ok(Meeting {
                     words,
                     rest,
@@ -249,14 +253,14 @@ pub(crate) fn push_all(stacks: &mut Stacks, below: u32, words: Vec<Word>) -> Res
 }
 
 /// Whether two numbers differ.
-fn is_another(one: u32, other: u32) -> bool
+fn is_other_stack(one: u32, other: u32) -> bool
     ensures { (result ≡ false) ↔ (one ≡ other) }
 {
     one != other
 }
 
 /// Whether two words differ.
-fn differs(one: Word, other: Word) -> bool
+fn is_other_word(one: Word, other: Word) -> bool
     ensures { (result ≡ false) ↔ (one ≡ other) }
 {
     one != other

@@ -5,7 +5,7 @@ ghost use Rattle.frames80.specs.Calls.{room};
 ghost use Rattle.frames80_interned.specs.Stacks.{words_at, IsLink, IsMet, IsStack, LieBeneath, StacksStay};
 
 use crate::link::Link;
-use crate::owns::Owns;
+use crate::own_counts::OwnCounts;
 use crate::pair::Pair;
 use frames80::{Role, Word};
 use indexmap::{IndexMap, IndexSet};
@@ -28,7 +28,7 @@ pub(crate) struct Stacks {
     /// Each distinct link once, in order of first sight.
     links: IndexSet<Link>,
     /// How many return addresses each stack has.
-    owns: Owns,
+    own_counts: OwnCounts,
     /// For some pairs of stacks the number of the stack that they merge into.
     met: IndexMap<Pair, u32>,
 }
@@ -53,7 +53,7 @@ impl Stacks {
     {
         Stacks {
             links: IndexSet::new(alloc),
-            owns: Owns::new(alloc),
+            own_counts: OwnCounts::new(alloc),
             met: IndexMap::new(alloc),
         }
     }
@@ -90,7 +90,7 @@ impl Stacks {
 
     /// How many words of a stack are the return address. Only speed may depend on it.
     pub(crate) fn owns(&self, number: u32) -> u32 {
-        self.owns.get(number)
+        self.own_counts.get(number)
     }
 
     /// How many words of a caller's stack a callee may take: those above the bottom word, and in
@@ -203,7 +203,7 @@ impl Stacks {
         };
         let (index, _) = self.links.insert_full(link)?;
         let number = index as u32 + 1;
-        self.owns.note(number, word, below)?;
+        self.own_counts.note(number, word, below)?;
         Ok(number)
     }
 

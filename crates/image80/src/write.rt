@@ -66,12 +66,12 @@ fn append_text(
     ensures rules { OnOk result (AreRegions regions.now) }
     ensures err { OnErr result (out.new.items ≡ out.old.items) }
 {
-    let text = spell(alloc, version, regions)?;
+    let text = text_in(alloc, version, regions)?;
     out.extend_from_slice(&text)
 }
 
 /// The whole regions text of the regions, in the version.
-fn spell(alloc: Global, version: Version, regions: &Regions) -> Result<Vec<u8>, AllocError>
+fn text_in(alloc: Global, version: Version, regions: &Regions) -> Result<Vec<u8>, AllocError>
     ensures text { IfOk result (λ text. text.items ≡ text_in version regions.now) }
     ensures rules { OnOk result (AreRegions regions.now) }
 {

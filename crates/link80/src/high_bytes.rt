@@ -35,8 +35,8 @@ fn has_high_off_page(modules: &LaidModules, number: usize, contents: &[Content])
     false
 }
 
-/// Whether one of these fixups of the module with index `number` is for the high byte of an address
-/// in a segment in which the module's part doesn't start at a multiple of 256. `number` must be
+/// Whether a fixup of `fixups`, which are of the module with index `number`, is for the high byte of an
+/// address in a segment in which the module's part doesn't start at a multiple of 256. `number` must be
 /// below the number of modules.
 fn takes_high_off_page(modules: &LaidModules, number: usize, fixups: &[Fixup]) -> bool
     requires { number < length modules.now }

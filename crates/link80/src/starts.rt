@@ -112,11 +112,11 @@ impl LaidOut {
 pub(crate) struct LaidModules<'a> {
     /// The modules, in order.
     modules: &'a Modules<'a>,
-    /// Their parts of CODE.
+    /// The parts of CODE.
     code: LaidOut,
-    /// Their parts of DATA.
+    /// The parts of DATA.
     variables: LaidOut,
-    /// Their parts of STACK.
+    /// The parts of STACK.
     stack: LaidOut,
 }
 

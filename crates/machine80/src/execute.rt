@@ -17,7 +17,7 @@ use crate::cpu::Cpu;
 use crate::end::End;
 use crate::flags::condition_holds;
 use crate::registers::Registers;
-use crate::stack::{exchange, pop_pair, pop_place, push_pair, push_place};
+use crate::stack::{exchange, pop_pair, pop_return_address, push_pair, push_return_address};
 use crate::stores::{store_byte, store_direct, store_word};
 use decode80::{Fetched, Instr, Operand, StackPair, ahead, behind};
 use image80::Regions;
@@ -156,9 +156,9 @@ fn go_on<B: Bus>(
             call(address, next, cpu, bus, regions)
         }
         Instr::Rst(number) => call(number.address(), next, cpu, bus, regions),
-        Instr::Ret => pop_place(cpu, bus, regions),
+        Instr::Ret => pop_return_address(cpu, bus, regions),
         Instr::ReturnIf(condition) if condition_holds(condition, r.flags) => {
-            pop_place(cpu, bus, regions)
+            pop_return_address(cpu, bus, regions)
         }
         Instr::JumpIf(..) | Instr::CallIf(..) | Instr::ReturnIf(_) => Ok(next),
         straight => {
@@ -185,7 +185,7 @@ fn call<B: Bus>(
     ensures memory { OnOk result (B.memory bus.new
         ≡ stored (B.memory bus.old) (push_bytes cpu.old.sp (back / 256) (back % 256))) }
 {
-    push_place(back, cpu, bus, regions)?;
+    push_return_address(back, cpu, bus, regions)?;
     Ok(address)
 }
 

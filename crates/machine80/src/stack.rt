@@ -20,7 +20,7 @@ use image80::Regions;
 /// Pushes a return address. `Err` is `End::Stack` with the first of the two bytes that is outside the stack; then
 /// nothing has changed.
 #[inline]
-pub(crate) fn push_place<B: Bus>(
+pub(crate) fn push_return_address<B: Bus>(
     place: u16,
     cpu: &mut Cpu,
     bus: &mut B,
@@ -41,7 +41,11 @@ pub(crate) fn push_place<B: Bus>(
 /// Pops a return address and returns it. `Err` is `End::Stack` with the first of the two bytes that is outside the
 /// stack; then nothing has changed.
 #[inline]
-pub(crate) fn pop_place<B: Bus>(cpu: &mut Cpu, bus: &B, regions: &Regions) -> Result<u16, End>
+pub(crate) fn pop_return_address<B: Bus>(
+    cpu: &mut Cpu,
+    bus: &B,
+    regions: &Regions,
+) -> Result<u16, End>
     ensures end { result_err result ≡ ends_at (first_outside (in_range regions.now.stack) (popped_bytes cpu.old.sp)) Stack None }
     ensures kept { OnErr result (cpu.new ≡ cpu.old) }
     ensures place { IfOk result (λ place. place ≡ word_in (B.memory bus.now) cpu.old.sp) }

@@ -27,7 +27,7 @@ pub(crate) fn are_distinct(segments: Row<SegmentEntry>) -> bool
 {
     let mut rest = segments;
     while let Some(segment) = rest.next() {
-        if lists_id(rest.again(), segment.id) {
+        if lists_id(rest.copy(), segment.id) {
             return false;
         }
     }

@@ -33,7 +33,7 @@ fn header_in<'a>(bytes: &'a [u8]) -> Result<HeaderBody<'a>, FieldFault>
     let translator = cursor.byte()?;
     let version = cursor.byte()?;
     let segments = Row::read(cursor.rest().bytes)?;
-    if !are_distinct(segments.again()) {
+    if !are_distinct(segments.copy()) {
         return Err(FieldFault::BadBody);
     }
     Ok(HeaderBody {

@@ -49,7 +49,7 @@ impl<'a, E: ReadEntry<'a>> Row<'a, E> {
     }
 
     /// A second row of the entries that are left; `self` stays as it is.
-    pub fn again(&self) -> Row<'a, E>
+    pub fn copy(&self) -> Row<'a, E>
         ensures { result ≡ self.now }
     {
         Row {

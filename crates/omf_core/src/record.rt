@@ -44,7 +44,7 @@ pub fn next_record<'a>(bytes: &'a [u8], at: usize) -> Result<(Record<'a>, usize)
     let Some(rest) = bytes.get(at..) else {
         return Err(RecordFault::Truncated(at));
     };
-    let counted = counted_by(rest, at)?;
+    let counted = checked_length(rest, at)?;
     let record = Record {
         kind: rest[0],
         body: &rest[3..2 + counted],
@@ -54,7 +54,7 @@ pub fn next_record<'a>(bytes: &'a [u8], at: usize) -> Result<(Record<'a>, usize)
 
 /// Checks the record that begins `rest`, and returns the number in its length word: the bytes of
 /// its body and its checksum. `Err` is the record's first fault, with its place `at`.
-fn counted_by(rest: &[u8], at: usize) -> Result<usize, RecordFault>
+fn checked_length(rest: &[u8], at: usize) -> Result<usize, RecordFault>
     ensures word { IfOk result (λ counted. counted ≡ word_at rest.now 1) }
     ensures some { IfOk result (λ counted. 0 < counted) }
     ensures few { IfOk result (λ counted. counted ≤ 65535) }
@@ -83,14 +83,14 @@ pub fn is_cut_off(bytes: &[u8], at: usize) -> bool
     ensures { IsTrue result ↔ (fault_at (drop at bytes.now) at ≡ Some (RecordFault.Truncated at)) }
 {
     match bytes.get(at..) {
-        Some(rest) => holds_no_record(rest),
+        Some(rest) => is_incomplete(rest),
         None => true,
     }
 }
 
 /// Whether `rest` ends before its first record does: it has fewer than 3 bytes, or fewer bytes
 /// follow than the length word counts.
-fn holds_no_record(rest: &[u8]) -> bool
+fn is_incomplete(rest: &[u8]) -> bool
     ensures { result ≡ is_truncated rest.now }
 {
     if rest.len() < 3 {

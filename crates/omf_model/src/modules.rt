@@ -4,7 +4,7 @@ use crate::canonical_segments::canonical_segments;
 use crate::content::Content;
 use crate::copies::{copy_commons, copy_contents, copy_names, copy_publics};
 use crate::fault::PartsFault;
-use crate::name_invariants::look_at_names;
+use crate::name_invariants::assert_names;
 use crate::parts::Parts;
 use crate::rules::{has_segment, keeps_fixup_rules, keeps_rules_but_for_fixups, segment_in};
 use crate::segment::Segment;
@@ -100,7 +100,7 @@ impl Module {
             Ok(segments) => segments,
             Err(_) => return Err((parts, PartsFault::Memory)),
         };
-        look_at_names(&parts);
+        assert_names(&parts);
         Ok(Module::with_segments(parts, segments))
     }
 
@@ -110,7 +110,7 @@ impl Module {
         ensures { IfOk result (λ m. m ≡ made_of parts) }
     {
         let segments = canonical_segments(alloc, &parts.segments, &parts.commons)?;
-        look_at_names(&parts);
+        assert_names(&parts);
         Ok(Module::with_segments(parts, segments))
     }
 

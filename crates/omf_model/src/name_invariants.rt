@@ -10,7 +10,7 @@ use crate::symbols::{Common, Public};
 use omf_core::Name;
 
 /// For the proof alone: the names of the commons keep the rules of names.
-fn look_at_commons(commons: &[Common])
+fn assert_common_names(commons: &[Common])
     ensures { IsTrue (list_all (λ c. is_name c.name) commons.now) }
 {
     for common in commons {
@@ -19,7 +19,7 @@ fn look_at_commons(commons: &[Common])
 }
 
 /// For the proof alone: the names of the publics keep the rules of names.
-fn look_at_publics(publics: &[Public])
+fn assert_public_names(publics: &[Public])
     ensures { IsTrue (list_all (λ p. is_name p.name) publics.now) }
 {
     for public in publics {
@@ -28,7 +28,7 @@ fn look_at_publics(publics: &[Public])
 }
 
 /// For the proof alone: the externals keep the rules of names.
-fn look_at_externals(externals: &[Name])
+fn assert_external_names(externals: &[Name])
     ensures { IsTrue (list_all is_name externals.now) }
 {
     for name in externals {
@@ -37,11 +37,11 @@ fn look_at_externals(externals: &[Name])
 }
 
 /// For the proof alone: all names in the parts keep the rules of names. Nothing is changed.
-pub(crate) fn look_at_names(parts: &Parts)
+pub(crate) fn assert_names(parts: &Parts)
     ensures { IsTrue (has_names parts.now) }
 {
     let _ = parts.name.bytes();
-    look_at_commons(&parts.commons);
-    look_at_publics(&parts.publics);
-    look_at_externals(&parts.externals);
+    assert_common_names(&parts.commons);
+    assert_public_names(&parts.publics);
+    assert_external_names(&parts.externals);
 }

@@ -20,7 +20,7 @@ pub(crate) fn segments_in(
     ensures { IfOk result (λ segments. segments.items ≡ segments_in header.now) }
 {
     let mut segments = Vec::new(alloc);
-    let mut rest = header.segments.again();
+    let mut rest = header.segments.copy();
     while let Some(entry) = rest.next() {
         let segment = Segment {
             length: entry.length,
@@ -39,7 +39,7 @@ fn take_publics(alloc: Global, body: &Body, publics: &mut Vec<Public>) -> Result
     let Body::PublicDeclarations(declared) = body else {
         return Ok(());
     };
-    let mut rest = declared.publics.again();
+    let mut rest = declared.publics.copy();
     while let Some(entry) = rest.next() {
         publics.push(Public {
             name: keep_name(alloc, &entry.name)?,
@@ -69,7 +69,7 @@ fn take_externals(alloc: Global, body: &Body, externals: &mut Vec<Name>) -> Resu
     let Body::ExternalNames(entries) = body else {
         return Ok(());
     };
-    let mut rest = entries.again();
+    let mut rest = entries.copy();
     while let Some(entry) = rest.next() {
         externals.push(keep_name(alloc, &entry.name)?)?;
     }
@@ -117,7 +117,7 @@ fn by_index(alloc: Global, body: &ExternalReferencesBody) -> Result<Vec<Fixup>, 
         ≡ map (λ r. record { offset = r.offset; field = body.now.field; target = target.External r.index }) body.now.references) }
 {
     let mut fixups = Vec::new(alloc);
-    let mut rest = body.references.again();
+    let mut rest = body.references.copy();
     while let Some(entry) = rest.next() {
         fixups.push(Fixup {
             offset: entry.offset,
@@ -135,17 +135,12 @@ pub(crate) fn fixups_in(alloc: Global, own: u8, body: &Body) -> Result<Vec<Fixup
 {
     match body {
         Body::ExternalReferences(b) => by_index(alloc, b),
-        Body::Relocation(b) => by_offset(
-            alloc,
-            b.field,
-            Target::Segment(own),
-            b.references.again(),
-        ),
+        Body::Relocation(b) => by_offset(alloc, b.field, Target::Segment(own), b.references.copy()),
         Body::IntersegmentReferences(b) => by_offset(
             alloc,
             b.field,
             Target::Segment(b.segment),
-            b.references.again(),
+            b.references.copy(),
         ),
         _ => Ok(Vec::new(alloc)),
     }

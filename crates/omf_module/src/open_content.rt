@@ -111,7 +111,7 @@ impl<'a> OpenContent<'a> {
 
     /// Adds the fixups of a record, in order, up to the first that has a fault: `FixupOutside`,
     /// `FixupTwice`, `IndexUnknown` or `Memory`.
-    pub(crate) fn take_those_of(
+    pub(crate) fn take_fixups_of(
         &mut self,
         alloc: Global,
         parts: &Parts,

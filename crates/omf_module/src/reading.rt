@@ -20,7 +20,7 @@ use crate::gathering::{externals_of, publics_of, segments_in};
 use crate::laws::{one_file_reading, one_reading};
 use crate::module_file::{ModuleFile, ModuleFileRead, PlacedBody};
 use crate::record_reading::{header_at, records_at};
-use crate::uses::{contents_of, look_at_header, look_at_start};
+use crate::uses::{check_header, check_start, contents_of};
 use omf_body::{HeaderBody, Place};
 use omf_model::{Common, Content, Module, Parts};
 use std::alloc::{AllocError, Global};
@@ -71,12 +71,12 @@ fn used_contents(
     ensures sound { OnOk result (use_fault (records_of file.now) ≡ None) }
     ensures fault { IfErr result (OrNoMemory (λ fault. use_fault (records_of file.now) ≡ Some fault)) }
 {
-    if let Err(why) = look_at_header(draft, &file.header) {
+    if let Err(why) = check_header(draft, &file.header) {
         return Err(why.at(file.at));
     }
     let within = &file.within;
     let contents = contents_of(alloc, draft, &within.bodies)?;
-    match look_at_start(draft, within.end.start) {
+    match check_start(draft, within.end.start) {
         Ok(()) => Ok(contents),
         Err(why) => Err(why.at(within.end_at)),
     }

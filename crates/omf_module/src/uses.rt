@@ -17,7 +17,7 @@ use omf_model::{Content, Parts, end_of, has_segment};
 use std::alloc::{AllocError, Global};
 
 /// Checks that the module has a segment with this id; `SegmentUnknown` if not.
-fn look_at_id(parts: &Parts, id: u8) -> Result<(), Cause>
+fn check_id(parts: &Parts, id: u8) -> Result<(), Cause>
     ensures { (cs : List ContentValue) → result_err result ≡ unknown_id (with_contents parts.now cs) (id ∷ []) }
 {
     if has_segment(&parts.commons, id) {
@@ -29,45 +29,45 @@ fn look_at_id(parts: &Parts, id: u8) -> Result<(), Cause>
 
 /// Checks that the module has the segments that its header lists; `SegmentUnknown` for the first
 /// that it hasn't.
-pub(crate) fn look_at_header(parts: &Parts, header: &HeaderBody) -> Result<(), Cause>
+pub(crate) fn check_header(parts: &Parts, header: &HeaderBody) -> Result<(), Cause>
     ensures { (cs : List ContentValue)
         → result_err result ≡ unknown_id (with_contents parts.now cs) (map (λ e. e.id) header.now.segments) }
 {
-    let mut rest = header.segments.again();
+    let mut rest = header.segments.copy();
     while let Some(entry) = rest.next() {
-        look_at_id(parts, entry.id)?;
+        check_id(parts, entry.id)?;
     }
     Ok(())
 }
 
 /// Checks that the module has the segment where it starts, if it is a main program;
 /// `SegmentUnknown` if not.
-pub(crate) fn look_at_start(parts: &Parts, start: Option<Place>) -> Result<(), Cause>
+pub(crate) fn check_start(parts: &Parts, start: Option<Place>) -> Result<(), Cause>
     ensures { (cs : List ContentValue)
         → result_err result ≡ unknown_id (with_contents parts.now cs) (option_to_list (option_map (λ p. p.segment) start)) }
 {
     match start {
-        Some(place) => look_at_id(parts, place.segment),
+        Some(place) => check_id(parts, place.segment),
         None => Ok(()),
     }
 }
 
 /// Checks that the module has the segment that a record names, if it names one; `SegmentUnknown` if
 /// not.
-fn look_at_ids(parts: &Parts, body: &Body) -> Result<(), Cause>
+fn check_ids(parts: &Parts, body: &Body) -> Result<(), Cause>
     ensures { (cs : List ContentValue) → result_err result ≡ unknown_id (with_contents parts.now cs) (ids_in body.now) }
 {
     match body {
-        Body::Content(b) => look_at_id(parts, b.segment),
-        Body::PublicDeclarations(b) => look_at_id(parts, b.segment),
-        Body::IntersegmentReferences(b) => look_at_id(parts, b.segment),
+        Body::Content(b) => check_id(parts, b.segment),
+        Body::PublicDeclarations(b) => check_id(parts, b.segment),
+        Body::IntersegmentReferences(b) => check_id(parts, b.segment),
         _ => Ok(()),
     }
 }
 
 /// Checks that content isn't in STACK (`SegmentUnknown`), and ends within its segment
 /// (`OffsetOutside`). Other records pass.
-fn look_at_place(parts: &Parts, body: &Body) -> Result<(), Cause>
+fn check_place(parts: &Parts, body: &Body) -> Result<(), Cause>
     ensures { (cs : List ContentValue) → result_err result ≡ place_fault (with_contents parts.now cs) body.now }
 {
     let Body::Content(b) = body else {
@@ -89,8 +89,8 @@ fn look_at(parts: &Parts, body: &Body) -> Result<(), Cause>
         → result_err result ≡ option_or (unknown_id (with_contents parts.now cs) (ids_in body.now))
         (place_fault (with_contents parts.now cs) body.now) }
 {
-    look_at_ids(parts, body)?;
-    look_at_place(parts, body)
+    check_ids(parts, body)?;
+    check_place(parts, body)
 }
 
 /// Adds the fixups of a record to `nearest`, the content before it, and returns that. The fault is
@@ -116,7 +116,7 @@ fn take_fixups<'a>(
             _ => Ok(None),
         };
     };
-    open.take_those_of(alloc, parts, body)?;
+    open.take_fixups_of(alloc, parts, body)?;
     Ok(Some(open))
 }
 

@@ -52,7 +52,7 @@ impl Notes {
         Notes {}
     }
 
-    /// This journal with one thing more.
+    /// The journal with one note more.
     pub fn with(&self, _note: &Note<'_>) -> Notes
         ensures { result.journal ≡ noted self.now.journal _note.now }
     {

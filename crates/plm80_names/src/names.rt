@@ -155,7 +155,7 @@ impl Names {
     }
 }
 
-/// These publics as names. `Memory` is reported if memory runs out.
+/// Makes names of publics. `Memory` is reported if memory runs out.
 fn names_of<C: Console>(console: &mut C, publics: Vec<Public>) -> Result<Names, Reported>
     ensures names { IfOk result (λ names. names ≡ publics.items) }
     ensures unchanged { IfOk result (λ _. C.journal console.new ≡ C.journal console.old) }

@@ -86,7 +86,7 @@ impl Dumps {
     }
 
     /// The image of this name whose memory has the dumps' bytes, and 0 everywhere else, and which starts at `start`.
-    /// Its regions are empty: whoever runs the image must give it others.
+    /// The image has empty regions: whoever runs the image must give it others.
     pub fn into_image(self, alloc: Global, name: Name, start: u16) -> Image
         ensures chunks { result.chunks ≡ self }
         ensures name { result.name ≡ name }

@@ -88,8 +88,8 @@ fn lone_of_uses(alloc: Global, uses: &[Uses]) -> Result<Vec<bool>, AllocError>
     Ok(lone)
 }
 
-/// Whether a byte is of a lone value other than the two known ones, absolute 0 and CODE's base. `lone` says of each number whether its
-/// value is lone.
+/// Whether a byte is of a lone value, one of which the code has at most a low and a high byte, other than the two known values, absolute
+/// 0 and CODE's base. `lone` has, for each value's number, whether the value is lone.
 pub(crate) fn is_lone(byte: &CodeByte, lone: &[bool]) -> bool
     ensures { result ≡ is_lone lone.now byte.now }
 {
@@ -97,8 +97,8 @@ pub(crate) fn is_lone(byte: &CodeByte, lone: &[bool]) -> bool
     2 <= number && number < lone.len() && lone[number]
 }
 
-/// Whether a byte is of a value that isn't lone, other than the two known ones, absolute 0 and CODE's base. `lone` says of each number
-/// whether its value is lone.
+/// Whether a byte is of a value that isn't lone: the code has more of its bytes than a low and a high one, and it is neither of the two
+/// known values, absolute 0 and CODE's base. `lone` has, for each value's number, whether the value is lone.
 pub(crate) fn is_repeated(byte: &CodeByte, lone: &[bool]) -> bool
     ensures { result ≡ is_repeated lone.now byte.now }
 {

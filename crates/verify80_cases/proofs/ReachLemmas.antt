@@ -16,7 +16,7 @@ use Rattle.verify80_cases.specs.Reach.{AreFollowed, AreReachedFrom, Enters, IsDo
 use Rattle.verify80_cases.specs.Reach.MayReach.{begins, goes_on}
 use Rattle.verify80_cases.specs.Covered.{is_covered}
 use Rattle.verify80_cases.specs.Marks.{AreMarks}
-use Rattle.verify80_cases.specs.declared.table.Run.{Run}
+use Rattle.verify80_cases.specs.declared.table.EntryRun.{EntryRun}
 use Rattle.verify80_cases.specs.Reading.{AreRests}
 use Rattle.verify80_cases.specs.Suggested.{IsExplored, IsRoot, IsSearched, IsTableTarget}
 use Rattle.verify80_cases.proofs.StandingLemmas.{rests_kept, roots_kept, target_kept}
@@ -276,7 +276,7 @@ module _ (image : Located) (m : List Bool) (o : List ℕ) (at : ℕ) (m' : List 
     done = more before.roots before.done;
   }
 
-  pub rests_more : (rests : List Run) → AreRests image m rests → AreRests image m' rests
+  pub rests_more : (rests : List EntryRun) → AreRests image m rests → AreRests image m' rests
   rests_more rests all = rests_kept image m m' still rests all
 
 -- what is found by such a walk

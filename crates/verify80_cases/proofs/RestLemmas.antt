@@ -7,7 +7,7 @@ use Rattle.std.proofs.Math.Seq.{get_or-append_seam}
 use Rattle.image80.specs.Image.{Located, memory_of}
 use Rattle.image80.specs.Regions.{in_code}
 use Rattle.verify80_cases.specs.Marks.{marked}
-use Rattle.verify80_cases.specs.declared.table.Run.{Run}
+use Rattle.verify80_cases.specs.declared.table.EntryRun.{EntryRun}
 use Rattle.verify80_cases.specs.declared.table.TableKind.{TableKind}
 use Rattle.verify80_cases.specs.declared.table.TableKind.TheVariants.{Words, Jumps}
 use Rattle.verify80_cases.specs.Reading.{IsBehindFirst, IsFirstGoal, IsRest}
@@ -40,7 +40,7 @@ entry_could_be Jumps image reached taken address is =
 
 module _ (image : Located) (reached : List Bool) where
   -- all of a table is left
-  pub begun_rest : (run : Run) (at : ℕ) → GoesByTable image reached at run.first run.limit → IsRest image reached run
+  pub begun_rest : (run : EntryRun) (at : ℕ) → GoesByTable image reached at run.first run.limit → IsRest image reached run
   begun_rest run at by = record {
     at = at;
     table = run.first;
@@ -57,7 +57,7 @@ module _ (image : Located) (reached : List Bool) where
       begins Jumps = omega arith
 
   -- the entries up to the first of what is left
-  up_to : (rest : Run) (is : IsRest image reached rest) → could_be_entry rest.kind image rest.first ≡ true → (k : ℕ) → k ≤ is.number →
+  up_to : (rest : EntryRun) (is : IsRest image reached rest) → could_be_entry rest.kind image rest.first ≡ true → (k : ℕ) → k ≤ is.number →
       could_be_entry rest.kind image (is.table + stride rest.kind * k) ≡ true
   up_to rest is entry k within =
       (elim (nat_lt k is.number) as (λ b. nat_lt k is.number ≡ b → could_be_entry rest.kind image (is.table + stride rest.kind * k) ≡ true) [
@@ -68,7 +68,7 @@ module _ (image : Located) (reached : List Bool) where
             (subst (λ a. could_be_entry rest.kind image a ≡ true) is.first entry)
       ]) refl
 
-  pub first_target : (rest : Run) (goal : ℕ) → IsRest image reached rest → IsFirstGoal image rest goal → IsTableTarget image reached goal
+  pub first_target : (rest : EntryRun) (goal : ℕ) → IsRest image reached rest → IsFirstGoal image rest goal → IsTableTarget image reached goal
   first_target rest goal is first = record {
     at = is.at;
     table = is.table;
@@ -81,7 +81,7 @@ module _ (image : Located) (reached : List Bool) where
     goal = first.is ∙ ap (goal_of rest.kind (memory_of image.chunks)) is.first;
   }
 
-  pub rest_behind : (rest next : Run) (goal : ℕ) → IsRest image reached rest → IsFirstGoal image rest goal → IsBehindFirst rest next → IsRest image reached next
+  pub rest_behind : (rest next : EntryRun) (goal : ℕ) → IsRest image reached rest → IsFirstGoal image rest goal → IsBehindFirst rest next → IsRest image reached next
   rest_behind rest next goal is first behind = record {
     at = is.at;
     table = is.table;
@@ -102,7 +102,7 @@ module _ (image : Located) (reached : List Bool) where
       advanced kind same = subst (λ one. rest.first + stride rest.kind ≡ is.table + stride one * (is.number + 1)) (sym same) (by_kind rest.kind is.first)
 
 -- without the last one
-pub all_but_last : (P : Run → Type 0) (all front : List Run) (last : Run) → all ≡ front ++ last ∷ [] → All P all → All P front × P last
+pub all_but_last : (P : EntryRun → Type 0) (all front : List EntryRun) (last : EntryRun) → all ≡ front ++ last ∷ [] → All P all → All P front × P last
 all_but_last P all front last is each =
     let here : All P (front ++ last ∷ []) = subst (All P) is each in (
       λ k d inside. subst P (get_or_append_left front (last ∷ []) d k inside) (here k d (omega (arith, inside, length-append front (last ∷ [])))),
@@ -111,7 +111,7 @@ all_but_last P all front last is each =
 
 module _ (image : Located) (reached taken : List Bool) where
   -- the first entry of what is left, if there is one
-  pub first_goal_is : (rest : Run) (r : Option ℕ) → 0 < rest.limit →
+  pub first_goal_is : (rest : EntryRun) (r : Option ℕ) → 0 < rest.limit →
       r ≡ (if is_entry rest.kind image reached taken rest.first then Some (goal_of rest.kind (memory_of image.chunks) rest.first) else None) → IfSome r (IsFirstGoal image rest)
   first_goal_is rest r some is = subst (λ o. IfSome o (IsFirstGoal image rest)) (sym is) (step (is_entry rest.kind image reached taken rest.first) refl)
     where
@@ -119,7 +119,7 @@ module _ (image : Located) (reached taken : List Bool) where
       step true entry = record { some = some; entry = entry_could_be rest.kind image reached taken rest.first entry; is = refl }
       step false entry = tt
 
-  pub run_is_rest : (at : ℕ) (r : Option Run) → holds_pchl (fetch_at image.regions (memory_of image.chunks) at) ≡ true → length (declared_targets image.regions at) ≡ 0 →
-      IfSome r (λ (run : Run). IsBegun image reached at run.first run.limit) → IfSome r (IsRest image reached)
+  pub run_is_rest : (at : ℕ) (r : Option EntryRun) → holds_pchl (fetch_at image.regions (memory_of image.chunks) at) ≡ true → length (declared_targets image.regions at) ≡ 0 →
+      IfSome r (λ (run : EntryRun). IsBegun image reached at run.first run.limit) → IfSome r (IsRest image reached)
   run_is_rest at None pchl undeclared begun = tt
   run_is_rest at (Some run) pchl undeclared begun = begun_rest image reached run at (record { is_pchl = pchl; undeclared = undeclared; begun = begun })

@@ -1,7 +1,7 @@
 -- What stands before an address stays so as more is reached, and so do the targets of tables.
 use Rattle.std.proofs.Common.{inl, inr, ℕ, Bool, List, All, get_or}
 use Rattle.image80.specs.Image.{Located}
-use Rattle.verify80_cases.specs.declared.table.Run.{Run}
+use Rattle.verify80_cases.specs.declared.table.EntryRun.{EntryRun}
 use Rattle.verify80_cases.specs.Reach.{IsMarked}
 use Rattle.verify80_cases.specs.Reading.{AreRests, IsRest}
 use Rattle.verify80_cases.specs.Standing.{GoesOn, StandsBefore}
@@ -52,7 +52,7 @@ module _ (image : Located) (m m' : List Bool) (kept : (at : ℕ) → IsMarked m 
   pub roots_kept : (roots : List ℕ) → All (IsRoot image m) roots → All (IsRoot image m') roots
   roots_kept roots all = λ k d inside. root_kept (get_or roots k d) (all k d inside)
 
-  rest_kept : (rest : Run) → IsRest image m rest → IsRest image m' rest
+  rest_kept : (rest : EntryRun) → IsRest image m rest → IsRest image m' rest
   rest_kept rest is = record {
     at = is.at;
     table = is.table;
@@ -64,5 +64,5 @@ module _ (image : Located) (m m' : List Bool) (kept : (at : ℕ) → IsMarked m 
     passed = is.passed;
   }
 
-  pub rests_kept : (rests : List Run) → AreRests image m rests → AreRests image m' rests
+  pub rests_kept : (rests : List EntryRun) → AreRests image m rests → AreRests image m' rests
   rests_kept rests all = λ k d inside. rest_kept (get_or rests k d) (all k d inside)

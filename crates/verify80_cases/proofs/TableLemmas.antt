@@ -70,21 +70,21 @@ pub record AreFirst (image : Located) (reached taken : List Bool) (kind : TableK
   pub each : (k : ℕ) → k < length goals → is_entry kind image reached taken (table + stride kind * k) ≡ true
 
 module _ (image : Located) (reached taken : List Bool) (kind : TableKind) (table : ℕ) where
-  abbrev goal_at : ℕ → ℕ
-  goal_at k = goal_of kind (memory_of image.chunks) (table + stride kind * k)
+  abbrev target_at : ℕ → ℕ
+  target_at k = goal_of kind (memory_of image.chunks) (table + stride kind * k)
 
   pub no_entries : AreFirst image reached taken kind table []
   no_entries = record { read = refl; each = λ k inside. absurd (omega (arith, inside)) }
 
   -- one more
   pub one_more : (n goal : ℕ) (goals : List ℕ) → length goals ≡ n → AreFirst image reached taken kind table goals → is_entry kind image reached taken (table + stride kind * n) ≡ true →
-      goal ≡ goal_at n → AreFirst image reached taken kind table (goals ++ goal ∷ [])
+      goal ≡ target_at n → AreFirst image reached taken kind table (goals ++ goal ∷ [])
   one_more n goal goals size so_far more is =
       let counted : length (goals ++ goal ∷ []) ≡ n + 1 = omega (arith, length-append goals (goal ∷ []), size) in
-      let longer : goals_of kind (memory_of image.chunks) table (n + 1) ≡ goals_of kind (memory_of image.chunks) table n ++ goal_at n ∷ [] =
-      map-range_with_len_more goal_at 0 n n (omega arith) in
+      let longer : goals_of kind (memory_of image.chunks) table (n + 1) ≡ goals_of kind (memory_of image.chunks) table n ++ target_at n ∷ [] =
+      map-range_with_len_more target_at 0 n n (omega arith) in
       let before : goals ≡ goals_of kind (memory_of image.chunks) table n = so_far.read ∙ ap (λ m. goals_of kind (memory_of image.chunks) table m) size in
-      let joined : goals ++ goal ∷ [] ≡ goals_of kind (memory_of image.chunks) table n ++ goal_at n ∷ [] =
+      let joined : goals ++ goal ∷ [] ≡ goals_of kind (memory_of image.chunks) table n ++ target_at n ∷ [] =
       ap (λ ws. ws ++ goal ∷ []) before ∙ ap (λ w. goals_of kind (memory_of image.chunks) table n ++ w ∷ []) is in
       record {
         read = joined ∙ sym longer ∙ ap (λ m. goals_of kind (memory_of image.chunks) table m) (sym counted);
@@ -120,9 +120,9 @@ module _ (image : Located) (reached taken : List Bool) (kind : TableKind) (table
   -- what holds of each goal
   each_of : (P : ℕ → Type 0) (limit : ℕ) (goals : List ℕ) → AreEntries image reached taken kind table limit goals → ((target : ℕ) → is_target image target ≡ true → P target) → All P goals
   each_of P limit goals are all = λ k d inside.
-      let there : get_or goals k d ≡ goal_at k =
-      ap (λ ws. get_or ws k d) are.read ∙ get_or-map-range_with_len goal_at 0 (length goals) k k d inside (omega arith) in
-      subst P (sym there) (all (goal_at k) (entry_target kind image reached taken (table + stride kind * k) (are.each k inside)))
+      let there : get_or goals k d ≡ target_at k =
+      ap (λ ws. get_or ws k d) are.read ∙ get_or-map-range_with_len target_at 0 (length goals) k k d inside (omega arith) in
+      subst P (sym there) (all (target_at k) (entry_target kind image reached taken (table + stride kind * k) (are.each k inside)))
 
   target_code : (target : ℕ) → is_target image target ≡ true → in_code image.regions target ≡ true
   target_code target is = (both (in_code image.regions target) _ is).0

@@ -4,7 +4,7 @@ use Rattle.std.proofs.Common.{subst, ◌∙◌}
 use Rattle.std.proofs.lemmas.List.{get_or_default}
 use Rattle.std.proofs.lemmas.List.Elements.{All-nil, All-push, Contains-append_left, Contains-push}
 use Rattle.image80.specs.Image.{Located}
-use Rattle.verify80_cases.specs.declared.table.Run.{Run}
+use Rattle.verify80_cases.specs.declared.table.EntryRun.{EntryRun}
 use Rattle.verify80_cases.specs.declared.table.Table.{Table}
 use Rattle.verify80_cases.specs.declared.trail.Trail.{Trail}
 use Rattle.verify80_cases.specs.Reading.{IsLimitOf, IsRunOf}
@@ -64,7 +64,7 @@ module _ (image : Located) (reached : List Bool) where
   before_of : (at : ℕ) (o : Option ℕ) (place : ℕ) → o ≡ Some place → IsBefore image reached at o → StandsBefore image reached place at
   before_of at o place is before = subst (IsBefore image reached at) is before
 
-  pub begun_by : (at : ℕ) (trail : Trail) (table : Table) (run : Run) → AreBefore image reached at trail → lxi_of trail.load ≡ Some table.lxi →
+  pub begun_by : (at : ℕ) (trail : Trail) (table : Table) (run : EntryRun) → AreBefore image reached at trail → lxi_of trail.load ≡ Some table.lxi →
       IfSome table.comparison (λ cpi. cpi_of trail.bound ≡ Some cpi) → IsRunOf image table run → IsBegun image reached at run.first run.limit
   begun_by at trail table run before lxi comparison is = record {
     lxi = table.lxi;
@@ -79,7 +79,7 @@ module _ (image : Located) (reached : List Bool) where
           compared cpi (before_of at (cpi_of trail.bound) cpi (subst (λ x. IfSome x (λ c. cpi_of trail.bound ≡ Some c)) is_cpi said) before.bound) byte
 
   pub begun_if : (at : ℕ) (trail : Trail) (table : Table) → AreBefore image reached at trail → lxi_of trail.load ≡ Some table.lxi →
-      IfSome table.comparison (λ cpi. cpi_of trail.bound ≡ Some cpi) → (r : Option Run) → IfSome r (IsRunOf image table) →
-      IfSome r (λ (run : Run). IsBegun image reached at run.first run.limit)
+      IfSome table.comparison (λ cpi. cpi_of trail.bound ≡ Some cpi) → (r : Option EntryRun) → IfSome r (IsRunOf image table) →
+      IfSome r (λ (run : EntryRun). IsBegun image reached at run.first run.limit)
   begun_if at trail table before lxi comparison None is = tt
   begun_if at trail table before lxi comparison (Some run) is = begun_by at trail table run before lxi comparison is

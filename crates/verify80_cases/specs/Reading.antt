@@ -3,7 +3,7 @@ use Rattle.std.specs.Prelude.{◌≡◌, ℕ, ◌+◌, ◌*◌, ◌<◌, Bool, t
 use Rattle.image80.specs.Image.{Located, memory_of}
 use Rattle.verify80.specs.LookLaws.{fetch_at}
 use Rattle.verify80_cases.specs.Suggested.{GoesByTable, compared_byte, could_be_entry, goal_of, loaded_word, stride}
-use Rattle.verify80_cases.specs.declared.table.Run.{Run}
+use Rattle.verify80_cases.specs.declared.table.EntryRun.{EntryRun}
 use Rattle.verify80_cases.specs.declared.table.Table.{Table}
 
 -- a limit is the byte of the CPI, or more than there are entries
@@ -13,13 +13,13 @@ pub data IsLimitOf (image : Located) (comparison : Option ℕ) (limit : ℕ) : T
       IsLimitOf image comparison limit
 
 -- the first entry of a table is at the word of its LXI
-pub record IsRunOf (image : Located) (table : Table) (run : Run) : Type 0 where
+pub record IsRunOf (image : Located) (table : Table) (run : EntryRun) : Type 0 where
   pub kind : run.kind ≡ table.kind
   pub loaded : loaded_word (fetch_at image.regions (memory_of image.chunks) table.lxi) ≡ Some run.first
   pub is_limit : IsLimitOf image table.comparison run.limit
 
 -- what is left of a table behind as many entries as were read
-pub record IsRest (image : Located) (reached : List Bool) (rest : Run) : Type 0 where
+pub record IsRest (image : Located) (reached : List Bool) (rest : EntryRun) : Type 0 where
   pub at : ℕ
   pub table : ℕ
   pub limit : ℕ
@@ -30,16 +30,16 @@ pub record IsRest (image : Located) (reached : List Bool) (rest : Run) : Type 0 
   pub passed : (k : ℕ) → k < number → could_be_entry rest.kind image (table + stride rest.kind * k) ≡ true
 
 -- where the first entry of what is left leads: there is one, and it could be an entry
-pub record IsFirstGoal (image : Located) (rest : Run) (goal : ℕ) : Type 0 where
+pub record IsFirstGoal (image : Located) (rest : EntryRun) (goal : ℕ) : Type 0 where
   pub some : 0 < rest.limit
   pub entry : could_be_entry rest.kind image rest.first ≡ true
   pub is : goal ≡ goal_of rest.kind (memory_of image.chunks) rest.first
 
 -- what is left behind its first entry
-pub record IsBehindFirst (rest next : Run) : Type 0 where
+pub record IsBehindFirst (rest next : EntryRun) : Type 0 where
   pub kind : next.kind ≡ rest.kind
   pub first : next.first ≡ rest.first + stride rest.kind
   pub limit : next.limit + 1 ≡ rest.limit
 
-abbrev pub AreRests : Located → (reached : List Bool) → List Run → Type 0
+abbrev pub AreRests : Located → (reached : List Bool) → List EntryRun → Type 0
 AreRests image reached rests = All (IsRest image reached) rests

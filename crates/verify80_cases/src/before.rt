@@ -5,14 +5,14 @@ ghost use Rattle.verify80_cases.specs.Suggested.{IsBegun};
 ghost use Rattle.verify80_cases.specs.Trails.{AreBefore};
 
 use crate::chain::{first_before, passed_at};
-use crate::table::{Run, run_of};
+use crate::table::{EntryRun, run_of};
 use crate::trail::Trail;
 use verify80::ImageCode;
 
 /// The entries of the table by which the PCHL at an address goes, if the instructions that lead to
 /// it one after another show one; else `None`. `reached` has a mark for each address that is
 /// reached.
-pub(crate) fn run_before(code: &ImageCode<'_>, reached: &[bool], at: u16) -> Option<Run>
+pub(crate) fn run_before(code: &ImageCode<'_>, reached: &[bool], at: u16) -> Option<EntryRun>
     ensures begun { IfSome result (λ run. IsBegun code.now reached.now at run.first run.limit) }
     ensures small { IfSome result (λ run. run.limit ≤ 65536) }
 {

@@ -15,7 +15,7 @@ const ADDRESSES: usize = 65_536;
 
 /// For each address whether the program may reach it from its start: along each branch, after each
 /// call whether it returns or not, and from a PCHL to the targets that the regions declare for it.
-/// It goes on only from addresses with an instruction whose bytes are all code; an address without
+/// The search goes on only from addresses with an instruction whose bytes are all code; an address without
 /// one may be marked, and leads nowhere.
 ///
 /// # Errors

@@ -7,7 +7,7 @@ ghost use Rattle.verify80_cases.specs.Suggested.{IsTableTarget};
 use crate::before::run_before;
 use crate::marks::{is_marked, mark};
 use crate::reach::Visited;
-use crate::table::{Run, goal_at, holds_pchl, stride};
+use crate::table::{EntryRun, holds_pchl, stride, target_at};
 use decode80::{ahead, fetch};
 use frames80::{Code, table};
 use std::alloc::{AllocError, Global};
@@ -27,7 +27,7 @@ pub(crate) struct Reader {
     /// How many addresses of the search's order have been gone through.
     known: usize,
     /// What is left to read of each table that isn't read to its end.
-    pub(crate) unfinished: Vec<Run>,
+    pub(crate) unfinished: Vec<EntryRun>,
 }
 
 impl Reader {
@@ -129,7 +129,7 @@ impl Reader {
 
 /// The entries of the table of the PCHL at an address; `None` if there is no PCHL, it has declared
 /// targets, or no table is seen.
-fn undeclared_run(code: &ImageCode<'_>, visited: &Visited, at: u16) -> Option<Run>
+fn undeclared_run(code: &ImageCode<'_>, visited: &Visited, at: u16) -> Option<EntryRun>
     ensures { IfSome result (IsRest code.now visited.now.marks.items) }
 {
     if !holds_pchl(code, at) || !code.targets(at).is_empty() {
@@ -140,13 +140,18 @@ fn undeclared_run(code: &ImageCode<'_>, visited: &Visited, at: u16) -> Option<Ru
 
 /// The address to which the PCHL goes by the first of the entries that are left; `None` if none are
 /// left or there can be no entry.
-fn first_goal(code: &ImageCode<'_>, visited: &Visited, taken: &[bool], rest: Run) -> Option<u16>
+fn first_goal(
+    code: &ImageCode<'_>,
+    visited: &Visited,
+    taken: &[bool],
+    rest: EntryRun,
+) -> Option<u16>
     ensures { IfSome result (IsFirstGoal code.now rest) }
 {
     if rest.limit == 0 {
         return None;
     }
-    goal_at(
+    target_at(
         code,
         &visited.marks,
         taken,
@@ -156,7 +161,7 @@ fn first_goal(code: &ImageCode<'_>, visited: &Visited, taken: &[bool], rest: Run
 }
 
 /// The entries that are left after the first; `None` at the end of memory.
-fn behind_first(rest: Run) -> Option<Run>
+fn behind_first(rest: EntryRun) -> Option<EntryRun>
     ensures { IfSome result (IsBehindFirst rest) }
 {
     let limit = rest.limit.checked_sub(1)?;
@@ -164,7 +169,7 @@ fn behind_first(rest: Run) -> Option<Run>
     if first >= ADDRESSES {
         return None;
     }
-    Some(Run {
+    Some(EntryRun {
         kind: rest.kind,
         first: first as u16,
         limit,

@@ -9,7 +9,7 @@ use crate::marks::is_marked;
 use crate::reach::Visited;
 use crate::reading::Reader;
 use crate::returning::{find_heights, has_return_address};
-use crate::table::{Run, address_of, goals_of, is_free, is_undeclared};
+use crate::table::{EntryRun, address_of, goals_of, is_free, is_undeclared};
 use frames80::Code;
 use image80::{Case, Image};
 use std::alloc::{AllocError, Global};
@@ -163,7 +163,7 @@ fn case_of_run(
     reached: &[bool],
     taken: &[bool],
     at: u16,
-    run: Run,
+    run: EntryRun,
 ) -> Result<Option<SuggestedCase>, AllocError>
     requires seen { code.now ≡ image.now }
     requires reached { is_open image.now reached.now at ≡ true }

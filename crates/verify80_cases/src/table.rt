@@ -41,7 +41,7 @@ pub(crate) struct Table {
 
 /// Entries of a table, one after another.
 #[derive(Clone, Copy)]
-pub(crate) struct Run {
+pub(crate) struct EntryRun {
     /// What the table consists of.
     pub(crate) kind: TableKind,
     /// The address of the first entry.
@@ -111,12 +111,12 @@ fn limit_of(code: &ImageCode<'_>, comparison: Option<u16>) -> usize
 }
 
 /// The entries of a table; `None` if there is no LXI at the address that should load the table's.
-pub(crate) fn run_of(code: &ImageCode<'_>, table: Table) -> Option<Run>
+pub(crate) fn run_of(code: &ImageCode<'_>, table: Table) -> Option<EntryRun>
     ensures is { IfSome result (IsRunOf code.now table) }
     ensures small { IfSome result (λ run. run.limit ≤ 65536) }
 {
     let first = loaded_word(code, table.lxi)?;
-    Some(Run {
+    Some(EntryRun {
         kind: table.kind,
         first,
         limit: limit_of(code, table.comparison),
@@ -170,7 +170,7 @@ fn word_at(code: &ImageCode<'_>, address: u16) -> u16
 
 /// The address to which the PCHL goes by the entry at `address`; `None` if the table can't have an
 /// entry there.
-pub(crate) fn goal_at(
+pub(crate) fn target_at(
     code: &ImageCode<'_>,
     reached: &[bool],
     taken: &[bool],
@@ -231,7 +231,7 @@ pub(crate) fn goals_of(
     code: &ImageCode<'_>,
     reached: &[bool],
     taken: &[bool],
-    table: Run,
+    table: EntryRun,
 ) -> Result<Vec<u16>, AllocError>
     requires { table.limit ≤ 65536 }
     ensures entries { IfOk result (λ goals. AreEntries code.now reached.now taken.now table.kind table.first table.limit goals.items) }
@@ -241,7 +241,7 @@ pub(crate) fn goals_of(
     let mut goals = Vec::new(alloc);
     for number in 0..table.limit {
         let address = address_of(table.kind, table.first, number);
-        let Some(goal) = goal_at(code, reached, taken, table.kind, address) else {
+        let Some(goal) = target_at(code, reached, taken, table.kind, address) else {
             return Ok(goals);
         };
         goals.push(goal)?;

@@ -127,7 +127,7 @@ fn chain_by<C: Code>(
         let Some(call) = site_by(alloc, program, points, *number)? else {
             return Ok(None);
         };
-        let Some(more) = through(call.depth, sum) else {
+        let Some(more) = depth_below_call(call.depth, sum) else {
             return Ok(None);
         };
         if procedure != Procedure::Entry(call.target) {
@@ -146,7 +146,7 @@ fn chain_by<C: Code>(
 
 /// The sum of a caller's depth, two bytes for the return address, and what its callee uses; `None`
 /// if it overflows.
-fn through(depth: i64, below: i64) -> Option<i64>
+fn depth_below_call(depth: i64, below: i64) -> Option<i64>
     ensures { IfSome result (λ sum. sum ≡ (depth +ℤ pos 2) +ℤ below) }
 {
     depth.checked_add(2)?.checked_add(below)

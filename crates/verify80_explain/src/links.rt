@@ -44,8 +44,8 @@ pub(crate) fn find_links<C: Code>(
     if bounds.get(Procedure::Main) != bytes {
         return Ok(None);
     }
-    let lasts = lasts(alloc, &depths, &bounds)?;
-    let nexts = nexts(alloc, &sites, &bounds)?;
+    let lasts = last_points(alloc, &depths, &bounds)?;
+    let nexts = next_calls(alloc, &sites, &bounds)?;
     links_by(alloc, calls, &lasts, &nexts)
 }
 
@@ -121,7 +121,7 @@ fn sites<C: Code>(
 
 /// For each procedure, by slot, the number of the first of its points whose depth is the
 /// procedure's bound.
-fn lasts(
+fn last_points(
     alloc: Global,
     depths: &[Depth],
     bounds: &Bounds,
@@ -139,7 +139,7 @@ fn lasts(
 
 /// For each procedure, by slot, the number of its first call at which the depth, two bytes and the
 /// callee's bound add up to its own bound.
-fn nexts(
+fn next_calls(
     alloc: Global,
     sites: &[CallSite],
     bounds: &Bounds,

@@ -9,7 +9,7 @@ use crate::groups::Groups;
 use crate::point::Point;
 use crate::reached::are_reached;
 use crate::search::{CallingPoint, Origin, Search};
-use crate::ways::{callers_of, lead};
+use crate::ways::{callers_of, calls_between};
 use frames80::{Code, slot};
 use indexmap::IndexSet;
 use std::alloc::{AllocError, Global};
@@ -44,14 +44,14 @@ pub(crate) fn show_ring<C: Code>(
         return Ok(None);
     }
     let procedure = points[numbers[0]].procedure;
-    let Some(ring) = lead(alloc, program, points, numbers, procedure, procedure)? else {
+    let Some(ring) = calls_between(alloc, program, points, numbers, procedure, procedure)? else {
         return Ok(None);
     };
     if ring.is_empty() || ring[0].at != at {
         return Ok(None);
     }
     let callers = callers_of(alloc, origins, numbers[0])?;
-    match lead(alloc, program, points, &callers, Procedure::Main, procedure)? {
+    match calls_between(alloc, program, points, &callers, Procedure::Main, procedure)? {
         Some(calls) => Ok(Some(Explanation::Ring { calls, ring })),
         None => Ok(None),
     }

@@ -34,7 +34,8 @@ pub(crate) fn route_to<C: Code>(
 {
     let callers = callers_of(alloc, origins, number)?;
     let procedure = points[number].procedure;
-    let Some(calls) = lead(alloc, program, points, &callers, Procedure::Main, procedure)? else {
+    let Some(calls) = calls_between(alloc, program, points, &callers, Procedure::Main, procedure)?
+    else {
         return Ok(None);
     };
     let way = way_to(alloc, points, origins, number)?;
@@ -117,7 +118,7 @@ pub(crate) fn callers_of(
 
 /// The calls of the points with these numbers, if each calls the procedure of the next and they
 /// lead from procedure `from` to procedure `to`; else `None`. Walks must reach all `points`.
-pub(crate) fn lead<C: Code>(
+pub(crate) fn calls_between<C: Code>(
     alloc: Global,
     program: &C,
     points: &[Point],

@@ -52,7 +52,7 @@ pub fn measure<C: Code>(alloc: Global, program: &C) -> Result<Analysis, Refusal>
     ensures points { IfOk result (λ found. ArePoints (C.code program.now) found.points.items) }
     ensures refused { IfErr result (HoldsAnyway (C.code program.now)) }
 {
-    if let Some(found) = measure_soon(alloc, program)? {
+    if let Some(found) = measure_in_few_visits(alloc, program)? {
         return Ok(found);
     }
     if let Some(found) = measure_asked(alloc, program)? {
@@ -64,7 +64,7 @@ pub fn measure<C: Code>(alloc: Global, program: &C) -> Result<Analysis, Refusal>
 
 /// Measures a program with full frames and few visits of each point; `None` if these aren't enough.
 /// Any refusal but `Memory` holds.
-fn measure_soon<C: Code>(alloc: Global, program: &C) -> Result<Option<Analysis>, Refusal>
+fn measure_in_few_visits<C: Code>(alloc: Global, program: &C) -> Result<Option<Analysis>, Refusal>
     ensures found { IfOk result (λ found. IfSome found (IsAnalysis (C.code program.now))) }
     ensures refused { IfErr result (HoldsAnyway (C.code program.now)) }
 {

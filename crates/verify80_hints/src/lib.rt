@@ -17,7 +17,6 @@ mod cases;
 mod hubs;
 mod lists;
 mod marks;
-mod moves;
 mod order;
 mod pending;
 mod place_sets;
@@ -25,6 +24,7 @@ mod places;
 mod point;
 mod search;
 mod step;
+mod writes;
 
 pub use asked::AskedPlaces;
 pub use callers::Callers;

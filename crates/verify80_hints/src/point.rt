@@ -1,7 +1,7 @@
 //! Points that walks reach, as far as counts go.
 
 use crate::lists::Turn;
-use crate::moves::Moves;
+use crate::writes::Writes;
 use frames80::{Change, Code, Effect, Procedure, effect_of};
 
 /// The counts of a frame.
@@ -66,10 +66,10 @@ impl Point {
 
     /// What the places of the frame get if this way on is taken: which are written, and with which
     /// words.
-    pub(crate) fn moves(self, turn: Turn) -> Moves {
+    pub(crate) fn writes(self, turn: Turn) -> Writes {
         match turn {
-            Turn::Leads(_) => Moves::of_change(self.effect.change(), self.counts.height),
-            Turn::OverCall => Moves::of_call(),
+            Turn::Leads(_) => Writes::of_change(self.effect.change(), self.counts.height),
+            Turn::OverCall => Writes::of_call(),
         }
     }
 

@@ -42,14 +42,14 @@ fn append_line(
         ++ line_of (map (λ f. f.now) files.now) (map (λ m. m.now) modules.now) does.now number) }
 {
     match modules.get(number) {
-        Some(source) => append_deed(text, files, number, source.name(), does),
+        Some(source) => append_module_line(text, files, number, source.name(), does),
         None => Ok(()),
     }
 }
 
 /// Appends the line of a module with this index and name: two spaces, the name, the file, and the
 /// text `does`. `Err` only if memory runs out.
-fn append_deed(
+fn append_module_line(
     text: &mut Vec<u8>,
     files: &[&[u8]],
     number: usize,

@@ -28,7 +28,7 @@ pub fn part_bundle(alloc: Global, bundle: &[u8]) -> Result<Option<BundleTexts<'_
     let Some((line, rest)) = first_line(bundle) else {
         return Ok(None);
     };
-    let Some((regions, inputs)) = sides(rest) else {
+    let Some((regions, inputs)) = split_at_inputs(rest) else {
         return Ok(None);
     };
     let Some(image) = bytes_of_digits(alloc, line)? else {
@@ -45,7 +45,7 @@ pub fn part_bundle(alloc: Global, bundle: &[u8]) -> Result<Option<BundleTexts<'_
 const INPUTS: &[u8] = b"INPUTS";
 
 /// The text before the first line that is exactly `INPUTS`, and the text after it; `None` if there is no such line.
-fn sides(text: &[u8]) -> Option<(&[u8], &[u8])>
+fn split_at_inputs(text: &[u8]) -> Option<(&[u8], &[u8])>
     ensures { option_map (λ (before, after). record { before = before.now; after = after.now }) result
         ≡ sides_of (parts text.now) }
 {

@@ -44,8 +44,8 @@ pub(crate) fn pattern_words_may_be_listed()
     sound_modules_keep_rules();
 }
 
-/// A law: if each module of a link lies in a dump with bases that go with those of the link, the dump has, at each address that contents
-/// cover, all of them in CODE, the byte that LINK and LOCATE give it.
+/// A law: if each module of a link is sound and lies in a dump by bases of its own that place its segments and externals as the link's
+/// bases do (`GoWith`), then at each address that contents cover, all of them in CODE, the dump has the byte that LINK and LOCATE give it.
 pub fn link_of_found_modules_has_the_bytes()
     ensures { LinkHasTheBytes }
 {

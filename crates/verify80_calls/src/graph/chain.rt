@@ -124,7 +124,7 @@ fn reaches(nodes: &IndexedNodes<'_>, bound: u64, call: Call) -> bool
     i128::from(call.depth) + needs == i128::from(bound)
 }
 
-/// Whether one of these calls is that of procedure `caller` at address `at`.
+/// Whether a chain of calls has the call of procedure `caller` at address `at`.
 fn is_in(chain: &[Link], caller: Procedure, at: u16) -> bool
     ensures { result ≡ list_any (is_link caller at) chain.now }
 {

@@ -1,10 +1,10 @@
 //! What is asked for at a point is asked for where it comes from.
 
 use crate::lists::{Turn, Way};
-use crate::moves::Move;
 use crate::places::{Place, Places};
 use crate::point::Point;
 use crate::search::{Exit, Search};
+use crate::writes::Write;
 use frames80::{Code, Procedure};
 use std::alloc::AllocError;
 
@@ -46,7 +46,7 @@ impl<'a, C: Code> Search<'a, C> {
         Ok(places)
     }
 
-    /// The same places of the only point that leads to their point, if that leads nowhere else and
+    /// The places `places` at the only point that leads to their point, if that leads nowhere else and
     /// keeps their words; else `None`.
     fn straight_before(&self, places: Places) -> Option<Places> {
         let way = self.leading.only(places.point as usize)?;
@@ -56,7 +56,7 @@ impl<'a, C: Code> Search<'a, C> {
         if !from.leads_straight() || self.cases.newest(list).is_some() {
             return None;
         }
-        if from.keeps(way.turn) || from.moves(way.turn).kept_of(places) == places.bits {
+        if from.keeps(way.turn) || from.writes(way.turn).kept_of(places) == places.bits {
             let point = way.from;
             return Some(Places { point, ..places });
         }
@@ -131,10 +131,10 @@ impl<'a, C: Code> Search<'a, C> {
         if from.keeps(way.turn) {
             return self.ask(from, before, choice);
         }
-        let moves = from.moves(way.turn);
-        let bits = moves.kept_of(places);
+        let writes = from.writes(way.turn);
+        let bits = writes.kept_of(places);
         self.ask(from, Places { bits, ..before }, choice)?;
-        for found in moves.each() {
+        for found in writes.each() {
             match found {
                 Some(found) if places.has(found.to) => {
                     self.carry_moved(from, way, places.point, found)?;
@@ -152,7 +152,7 @@ impl<'a, C: Code> Search<'a, C> {
         from: Point,
         way: Way,
         to: u32,
-        found: Move,
+        found: Write,
     ) -> Result<(), AllocError> {
         match found.from {
             Some(place) => self.ask(from, Places::one(way.from, place), 1),

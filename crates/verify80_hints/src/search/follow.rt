@@ -104,7 +104,7 @@ impl<'a, C: Code> Search<'a, C> {
             Effect::JumpIf(to) if choice != 0 => hop.at = to,
             Effect::Case => hop.at = *self.program.targets(from.at).get(usize::from(choice))?,
             Effect::Call(_) => hop.turn = Turn::OverCall,
-            Effect::Change(_) if choice != 0 => hop.place = from.moves(hop.turn).moved_to(place),
+            Effect::Change(_) if choice != 0 => hop.place = from.writes(hop.turn).moved_to(place),
             Effect::Change(_) | Effect::JumpIf(_) | Effect::CallIf(_) | Effect::ReturnIf => {}
             Effect::Return | Effect::Halt | Effect::Refuse(_) => return None,
         }

@@ -138,7 +138,7 @@ impl State {
         ensures { result ≡ true → IsSetInside variables.now self other }
     {
         for number in 0..variables.len() {
-            if !self.has_named(other, variables, number) {
+            if !self.is_variable_inside(other, variables, number) {
                 return false;
             }
         }
@@ -147,7 +147,7 @@ impl State {
 
     /// Whether this state says of the variable with a number what `other` does: it names the variable in `set`, or its cells show that
     /// the byte is one of the variable's. True if `other` doesn't name it, or if there is no such variable.
-    fn has_named(self, other: State, variables: &[Variable], number: usize) -> bool
+    fn is_variable_inside(self, other: State, variables: &[Variable], number: usize) -> bool
         ensures { result ≡ true → (v : Variable) → slice_get variables.now number ≡ Some v → is_bit other.set number ≡ true →
             (is_bit self.set number ≡ true) ⊎ IsByteInside (bytes_at self.cells v.at) v.bytes }
     {

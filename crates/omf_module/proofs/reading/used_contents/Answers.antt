@@ -20,11 +20,11 @@ returns-in_err-contents-clause-fault c =
     → bodies_fault (with_contents c.args.draft.now cs) None b ≡ Some fault) c.in_err-contents.field-0.0)
     c.deref.ensures.value c.in_err-contents.ensures.fault))
 
-pub returns-in-Err-look_at_start-clause-fault : goal.returns-in-Err-look_at_start-clause-fault
-returns-in-Err-look_at_start-clause-fault c =
-    rw c.at-in-Err-look_at_start.ensures
-    (start_refused (records_of c.args.file.now) c.args.draft.now c.in-Err-look_at_start.why c.requires c.in_default.ensures
-    (λ cs. rw c.deref.ensures.value at (c.in_ok-contents.ensures.sound cs)) c.in-Err-look_at_start.ensures)
+pub returns-in-Err-check_start-clause-fault : goal.returns-in-Err-check_start-clause-fault
+returns-in-Err-check_start-clause-fault c =
+    rw c.at-in-Err-check_start.ensures
+    (start_refused (records_of c.args.file.now) c.args.draft.now c.in-Err-check_start.why c.requires c.in_default.ensures
+    (λ cs. rw c.deref.ensures.value at (c.in_ok-contents.ensures.sound cs)) c.in-Err-check_start.ensures)
 
 pub returns-in-Ok-clause-sound : goal.returns-in-Ok-clause-sound
 returns-in-Ok-clause-sound c =

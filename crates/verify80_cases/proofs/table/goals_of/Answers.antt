@@ -17,7 +17,7 @@ loop-number-preserved c =
     let goals = c.loop-number.goals.items in
     let found = entry_is image reached taken kind (first + stride kind * n) c.in-Some.goal
     (subst (λ a. Some c.in-Some.goal ≡ (if is_entry kind image reached taken a then Some (goal_of kind (memory_of image.chunks) a) else None)) c.address_of-address.ensures.is
-    (sym c.in-Some.is ∙ c.goal_at.ensures)) in
+    (sym c.in-Some.is ∙ c.target_at.ensures)) in
     rw c.in_ok-push.ensures.items
     (record {
       first = one_more image reached taken kind first n c.in-Some.goal goals c.loop-number.invariant.count c.loop-number.invariant.first found.0 found.1;

@@ -12,14 +12,14 @@ loop-number-preserved g c =
     let code = g.C.Code.code c.args.program.now in
     let call = c.in-Some-2.call in
     let last = c.in-Some.last in
-    let more = c.in-Some-through.more in
+    let more = c.in-Some-depth_below_call.more in
     let fits : SFits w64 more = search rules in
     let of : c.loop-number.procedure ≡ Entry call.target = search rules in
     let at = subst (λ o. IfSome o (CallsAt code)) c.in-Some-2.is c.in_ok-call.ensures in
     let depth_fits : SFits w64 call.depth = search rules in
     let depth = to_z-of_z w64 call.depth depth_fits in
     let below = to_z w64 c.loop-number.sum-bits in
-    let through = c.in-Some-through.ensures in
+    let through = c.in-Some-depth_below_call.ensures in
     let is : more ≡ (call.depth +ℤ pos 2) +ℤ below = cc in
     subst (λ s. IsChain code call.caller (reverse c.push.new.self.items) last s) (sym (to_z-of_z w64 more fits))
     (subst (λ calls. IsChain code call.caller (reverse calls) last more) (sym c.in_ok-push.ensures.items)

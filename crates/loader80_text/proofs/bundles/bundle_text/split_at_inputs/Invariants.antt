@@ -2,7 +2,7 @@ use Rattle.std.proofs.Common.{◌≡◌, ◌-◌, ◌≤◌, length, take, drop}
 use Rattle.std.specs.Option.{option_map}
 use Rattle.image80.specs.Lines.{parts}
 use Rattle.loader80_text.specs.BundleText.{sides_after, sides_of}
-use Rattle.loader80_text.proofs.bundles.bundle_text.sides.Given as goal
+use Rattle.loader80_text.proofs.bundles.bundle_text.split_at_inputs.Given as goal
 
 abbrev pub invariant-loop-line : goal.invariant-loop-line
 invariant-loop-line l = record {

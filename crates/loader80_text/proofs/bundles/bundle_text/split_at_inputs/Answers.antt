@@ -2,7 +2,7 @@
 use Rattle.std.proofs.Common.{◌≡◌, ◌∷◌, ◌++◌, length, drop, arith, ap, sym, ◌∙◌, length-append, length-drop}
 use Rattle.image80.specs.Lines.{parts}
 use Rattle.loader80_text.proofs.BundleLemmas.{sides_of-here, sides_of-further, slice_to_end}
-use Rattle.loader80_text.proofs.bundles.bundle_text.sides.Goals as goal
+use Rattle.loader80_text.proofs.bundles.bundle_text.split_at_inputs.Goals as goal
 
 pub returns-then-eq : goal.returns-then-eq
 returns-then-eq c =

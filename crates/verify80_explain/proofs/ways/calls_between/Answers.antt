@@ -3,7 +3,7 @@ use Rattle.std.specs.Prelude.{IfSome}
 use Rattle.frames80.specs.declared.procedure.Procedure.TheVariants.{Entry}
 use Rattle.verify80_explain.specs.Ways.{IsCalled, Lead}
 use Rattle.verify80_explain.proofs.WayLemmas.{lead-push}
-use Rattle.verify80_explain.proofs.ways.lead.Goals as goal
+use Rattle.verify80_explain.proofs.ways.calls_between.Goals as goal
 
 pub loop-number-preserved : goal.loop-number-preserved
 loop-number-preserved g c =

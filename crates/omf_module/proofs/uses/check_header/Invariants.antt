@@ -3,7 +3,7 @@ use Rattle.std.proofs.Common.{◌≡◌, length, map, List}
 use Rattle.omf_model.specs.Contents.{ContentValue}
 use Rattle.omf_module.specs.Uses.{unknown_id}
 use Rattle.omf_module.specs.Reading.{with_contents}
-use Rattle.omf_module.proofs.uses.look_at_header.Given as goal
+use Rattle.omf_module.proofs.uses.check_header.Given as goal
 
 abbrev pub invariant-loop-entry : goal.invariant-loop-entry
 invariant-loop-entry l = (cs : List ContentValue)

@@ -2,7 +2,7 @@
 use Rattle.std.proofs.Common.{◌≡◌, drop}
 use Rattle.std.specs.List.{list_all}
 use Rattle.omf_core.specs.Name.{is_name}
-use Rattle.omf_model.proofs.name_invariants.look_at_publics.Given as goal
+use Rattle.omf_model.proofs.name_invariants.assert_public_names.Given as goal
 
 abbrev pub invariant-loop-public : goal.invariant-loop-public
 invariant-loop-public l = list_all (λ p. is_name p.name) (drop l.public-index l.publics) ≡ list_all (λ p. is_name p.name) l.publics

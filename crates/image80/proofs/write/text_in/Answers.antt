@@ -1,5 +1,5 @@
 use Rattle.image80.proofs.WriteLemmas.{steps_are_text}
-use Rattle.image80.proofs.write.spell.Goals as goal
+use Rattle.image80.proofs.write.text_in.Goals as goal
 
 pub returns-clause-text : goal.returns-clause-text
 returns-clause-text c =

@@ -6,15 +6,15 @@ use std::alloc::{AllocError, Global};
 /// How many return addresses each stack has, by the stack's number. Only speed depends on these
 /// counts.
 #[derive(Drop)]
-pub(crate) struct Owns {
+pub(crate) struct OwnCounts {
     /// The counts of the stacks from number 1 on; stack 0 has no words.
     counts: Vec<u32>,
 }
 
-impl Owns {
+impl OwnCounts {
     /// No counts. The call takes no memory.
-    pub(crate) fn new(alloc: Global) -> Owns {
-        Owns {
+    pub(crate) fn new(alloc: Global) -> OwnCounts {
+        OwnCounts {
             counts: Vec::new(alloc),
         }
     }

@@ -1,5 +1,5 @@
 use Rattle.verify80_flow.proofs.RefusedLemmas.{nothing_is, answers_of_new}
-use Rattle.verify80_flow.proofs.analysis.measure_soon.Goals as goal
+use Rattle.verify80_flow.proofs.analysis.measure_in_few_visits.Goals as goal
 
 pub fill_and_report-requires : goal.fill_and_report-requires
 fill_and_report-requires g c = nothing_is c.in_ok-table.table.known _ c.in_ok-table.ensures
