@@ -209,16 +209,6 @@ kept_as code bytes differences others dump same places listed kept reduced h ds 
     ∙ ap (λ (l : List ℕ). filter (λ a. list_all (has_difference dump a) differences) l) ps))))
     (kept_places code bytes differences dump places reduced h)
 
--- without any
-pub all_places : (code bytes : List CodeByte) (differences : List Difference) (dump : DumpValue) (places : List ℕ) → length differences ≡ 0
-    → IsReduced code bytes differences → ArePlaces dump bytes 65536 places → ArePlaces dump code 65536 places
-all_places code bytes [] dump places none reduced h = record {
-  lies = λ a e. let there = h.lies a e in (there.0, whole code bytes [] dump places reduced h a there.1 refl);
-  all = λ a lt l. h.all a lt (fewer code bytes [] dump places reduced h a l);
-  ascending = h.ascending;
-}
-all_places code bytes (d ∷ ds) dump places none reduced h = absurd (omega (arith, none))
-
 -- ---- a row
 
 pub same_row : (x y z : Bool) → x ≡ ((x || (false && y)) || (false && z))

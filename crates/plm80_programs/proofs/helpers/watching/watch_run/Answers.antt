@@ -1,5 +1,5 @@
 use Rattle.plm80_programs.proofs.Names.{◌∙◌, subst, IsVerdict, dump_path, run_paths, AnswersRun, EndsRun}
-use Rattle.plm80_programs.proofs.GivenLemmas.{GivesOrGivesUp, IsRunKnown, run_known, run_or_gives_up, run_refused}
+use Rattle.plm80_programs.proofs.GivenLemmas.{GivesOrGivesUp, run_known, run_or_gives_up, run_refused}
 use Rattle.plm80_programs.proofs.helpers.watching.watch_run.Given as given
 use Rattle.plm80_programs.proofs.helpers.watching.watch_run.Goals.{After-print_run}
 use Rattle.plm80_programs.proofs.helpers.watching.watch_run.Goals as goal
