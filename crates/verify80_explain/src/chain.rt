@@ -73,23 +73,25 @@ fn chain_of<C: Code>(
 ) -> Result<Chain, Unexplained>
     ensures { IfOk result (ChainsTo (C.code program.now) bytes) }
 {
-    let mut search = Search::new(alloc, program)?;
-    if !search.grow(alloc, program, limit)? {
-        return Err(Unexplained::Limit);
-    }
-    chain_among(alloc, program, &search, bytes)
+    let mut search = Search::new(alloc);
+    chain_among(alloc, program, &mut search, bytes, limit)
 }
 
-/// A chain of calls at the points that a search found, which adds up to `bytes`; `NotShown` if
-/// there is none or the points don't come from one another.
+/// A chain of calls at the points that a search finds, which adds up to `bytes`; `NotShown` if
+/// there is none or the points don't come from one another, and `Limit` if they weigh more than the
+/// limit.
 fn chain_among<C: Code>(
     alloc: Global,
     program: &C,
-    search: &Search,
+    search: &mut Search,
     bytes: u64,
+    limit: usize,
 ) -> Result<Chain, Unexplained>
     ensures { IfOk result (ChainsTo (C.code program.now) bytes) }
 {
+    if !search.grow(alloc, program, limit)? {
+        return Err(Unexplained::Limit);
+    }
     let points = search.points.as_slice();
     let Some(links) = find_links(alloc, program, points, search.calls.as_slice(), bytes)? else {
         return Err(Unexplained::NotShown);

@@ -45,8 +45,8 @@ pub fn explain(
     }
 }
 
-/// Searches a program for points that show what is sought, in steps of doubled weight, and returns
-/// the ways to them. The faults are those of [`explain`].
+/// Searches a program for points that show what is sought, and returns the ways to them. The faults
+/// are those of [`explain`].
 fn explain_sought<C: Code>(
     alloc: Global,
     program: &C,
@@ -55,11 +55,25 @@ fn explain_sought<C: Code>(
 ) -> Result<Explanation, Unexplained>
     ensures { IfOk result (ShowsKind (C.code program.now) sought.at sought.kind) }
 {
-    let mut search = Search::new(alloc, program)?;
+    let mut search = Search::new(alloc);
+    show_sought(alloc, program, sought, limit, &mut search)
+}
+
+/// Lets a search grow, in steps of doubled weight, until its points show what is sought, and returns
+/// the ways to them. The faults are those of [`explain`].
+fn show_sought<C: Code>(
+    alloc: Global,
+    program: &C,
+    sought: Sought,
+    limit: usize,
+    search: &mut Search,
+) -> Result<Explanation, Unexplained>
+    ensures { IfOk result (ShowsKind (C.code program.now) sought.at sought.kind) }
+{
     let mut weight = FIRST_WEIGHT;
     for _ in 0..usize::BITS {
         let is_whole = search.grow(alloc, program, weight)?;
-        if let Some(shown) = sought.show(alloc, program, &search)? {
+        if let Some(shown) = sought.show(alloc, program, search)? {
             return Ok(shown);
         }
         if is_whole {

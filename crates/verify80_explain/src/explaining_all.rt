@@ -59,14 +59,39 @@ pub fn explain_all(alloc: Global, image: &Image, limit: usize) -> Result<ShownRe
     ensures shown { IfOk result (λ all. All (IsShown (code_of image.now)) all.shown.items) }
 {
     let code = ImageCode::new(alloc, image)?;
-    let mut search = Search::new(alloc, &code)?;
-    let is_whole = is_reached_within(search.grow(alloc, &code, limit))?;
     let mut shown = Vec::new(alloc);
-    let are_shown = is_reached_within(show_all(alloc, &code, &search, limit, &mut shown))?;
-    Ok(ShownRefusals {
-        shown,
-        are_all: is_whole && are_shown,
-    })
+    let are_all = show_reached(alloc, &code, limit, &mut shown)?;
+    Ok(ShownRefusals { shown, are_all })
+}
+
+/// Appends the refusals of the points that walks of a program reach to `shown`, each with a way that
+/// shows it; answers whether none is left out.
+fn show_reached<C: Code>(
+    alloc: Global,
+    program: &C,
+    limit: usize,
+    shown: &mut Vec<ShownRefusal>,
+) -> Result<bool, AllocError>
+    ensures { All (IsShown (C.code program.now)) shown.old.items → All (IsShown (C.code program.now)) shown.new.items }
+{
+    let mut search = Search::new(alloc);
+    grow_and_show(alloc, program, &mut search, limit, shown)
+}
+
+/// Lets a search grow up to the limit and appends the refusals of its points to `shown`, each with a
+/// way that shows it; answers whether none is left out.
+fn grow_and_show<C: Code>(
+    alloc: Global,
+    program: &C,
+    search: &mut Search,
+    limit: usize,
+    shown: &mut Vec<ShownRefusal>,
+) -> Result<bool, AllocError>
+    ensures { All (IsShown (C.code program.now)) shown.old.items → All (IsShown (C.code program.now)) shown.new.items }
+{
+    let is_whole = is_reached_within(search.grow(alloc, program, limit))?;
+    let are_shown = is_reached_within(show_all(alloc, program, search, limit, shown))?;
+    Ok(is_whole && are_shown)
 }
 
 /// The answer of a search, with `Limit` and `NotShown` as `false`: not all was found.

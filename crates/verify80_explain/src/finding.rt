@@ -80,9 +80,22 @@ fn find_difference<C: Code>(
     clash: Clash,
 ) -> Result<Option<Pair>, Unexplained> {
     let counts = count_points(alloc, program, points, at, clash)?;
+    first_difference(alloc, program, points, &counts, at, clash)
+}
+
+/// The first point at address `at` whose counts differ from those of another point of its procedure,
+/// and that point; `None` if there is none.
+fn first_difference<C: Code>(
+    alloc: Global,
+    program: &C,
+    points: &[Point],
+    counts: &IndexMap<usize, Counts>,
+    at: u16,
+    clash: Clash,
+) -> Result<Option<Pair>, Unexplained> {
     for one in 0..points.len() {
         if points[one].at == at {
-            if let Some(other) = differing(alloc, program, &points[one], &counts, at, clash)? {
+            if let Some(other) = differing(alloc, program, &points[one], counts, at, clash)? {
                 return Ok(Some(Pair { one, other }));
             }
         }

@@ -33,19 +33,44 @@ pub(crate) fn find_links<C: Code>(
 ) -> Result<Option<Links>, Unexplained> {
     let depths = depths(alloc, program, points)?;
     let sites = sites(alloc, program, points, calls)?;
+    links_among(alloc, calls, &depths, &sites, bytes)
+}
+
+/// The points of a chain that adds up to `bytes`, by the depths of all points and by the calls as
+/// `sites`; `None` and `Limit` as for [`find_links`].
+fn links_among(
+    alloc: Global,
+    calls: &[CallingPoint],
+    depths: &[Depth],
+    sites: &[CallSite],
+    bytes: u64,
+) -> Result<Option<Links>, Unexplained>
+    requires depths { All (λ d. IsModest d.depth) depths.now }
+    requires sites { All (λ s. IsModest s.depth) sites.now }
+{
     if sites.len() > MOST_POINTS {
         return Err(Unexplained::Limit);
     }
-    let bounds = match find_bounds(alloc, &depths, &sites) {
-        Ok(bounds) => bounds,
-        Err(BoundsFault::Recursion(_)) => return Ok(None),
-        Err(BoundsFault::Memory) => return Err(Unexplained::Memory),
-    };
-    if bounds.get(Procedure::Main) != bytes {
-        return Ok(None);
+    match find_bounds(alloc, depths, sites) {
+        Ok(bounds) if bounds.get(Procedure::Main) == bytes => {
+            links_with(alloc, calls, depths, sites, &bounds)
+        }
+        Ok(_) | Err(BoundsFault::Recursion(_)) => Ok(None),
+        Err(BoundsFault::Memory) => Err(Unexplained::Memory),
     }
-    let lasts = last_points(alloc, &depths, &bounds)?;
-    let nexts = next_calls(alloc, &sites, &bounds)?;
+}
+
+/// The points of a chain that adds up to the bound of the main program; `None` if there is none by
+/// these points.
+fn links_with(
+    alloc: Global,
+    calls: &[CallingPoint],
+    depths: &[Depth],
+    sites: &[CallSite],
+    bounds: &Bounds,
+) -> Result<Option<Links>, Unexplained> {
+    let lasts = last_points(alloc, depths, bounds)?;
+    let nexts = next_calls(alloc, sites, bounds)?;
     links_by(alloc, calls, &lasts, &nexts)
 }
 

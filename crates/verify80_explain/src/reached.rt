@@ -1,6 +1,6 @@
 //! Whether the points of a search are reached: each comes from earlier ones, as its origin says.
 
-ghost use Rattle.std.specs.Prelude.{◌≡◌, ◌≤◌, true, IfOk, length};
+ghost use Rattle.std.specs.Prelude.{◌≡◌, ◌<◌, Some, true, IfOk, IfSome, slice_get};
 ghost use Rattle.verify80_flow.specs.Walks.{Begins, LeadsTo};
 ghost use Rattle.verify80_explain.specs.Reached.{AreReached, AreWalked, BackFrom, Comes, EntersFrom};
 ghost use Rattle.verify80_explain.specs.Ways.{LeadsOn};
@@ -42,8 +42,7 @@ pub(crate) fn are_reached<C: Code>(
     Ok(true)
 }
 
-/// Whether `point`, which has this number, comes from earlier points as `origin` says. `number`
-/// must be at most the number of `points`.
+/// Whether `point`, which has this number, comes from earlier points as `origin` says.
 fn comes_from<C: Code>(
     alloc: Global,
     program: &C,
@@ -52,30 +51,36 @@ fn comes_from<C: Code>(
     point: &Point,
     origin: Origin,
 ) -> Result<bool, Unexplained>
-    requires { number ≤ length points.now }
     ensures { IfOk result (λ r. r ≡ true → Comes (C.code program.now) points.now number point.now origin) }
 {
     match origin {
         Origin::Begins => Ok(begins(alloc, program, point)?),
-        Origin::GoesOn(from) => {
-            if from >= number {
-                return Ok(false);
-            }
-            leads_on(alloc, program, &points[from], point)
-        }
-        Origin::Enters(call) => {
-            if call >= number {
-                return Ok(false);
-            }
-            enters(alloc, program, &points[call], point)
-        }
+        Origin::GoesOn(from) => match earlier(points, number, from) {
+            Some(one) => leads_on(alloc, program, one, point),
+            None => Ok(false),
+        },
+        Origin::Enters(call) => match earlier(points, number, call) {
+            Some(one) => enters(alloc, program, one, point),
+            None => Ok(false),
+        },
         Origin::ComesBack { call, exit } => {
-            if call >= number || exit >= number {
+            let Some(one) = earlier(points, number, call) else {
                 return Ok(false);
-            }
-            comes_back(alloc, program, &points[call], &points[exit], point)
+            };
+            let Some(callee) = earlier(points, number, exit) else {
+                return Ok(false);
+            };
+            comes_back(alloc, program, one, callee, point)
         }
     }
+}
+
+/// The point with index `i`, if that is less than `number`; `None` if not, or if there is no such point.
+fn earlier(points: &[Point], number: usize, i: usize) -> Option<&Point>
+    ensures earlier { IfSome result (λ _. i < number) }
+    ensures point { IfSome result (λ point. slice_get points.now i ≡ Some point.now) }
+{
+    if i < number { points.get(i) } else { None }
 }
 
 /// Whether a point is the main program's start, with its frame there.

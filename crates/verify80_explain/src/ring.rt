@@ -92,26 +92,55 @@ fn reach_from(
     first: CallingPoint,
 ) -> Result<Vec<Reach>, AllocError> {
     let calls_of = by_caller(alloc, points, calls)?;
-    let mut entered: IndexSet<u16> = IndexSet::new(alloc);
     let mut reached = Vec::new(alloc);
     reached.push(Reach {
         call: first,
         from: 0,
     })?;
+    reach_all(alloc, calls, &calls_of, &mut reached)?;
+    Ok(reached)
+}
+
+/// Appends the calls by which procedures are reached from the first of `reached`, breadth first, one
+/// for each procedure. `calls_of` has the indices of `calls` by the slot of the caller.
+fn reach_all(
+    alloc: Global,
+    calls: &[CallingPoint],
+    calls_of: &Groups,
+    reached: &mut Vec<Reach>,
+) -> Result<(), AllocError> {
+    let mut entered: IndexSet<u16> = IndexSet::new(alloc);
     for from in 0..calls.len() {
         if from >= reached.len() {
             break;
         }
-        let callee = Procedure::Entry(reached[from].call.target);
-        for number in calls_of.of(alloc, slot(callee))? {
-            if let Some(call) = calls.get(number) {
-                if entered.insert(call.target)? {
-                    reached.push(Reach { call: *call, from })?;
-                }
+        reach_next(alloc, calls, calls_of, from, &mut entered, reached)?;
+    }
+    Ok(())
+}
+
+/// Appends the calls of the procedure that the call with index `from` among `reached` enters, one for
+/// each procedure that isn't in `entered` yet, and adds these to it.
+fn reach_next(
+    alloc: Global,
+    calls: &[CallingPoint],
+    calls_of: &Groups,
+    from: usize,
+    entered: &mut IndexSet<u16>,
+    reached: &mut Vec<Reach>,
+) -> Result<(), AllocError> {
+    let Some(by) = reached.get(from) else {
+        return Ok(());
+    };
+    let callee = Procedure::Entry(by.call.target);
+    for number in calls_of.of(alloc, slot(callee))? {
+        if let Some(call) = calls.get(number) {
+            if entered.insert(call.target)? {
+                reached.push(Reach { call: *call, from })?;
             }
         }
     }
-    Ok(reached)
+    Ok(())
 }
 
 /// Groups the calls by the slot of the procedure that makes them.

@@ -84,9 +84,9 @@ pub(crate) struct Search {
 }
 
 impl Search {
-    /// A search that has found the main program's start alone. `AllocError` if memory runs out.
-    pub(crate) fn new<C: Code>(alloc: Global, program: &C) -> Result<Search, AllocError> {
-        let mut search = Search {
+    /// A search that has found no point yet. The call takes no memory.
+    pub(crate) fn new(alloc: Global) -> Search {
+        Search {
             points: Vec::new(alloc),
             known: IndexSet::new(alloc),
             frames: IndexSet::new(alloc),
@@ -97,27 +97,21 @@ impl Search {
             exits_of: Groups::new(alloc),
             followed: 0,
             weight: 0,
-        };
-        let frame = Frame::main_entry(alloc)?;
-        search.add(
-            alloc,
-            program,
-            Procedure::Main,
-            program.start(),
-            frame,
-            Origin::Begins,
-        )?;
-        Ok(search)
+        }
     }
 
-    /// Follows points in order of first sight until all are followed, or until the points that were
-    /// found weigh more than `weight`. Answers whether all are followed.
+    /// Follows points in order of first sight, from the main program's start on, until all are
+    /// followed, or until the points that were found weigh more than `weight`. Answers whether all
+    /// are followed.
     pub(crate) fn grow<C: Code>(
         &mut self,
         alloc: Global,
         program: &C,
         weight: usize,
     ) -> Result<bool, Unexplained> {
+        if self.points.is_empty() {
+            self.begin(alloc, program)?;
+        }
         for number in self.followed..usize::MAX {
             if number >= self.points.len() {
                 break;
@@ -129,6 +123,19 @@ impl Search {
             self.followed = number + 1;
         }
         Ok(true)
+    }
+
+    /// Adds the main program's start. `AllocError` if memory runs out.
+    fn begin<C: Code>(&mut self, alloc: Global, program: &C) -> Result<(), AllocError> {
+        let frame = Frame::main_entry(alloc)?;
+        self.add(
+            alloc,
+            program,
+            Procedure::Main,
+            program.start(),
+            frame,
+            Origin::Begins,
+        )
     }
 
     /// Adds a point with its origin, unless it was found before. `AllocError` if memory runs out.
@@ -183,7 +190,7 @@ impl Search {
         match look_at(alloc, program, point)? {
             Looked::Wrong(_) | Looked::Stuck(_) => Ok(()),
             Looked::Moved(moves, next) => {
-                self.follow(alloc, program, number, procedure, at, moves, next)
+                self.follow(alloc, program, number, procedure, at, &moves, next)
             }
         }
     }
@@ -197,34 +204,47 @@ impl Search {
         number: usize,
         procedure: Procedure,
         at: u16,
-        moves: Moves,
+        moves: &Moves,
         next: u16,
     ) -> Result<(), Unexplained> {
-        let on = Origin::GoesOn(number);
         match moves {
-            Moves::End => {}
-            Moves::On(frame) => self.add(alloc, program, procedure, next, frame, on)?,
-            Moves::Jump(frame, to) => self.add(alloc, program, procedure, to, frame, on)?,
+            Moves::End => Ok(()),
+            Moves::On(frame) => self.go_on(alloc, program, number, procedure, frame, &[next]),
+            Moves::Jump(frame, to) => self.go_on(alloc, program, number, procedure, frame, &[*to]),
             Moves::Either(frame, to) => {
-                let other = frame.copy(alloc)?;
-                self.add(alloc, program, procedure, next, frame, on)?;
-                self.add(alloc, program, procedure, to, other, on)?;
+                self.go_on(alloc, program, number, procedure, frame, &[next, *to])
             }
             Moves::Case(frame) => {
-                for to in program.targets(at) {
-                    self.add(alloc, program, procedure, *to, frame.copy(alloc)?, on)?;
-                }
+                let targets = program.targets(at);
+                self.go_on(alloc, program, number, procedure, frame, targets)
             }
-            Moves::Call(_frame, target) => self.call(alloc, program, number, target, next)?,
+            Moves::Call(_, target) => self.call(alloc, program, number, *target, next),
             Moves::MaybeCall(frame, target) => {
-                self.add(alloc, program, procedure, next, frame, on)?;
-                self.call(alloc, program, number, target, next)?;
+                self.go_on(alloc, program, number, procedure, frame, &[next])?;
+                self.call(alloc, program, number, *target, next)
             }
-            Moves::Return(taken) => self.leave(alloc, program, number, procedure, taken)?,
+            Moves::Return(taken) => self.leave(alloc, program, number, procedure, *taken),
             Moves::MaybeReturn(frame, taken) => {
-                self.add(alloc, program, procedure, next, frame, on)?;
-                self.leave(alloc, program, number, procedure, taken)?;
+                self.go_on(alloc, program, number, procedure, frame, &[next])?;
+                self.leave(alloc, program, number, procedure, *taken)
             }
+        }
+    }
+
+    /// Adds the points at these addresses of a procedure, with a copy of the frame at each, to which
+    /// point `number` leads.
+    fn go_on<C: Code>(
+        &mut self,
+        alloc: Global,
+        program: &C,
+        number: usize,
+        procedure: Procedure,
+        frame: &Frame,
+        addresses: &[u16],
+    ) -> Result<(), Unexplained> {
+        for to in addresses {
+            let copy = frame.copy(alloc)?;
+            self.add(alloc, program, procedure, *to, copy, Origin::GoesOn(number))?;
         }
         Ok(())
     }
@@ -268,12 +288,8 @@ impl Search {
         procedure: Procedure,
         taken: u32,
     ) -> Result<(), Unexplained> {
-        for number in self.exits_of.of(alloc, slot(procedure))? {
-            if let Some(exit) = self.exits.get(number) {
-                if exit.taken == taken {
-                    return Ok(());
-                }
-            }
+        if self.has_exit(alloc, procedure, taken)? {
+            return Ok(());
         }
         let exit = Exit { point, taken };
         self.exits.push(exit)?;
@@ -285,6 +301,23 @@ impl Search {
             }
         }
         Ok(())
+    }
+
+    /// Whether a known exit of a procedure has taken `taken` words. `AllocError` if memory runs out.
+    fn has_exit(
+        &self,
+        alloc: Global,
+        procedure: Procedure,
+        taken: u32,
+    ) -> Result<bool, AllocError> {
+        for number in self.exits_of.of(alloc, slot(procedure))? {
+            if let Some(exit) = self.exits.get(number) {
+                if exit.taken == taken {
+                    return Ok(true);
+                }
+            }
+        }
+        Ok(false)
     }
 
     /// Adds the point after a call whose callee returns by `exit`, unless the caller has too few

@@ -10,5 +10,5 @@ pub returns : goal.returns
 returns c =
     let none = subst (All (IsShown (code_of c.in_ok-code.code))) (sym c.new-shown.ensures.items) (All-nil (IsShown (code_of c.in_ok-code.code))) in
     record {
-      shown = subst (λ (i : Located). All (IsShown (code_of i)) c.show_all.new.shown.items) c.in_ok-code.ensures (c.show_all.ensures none);
+      shown = subst (λ (i : Located). All (IsShown (code_of i)) c.show_reached.new.shown.items) c.in_ok-code.ensures (c.show_reached.ensures none);
     }
