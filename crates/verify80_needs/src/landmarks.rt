@@ -45,9 +45,7 @@ impl Landmarks {
             }
         }
         words.sort_unstable();
-        words.dedup();
         bytes.sort_unstable();
-        bytes.dedup();
         Ok(Landmarks { words, bytes })
     }
 
@@ -144,30 +142,27 @@ fn grown(landmarks: &[u16], old: Span, new: Span, growths: u32) -> Span {
     if growths < JOINS {
         return hull;
     }
+    let landmarks: &[u16] = if growths > STEPS { &[] } else { landmarks };
     let first = if hull.first == old.first {
         old.first
-    } else if growths > STEPS {
-        0
     } else {
         landmark_below(landmarks, hull.first)
     };
     let last = if hull.last == old.last {
         old.last
-    } else if growths > STEPS {
-        u16::MAX
     } else {
         end_above(landmarks, hull.last)
     };
     Span { first, last }
 }
 
-/// The last landmark up to a number.
+/// The last landmark up to a number; 0 if there is none.
 fn landmark_below(landmarks: &[u16], number: u16) -> u16 {
     let count = landmarks.partition_point(|landmark| *landmark <= number);
     landmarks.get(count.wrapping_sub(1)).copied().unwrap_or(0)
 }
 
-/// The number before the first landmark above a number.
+/// The number before the first landmark above a number; the greatest word if there is none.
 fn end_above(landmarks: &[u16], number: u16) -> u16 {
     let count = landmarks.partition_point(|landmark| *landmark <= number);
     landmarks.get(count).copied().unwrap_or(0).wrapping_sub(1)

@@ -8,7 +8,7 @@
 //! | [`Needs`] | what is needed of a state at each address: a later store, jump by HL or condition may depend on it |
 //! | [`Units`], [`are_alike`], [`values_of`] | the parts of a state |
 //! | [`Landmarks`] | the numbers to which spans grow: ends of data, of pages, and what the program names |
-//! | [`Variables`], [`stored_bytes`], [`widened_cells`] | bytes of memory that are to stay inside a span |
+//! | [`Variables`], [`widened_cells`] | bytes of memory that are to stay inside a span |
 //! | [`mark`] | marks an address |
 #![tactic(auto)]
 
@@ -28,4 +28,4 @@ pub use needs::Needs;
 pub use program::ReachedProgram;
 pub use slots::widened_cells;
 pub use units::{PARTS, Units, are_alike, values_of};
-pub use variables::{Variables, stored_bytes};
+pub use variables::Variables;

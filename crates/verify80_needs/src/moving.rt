@@ -19,13 +19,10 @@ pub fn parts_before(instr: Instr, need: Units) -> Units {
             need,
             &[(Units::FIRST, Units::HL), (Units::HL, Units::FIRST)],
         ),
-        Instr::Push(pair) => moved(need, &[(Units::of_stack_pair(pair), Units::FIRST)])
-            .difference(Units::WORDS)
-            .union(need.shallower()),
-        Instr::Pop(pair) => {
-            let written = Units::of_stack_pair(pair);
-            moved(need.difference(Units::WORDS), &[(Units::FIRST, written)]).union(need.deeper())
+        Instr::Push(pair) => {
+            moved(need, &[(Units::of_stack_pair(pair), Units::FIRST)]).shallower()
         }
+        Instr::Pop(pair) => moved(need.deeper(), &[(Units::FIRST, Units::of_stack_pair(pair))]),
         // What CY is after a rotation isn't known.
         Instr::Rotate(_) if !need.intersects(Units::A) => need.difference(written_by(instr)),
         _ => {

@@ -47,10 +47,7 @@ impl Need {
     /// What is needed before a call, given what its callee needs.
     fn before_call(self) -> Need {
         Need {
-            parts: self
-                .parts
-                .difference(Units::WORDS)
-                .union(self.parts.shallower()),
+            parts: self.parts.shallower(),
             slots: self.slots,
         }
     }
@@ -146,10 +143,7 @@ impl Needs {
         let placed = State {
             cells: placed_cells(state.cells, named, variables, set),
             set,
-            source: match state.source {
-                Some(address) if named.has(address) => Some(address),
-                _ => None,
-            },
+            source: state.source.filter(|address| named.has(*address)),
             ..state
         };
         reduce(placed, need.parts.union(need.slots.parts()))
@@ -240,17 +234,16 @@ impl Reading<'_> {
             Storing::Through(pair) => Units::of_index_pair(pair),
             Storing::Nowhere | Storing::Byte(_) | Storing::Word(_) => Units::NONE,
         };
-        let stored = slots_stored(self.places, instr, pointer);
-        let (after, kept) = match instr {
-            _ if !self.is_local => (need.slots, need.slots),
-            Instr::InrMemory | Instr::DcrMemory => (stored, stored),
-            _ => (stored, Slots::NONE),
+        let after = if self.is_local {
+            slots_stored(self.places, instr, pointer)
+        } else {
+            need.slots
         };
         Need {
             parts: parts_before(instr, need.parts)
                 .union(pointed)
                 .union(parts_stored(instr, pointer, after)),
-            slots: slots_before(self.places, instr, pointer, need.parts, kept),
+            slots: slots_before(self.places, instr, pointer, need.parts, after),
         }
     }
 
@@ -299,10 +292,7 @@ fn before_return(program: ReachedProgram<'_>, behind: &[Need], at: u16) -> Need 
     }
     let Need { parts, slots } = need_at(behind, program.group(at));
     Need {
-        parts: parts
-            .difference(Units::WORDS)
-            .union(parts.deeper())
-            .union(Units::FIRST),
+        parts: parts.deeper().union(Units::FIRST),
         slots,
     }
 }

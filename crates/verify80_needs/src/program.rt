@@ -2,7 +2,7 @@
 
 use decode80::{Fetched, Flow, Instr};
 use image80::{Image, Regions};
-use verify80_states::{PairSpan, State, given, is_marked, state_after};
+use verify80_states::{PairSpan, Span, State, given, is_marked, reached_at, state_after};
 
 /// A program: its code, its instructions that may be reached, and which of its procedures return.
 #[derive(Clone, Copy)]
@@ -52,10 +52,7 @@ impl<'a> ReachedProgram<'a> {
 
     /// The instruction at an address and the address behind it, if the program may reach it.
     pub fn at(self, address: u16) -> Option<Fetched> {
-        self.instructions
-            .get(usize::from(address))
-            .copied()
-            .flatten()
+        reached_at(self.instructions, address)
     }
 
     /// The instruction at an address alone, if the program may reach it.
@@ -92,63 +89,47 @@ impl<'a> ReachedProgram<'a> {
     pub fn count_ways(self, at: u16, instr: Instr) -> usize {
         match instr.flow() {
             Flow::Halts => 0,
-            Flow::Returns
-            | Flow::Continues
-            | Flow::Pushes
-            | Flow::Pops
-            | Flow::Exchanges
-            | Flow::Jumps(_) => 1,
             Flow::JumpsIf(_, _) | Flow::Calls(_) | Flow::ReturnsIf(_) => 2,
             Flow::CallsIf(_, _) => 3,
             Flow::JumpsToHl => self.targets(at).len(),
+            _ => 1,
         }
     }
 
     /// Where the way with this number leads from a state, and with what; `None` if the state can't go that way.
     pub fn way(self, at: u16, found: Fetched, state: State, number: usize) -> Option<(u16, State)> {
         let Fetched { instr, next } = found;
-        match instr.flow() {
-            Flow::Halts => None,
-            Flow::Returns => self.back(at, found, state),
-            Flow::Continues | Flow::Pushes | Flow::Pops | Flow::Exchanges => {
-                Some((next, self.after(found, false, state)))
+        let (to, taken, left) = match instr.flow() {
+            Flow::Halts => return None,
+            Flow::Returns => (self.return_address(at, state)?, true, state),
+            Flow::ReturnsIf(condition) if number > 0 => {
+                let left = given(condition, true, state)?;
+                (self.return_address(at, left)?, true, left)
             }
-            Flow::Jumps(to) => Some((to, self.after(found, false, state))),
-            Flow::JumpsIf(condition, to) => match number {
-                0 => Some((to, self.after(found, true, given(condition, true, state)?))),
-                _ => Some((
-                    next,
-                    self.after(found, false, given(condition, false, state)?),
-                )),
-            },
-            Flow::CallsIf(condition, to) => match number {
-                0 => Some((to, self.after(found, true, given(condition, true, state)?))),
-                1 => Some((
-                    next,
-                    self.after(found, false, given(condition, false, state)?),
-                )),
-                _ => self.way_behind_call(to, next, state.set),
-            },
-            Flow::ReturnsIf(condition) => match number {
-                0 => Some((
-                    next,
-                    self.after(found, false, given(condition, false, state)?),
-                )),
-                _ => self.back(at, found, given(condition, true, state)?),
-            },
-            Flow::Calls(to) => match number {
-                0 => Some((to, self.after(found, true, state))),
-                _ => self.way_behind_call(to, next, state.set),
-            },
+            Flow::Calls(entry) if number > 0 => {
+                return self.way_behind_call(entry, next, state.set);
+            }
+            Flow::CallsIf(_, entry) if number > 1 => {
+                return self.way_behind_call(entry, next, state.set);
+            }
+            Flow::JumpsIf(condition, to) | Flow::CallsIf(condition, to) if number == 0 => {
+                (to, true, given(condition, true, state)?)
+            }
+            Flow::JumpsIf(condition, _)
+            | Flow::CallsIf(condition, _)
+            | Flow::ReturnsIf(condition) => { (next, false, given(condition, false, state)?) }
+            Flow::Calls(to) => (to, true, state),
+            Flow::Jumps(to) => (to, false, state),
             Flow::JumpsToHl => {
                 let to = *self.targets(at).get(number)?;
-                if state.hl.words.first <= to && to <= state.hl.words.last {
-                    Some((to, self.after(found, false, state)))
-                } else {
-                    None
+                if !Span::alone(to).is_inside(state.hl.words) {
+                    return None;
                 }
+                (to, false, state)
             }
-        }
+            Flow::Continues | Flow::Pushes | Flow::Pops | Flow::Exchanges => (next, false, state),
+        };
+        Some((to, state_after(self.code, instr, taken, next, left)))
     }
 
     /// The way behind a call, with nothing but the variables known there; `None` unless the callee may return and its states don't know
@@ -161,11 +142,11 @@ impl<'a> ReachedProgram<'a> {
         }
     }
 
-    /// Where a return goes, and with what; `None` unless the states there are to know that, and this one does.
-    fn back(self, at: u16, found: Fetched, state: State) -> Option<(u16, State)> {
+    /// Where the return at an address goes; `None` unless the states there are to know that, and this one does.
+    fn return_address(self, at: u16, state: State) -> Option<u16> {
         let PairSpan { words, .. } = state.words.first?;
         if self.must_know_return(at) && words.is_alone() {
-            Some((words.first, self.after(found, true, state)))
+            Some(words.first)
         } else {
             None
         }
@@ -178,17 +159,6 @@ impl<'a> ReachedProgram<'a> {
             Flow::ReturnsIf(condition) => given(condition, true, state),
             _ => None,
         };
-        match left {
-            None => true,
-            Some(left) => match left.words.first {
-                Some(word) => word.words.is_alone(),
-                None => false,
-            },
-        }
-    }
-
-    /// The state after an instruction, given whether its condition holds.
-    fn after(self, found: Fetched, taken: bool, state: State) -> State {
-        state_after(self.code, found.instr, taken, found.next, state)
+        left.is_none_or(|left| left.words.first.is_some_and(|word| word.words.is_alone()))
     }
 }

@@ -25,10 +25,10 @@ impl Slots {
 
     /// The address at a place, if it has one.
     pub fn at(self, place: usize) -> Option<u16> {
-        match self.0.get(place) {
-            Some(address) if *address != NONE => Some(*address),
-            _ => None,
-        }
+        self.0
+            .get(place)
+            .copied()
+            .filter(|address| *address != NONE)
     }
 
     /// Whether an address has a place.
@@ -47,22 +47,14 @@ impl Slots {
 
     /// These slots without one address.
     fn without(self, address: u16) -> Slots {
-        let Slots(mut slots) = self;
-        for slot in &mut slots {
-            if *slot == address {
-                *slot = NONE;
-            }
-        }
-        Slots(slots)
+        Slots(self.0.map(|slot| if slot == address { NONE } else { slot }))
     }
 
     /// The addresses of two slots: at each place the lower one.
     pub fn and(self, other: Slots) -> Slots {
         let mut both = self;
-        for place in 0..SLOTS {
-            if let Some(address) = other.at(place) {
-                both = both.with(place, address);
-            }
+        for (place, address) in other.0.iter().enumerate() {
+            both = both.with(place, *address);
         }
         both
     }
@@ -79,24 +71,24 @@ impl Slots {
     }
 }
 
-/// The bytes of memory that an instruction reads, or stores, by name or through a known pointer: of each its address, if there is one, and
-/// the parts of a state to which it goes, or from which it comes.
-type Bytes = [(Option<u16>, Units); 2];
+/// The bytes of memory that an instruction reads, or stores, by name or through a known pointer: of each its address, and the parts of a
+/// state to which it goes, or from which it comes.
+type Bytes = [Option<(u16, Units)>; 2];
 
 /// The bytes that an instruction reads, given the word that HL is known to be.
 fn bytes_read(instr: Instr, pointer: Option<u16>) -> Bytes {
     let (address, parts) = match instr {
         Instr::Lhld(address) => {
             let next = address.wrapping_add(1);
-            return [(Some(address), Units::L), (Some(next), Units::H)];
+            return [Some((address, Units::L)), Some((next, Units::H))];
         }
         Instr::Lda(address) => (Some(address), Units::A.union(Units::TEST)),
         Instr::Load(to) => (pointer, Units::of(to)),
         Instr::InrMemory | Instr::DcrMemory => (pointer, Units::ZERO.union(Units::SIGN)),
         Instr::Operate(_, Operand::Memory) => (pointer, Units::A.union(Units::ALL_FLAGS)),
-        _ => (None, Units::NONE),
+        _ => return [None, None],
     };
-    [(address, parts), (None, Units::NONE)]
+    [address.map(|address| (address, parts)), None]
 }
 
 /// The bytes that an instruction stores, given the word that HL is known to be.
@@ -104,14 +96,14 @@ fn bytes_stored(instr: Instr, pointer: Option<u16>) -> Bytes {
     let (address, parts) = match instr {
         Instr::Shld(address) => {
             let next = address.wrapping_add(1);
-            return [(Some(address), Units::L), (Some(next), Units::H)];
+            return [Some((address, Units::L)), Some((next, Units::H))];
         }
         Instr::Sta(address) => (Some(address), Units::A),
         Instr::Store(register) => (pointer, Units::of(register)),
         Instr::MviMemory(_) | Instr::InrMemory | Instr::DcrMemory => (pointer, Units::NONE),
-        _ => (None, Units::NONE),
+        _ => return [None, None],
     };
-    [(address, parts), (None, Units::NONE)]
+    [address.map(|address| (address, parts)), None]
 }
 
 /// By address the place, in turn, of each quiet byte that the program reads by name or through a known pointer; `SLOTS` for others.
@@ -127,10 +119,11 @@ pub fn find_places(
     for number in 0..65_536_u32 {
         let at = number as u16;
         if let Some(instr) = program.instr(at) {
-            for (address, _) in &bytes_read(instr, pointer_at(pointers, at)) {
-                if let Some(address) = address {
-                    mark(&mut is_read, *address);
-                }
+            for (address, _) in bytes_read(instr, pointer_at(pointers, at))
+                .into_iter()
+                .flatten()
+            {
+                mark(&mut is_read, address);
             }
         }
     }
@@ -158,11 +151,10 @@ pub fn find_pointers(
     let mut pointers = vec![in alloc; None; 65_536]?;
     for number in 0..65_536_u32 {
         if let Some(found) = program.at(number as u16) {
-            let before = pointer_at(&pointers, number as u16);
-            if let Some(after) = pointer_after(found, before) {
-                if let Some(place) = pointers.get_mut(usize::from(found.next)) {
-                    *place = Some(after);
-                }
+            let after = pointer_after(found, pointer_at(&pointers, number as u16));
+            let place = pointers.get_mut(usize::from(found.next));
+            if let (Some(_), Some(place)) = (after, place) {
+                *place = after;
             }
         }
     }
@@ -191,8 +183,8 @@ fn pointer_after(found: Fetched, before: Option<u16>) -> Option<u16> {
 /// The bytes that an instruction stores, at their places.
 pub fn slots_stored(places: &[usize], instr: Instr, pointer: Option<u16>) -> Slots {
     let mut slots = Slots::NONE;
-    for (address, _) in &bytes_stored(instr, pointer) {
-        slots = with_placed(slots, places, *address);
+    for (address, _) in bytes_stored(instr, pointer).into_iter().flatten() {
+        slots = with_placed(slots, places, address);
     }
     slots
 }
@@ -208,38 +200,30 @@ pub fn slots_before(
     let mut before = after;
     // INR M and DCR M store the byte that they read.
     if !matches!(instr, Instr::InrMemory | Instr::DcrMemory) {
-        for (address, _) in &bytes_stored(instr, pointer) {
-            if let Some(address) = address {
-                before = before.without(*address);
-            }
+        for (address, _) in bytes_stored(instr, pointer).into_iter().flatten() {
+            before = before.without(address);
         }
     }
-    for (address, to) in &bytes_read(instr, pointer) {
-        if parts.intersects(*to) {
-            before = with_placed(before, places, *address);
+    for (address, to) in bytes_read(instr, pointer).into_iter().flatten() {
+        if parts.intersects(to) {
+            before = with_placed(before, places, address);
         }
     }
     before
 }
 
 /// Slots with an address at its place, if it has one.
-fn with_placed(slots: Slots, places: &[usize], address: Option<u16>) -> Slots {
-    match address {
-        Some(address) => {
-            let place = places.get(usize::from(address)).copied().unwrap_or(SLOTS);
-            slots.with(place, address)
-        }
-        None => slots,
-    }
+fn with_placed(slots: Slots, places: &[usize], address: u16) -> Slots {
+    let place = places.get(usize::from(address)).copied().unwrap_or(SLOTS);
+    slots.with(place, address)
 }
 
 /// The registers of which an instruction stores a byte that is among the slots after it.
 pub fn parts_stored(instr: Instr, pointer: Option<u16>, after: Slots) -> Units {
     let mut parts = Units::NONE;
-    for (address, from) in &bytes_stored(instr, pointer) {
-        match address {
-            Some(address) if after.has(*address) => parts = parts.union(*from),
-            _ => {}
+    for (address, from) in bytes_stored(instr, pointer).into_iter().flatten() {
+        if after.has(address) {
+            parts = parts.union(from);
         }
     }
     parts

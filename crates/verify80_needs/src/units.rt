@@ -49,11 +49,7 @@ bitflags! {
 impl Units {
     /// The one part with this bit, counted from 0; the last part for a greater number.
     pub fn of_bit(number: usize) -> Units {
-        let mut bit = 1_u32;
-        for _ in 0..number.min(PARTS - 1) {
-            bit = bit.wrapping_mul(2);
-        }
-        Units(bit)
+        Units(1 << number.min(PARTS - 1))
     }
 
     /// The byte of memory at a place from 0 to 7.
@@ -112,14 +108,20 @@ impl Units {
         }
     }
 
-    /// The words among these parts, each a word deeper, as before a POP.
+    /// These parts, the words among them each a word deeper, as before a POP.
     pub fn deeper(self) -> Units {
-        Units(self.intersection(Units::WORDS).0.wrapping_mul(2)).intersection(Units::WORDS)
+        self.with_words(Units(self.intersection(Units::WORDS).0.wrapping_mul(2)))
     }
 
-    /// The words among these parts, each a word less deep, as before a PUSH.
+    /// These parts, the words among them each a word less deep, as before a PUSH.
     pub fn shallower(self) -> Units {
-        Units(self.intersection(Units::WORDS).0 / 2).intersection(Units::WORDS)
+        self.with_words(Units(self.intersection(Units::WORDS).0 / 2))
+    }
+
+    /// These parts, with the words of others in place of their own.
+    fn with_words(self, others: Units) -> Units {
+        self.difference(Units::WORDS)
+            .union(others.intersection(Units::WORDS))
     }
 }
 

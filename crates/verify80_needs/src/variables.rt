@@ -1,10 +1,9 @@
 //! Bytes of memory that are to stay inside a span, whatever is stored there.
 
 use crate::landmarks::Landmarks;
-use decode80::Instr;
 use std::alloc::{AllocError, Global};
 use verify80_spans::{ByteSpan, Span};
-use verify80_states::{State, Variable, index_words, is_bit};
+use verify80_states::{State, StoredByte, Variable, is_bit};
 
 /// How many variables a program has, at most: a state has a bit for each.
 const MOST: usize = 64;
@@ -24,13 +23,11 @@ impl Variables {
     /// `AllocError` if memory runs out.
     pub fn new(alloc: Global, addresses: &[u16]) -> Result<Variables, AllocError> {
         let mut list = Vec::new(alloc);
-        for at in addresses {
-            if list.len() < MOST {
-                list.push(Variable {
-                    at: *at,
-                    bytes: ByteSpan::ANY,
-                })?;
-            }
+        for at in addresses.iter().take(MOST) {
+            list.push(Variable {
+                at: *at,
+                bytes: ByteSpan::ANY,
+            })?;
         }
         let growths = vec![in alloc; 0; list.len()]?;
         Ok(Variables { list, growths })
@@ -39,11 +36,6 @@ impl Variables {
     /// The variables in the order of their bits.
     pub fn list(&self) -> &[Variable] {
         &self.list
-    }
-
-    /// The list of the variables, without how often each has grown.
-    pub fn into_list(self) -> Vec<Variable> {
-        self.list
     }
 
     /// The number of the variable at an address, if there is one.
@@ -66,13 +58,11 @@ impl Variables {
     pub fn set_in(&self, state: State) -> u64 {
         let mut set = 0_u64;
         let mut bit = 1_u64;
-        for number in 0..self.list.len() {
-            if let Some(variable) = self.list.get(number) {
-                let is_known = self.growths.get(number).is_some_and(|growths| *growths > 0)
-                    && state.cells.bytes_at(variable.at).is_inside(variable.bytes);
-                if is_known || is_bit(state.set, number) {
-                    set = set | bit;
-                }
+        for (number, variable) in self.list.iter().enumerate() {
+            let has_grown = self.growths.get(number).is_some_and(|growths| *growths > 0);
+            let bytes = state.cells.bytes_at(variable.at);
+            if is_bit(state.set, number) || has_grown && bytes.is_inside(variable.bytes) {
+                set = set | bit;
             }
             bit = bit.wrapping_mul(2);
         }
@@ -99,9 +89,12 @@ impl Variables {
         }
     }
 
-    /// Takes the marks of the variables that aren't steady: a store of one of these bytes to one of these addresses may put a byte there
-    /// that is outside their span. Says whether there is one.
-    pub fn unmark_unsteady(&self, is_steady: &mut [bool], at: Span, bytes: ByteSpan) -> bool {
+    /// Takes the marks of the variables that aren't steady: a byte that is stored, if one is, may be where they are, and outside their
+    /// span. Says whether there is one.
+    pub fn unmark_unsteady(&self, is_steady: &mut [bool], stored: Option<StoredByte>) -> bool {
+        let Some(StoredByte { at, bytes }) = stored else {
+            return false;
+        };
         let mut is_changed = false;
         for variable in &self.list {
             if Span::alone(variable.at).is_inside(at) && !bytes.is_inside(variable.bytes) {
@@ -113,28 +106,4 @@ impl Variables {
         }
         is_changed
     }
-}
-
-/// Where an instruction stores a byte in a state, and which: one, or two if it stores a word.
-pub fn stored_bytes(instr: Instr, state: State) -> [Option<(Span, ByteSpan)>; 2] {
-    let pointed = state.hl.words;
-    let held = if pointed.is_alone() {
-        state.cells.bytes_at(pointed.first)
-    } else {
-        ByteSpan::ANY
-    };
-    let stored = match instr {
-        Instr::Store(register) => (pointed, state.byte(register)),
-        Instr::MviMemory(byte) => (pointed, ByteSpan::alone(byte)),
-        Instr::InrMemory => (pointed, held.next()),
-        Instr::DcrMemory => (pointed, held.previous()),
-        Instr::Stax(pair) => (index_words(state, pair), state.a),
-        Instr::Sta(address) => (Span::alone(address), state.a),
-        Instr::Shld(address) => {
-            let high = (Span::alone(address.wrapping_add(1)), state.hl.high());
-            return [Some((Span::alone(address), state.hl.low)), Some(high)];
-        }
-        _ => return [None, None],
-    };
-    [Some(stored), None]
 }

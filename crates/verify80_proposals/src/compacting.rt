@@ -6,40 +6,34 @@ use std::alloc::{AllocError, Global};
 use verify80_needs::ReachedProgram;
 use verify80_states::{APART, CallReturns, Placed};
 
-/// Puts together the states that none has taken in, and their hints.
+/// Puts together the states that none has taken in, and their hints, first that of the start, which is the first state.
 ///
 /// # Errors
 /// `AllocError` if memory runs out.
 pub(crate) fn compact(
     alloc: Global,
     nodes: &Nodes,
-    hints: &[u32],
     program: ReachedProgram<'_>,
-    start: u32,
+    returns: CallReturns,
 ) -> Result<Proposal, AllocError> {
     let places = number_states(alloc, nodes)?;
     let compacting = Compacting {
         nodes,
-        hints,
         places: &places,
     };
+    let variables = Vec::from_slice(alloc, nodes.variables.list())?;
+    let crowded = nodes.crowded(alloc)?;
     let mut proposal = Proposal {
         table: Vec::new(alloc),
         hints: Vec::new(alloc),
-        returns: CallReturns {
-            may_return: Vec::new(alloc),
-            know_return: Vec::new(alloc),
-        },
-        variables: Vec::new(alloc),
-        crowded: nodes.crowded(alloc)?,
+        returns,
+        variables,
+        crowded,
     };
-    proposal.hints.push(compacting.new_place(start))?;
-    for number in 0..nodes.len() {
-        let place = place_of(number);
-        if let Some(node) = nodes.get(place) {
-            if node.taken_by == place {
-                compacting.append_state(&mut proposal, program, *node)?;
-            }
+    proposal.hints.push(compacting.new_place(0))?;
+    for (number, node) in nodes.nodes.iter().enumerate() {
+        if node.taken_by == place_of(number) {
+            compacting.append_state(&mut proposal, program, *node)?;
         }
     }
     Ok(proposal)
@@ -49,11 +43,9 @@ pub(crate) fn compact(
 fn number_states(alloc: Global, nodes: &Nodes) -> Result<Vec<u32>, AllocError> {
     let mut places = Vec::with_capacity(alloc, nodes.len())?;
     let mut count = 0_u32;
-    for number in 0..nodes.len() {
+    for (number, node) in nodes.nodes.iter().enumerate() {
         places.push(count)?;
-        if let Some(node) = nodes.get(place_of(number)) {
-            count = count.saturating_add(u32::from(node.taken_by == place_of(number)));
-        }
+        count = count.saturating_add(u32::from(node.taken_by == place_of(number)));
     }
     Ok(places)
 }
@@ -62,7 +54,6 @@ fn number_states(alloc: Global, nodes: &Nodes) -> Result<Vec<u32>, AllocError> {
 #[derive(Clone, Copy)]
 struct Compacting<'a> {
     nodes: &'a Nodes,
-    hints: &'a [u32],
     /// By place the place that the state has in the table.
     places: &'a [u32],
 }
@@ -76,7 +67,7 @@ impl Compacting<'_> {
 
     /// The hint with a number; `NOWHERE` if there are fewer.
     fn hint(self, number: usize) -> u32 {
-        self.hints.get(number).copied().unwrap_or(NOWHERE)
+        self.nodes.hints.get(number).copied().unwrap_or(NOWHERE)
     }
 
     /// Appends a state and its hints.
@@ -87,13 +78,10 @@ impl Compacting<'_> {
         node: Node,
     ) -> Result<(), AllocError> {
         let first = proposal.hints.len();
-        let ways = match program.instr(node.at) {
-            Some(instr) => program.count_ways(node.at, instr),
-            None => 0,
-        };
-        for _ in 0..ways {
-            proposal.hints.push(NOWHERE)?;
-        }
+        let ways = program
+            .instr(node.at)
+            .map_or(0, |instr| program.count_ways(node.at, instr));
+        proposal.hints.resize(first.saturating_add(ways), NOWHERE)?;
         for number in 0..ways {
             let hint = self.hint((node.hint as usize).saturating_add(number));
             let new = if hint < APART || hint == NOWHERE {

@@ -124,11 +124,10 @@ impl Groups {
 
     /// Marks of groups as marks of their addresses.
     fn by_address(&self, alloc: Global, marks: &[bool]) -> Result<Vec<bool>, AllocError> {
-        let mut by_address = Vec::with_capacity(alloc, self.numbers.len())?;
-        for group in &self.numbers {
-            by_address.push(is_marked(marks, *group))?;
-        }
-        Ok(by_address)
+        self.numbers
+            .iter()
+            .map(|group| is_marked(marks, *group))
+            .collect(alloc)
     }
 }
 
@@ -210,10 +209,8 @@ impl Joined {
     fn join_ways(&mut self, program: ReachedProgram<'_>, at: u16) {
         if let Some(found) = program.at(at) {
             let (direct, targets) = program.ways_inside(at, found);
-            for to in &direct {
-                if let Some(to) = to {
-                    self.join(at, *to);
-                }
+            for to in direct.iter().flatten() {
+                self.join(at, *to);
             }
             for to in targets {
                 self.join(at, *to);

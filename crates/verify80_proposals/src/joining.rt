@@ -1,6 +1,6 @@
 //! States at one address are joined.
 
-use crate::nodes::{Group, NOWHERE, Nodes, sum_of};
+use crate::nodes::{Group, Nodes, sum_of};
 use std::alloc::{AllocError, Global};
 use verify80_needs::{PARTS, Units};
 
@@ -10,14 +10,7 @@ impl Nodes {
     pub fn join_some(&mut self, alloc: Global, at: u16) -> Result<(), AllocError> {
         let places = self.places_at(alloc, at)?;
         let joined = self.parts_to_join(alloc, at, &places)?;
-        self.set_group(
-            at,
-            Group {
-                first: NOWHERE,
-                count: 0,
-                joined,
-            },
-        );
+        self.set_group(at, Group::new(joined));
         for place in &places {
             if let Some(node) = self.get(*place) {
                 let state = node.state;

@@ -2,7 +2,7 @@
 
 use std::alloc::{AllocError, Global};
 use verify80_needs::{Landmarks, Needs, Units, Variables, are_alike, values_of};
-use verify80_states::{State, Variable};
+use verify80_states::State;
 
 /// The place of no state.
 pub(crate) const NOWHERE: u32 = u32::MAX;
@@ -50,6 +50,17 @@ pub(crate) struct Group {
     pub joined: Units,
 }
 
+impl Group {
+    /// A group without states, where these parts don't distinguish any.
+    pub fn new(joined: Units) -> Group {
+        Group {
+            first: NOWHERE,
+            count: 0,
+            joined,
+        }
+    }
+}
+
 /// The states that are known so far, and those from which others have still to be followed.
 #[derive(Drop)]
 pub(crate) struct Nodes {
@@ -63,6 +74,8 @@ pub(crate) struct Nodes {
     pub(crate) variables: Variables,
     /// Each byte of memory that states name, with an address at which they do.
     pub(crate) readers: Vec<(u16, u16)>,
+    /// The places to which the ways of each state lead; or, from `APART` on, where the places for each byte of A begin.
+    pub(crate) hints: Vec<u32>,
     /// The parts by which states are never distinguished.
     never: Units,
     /// Whether each address is to have one state from now on.
@@ -88,21 +101,17 @@ impl Nodes {
         } else {
             Units::CELLS
         };
-        let none = Group {
-            first: NOWHERE,
-            count: 0,
-            joined: never,
-        };
         let readers = needs.readers(alloc)?;
         Ok(Nodes {
             nodes: Vec::new(alloc),
-            groups: vec![in alloc; none; 65_536]?,
+            groups: vec![in alloc; Group::new(never); 65_536]?,
             lists: vec![in alloc; NOWHERE; LISTS]?,
             waiting: Vec::new(alloc),
             needs,
             landmarks,
             variables,
             readers,
+            hints: Vec::new(alloc),
             never,
             is_late: false,
             most,
@@ -223,11 +232,10 @@ impl Nodes {
 
     /// The states at an address.
     pub fn group(&self, at: u16) -> Group {
-        self.groups.get(usize::from(at)).copied().unwrap_or(Group {
-            first: NOWHERE,
-            count: 0,
-            joined: Units::NONE,
-        })
+        self.groups
+            .get(usize::from(at))
+            .copied()
+            .unwrap_or(Group::new(Units::NONE))
     }
 
     /// Sets the states at an address.
@@ -288,14 +296,12 @@ impl Nodes {
             is_waiting: false,
             hint: NOWHERE,
         })?;
-        self.set_group(
-            at,
-            Group {
-                first: place,
-                count: group.count.saturating_add(1),
-                joined: group.joined,
-            },
-        );
+        let grown = Group {
+            first: place,
+            count: group.count.saturating_add(1),
+            ..group
+        };
+        self.set_group(at, grown);
         self.wait(place)?;
         Ok(place)
     }
@@ -319,16 +325,12 @@ impl Nodes {
         if self.is_late {
             return Ok(None);
         }
-        let mut marks = Vec::with_capacity(alloc, self.groups.len())?;
-        for group in &self.groups {
-            marks.push(group.joined != self.never)?;
-        }
+        let marks = self
+            .groups
+            .iter()
+            .map(|group| group.joined != self.never)
+            .collect(alloc)?;
         Ok(Some(marks))
-    }
-
-    /// The variables alone.
-    pub fn into_variables(self) -> Vec<Variable> {
-        self.variables.into_list()
     }
 }
 

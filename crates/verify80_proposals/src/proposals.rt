@@ -103,7 +103,7 @@ fn try_distinguished(
         if !knows.contains(&true) {
             break;
         }
-        let Some(proposal) = propose_with(alloc, program, groups, &knows, limits, left)? else {
+        let Some(proposal) = propose(alloc, program, groups, &knows, limits, left)? else {
             break;
         };
         if !groups.take_marks(program, &proposal.table, &mut knows) {
@@ -127,30 +127,5 @@ fn propose_joined(
         keeps_variables,
     };
     let mut left = WAYS.saturating_add(LATE_WAYS);
-    propose_with(alloc, program, groups, &[], limits, &mut left)
-}
-
-/// A table in which the marked groups know where they return to.
-fn propose_with(
-    alloc: Global,
-    program: ReachedProgram<'_>,
-    groups: &Groups,
-    knows: &[bool],
-    limits: Limits,
-    left: &mut usize,
-) -> Result<Option<Proposal>, AllocError> {
-    let returns = groups.returns(alloc, knows)?;
-    let grouped = ReachedProgram {
-        may_return: &returns.may_return,
-        know_return: &returns.know_return,
-        groups: &groups.numbers,
-        ..program
-    };
-    match propose(alloc, grouped, limits, left)? {
-        Some(proposal) => Ok(Some(Proposal {
-            returns,
-            ..proposal
-        })),
-        None => Ok(None),
-    }
+    propose(alloc, program, groups, &[], limits, &mut left)
 }

@@ -1,12 +1,13 @@
 //! A table of states is proposed.
 
 use crate::compacting::compact;
-use crate::nodes::{NOWHERE, Node, Nodes, place_of};
+use crate::groups::Groups;
+use crate::nodes::{NOWHERE, Nodes, place_of};
 use decode80::{Instr, Operand, Operation};
 use std::alloc::{AllocError, Global};
 use verify80_needs::{Landmarks, Needs, ReachedProgram, Variables};
 use verify80_spans::ByteSpan;
-use verify80_states::{APART, CallReturns, Placed, State, Variable};
+use verify80_states::{APART, CallReturns, Placed, State, Variable, stored_bytes};
 
 /// A table of states, for each of their ways a place of the table, and the returns and variables by which it was made. The first hint is
 /// that of the start.
@@ -39,8 +40,8 @@ pub(crate) struct Limits {
     pub keeps_variables: bool,
 }
 
-/// What is known at each address that the program may reach, or `None` if too many ways would have to be followed: more than the limits say,
-/// or than are left, which become fewer.
+/// What is known at each address that the program may reach, if the marked groups know where they return to. `None` if too many ways would
+/// have to be followed: more than the limits say, or than are left, which become fewer.
 ///
 /// At the start nothing is, and behind a call nothing, unless the callee's states know where they return to.
 ///
@@ -49,39 +50,38 @@ pub(crate) struct Limits {
 pub(crate) fn propose(
     alloc: Global,
     program: ReachedProgram<'_>,
+    groups: &Groups,
+    knows: &[bool],
     limits: Limits,
     left: &mut usize,
 ) -> Result<Option<Proposal>, AllocError> {
+    let returns = groups.returns(alloc, knows)?;
     let mut is_steady = Vec::from_slice(alloc, program.quiet)?;
     for _ in 0..ROUNDS {
-        let steady = ReachedProgram {
+        let grouped = ReachedProgram {
+            may_return: &returns.may_return,
+            know_return: &returns.know_return,
+            groups: &groups.numbers,
             quiet: &is_steady,
             ..program
         };
-        let mut hints = Vec::new(alloc);
-        let Some((nodes, start)) = follow_from_start(alloc, &mut hints, steady, limits, left)?
-        else {
+        let Some(nodes) = follow_from_start(alloc, grouped, limits, left)? else {
             return Ok(None);
         };
         if !nodes.unmark_unsteady(program, &mut is_steady) {
-            let proposal = compact(alloc, &nodes, &hints, program, start)?;
-            return Ok(Some(Proposal {
-                variables: nodes.into_variables(),
-                ..proposal
-            }));
+            return Ok(Some(compact(alloc, &nodes, program, returns)?));
         }
     }
     Ok(None)
 }
 
-/// The states of a program whose variables are all steady, and the place of the one at the start; `None` if there are too many ways.
+/// The states of a program whose variables are all steady, first the one at the start; `None` if there are too many ways.
 fn follow_from_start(
     alloc: Global,
-    hints: &mut Vec<u32>,
     program: ReachedProgram<'_>,
     limits: Limits,
     left: &mut usize,
-) -> Result<Option<(Nodes, u32)>, AllocError> {
+) -> Result<Option<Nodes>, AllocError> {
     let needs = Needs::of(alloc, program, limits.keeps_variables)?;
     let landmarks = Landmarks::new(alloc, program)?;
     let addresses = if limits.keeps_variables {
@@ -91,21 +91,20 @@ fn follow_from_start(
     };
     let variables = Variables::new(alloc, &addresses)?;
     let mut nodes = Nodes::new(alloc, needs, landmarks, variables, limits.states)?;
-    let start = nodes.enter(alloc, program.start, State::ANY)?;
-    if !follow_all(alloc, &mut nodes, hints, program, limits.ways, left)? {
+    nodes.enter(alloc, program.start, State::ANY)?;
+    if !follow_all(alloc, &mut nodes, program, limits.ways, left)? {
         nodes.hurry();
-        if !follow_all(alloc, &mut nodes, hints, program, limits.late_ways, left)? {
+        if !follow_all(alloc, &mut nodes, program, limits.late_ways, left)? {
             return Ok(None);
         }
     }
-    Ok(Some((nodes, start)))
+    Ok(Some(nodes))
 }
 
 /// Follows states until none waits, but no more ways than these, and says whether none waits.
 fn follow_all(
     alloc: Global,
     nodes: &mut Nodes,
-    hints: &mut Vec<u32>,
     program: ReachedProgram<'_>,
     most: usize,
     left: &mut usize,
@@ -117,7 +116,7 @@ fn follow_all(
             *left = left.saturating_add(waiting);
             return Ok(true);
         };
-        let ways = follow(alloc, nodes, hints, program, place)?;
+        let ways = follow(alloc, nodes, program, place)?;
         if ways > waiting {
             return Ok(false);
         }
@@ -130,47 +129,39 @@ fn follow_all(
 fn follow(
     alloc: Global,
     nodes: &mut Nodes,
-    hints: &mut Vec<u32>,
     program: ReachedProgram<'_>,
     place: u32,
 ) -> Result<usize, AllocError> {
-    let Some(node) = nodes.get(place) else {
+    let Some(node) = nodes.get(place).copied() else {
         return Ok(0);
     };
-    let Node {
-        at,
-        state,
-        hint,
-        taken_by,
-        ..
-    } = *node;
-    let found = match program.at(at) {
-        Some(found) if taken_by == place => found,
+    let found = match program.at(node.at) {
+        Some(found) if node.taken_by == place => found,
         _ => return Ok(0),
     };
-    let ways = program.count_ways(at, found.instr);
-    let first = if hint == NOWHERE {
-        let first = hints.len();
-        for _ in 0..ways {
-            hints.push(NOWHERE)?;
-        }
+    let ways = program.count_ways(node.at, found.instr);
+    let first = if node.hint == NOWHERE {
+        let first = nodes.hints.len();
+        nodes.hints.resize(first.saturating_add(ways), NOWHERE)?;
         nodes.set_hint(place, place_of(first));
         first
     } else {
-        hint as usize
+        node.hint as usize
     };
-    nodes.note_stored(found.instr, state)?;
+    let stored = stored_bytes(program.code, found.instr, node.state);
+    nodes.note_stored(stored.0)?;
+    nodes.note_stored(stored.1)?;
     let mut followed = ways;
     for number in 0..ways {
-        let to = match program.way(at, found, state, number) {
-            Some((to, after)) if distinguishes(found.instr, state, after) => {
+        let to = match program.way(node.at, found, node.state, number) {
+            Some((to, after)) if distinguishes(found.instr, node.state, after) => {
                 followed = followed.saturating_add(MOST_APART);
-                enter_apart(alloc, nodes, hints, to, after)?
+                enter_apart(alloc, nodes, to, after)?
             }
             Some((to, after)) => nodes.enter(alloc, to, after)?,
             None => NOWHERE,
         };
-        if let Some(hint) = hints.get_mut(first.saturating_add(number)) {
+        if let Some(hint) = nodes.hints.get_mut(first.saturating_add(number)) {
             *hint = to;
         }
     }
@@ -189,18 +180,14 @@ fn distinguishes(instr: Instr, before: State, after: State) -> bool {
 }
 
 /// Enters a state for each byte of A. The hint says where among the hints their number stands, and behind it their places.
-fn enter_apart(
-    alloc: Global,
-    nodes: &mut Nodes,
-    hints: &mut Vec<u32>,
-    to: u16,
-    state: State,
-) -> Result<u32, AllocError> {
-    let first = hints.len();
-    hints.push(u32::from(state.a.last.saturating_sub(state.a.first)) + 1)?;
+fn enter_apart(alloc: Global, nodes: &mut Nodes, to: u16, state: State) -> Result<u32, AllocError> {
+    let first = nodes.hints.len();
+    nodes
+        .hints
+        .push(u32::from(state.a.last.saturating_sub(state.a.first)) + 1)?;
     for number in u32::from(state.a.first)..u32::from(state.a.last) + 1 {
         let place = nodes.enter(alloc, to, state.cut(ByteSpan::alone(number as u8)))?;
-        hints.push(place)?;
+        nodes.hints.push(place)?;
     }
     Ok(APART.saturating_add(place_of(first)))
 }

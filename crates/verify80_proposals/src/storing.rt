@@ -1,20 +1,17 @@
 //! What the instructions of a program store into its variables.
 
 use crate::nodes::{Nodes, place_of};
-use decode80::Instr;
 use std::alloc::AllocError;
-use verify80_needs::{ReachedProgram, stored_bytes, widened_cells};
+use verify80_needs::{ReachedProgram, widened_cells};
 use verify80_spans::ByteSpan;
-use verify80_states::State;
+use verify80_states::{StoredByte, stored_bytes};
 
 impl Nodes {
-    /// Notes what an instruction stores in a state: variables grow, and so do the states that name them.
-    pub fn note_stored(&mut self, instr: Instr, state: State) -> Result<(), AllocError> {
-        for stored in &stored_bytes(instr, state) {
-            if let Some((at, bytes)) = stored {
-                if at.is_alone() && self.variables.grow(&self.landmarks, at.first, *bytes) {
-                    self.widen(at.first)?;
-                }
+    /// Notes that a byte is stored, if one is: a variable grows, and so do the states that name it.
+    pub fn note_stored(&mut self, stored: Option<StoredByte>) -> Result<(), AllocError> {
+        if let Some(StoredByte { at, bytes }) = stored {
+            if at.is_alone() && self.variables.grow(&self.landmarks, at.first, bytes) {
+                self.widen(at.first)?;
             }
         }
         Ok(())
@@ -61,11 +58,9 @@ impl Nodes {
                 program.instr(node.at),
                 node.taken_by == place_of(number),
             ) {
-                for stored in &stored_bytes(instr, node.state) {
-                    if let Some((at, bytes)) = stored {
-                        is_changed |= self.variables.unmark_unsteady(is_steady, *at, *bytes);
-                    }
-                }
+                let stored = stored_bytes(program.code, instr, node.state);
+                is_changed |= self.variables.unmark_unsteady(is_steady, stored.0);
+                is_changed |= self.variables.unmark_unsteady(is_steady, stored.1);
             }
         }
         is_changed

@@ -320,52 +320,21 @@ pub fn operated(operation: Operation, a: ByteSpan, byte: ByteSpan, carry: Option
 pub fn rotated(rotation: Rotation, a: ByteSpan, carry: Option<bool>) -> ByteSpan
     ensures { result ≡ rotated rotation a carry }
 {
-    match rotation {
-        Rotation::Left => {
-            if a.is_alone() {
-                ByteSpan::alone((u16::from(a.first) * 2 % 256) as u8 + a.first / 128)
-            } else {
-                a.doubled()
-            }
-        }
-        Rotation::Right => {
-            if a.is_alone() {
-                ByteSpan::alone(a.first / 2 + a.first % 2 * 128)
-            } else {
-                ByteSpan::ANY
-            }
-        }
-        Rotation::LeftThroughCarry => match carry {
-            None => ByteSpan::ANY,
-            Some(bit) => rotated_left(a, bit),
-        },
-        Rotation::RightThroughCarry => match carry {
-            None => ByteSpan::ANY,
-            Some(false) => ByteSpan::new(a.first / 2, a.last / 2),
-            Some(true) => ByteSpan::new(a.first / 2 + 128, a.last / 2 + 128),
-        },
-    }
-}
-
-/// The bytes that RAL makes of the accumulator's, if the carry before it is known.
-fn rotated_left(a: ByteSpan, carry: bool) -> ByteSpan
-    ensures { result ≡ rotated Rotation.LeftThroughCarry a (Some carry) }
-{
     let twice = (u16::from(a.first) * 2 % 256) as u8;
-    match carry {
-        false => {
-            if a.is_alone() {
-                ByteSpan::alone(twice)
-            } else {
-                a.doubled()
-            }
+    match (rotation, carry) {
+        (Rotation::Left, _) if a.is_alone() => ByteSpan::alone(twice + a.first / 128),
+        (Rotation::Left, _) => a.doubled(),
+        (Rotation::Right, _) if a.is_alone() => ByteSpan::alone(a.first / 2 + a.first % 2 * 128),
+        (Rotation::Right, _) => ByteSpan::ANY,
+        (Rotation::LeftThroughCarry, Some(false)) if a.is_alone() => ByteSpan::alone(twice),
+        (Rotation::LeftThroughCarry, Some(false)) => a.doubled(),
+        (Rotation::LeftThroughCarry, Some(true)) if a.is_alone() => ByteSpan::alone(twice + 1),
+        (Rotation::RightThroughCarry, Some(false)) => ByteSpan::new(a.first / 2, a.last / 2),
+        (Rotation::RightThroughCarry, Some(true)) => {
+            ByteSpan::new(a.first / 2 + 128, a.last / 2 + 128)
         }
-        true => {
-            if a.is_alone() {
-                ByteSpan::alone(twice + 1)
-            } else {
-                ByteSpan::ANY
-            }
+        (Rotation::LeftThroughCarry, Some(true) | None) | (Rotation::RightThroughCarry, None) => {
+            ByteSpan::ANY
         }
     }
 }

@@ -1,5 +1,5 @@
 -- What the arithmetic answers of bytes is a byte, and of words a word.
-use Rattle.verify80_states.proofs.Names.{◌<◌, ℕ, Bool, true, false, arith, or_of_8, xor_of_8, and_lt, Operation, Rotation, Add, AddCarry, Subtract, SubtractBorrow, And, ExclusiveOr, Or, Compare, Left, Right, LeftThroughCarry, RightThroughCarry, Flags, word, IsByte, IsWord}
+use Rattle.verify80_states.proofs.Names.{◌<◌, ℕ, Bool, true, false, arith, or_of_8, xor_of_8, and_lt, Operation, Rotation, And, ExclusiveOr, Or, Compare, Left, Flags, word, IsByte, IsWord}
 use Rattle.decode80.specs.{Fetch.ahead, Fetch.behind}
 use Rattle.machine80.specs.{Flags.bit_of, Flags.flags_byte}
 use Rattle.machine80.specs.Arithmetic.{byte_answer, sum_answer, difference_answer, operation_answer, increment_answer, decrement_answer, decimal_answer, rotation_answer, pair_sum, complement_of}
@@ -36,24 +36,13 @@ flags_are_byte f =
     omega arith
 
 -- the answers
-sum_is_byte : (a v carry_in : ℕ) → IsByte (sum_answer a v carry_in).value
-unfolding sum_answer byte_answer
-sum_is_byte a v carry_in = omega arith
-
-difference_is_byte : (a v borrow : ℕ) → IsByte (difference_answer a v borrow).value
-unfolding difference_answer byte_answer
-difference_is_byte a v borrow = omega arith
-
 pub operation_is_byte : (o : Operation) (a v : ℕ) (f : Flags) → IsByte a → IsByte v → IsByte (operation_answer o a v f).value
-unfolding operation_answer byte_answer
-operation_is_byte Add a v f ha hv = sum_is_byte a v 0
-operation_is_byte AddCarry a v f ha hv = sum_is_byte a v (bit_of f.carry)
-operation_is_byte Subtract a v f ha hv = difference_is_byte a v 0
-operation_is_byte SubtractBorrow a v f ha hv = difference_is_byte a v (bit_of f.carry)
+unfolding operation_answer sum_answer difference_answer byte_answer
 operation_is_byte And a v f ha hv = and_lt 8 a v ha hv
 operation_is_byte ExclusiveOr a v f ha hv = xor_of_8 a v ha hv
 operation_is_byte Or a v f ha hv = or_of_8 a v ha hv
 operation_is_byte Compare a v f ha hv = ha
+operation_is_byte o a v f ha hv = omega arith
 
 pub increment_is_byte : (byte : ℕ) (f : Flags) → IsByte (increment_answer byte f).value
 unfolding increment_answer byte_answer
@@ -70,9 +59,7 @@ decimal_is_byte a f = omega arith
 pub rotation_is_byte : (n : Rotation) (a : ℕ) (f : Flags) → IsByte a → IsByte (rotation_answer n a f).value
 unfolding rotation_answer
 rotation_is_byte Left a f byte = omega arith
-rotation_is_byte Right a f byte = omega arith
-rotation_is_byte LeftThroughCarry a f byte = let bit = bit_is_small f.carry in omega (arith, bit)
-rotation_is_byte RightThroughCarry a f byte = let bit = bit_is_small f.carry in omega (arith, bit)
+rotation_is_byte n a f byte = let bit = bit_is_small f.carry in omega (arith, bit)
 
 pub complement_is_byte : (byte : ℕ) → IsByte (complement_of byte)
 unfolding complement_of

@@ -1,5 +1,5 @@
 -- What is known of bytes of memory, along stores and where it is read.
-use Rattle.verify80_states.proofs.Names.{◌≡◌, ◌≢◌, ◌⊎◌, ◌<◌, ◌&&◌, ◌==◌, ℕ, Bool, true, false, List, [], ◌∷◌, Option, None, Some, nat_le, length, slice_index, slice_set, refl, subst, sym, ap, ◌∙◌, arith, get_or, inl, inr, eqb-true, nat_tests, get_or-set_same, length-set, Areas, in_data, byte_in, stored, Span, ByteSpan, Cell, Cells, Variable, State, Placed, HoldsSet, IsSaid, HasBytes, KnowsQuiet, Within, ByteWithin, is_alone, HoldsCell, EachCell, HoldsCells, IsSaidByCell, IsCellInside, AreCellsInside, IsQuietCell, AreQuietCells, any_cell, no_cells, map_cells, cut_cell, cut_cells, stored_cell, HoldsSource, IsQuietSource, IsQuietState, anything, cells_after, StoredByte, All-set, IsByte}
+use Rattle.verify80_states.proofs.Names.{◌≡◌, ◌≢◌, ◌⊎◌, ◌<◌, ◌&&◌, ◌==◌, ℕ, Bool, true, false, List, [], ◌∷◌, Option, None, Some, nat_le, length, slice_index, slice_set, refl, subst, sym, ap, ◌∙◌, arith, inl, inr, eqb-true, nat_tests, get_or-set_same, length-set, Areas, in_data, byte_in, stored, Span, ByteSpan, Cell, Cells, Variable, State, HoldsSet, IsSaid, HasBytes, Within, ByteWithin, is_alone, HoldsCell, EachCell, HoldsCells, IsSaidByCell, IsCellInside, AreCellsInside, IsQuietCell, AreQuietCells, any_cell, no_cells, map_cells, cut_cell, cut_cells, stored_cell, HoldsSource, IsQuietSource, IsQuietState, anything, cells_after, StoredByte, All-set, IsByte}
 use Rattle.verify80_states.proofs.{ByteLemmas.byte_at as memory_byte, SpanLemmas.any_byte_within, SpanLemmas.byte_inside_within, SpanLemmas.meet_bytes_within, MemoryLemmas.Ground, MemoryLemmas.one_stored, StoredLemmas.AreStored, StoredLemmas.stack_stored}
 
 -- what holds of each cell holds of what becomes of it
@@ -38,12 +38,9 @@ module _ (variables : List Variable) (set : ℕ) (memory : List ℕ) (bytes : Ha
     eighth = around cells.eighth others.eighth inside.eighth holds.eighth;
   }
 
-pub any_cell_holds : (memory : List ℕ) → HasBytes memory → HoldsCell any_cell memory
-any_cell_holds memory bytes = any_byte_within (byte_in memory 0) (memory_byte memory 0 bytes)
-
 pub none_hold : (memory : List ℕ) → HasBytes memory → HoldsCells no_cells memory
 none_hold memory bytes =
-    let any = any_cell_holds memory bytes in
+    let any : HoldsCell any_cell memory = any_byte_within (byte_in memory 0) (memory_byte memory 0 bytes) in
     record { first = any; second = any; third = any; fourth = any; fifth = any; sixth = any; seventh = any; eighth = any }
 
 -- cells of quiet addresses stay where the bytes of these do
@@ -131,7 +128,3 @@ module _ (regions : Areas) (ground : Ground regions) where
       cells_are_stored c (slice_set m x.0 x.1) y.0 y.1 (length-set m x.0 x.1 ∙ whole) are.1.small after are.1.there are.1.is (cells_after (Some b) cells)
       (cells_are_stored b m x.0 x.1 whole are.0.small (All-set IsByte m x.0 x.1 are.0.byte held) are.0.there are.0.is cells holds)
   cells_kept b c bytes cells m are whole held after quiet holds = absurd are
-
--- a table that knows marked addresses alone knows quiet ones alone
-pub knows_quieter : (quiet other : ℕ → Bool) (table : List Placed) → ((at : ℕ) → quiet at ≡ true → other at ≡ true) → KnowsQuiet quiet table → KnowsQuiet other table
-knows_quieter quiet other table more knows = λ k d inside. state_quieter quiet other (get_or table k d).state more (knows k d inside)

@@ -1,13 +1,10 @@
 -- What is read of bytes that are known.
-use Rattle.verify80_states.proofs.Names.{◌≡◌, ◌==◌, ℕ, Bool, true, false, List, Option, None, Some, refl, subst, sym, eqb-true, byte_in, ByteSpan, Cell, Cells, HasBytes, ReadsCode, byte_at, code_or, loaded_at, ByteWithin, byte_alone, HoldsCell, HoldsCells, cell_or, bytes_at}
+use Rattle.verify80_states.proofs.Names.{◌≡◌, ◌==◌, ℕ, List, Option, None, Some, refl, subst, sym, eqb-true, byte_in, ByteSpan, Cell, Cells, HasBytes, ReadsCode, byte_at, code_or, loaded_at, ByteWithin, byte_alone, HoldsCell, HoldsCells, cell_or, bytes_at, cond_both}
 use Rattle.verify80_states.proofs.{ByteLemmas.byte_at as memory_byte, SpanLemmas.any_byte_within, SpanLemmas.alone_within}
 
-within_by : (c : Cell) (memory : List ℕ) (at : ℕ) (otherwise : ByteSpan) (b : Bool) → (c.at == at) ≡ b → HoldsCell c memory → ByteWithin otherwise (byte_in memory at) → ByteWithin (cell_or c at otherwise) (byte_in memory at)
-within_by c memory at otherwise true same holds other = rw same (subst (λ n. ByteWithin c.bytes (byte_in memory n)) (eqb-true c.at at same) holds)
-within_by c memory at otherwise false same holds other = rw same other
-
 cell_within : (c : Cell) (memory : List ℕ) (at : ℕ) (otherwise : ByteSpan) → HoldsCell c memory → ByteWithin otherwise (byte_in memory at) → ByteWithin (cell_or c at otherwise) (byte_in memory at)
-cell_within c memory at otherwise holds other = within_by c memory at otherwise (c.at == at) refl holds other
+cell_within c memory at otherwise holds other = cond_both (c.at == at) c.bytes otherwise (λ (s : ByteSpan). ByteWithin s (byte_in memory at))
+    (λ same. subst (λ n. ByteWithin c.bytes (byte_in memory n)) (eqb-true c.at at same) holds) (λ apart. other)
 
 pub cells_within : (cells : Cells) (memory : List ℕ) (at : ℕ) → HoldsCells cells memory → HasBytes memory → ByteWithin (bytes_at cells at) (byte_in memory at)
 cells_within cells memory at holds bytes =

@@ -1,5 +1,5 @@
 -- Registers and flags at each kind of instruction.
-use Rattle.verify80_states.proofs.Names.{◌≡◌, ◌<◌, ◌==◌, [], ℕ, ◌+◌, ◌-◌, ◌*◌, ◌/◌, ◌%◌, Bool, true, false, not, List, Option, None, Some, nat_lt, bit_and, bit_or, bit_xor, refl, arith, sym, ap, nat_tests, and_self, or_self, xor_self, Register, Pair, IndexPair, IndexBc, IndexDe, A, H, L, Bc, De, Hl, Sp, StackBc, StackDe, StackHl, Psw, Instr, Operation, Operand, Mov, Load, Mvi, Lxi, Dad, Inx, Dcx, Inr, InrMemory, Dcr, DcrMemory, Operate, Pop, Ldax, Lhld, Lda, Rotate, Daa, Cma, Stc, Cmc, Xthl, Xchg, In, Subtract, And, ExclusiveOr, Or, Compare, InRegister, Memory, Immediate, Left, Right, LeftThroughCarry, RightThroughCarry, HasOperandInRange, Areas, Registers, Cpu, flags_from, byte_in, operand_of, changed, decimal_answer, word, register_of, with_register, hl_of, pair_of, with_pair, index_pair_of, Span, ByteSpan, Outcome, PairSpan, State, Cells, HasBytes, AreBytes, ReadsCode, HoldsCells, Within, ByteWithin, any_byte, word_alone, byte_alone, is_alone, is_byte_alone, next_byte, previous_byte, operated, rotated, complemented, uncarried, HoldsPair, HoldsRegisters, HoldsWord, HoldsWords, Compares, any_pair, pair_of_words, next_pair, previous_pair, sum_pair, compared_with, byte_of, span_of, with_byte, with_span, with_outcome, known_pair, loaded_at, loaded, moved, counted, resulted, tested, is_accumulator, operand_bytes, after_operation, added_carry, turned, exchanged, index_words, registers_after}
+use Rattle.verify80_states.proofs.Names.{◌≡◌, ◌<◌, ◌==◌, [], ℕ, ◌+◌, ◌-◌, ◌*◌, ◌/◌, ◌%◌, Bool, true, false, not, List, Option, None, Some, nat_lt, bit_and, bit_or, bit_xor, refl, arith, sym, ap, nat_tests, and_self, or_self, xor_self, Register, Pair, IndexPair, IndexBc, IndexDe, A, H, L, Bc, De, Hl, Sp, StackBc, StackDe, StackHl, Psw, Instr, Operation, Operand, Mov, Load, Mvi, Lxi, Dad, Inx, Dcx, Inr, InrMemory, Dcr, DcrMemory, Operate, Pop, Ldax, Lhld, Lda, Rotate, Daa, Cma, Stc, Cmc, Xthl, Xchg, In, Subtract, And, ExclusiveOr, Or, Compare, InRegister, Memory, Immediate, Left, Right, LeftThroughCarry, RightThroughCarry, HasOperandInRange, Areas, Registers, Cpu, flags_from, byte_in, operand_of, changed, decimal_answer, word, register_of, with_register, hl_of, pair_of, with_pair, index_pair_of, Span, ByteSpan, Outcome, PairSpan, State, Cells, HasBytes, AreBytes, ReadsCode, HoldsCells, Within, ByteWithin, any_byte, word_alone, byte_alone, is_alone, is_byte_alone, next_byte, previous_byte, operated, rotated, complemented, uncarried, HoldsPair, HoldsRegisters, HoldsWord, HoldsWords, Compares, any_pair, pair_of_words, next_pair, previous_pair, sum_pair, compared_with, byte_of, span_of, with_byte, with_span, with_outcome, known_pair, loaded_at, loaded, moved, counted, resulted, tested, is_accumulator, operand_bytes, after_operation, added_carry, turned, exchanged, index_words, registers_after, cond_both, subst}
 use Rattle.verify80_spans.specs.Span.{IsKnown, high_of}
 use Rattle.decode80.specs.{Fetch.ahead, Fetch.behind}
 use Rattle.machine80.specs.{Flags.bit_of, Flags.flags_of_result}
@@ -13,12 +13,10 @@ use Rattle.verify80_states.proofs.StateLemmas.{split_holds, high_holds, byte_hol
 pub word_first : (s : Span) (n : ℕ) → is_alone s ≡ true → Within s n → s.first ≡ n
 word_first s n alone inside = grind (arith, nat_tests)
 
-loaded_go : (code : List (Option ℕ)) (cells : Cells) (memory : List ℕ) (s : Span) (n : ℕ) (b : Bool) → is_alone s ≡ b → ReadsCode code memory → HoldsCells cells memory → HasBytes memory → Within s n → ByteWithin (loaded code cells s) (byte_in memory n)
-loaded_go code cells memory s n true alone reads holds bytes inside = rw alone (rw (word_first s n alone inside) (read_within code cells memory n reads holds bytes))
-loaded_go code cells memory s n false alone reads holds bytes inside = rw alone (any_byte_within (byte_in memory n) (memory_byte memory n bytes))
-
 pub loaded_within : (code : List (Option ℕ)) (cells : Cells) (memory : List ℕ) (s : Span) (n : ℕ) → ReadsCode code memory → HoldsCells cells memory → HasBytes memory → Within s n → ByteWithin (loaded code cells s) (byte_in memory n)
-loaded_within code cells memory s n reads holds bytes inside = loaded_go code cells memory s n (is_alone s) refl reads holds bytes inside
+loaded_within code cells memory s n reads holds bytes inside = cond_both (is_alone s) (loaded_at code cells s.first) any_byte (λ (b : ByteSpan). ByteWithin b (byte_in memory n))
+    (λ alone. subst (λ k. ByteWithin (loaded_at code cells k) (byte_in memory n)) (sym (word_first s n alone inside)) (read_within code cells memory n reads holds bytes))
+    (λ several. any_byte_within (byte_in memory n) (memory_byte memory n bytes))
 
 popped_holds : (regions : Areas) (o : Option PairSpan) (memory : List ℕ) (sp : ℕ) → HoldsWord regions o memory sp sp → HasBytes memory → HoldsPair (known_pair o) (byte_in memory (ahead sp 1)) (byte_in memory sp)
 popped_holds regions None memory sp holds bytes = any_pair_holds _ _ (memory_byte memory (ahead sp 1) bytes) (memory_byte memory sp bytes)

@@ -1,5 +1,5 @@
 -- What a condition leaves of a state holds if the condition does.
-use Rattle.verify80_states.proofs.Names.{◌≡◌, ◌==◌, ◌+◌, ◌-◌, ℕ, Bool, true, false, not, Option, None, Some, nat_lt, nat_le, min, max, refl, arith, subst, sym, ap, ◌∙◌, nat_tests, Register, A, Condition, NonZero, Zero, NoCarry, Carry, Plus, Minus, Areas, Registers, Machine, ByteSpan, Words, State, AreBytes, ByteWithin, byte_alone, only, without, below, from, Holds, HoldsRegisters, HoldsWords, HoldsSource, IsQuietSource, IsQuietState, Compares, cut, cut_copy, if_same, zero_bytes, carry_bytes, cut_to, given_zero, given_carry, given_sign, given}
+use Rattle.verify80_states.proofs.Names.{◌≡◌, ◌==◌, ◌+◌, ◌-◌, ℕ, Bool, true, false, not, Option, None, Some, nat_lt, nat_le, min, max, refl, arith, subst, sym, ap, ◌∙◌, nat_tests, Register, A, Condition, NonZero, Zero, NoCarry, Carry, Plus, Minus, Areas, Registers, Machine, ByteSpan, Words, State, AreBytes, ByteWithin, byte_alone, only, without, below, from, Holds, HoldsRegisters, HoldsWords, HoldsSource, IsQuietSource, IsQuietState, Compares, cut, cut_copy, if_same, zero_bytes, carry_bytes, cut_to, given_zero, given_carry, given_sign, given, not-not}
 use Rattle.verify80_spans.specs.Span.{IsKnown}
 use Rattle.machine80.specs.{Flags.holds as holds_of}
 use Rattle.verify80_states.proofs.{StateLemmas.cut_holds, CellLemmas.cells_cut, CellLemmas.cells_cut_quiet}
@@ -125,10 +125,7 @@ module _ (quiet : ℕ → Bool) (regions : Areas) (m : Machine) (bytes : AreByte
       record { left = record s { sign = Some wanted }; is = refl; holds = with_flags s s.zero s.carry (Some wanted) holds flags.zero flags.carry is; are = record { cells = are.cells; source = are.source }; same = refl }
 
 turned : (b c : Bool) → not b ≡ c → b ≡ not c
-turned true true h = cc
-turned true false h = refl
-turned false true h = refl
-turned false false h = cc
+turned b c h = sym (not-not b) ∙ ap (λ (x : Bool). not x) h
 
 pub given_holds : (quiet : ℕ → Bool) (regions : Areas) (m : Machine) (bytes : AreBytes m.cpu.registers) (c : Condition) (wanted : Bool) (s : State) → Holds regions s m → IsQuietState quiet s → holds_of c m.cpu.registers.flags ≡ wanted →
     Leaves quiet regions m s.set (given c wanted s)

@@ -1,18 +1,14 @@
 -- What a state says, one says that is around it.
-use Rattle.verify80_states.proofs.Names.{◌≡◌, ◌⊎◌, ℕ, Bool, true, List, Option, None, Some, refl, subst, inl, inr, Register, A, ahead, Areas, Registers, word, register_of, byte_in, Machine, PairSpan, Words, State, Variable, HoldsSet, is_bit, bytes_at, HasBytes, ByteWithin, IsByteInside, Holds, HoldsPair, HoldsWord, HoldsWords, HoldsSource, Compares, IsPairInside, IsFlagInside, IsComparisonInside, IsCopyInside, IsWordInside, AreWordsInside, IsStateInside}
+use Rattle.verify80_states.proofs.Names.{◌≡◌, ◌⊎◌, ℕ, Bool, true, List, Option, None, Some, refl, subst, inl, inr, Register, A, ahead, Areas, Registers, word, register_of, byte_in, Machine, PairSpan, Words, State, Variable, HoldsSet, is_bit, bytes_at, HasBytes, ByteWithin, IsByteInside, Holds, HoldsPair, HoldsWord, HoldsWords, HoldsSource, Compares, IsPairInside, IsSameIfKnown, IsCopyInside, IsWordInside, AreWordsInside, IsStateInside}
 use Rattle.verify80_spans.specs.Span.{IsKnown}
 use Rattle.verify80_states.proofs.{CellReads.cells_within, SpanLemmas.inside_within, SpanLemmas.byte_inside_within, CellLemmas.cells_around}
 
 pair_around : (p q : PairSpan) (h l : ℕ) → IsPairInside p q → HoldsPair p h l → HoldsPair q h l
 pair_around p q h l inside holds = record { words = inside_within p.words q.words (word h l) inside.words holds.words; low = byte_inside_within p.low q.low l inside.low holds.low }
 
-flag_around : (o u : Option Bool) (truth : Bool) → IsFlagInside o u → IsKnown o truth → IsKnown u truth
-flag_around o None truth inside holds = tt
-flag_around o (Some b) truth inside holds = subst (λ (x : Option Bool). IsKnown x truth) inside holds
-
-comparison_around : (o u : Option ℕ) (r : Registers) → IsComparisonInside o u → Compares o r.a r.flags → Compares u r.a r.flags
-comparison_around o None r inside holds = tt
-comparison_around o (Some n) r inside holds = subst (λ (x : Option ℕ). Compares x r.a r.flags) inside holds
+same_around : {T : Type 0} (P : Option T → Type 0) (o u : Option T) → P None → IsSameIfKnown o u → P o → P u
+same_around P o None none inside holds = none
+same_around P o (Some x) none inside holds = subst P inside holds
 
 copy_around : (c d : Register) (r : Registers) → IsCopyInside c d → register_of r c ≡ r.a → register_of r d ≡ r.a
 copy_around c A r inside same = refl
@@ -32,10 +28,6 @@ words_around regions w v memory sp inside holds = record {
   fourth = word_around regions w.fourth v.fourth memory sp (ahead sp 6) inside.fourth holds.fourth;
 }
 
-source_around : (o u : Option ℕ) (memory : List ℕ) (a : ℕ) → IsComparisonInside o u → HoldsSource o memory a → HoldsSource u memory a
-source_around o None memory a inside holds = tt
-source_around o (Some at) memory a inside holds = subst (λ (x : Option ℕ). HoldsSource x memory a) inside holds
-
 pub state_around : (regions : Areas) (variables : List Variable) (s t : State) (m : Machine) → HasBytes m.memory → IsStateInside variables s t → HoldsSet variables s.set m.memory → Holds regions s m → Holds regions t m
 state_around regions variables s t m bytes inside named holds =
     let r = m.cpu.registers in
@@ -48,15 +40,15 @@ state_around regions variables s t m bytes inside named holds =
         hl = pair_around s.hl t.hl r.h r.l inside.registers.hl h.hl;
         copy = copy_around s.copy t.copy r inside.copy h.copy;
         flags = record {
-          zero = flag_around s.zero t.zero r.flags.zero inside.zero h.flags.zero;
-          carry = flag_around s.carry t.carry r.flags.carry inside.carry h.flags.carry;
-          sign = flag_around s.sign t.sign r.flags.sign inside.sign h.flags.sign;
-          compared = comparison_around s.compared t.compared r inside.compared h.flags.compared;
+          zero = same_around (λ (o : Option Bool). IsKnown o r.flags.zero) s.zero t.zero tt inside.zero h.flags.zero;
+          carry = same_around (λ (o : Option Bool). IsKnown o r.flags.carry) s.carry t.carry tt inside.carry h.flags.carry;
+          sign = same_around (λ (o : Option Bool). IsKnown o r.flags.sign) s.sign t.sign tt inside.sign h.flags.sign;
+          compared = same_around (λ (o : Option ℕ). Compares o r.a r.flags) s.compared t.compared tt inside.compared h.flags.compared;
         };
       };
       words = words_around regions s.words t.words m.memory m.cpu.sp inside.words holds.words;
       cells = cells_around variables s.set m.memory bytes named s.cells t.cells inside.cells holds.cells;
-      source = source_around s.source t.source m.memory r.a inside.source holds.source;
+      source = same_around (λ (o : Option ℕ). HoldsSource o m.memory r.a) s.source t.source tt inside.source holds.source;
     }
 
 -- variables that it names have their bytes

@@ -1,13 +1,10 @@
 -- Runs keep to a table that fits.
-use Rattle.verify80_states.proofs.Names.{◌≡◌, ◌⊎◌, ℕ, zero, suc, Bool, true, false, List, Option, None, Some, Ok, IsSome, drop, length, slice_get, slice_index, refl, subst, sym, ap, ◌∙◌, inl, inr, arith, true≢false, nat_tests, Condition, Pchl, Fetched, Flow, Jumps, JumpsIf, JumpsToHl, Calls, CallsIf, Returns, ReturnsIf, Halts, flow, Areas, in_data, targets_at, Located, Cpu, holds_of, hl_of, world_of, byte_in, goes_to, target, word_in, Machine, Turn, Next, Stop, fetch, step_of, World, world_at, turn_at, following, world_after, places_by, places_then, refuses, returns, is_return_taken, fetched_by, FetchesInside, IsNewest, code_of, declared_targets, IsStart, IsWorldFrom, NeverGoesWrongFromPowerOn, IsReached, StandsOnWalk, StaysOnWalks, LeavesProgram, with_memory, PairSpan, State, Variable, Placed, HoldsSet, no_cells, is_steady, state_after, given, Fits, AreBytes, HoldsBytes, BytesStayBytes, FetchedOperandsAreBounded, MemoryKeepsItsLength, Within, ByteWithin, byte_alone, Holds, HoldsWord, IsQuietState, anything, unknown_but, no_words, cut, is_taken, ReadsCode, AreCodeBytes, HasCode, Has, Covers, CoversAfter, FitsBy, KnowsQuiet, AccountsFor, ReturnFacts, KnowsReturn, KnowsReturnIf, KnowsReturnsOf, Owes, IsBehind, KeepsTo, KeepsToCalls, IsKept, HasOperandInRange, EntryFits, stored_bytes, stores, stored}
+use Rattle.verify80_states.proofs.Names.{◌≡◌, ◌⊎◌, ℕ, zero, suc, Bool, true, false, List, Option, None, Some, Ok, IsSome, drop, length, slice_get, slice_index, refl, subst, sym, ap, ◌∙◌, inl, inr, arith, true≢false, nat_tests, Condition, Pchl, Fetched, Flow, Jumps, JumpsIf, JumpsToHl, Calls, CallsIf, Returns, ReturnsIf, Halts, flow, Areas, in_data, targets_at, Located, Cpu, holds_of, hl_of, world_of, byte_in, goes_to, target, word_in, Machine, Turn, Next, Stop, fetch, step_of, World, world_at, turn_at, following, world_after, places_by, places_then, refuses, returns, is_return_taken, fetched_by, FetchesInside, IsNewest, code_of, declared_targets, IsStart, IsWorldFrom, NeverGoesWrongFromPowerOn, IsReached, StandsOnWalk, StaysOnWalks, LeavesProgram, with_memory, PairSpan, State, Variable, Placed, HoldsSet, no_cells, is_steady, state_after, given, Fits, AreBytes, HoldsBytes, BytesStayBytes, FetchedOperandsAreBounded, MemoryKeepsItsLength, Within, ByteWithin, byte_alone, Holds, HoldsWord, IsQuietState, anything, unknown_but, no_words, cut, is_taken, ReadsCode, AreCodeBytes, HasCode, Has, Covers, CoversAfter, FitsBy, KnowsQuiet, AccountsFor, ReturnFacts, KnowsReturn, KnowsReturnIf, KnowsReturnsOf, Owes, IsBehind, KeepsTo, KeepsToCalls, IsKept, HasOperandInRange, EntryFits, stored_bytes, stores, same_Some}
 use Rattle.verify80_states.specs.Runs.{IsKnown}
 use Rattle.verify80_states.proofs.{StateLemmas.anything_holds, MemoryLemmas.Ground, MemoryLemmas.none_hold, MemoryLemmas.words_stay, SpanLemmas.alone_within, VariableLemmas.none_named, VariableLemmas.one_of, VariableLemmas.tested_of, VariableLemmas.variable_kept, StoredLemmas.are_stored, GivenLemmas.given_holds, GivenLemmas.cut_set, GivenLemmas.cut_state, InsideLemmas.set_around, InsideLemmas.state_around, WayLemmas.Leads, WayLemmas.step_goes}
 use Rattle.verify80_states.proofs.CellLemmas.{cells_beside, source_beside, state_quieter, none_hold as no_cells_hold}
 use Rattle.verify80_states.proofs.CallLemmas.{owed_on, owes_stay, returned_places, returns_here}
 use Rattle.verify80_states.proofs.StepLemmas.{other_words, step_byte, step_state, step_code}
-
-world_in : {w v : World} → Some w ≡ Some v → w ≡ v
-world_in h = cc
 
 -- the table has a state that holds
 pub record Meets (regions : Areas) (variables : List Variable) (table : List Placed) (set to : ℕ) (m : Machine) : Type 0 where
@@ -279,8 +276,8 @@ module _ (image : Located) (bytes : ℕ) (quiet : ℕ → Bool) (table : List Pl
       places ≡ places_then (fetched_by image.regions w) w.machine.cpu.registers.flags w.places → world_after t places ≡ Some after → Keeps after
   stepped w after (Stop e) places from next before h newer is = cc
   stepped w after (Next m) places from next before h newer is =
-      let same : m ≡ after.machine = ap (λ (x : World). x.machine) (world_in is) in
-      let there : places ≡ after.places = ap (λ (x : World). x.places) (world_in is) in
+      let same : m ≡ after.machine = ap (λ (x : World). x.machine) (same_Some _ _ is) in
+      let there : places ≡ after.places = ap (λ (x : World). x.places) (same_Some _ _ is) in
       let turn : step_of image.regions (refuses most w.machine.outputs) w.machine ≡ Next after.machine = h ∙ ap (λ (x : Machine). Next x) same in
       let held = stay image.regions (refuses most w.machine.outputs) w.machine after.machine before.held turn in
       record { held = held; keeps = kept.steps (refuses most w.machine.outputs) w after (known_at w from) (known_at after next).stands before.held held before.keeps turn (sym there ∙ newer) }
@@ -294,7 +291,7 @@ module _ (image : Located) (bytes : ℕ) (quiet : ℕ → Bool) (table : List Pl
   keeps_at : (n : ℕ) (w : World) → world_at image.regions most (world_of start) n ≡ Some w → Keeps w
   keeps_at zero w h =
       let begun = kept.starts start begins.pc begins.code begins.whole start_bytes (known_at (world_of start) (record { steps = 0; is = refl })).stands in
-      subst Keeps (world_in h) (record { held = start_bytes; keeps = begun })
+      subst Keeps (same_Some _ _ h) (record { held = start_bytes; keeps = begun })
   keeps_at (suc n) w h = followed n w (world_at image.regions most (world_of start) n) refl (λ v e. keeps_at n v e) h
 
   pub run_keeps : (w : World) → IsWorldFrom image start most w → KeepsTo image table w

@@ -1,5 +1,5 @@
 -- The byte of memory that A has, along a step.
-use Rattle.verify80_states.proofs.Names.{◌≡◌, ◌&&◌, ℕ, Bool, true, false, List, [], ◌∷◌, Option, None, Some, nat_le, length, bit_and, bit_or, refl, and_self, or_self, subst, sym, ap, ◌∙◌, arith, get_or-set_same, A, Sp, Psw, Instr, Operation, Mov, Load, Store, Mvi, Lxi, Inx, Dcx, Inr, Dcr, Operate, Pop, Ldax, Sta, Lda, Rotate, Daa, Cma, In, Subtract, And, ExclusiveOr, Or, Compare, HasOperandInRange, Areas, in_data, Registers, Cpu, hl_of, operand_of, stores, stored, changed, Span, ByteSpan, State, AreBytes, HoldsRegisters, HoldsSource, IsQuietSource, Within, is_alone, is_accumulator, operand_bytes, after_operation, only_address, registers_after, source_after, address_after, stored_bytes, StoredByte, slice_set}
+use Rattle.verify80_states.proofs.Names.{◌≡◌, ◌&&◌, ℕ, Bool, true, false, List, [], ◌∷◌, Option, None, Some, nat_le, length, bit_and, bit_or, refl, and_self, or_self, subst, sym, ap, ◌∙◌, arith, get_or-set_same, A, Sp, Psw, Instr, Operation, Mov, Load, Store, Mvi, Lxi, Inx, Dcx, Inr, Dcr, Operate, Pop, Ldax, Sta, Lda, Rotate, Daa, Cma, In, Subtract, And, ExclusiveOr, Or, Compare, HasOperandInRange, Areas, in_data, Registers, Cpu, hl_of, operand_of, stores, stored, changed, Span, ByteSpan, State, AreBytes, HoldsRegisters, HoldsSource, IsQuietSource, Within, is_alone, is_accumulator, operand_bytes, after_operation, only_address, registers_after, source_after, address_after, stored_bytes, StoredByte, slice_set, cond_both}
 use Rattle.machine80.specs.Arithmetic.{byte_answer, operation_answer}
 use Rattle.verify80_states.proofs.{RegisterBytes.hl_is_word, FollowLemmas.word_first, FollowLemmas.is_itself, CellLemmas.apart_from, CellLemmas.source_beside, MemoryLemmas.Ground, MemoryLemmas.one_stored, StoredLemmas.AreStored, StoredLemmas.stack_stored}
 
@@ -8,13 +8,10 @@ only_is : (span : Span) (n : ℕ) (m : List ℕ) (a : ℕ) (b : Bool) → is_alo
 only_is span n m a true alone inside is = rw alone (subst (λ k. HoldsSource (Some k) m a) (sym (word_first span n alone inside)) is)
 only_is span n m a false alone inside is = rw alone tt
 
-outside_by : (s : StoredByte) (at : ℕ) (m : List ℕ) (b x a : ℕ) (c : Bool) → (nat_le s.at.first at && nat_le at s.at.last) ≡ c → Within s.at b → HoldsSource (Some at) m a → HoldsSource (address_after (Some s) (Some at)) (stored m ((b, x) ∷ [])) a
-outside_by s at m b x a true t inside is = rw t tt
-outside_by s at m b x a false t inside is = rw t (one_stored m at b x (apart_from s.at at b t inside) ∙ is)
-
 outside_is : (s : StoredByte) (o : Option ℕ) (m : List ℕ) (b x a : ℕ) → Within s.at b → HoldsSource o m a → HoldsSource (address_after (Some s) o) (stored m ((b, x) ∷ [])) a
 outside_is s None m b x a inside is = tt
-outside_is s (Some at) m b x a inside is = outside_by s at m b x a (nat_le s.at.first at && nat_le at s.at.last) refl inside is
+outside_is s (Some at) m b x a inside is = cond_both (nat_le s.at.first at && nat_le at s.at.last) None (Some at) (λ (o : Option ℕ). HoldsSource o (stored m ((b, x) ∷ [])) a)
+    (λ within. tt) (λ apart. one_stored m at b x (apart_from s.at at b apart inside) ∙ is)
 
 -- what the byte of memory is, and that its address is data
 abbrev IsSource : Areas → Option ℕ → (memory : List ℕ) → (a : ℕ) → Type 0

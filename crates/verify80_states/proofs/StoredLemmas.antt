@@ -26,14 +26,6 @@ AreStored regions b c bytes = ⊥
 word_within : (n : ℕ) → Within (word_alone n) n
 word_within n = record { above = omega arith; below = omega arith }
 
-counted_up : (s : ByteSpan) (byte : ℕ) (r : Registers) → byte < 256 → ByteWithin s byte → ByteWithin (next_byte s) (increment_answer byte r.flags).value
-unfolding increment_answer byte_answer
-counted_up s byte r small inside = next_byte_within s byte small inside
-
-counted_down : (s : ByteSpan) (byte : ℕ) (r : Registers) → byte < 256 → ByteWithin s byte → ByteWithin (previous_byte s) (decrement_answer byte r.flags).value
-unfolding decrement_answer byte_answer
-counted_down s byte r small inside = previous_byte_within s byte small inside
-
 module _ (regions : Areas) where
   on_stack : (a b x y : ℕ) → (in_range regions.stack a ≡ true) × (in_range regions.stack b ≡ true) → All (OnStack regions) ((a, x) ∷ (b, y) ∷ [])
   on_stack a b x y there = two_each (OnStack regions) (a, x) (b, y) there.0 there.1
@@ -48,6 +40,7 @@ module _ (regions : Areas) where
 
   pub are_stored : (code : List (Option ℕ)) (m : List ℕ) (i : Instr) (next : ℕ) (cpu : Cpu) (s : State) → ReadsCode code m → HasBytes m → guard regions i cpu ≡ None → HasOperandInRange i → AreBytes cpu.registers → HoldsRegisters s cpu.registers → HoldsCells s.cells m →
       AreStored regions (stored_bytes code i s).0 (stored_bytes code i s).1 (stores i next m cpu)
+  unfolding increment_answer decrement_answer byte_answer
   are_stored code m (Store r) next cpu s reads held pass small bytes holds cells =
       by_hl s cpu.registers (byte_of s r) _ bytes holds (passed (in_data regions) _ StoreOutside None pass) (byte_holds s cpu.registers r bytes holds) (register_is_byte cpu.registers r bytes)
   are_stored code m (MviMemory byte) next cpu s reads held pass small bytes holds cells = by_hl s cpu.registers (byte_alone byte) byte bytes holds (passed (in_data regions) _ StoreOutside None pass) (alone_within byte) small
@@ -55,12 +48,12 @@ module _ (regions : Areas) where
       let byte = byte_in m (hl_of cpu.registers) in
       let inside = loaded_within code s.cells m s.hl.words (hl_of cpu.registers) reads cells held holds.hl.words in
       by_hl s cpu.registers (next_byte (loaded code s.cells s.hl.words)) _ bytes holds (passed (in_data regions) _ StoreOutside None pass)
-      (counted_up (loaded code s.cells s.hl.words) byte cpu.registers (memory_byte m (hl_of cpu.registers) held) inside) (increment_is_byte byte cpu.registers.flags)
+      (next_byte_within (loaded code s.cells s.hl.words) byte (memory_byte m (hl_of cpu.registers) held) inside) (increment_is_byte byte cpu.registers.flags)
   are_stored code m DcrMemory next cpu s reads held pass small bytes holds cells =
       let byte = byte_in m (hl_of cpu.registers) in
       let inside = loaded_within code s.cells m s.hl.words (hl_of cpu.registers) reads cells held holds.hl.words in
       by_hl s cpu.registers (previous_byte (loaded code s.cells s.hl.words)) _ bytes holds (passed (in_data regions) _ StoreOutside None pass)
-      (counted_down (loaded code s.cells s.hl.words) byte cpu.registers (memory_byte m (hl_of cpu.registers) held) inside) (decrement_is_byte byte cpu.registers.flags)
+      (previous_byte_within (loaded code s.cells s.hl.words) byte (memory_byte m (hl_of cpu.registers) held) inside) (decrement_is_byte byte cpu.registers.flags)
   are_stored code m (Stax pair) next cpu s reads held pass small bytes holds cells =
       record { there = index_within s cpu.registers pair holds; is = holds.a; small = pointed_is_word cpu.registers pair bytes; byte = bytes.a; inside = passed (in_data regions) _ StoreOutside None pass }
   are_stored code m (Sta w) next cpu s reads held pass small bytes holds cells = record { there = word_within w; is = holds.a; small = small; byte = bytes.a; inside = passed (in_data regions) w Direct None pass }

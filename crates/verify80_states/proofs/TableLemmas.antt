@@ -1,5 +1,5 @@
 -- A table that fits what is reached fits the program.
-use Rattle.verify80_states.proofs.Names.{IsBehind, ◌≡◌, ◌⊎◌, ◌+◌, ◌++◌, ℕ, zero, suc, ◌<◌, Bool, List, [], ◌∷◌, All, Option, None, Some, Ok, length, slice_get, slice_index_or, refl, subst, sym, ap, ◌∙◌, arith, inl, inr, true, Fetched, Located, World, world_of, Code, slice_get-last, code_of, AreReached, IsReached, StandsOnWalk, found_at, Placed, Variable, HoldsBytes, MemoryKeepsItsLength, IsQuietState, anything, HasCode, ReturnFacts, no_returns, Has, KnowsQuiet, AllFit, Fits, SaysNothingAt, KeepsToCalls, IsKept, FetchedOperandsAreBounded, slice_get-append}
+use Rattle.verify80_states.proofs.Names.{IsBehind, ◌≡◌, ◌+◌, ◌++◌, ℕ, zero, suc, ◌<◌, Bool, List, [], ◌∷◌, All, Option, None, Some, Ok, length, slice_get, slice_index_or, refl, subst, sym, ap, ◌∙◌, arith, true, Fetched, Located, World, world_of, Code, slice_get-last, code_of, AreReached, IsReached, StandsOnWalk, found_at, Placed, Variable, HoldsBytes, MemoryKeepsItsLength, IsQuietState, anything, HasCode, ReturnFacts, no_returns, Has, KnowsQuiet, AllFit, Fits, SaysNothingAt, KeepsToCalls, IsKept, FetchedOperandsAreBounded, slice_get-append, below_more}
 use Rattle.verify80_states.proofs.{MemoryLemmas.Ground, CellLemmas.none_quiet, CallLemmas.nothing_owed, KeepLemmas.nothing_holds, KeepLemmas.code_stays, KeepLemmas.still_keeps}
 
 -- an entry that is there is within the table
@@ -63,11 +63,7 @@ nothing_is_kept image quiet reached table are whole ground bounded length_stays 
       }
 
 -- states that say nothing, one more
-split : (a n : ℕ) → a < n + 1 → (a < n) ⊎ (a ≡ n)
-split a n h = grind arith
-
 pub nothing_more : (table : List Placed) (e : Placed) (n : ℕ) → ((at : ℕ) → at < n → SaysNothingAt table at) → e.at ≡ n → e.state ≡ anything → (at : ℕ) → at < n + 1 → SaysNothingAt (table ++ e ∷ []) at
-nothing_more table e n below here nothing at less = go (split at n less) where
-  go : (at < n) ⊎ (at ≡ n) → SaysNothingAt (table ++ e ∷ []) at
-  go (inl before) = let says = below at before in record { place = says.place; placed = says.placed; there = slice_get-append table (e ∷ []) says.place says.placed says.there; here = says.here; nothing = says.nothing }
-  go (inr now) = record { place = length table; placed = e; there = slice_get-last table e; here = here ∙ sym now; nothing = nothing }
+nothing_more table e n below here nothing = below_more (SaysNothingAt (table ++ e ∷ [])) n
+    (λ at less. let says = below at less in record { place = says.place; placed = says.placed; there = slice_get-append table (e ∷ []) says.place says.placed says.there; here = says.here; nothing = says.nothing })
+    (record { place = length table; placed = e; there = slice_get-last table e; here = here; nothing = nothing })

@@ -1,5 +1,5 @@
 -- Variables stay inside their spans.
-use Rattle.verify80_states.proofs.Names.{◌≡◌, ◌⊎◌, ◌≢◌, ◌<◌, ◌&&◌, ℕ, Bool, true, List, [], ◌∷◌, Option, None, Some, length, slice_get, slice_index, slice_set, list_all, subst, sym, ap, ◌∙◌, arith, inl, inr, nat_tests, shr_le, get_or-set_same, length-set, Areas, in_data, byte_in, stored, Within, ByteWithin, Variable, HoldsSet, is_bit, takes, StoredByte, and_parts, AllPass-from_list_all, All, get_or_from_slice_get, slice_get_within}
+use Rattle.verify80_states.proofs.Names.{◌≡◌, ◌⊎◌, ◌≢◌, ◌<◌, ◌&&◌, ℕ, Bool, true, List, [], ◌∷◌, Option, None, Some, length, slice_get, slice_index, slice_set, list_all, subst, sym, ap, ◌∙◌, arith, inl, inr, nat_tests, shr_le, get_or-set_same, length-set, Areas, in_data, byte_in, stored, Within, ByteWithin, Variable, HoldsSet, is_bit, takes, StoredByte, and_parts, AllPass-from_list_all, All, get_or_from_slice_get, slice_get_within, cases_eq}
 use Rattle.verify80_states.proofs.{MemoryLemmas.Ground, MemoryLemmas.one_stored, StoredLemmas.AreStored, StoredLemmas.stack_stored}
 
 -- no variable is named by an empty set
@@ -10,9 +10,6 @@ pub none_named : (variables : List Variable) (memory : List ℕ) → HoldsSet va
 none_named variables memory v named = absurd (no_bits named.number named.named)
 
 -- a byte is stored
-same_or_not : (a b : ℕ) → (a ≡ b) ⊎ (a ≢ b)
-same_or_not a b = grind arith
-
 taken_within : (v : Variable) (s : StoredByte) (x : ℕ) → takes v (Some s) ≡ true → Within s.at v.at → ByteWithin s.bytes x → ByteWithin v.bytes x
 taken_within v s x takes there inside = record {
   above = let low = there.above in let high = there.below in let from = inside.above in grind (arith, nat_tests);
@@ -22,7 +19,7 @@ taken_within v s x takes there inside = record {
 module _ (v : Variable) where
   stored_within : (s : StoredByte) (m : List ℕ) (b x : ℕ) → length m ≡ 65536 → b < 65536 → takes v (Some s) ≡ true → Within s.at b → ByteWithin s.bytes x → ByteWithin v.bytes (byte_in m v.at) →
       ByteWithin v.bytes (byte_in (stored m ((b, x) ∷ [])) v.at)
-  stored_within s m b x whole small steady there inside before = by (same_or_not v.at b) where
+  stored_within s m b x whole small steady there inside before = by (cases_eq v.at b) where
     by : (v.at ≡ b) ⊎ (v.at ≢ b) → ByteWithin v.bytes (byte_in (stored m ((b, x) ∷ [])) v.at)
     by (inl same) =
         subst (λ n. ByteWithin v.bytes n) (sym (ap (λ n. slice_index (stored m ((b, x) ∷ [])) n) same ∙ get_or-set_same m b x 0 (omega (arith, small, whole))))

@@ -1,6 +1,6 @@
 -- What becomes of a state at each instruction. (The registers and flags that each instruction writes are those of the Intel 8080
 -- Microcomputer Systems User's Manual, chapter 4; that spans are followed is this project's own.)
-use Rattle.std.specs.Prelude.{◌&&◌, ℕ, Bool, true, false, not, List, Option, None, Some, nat_le, slice_get, if◌then◌else◌}
+use Rattle.std.specs.Prelude.{◌&&◌, ℕ, Bool, true, false, not, List, Option, None, Some, nat_le, slice_get, unwrap_or, if◌then◌else◌}
 use Rattle.decode80.specs.{declared.register.Register.Register, declared.pair.Pair.Pair, declared.pair.StackPair.StackPair, declared.pair.IndexPair.IndexPair, declared.pair.IndexPair.TheVariants.Bc as IndexBc, declared.pair.IndexPair.TheVariants.De as IndexDe, declared.instr.Instr.Instr, declared.operation.Operation.Operation, declared.operation.Operand.Operand, declared.operation.Operand.TheVariants.Register as InRegister, declared.operation.Operand.TheVariants.Memory, declared.operation.Operand.TheVariants.Immediate, Fetch.ahead}
 use Rattle.decode80.specs.declared.register.Register.TheVariants.{A, D, E, H, L}
 use Rattle.decode80.specs.declared.pair.Pair.TheVariants.{Bc, De, Hl, Sp}
@@ -27,8 +27,7 @@ code_or None otherwise = otherwise
 code_or (Some byte) otherwise = byte_alone byte
 
 abbrev pub known_pair : Option PairSpan → PairSpan
-known_pair None = any_pair
-known_pair (Some word) = word
+known_pair word = unwrap_or word any_pair
 
 -- a byte that is read at an address: only code and cells are known; and one where a pair points to
 abbrev pub loaded_at : List (Option ℕ) → Cells → ℕ → ByteSpan

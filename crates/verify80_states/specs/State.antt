@@ -71,13 +71,9 @@ pub record IsPairInside (inner outer : PairSpan) : Type 0 where
   pub words : IsInside inner.words outer.words
   pub low : IsByteInside inner.low outer.low
 
-abbrev pub IsFlagInside : (inner outer : Option Bool) → Type 0
-IsFlagInside inner None = Unit {0}
-IsFlagInside inner (Some b) = inner ≡ Some b
-
-abbrev pub IsComparisonInside : (inner outer : Option ℕ) → Type 0
-IsComparisonInside inner None = Unit {0}
-IsComparisonInside inner (Some n) = inner ≡ Some n
+abbrev pub IsSameIfKnown : {T : Type 0} → (inner outer : Option T) → Type 0
+IsSameIfKnown inner None = Unit {0}
+IsSameIfKnown inner (Some x) = inner ≡ Some x
 
 abbrev pub IsCopyInside : (inner outer : Register) → Type 0
 IsCopyInside inner A = Unit {0}
@@ -108,14 +104,14 @@ IsSetInside variables inner outer = (number : ℕ) (v : Variable) → slice_get 
 pub record IsStateInside (variables : List Variable) (inner outer : State) : Type 0 where
   pub registers : AreRegistersInside inner outer
   pub copy : IsCopyInside inner.copy outer.copy
-  pub zero : IsFlagInside inner.zero outer.zero
-  pub carry : IsFlagInside inner.carry outer.carry
-  pub sign : IsFlagInside inner.sign outer.sign
-  pub compared : IsComparisonInside inner.compared outer.compared
+  pub zero : IsSameIfKnown inner.zero outer.zero
+  pub carry : IsSameIfKnown inner.carry outer.carry
+  pub sign : IsSameIfKnown inner.sign outer.sign
+  pub compared : IsSameIfKnown inner.compared outer.compared
   pub words : AreWordsInside inner.words outer.words
   pub cells : AreCellsInside variables inner.set inner.cells outer.cells
   pub set : IsSetInside variables inner outer
-  pub source : IsComparisonInside inner.source outer.source
+  pub source : IsSameIfKnown inner.source outer.source
 
 -- it says something of quiet addresses alone
 abbrev pub IsQuietSource : (quiet : ℕ → Bool) → Option ℕ → Type 0

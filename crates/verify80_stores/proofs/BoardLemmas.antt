@@ -1,6 +1,6 @@
 -- On a board each world keeps to the table of states, so its stores go as they are listed.
-use Rattle.verify80_stores.proofs.Names.{◌≡◌, ◌≢◌, ◌⊎◌, ◌&&◌, ℕ, Bool, true, false, not, List, [], All, Any, Contains, Option, None, Some, length, refl, option_map_or, ◌∙◌, subst, sym, ap, inl, inr, get_or, true≢false, Contains-get_or, Instr, Pchl, Fetched, Range, Areas, in_data, targets_at, Located, pointed_bytes, target, hl_of, Machine, leads_outside, world_of, World, IsNewest, fetched_by, places_after, places_then, returns, code_of, declared_targets, is_pchl, IsStart, NeverGoesWrongFromPowerOn, StandsOnWalk, StaysOnWalks, AreReached, Disturbs, fetched_anywhere, StaysInside, Executes, OnBoard, with_respected_pointer, respected_pointer, begins, disturbed, executed, Anywhere, KeepsPromise, MayStart, Span, Placed, HoldsBytes, BytesStayBytes, KeepsTo, KeepsToCalls, RunsKeepTo, IsKnown, OpenStore, stores_by_pair, GoesAsListed, AreShown, KeptTable, AreKnown, AreAllBelow, AreOpenBelow, is_at, is_marked_at, IsListedAt, KeepsWholePromise, PromiseHoldsOnBoards, PromiseHoldsOnQuietBoards, StaysQuiet, OnQuietBoard, is_quiet, begins_quiet, disturbed_quiet, executed_quiet}
-use Rattle.verify80_stores.proofs.StoreLemmas.{KeepsToEach, any_by, goes_if, jump_there, listed_or_not}
+use Rattle.verify80_stores.proofs.Names.{◌≡◌, ◌≢◌, ◌⊎◌, ℕ, Bool, true, false, List, [], All, Any, Contains, Option, Some, length, refl, ◌∙◌, subst, sym, ap, inl, inr, get_or, true≢false, Contains-get_or, Pchl, Fetched, Range, Areas, in_data, targets_at, Located, pointed_bytes, target, hl_of, Machine, leads_outside, world_of, World, IsNewest, fetched_by, places_after, places_then, returns, code_of, declared_targets, is_pchl, IsStart, NeverGoesWrongFromPowerOn, StandsOnWalk, StaysOnWalks, AreReached, Disturbs, fetched_anywhere, StaysInside, Executes, OnBoard, with_respected_pointer, respected_pointer, begins, disturbed, executed, Anywhere, KeepsPromise, MayStart, Span, Placed, HoldsBytes, BytesStayBytes, KeepsTo, KeepsToCalls, RunsKeepTo, IsKnown, OpenStore, stores_by_pair, GoesAsListed, AreShown, KeptTable, AreKnown, AreAllBelow, AreOpenBelow, is_at, IsListedAt, KeepsWholePromise, PromiseHoldsOnBoards, PromiseHoldsOnQuietBoards, StaysQuiet, OnQuietBoard, is_quiet, begins_quiet, disturbed_quiet, executed_quiet, and_right, is_listed}
+use Rattle.verify80_stores.proofs.StoreLemmas.{KeepsToEach, goes_if, jump_there, listed_or_not, not_outside}
 
 -- what the ports hold counts for nothing
 stands_so : (image : Located) (m : Machine) (places : List ℕ) (inputs : List (List ℕ)) (outputs : List (ℕ × ℕ)) → StandsOnWalk image (record { machine = record m { inputs = inputs; outputs = outputs }; places = places }) →
@@ -19,9 +19,6 @@ keeps_so image table m places inputs outputs k = record {
   whole = k.whole;
 }
 
-abbrev keeps_with : (image : Located) (table : List Placed) (w : World) (inputs : List (List ℕ)) → KeepsTo image table w → KeepsTo image table (record { machine = record w.machine { inputs = inputs }; places = w.places })
-keeps_with image table w inputs k = keeps_so image table w.machine w.places inputs w.machine.outputs k
-
 -- a machine on which a run may begin is one with SP at the stack's top, but for SP
 set_start : Located → (began : Bool) → Machine → Machine
 set_start image began m = (with_respected_pointer image.regions began (world_of m)).machine
@@ -36,13 +33,10 @@ unfolding set_start
 set_world image true m = refl
 set_world image false m = refl
 
-respected_bytes : (regions : Areas) (set : Bool) (w : World) → HoldsBytes w.machine → HoldsBytes (with_respected_pointer regions set w).machine
-respected_bytes regions true w held = held
-respected_bytes regions false w held = record { registers = held.registers; memory = held.memory; inputs = held.inputs }
-
 set_bytes : (image : Located) (began : Bool) (m : Machine) → HoldsBytes m → HoldsBytes (set_start image began m)
 unfolding set_start
-set_bytes image began m held = respected_bytes image.regions began (world_of m) held
+set_bytes image true m held = held
+set_bytes image false m held = record { registers = held.registers; memory = held.memory; inputs = held.inputs }
 
 -- what disturbs a world disturbs it so, whatever its SP is
 respected_disturbs : (regions : Areas) (set : Bool) (w v : World) → Disturbs regions (respected_pointer regions set w) w v → Disturbs regions (with_respected_pointer regions set w).machine.cpu.sp (with_respected_pointer regions set w) (with_respected_pointer regions set v)
@@ -55,24 +49,17 @@ unfolding respected_disturbs
 respected_quiet regions quiet true w v by stays = stays
 respected_quiet regions quiet false w v by stays = stays
 
-not_outside : (declared : Option (List ℕ)) (hl : ℕ) → Contains (option_map_or (λ targets. targets) declared []) hl → leads_outside declared hl ≡ false
-not_outside None hl there = refl
-not_outside (Some targets) hl there = ap (λ b. not b) (any_by hl targets there)
-
-is_jump : (i : Instr) → i ≡ Pchl → is_pchl i ≡ true
-is_jump i same = ap is_pchl same
-
 module _ (image : Located) (bytes : ℕ) (quiet : ℕ → Bool) (reached : List (Option Fetched)) (marks : List Bool) (spans : List (Option Span)) (addresses : List ℕ) (stores : List OpenStore) (jumps open_jumps : List ℕ)
     (sound : NeverGoesWrongFromPowerOn image bytes) (walks : StaysOnWalks image) (are : AreReached (code_of image) reached) (whole : length reached ≡ 65536) (keeps : (t : KeptTable image quiet) → RunsKeepTo image t.table)
     (shown : AreShown image quiet reached marks spans) (each_store : AreAllBelow (is_at stores_by_pair reached) 65536 addresses)
-    (open_below : AreOpenBelow reached marks spans 65536 stores) (each_jump : AreAllBelow (is_at is_pchl reached) 65536 jumps) (each_open_jump : AreAllBelow (is_marked_at is_pchl reached marks) 65536 open_jumps)
+    (open_below : AreOpenBelow reached marks spans 65536 stores) (each_jump : AreAllBelow (is_at is_pchl reached) 65536 jumps) (each_open_jump : AreAllBelow (is_listed is_pchl true reached marks) 65536 open_jumps)
     (known : AreKnown image bytes) (stay : BytesStayBytes) where
   -- what a world of the board keeps to: each table, and what is owed to open calls
   abbrev Keeps : KeptTable image quiet → World → Type 0
   Keeps t w = KeepsToCalls image t.kept.returns t.kept.variables t.table w
 
   keeps_now : (t : KeptTable image quiet) (w : World) (inputs : List (List ℕ)) → Keeps t w → Keeps t (record { machine = record w.machine { inputs = inputs }; places = w.places })
-  keeps_now t w inputs k = record { keeps = keeps_with image t.table w inputs k.keeps; set = k.set; owes = k.owes }
+  keeps_now t w inputs k = record { keeps = keeps_so image t.table w.machine w.places inputs w.machine.outputs k.keeps; set = k.set; owes = k.owes }
 
   keeps_then : (t : KeptTable image quiet) (w : World) (inputs : List (List ℕ)) (outputs : List (ℕ × ℕ)) (m : Machine) (places : List ℕ) → Keeps t (record { machine = m; places = places }) →
       Keeps t (record { machine = record m { inputs = inputs; outputs = outputs }; places = places })
@@ -112,7 +99,7 @@ module _ (image : Located) (bytes : ℕ) (quiet : ℕ → Bool) (reached : List 
       jump_listed : found.instr ≡ Pchl → Contains open_jumps w.machine.cpu.pc ⊎ Contains (declared_targets image.regions w.machine.cpu.pc) (hl_of w.machine.cpu.registers)
       jump_listed is =
           jump_there image bytes quiet reached marks spans addresses stores jumps open_jumps sound walks are whole keeps shown each_store open_below each_jump each_open_jump w found (stands_of w s) (each_of w s) fetched_here
-          (is_jump found.instr is)
+          (ap is_pchl is)
 
       -- a step that isn't listed stays inside, and one that is does so by the premise
       module _ (inside : Listed w.machine.cpu.pc → StaysInside image.regions w.machine found.instr) where
@@ -280,14 +267,8 @@ all_quiet regions quiet listed start began none set w (disturbed _ v _ on by) =
     disturbed_quiet set v w (all_quiet regions quiet listed start began none set v on) by (λ at here. absurd (true≢false (sym here ∙ none at)))
 all_quiet regions quiet listed start began none set w (executed before _ v _ on by is) = executed_quiet before set v w (all_quiet regions quiet listed start began none before v on) by is
 
-nothing_is_quiet : (regions : Areas) (at : ℕ) → is_quiet regions [] at ≡ false
-nothing_is_quiet regions at = go (in_data regions at) where
-  go : (b : Bool) → (b && false) ≡ false
-  go true = refl
-  go false = refl
-
 pub holds_on_boards : (image : Located) (ranges : List Range) (bytes : ℕ) (stores : List OpenStore) (open_jumps : List ℕ) → PromiseHoldsOnQuietBoards image (is_quiet image.regions ranges) bytes stores open_jumps → ranges ≡ [] →
     PromiseHoldsOnBoards image bytes stores open_jumps
 holds_on_boards image ranges bytes stores open_jumps holds none start began may_start start_bytes w set on =
     holds start began may_start start_bytes w set
-    (all_quiet image.regions (is_quiet image.regions ranges) (IsListedAt stores open_jumps) start began (λ at. ap (λ (r : List Range). is_quiet image.regions r at) none ∙ nothing_is_quiet image.regions at) set w on)
+    (all_quiet image.regions (is_quiet image.regions ranges) (IsListedAt stores open_jumps) start began (λ at. ap (λ (r : List Range). is_quiet image.regions r at) none ∙ and_right (in_data image.regions at) false refl) set w on)

@@ -1,12 +1,8 @@
 mod ListLemmas
-mod EndLemmas
-mod VecLemmas
-mod HullLemmas
 mod ReachedLemmas
 mod TallyLemmas
 mod ShownLemmas
 mod StoreLemmas
 mod BoardLemmas
-mod WatchedLemmas
 mod StackLemmas
 mod Names

@@ -1,5 +1,5 @@
 -- Marked addresses that are closed are all that the main program may reach with SP not set.
-use Rattle.verify80_stores.proofs.Names.{◌≡◌, ◌<◌, ◌+◌, ◌==◌, ◌&&◌, ◌||◌, ℕ, Bool, true, false, not, List, [], ◌∷◌, Some, None, Result, Ok, Err, length, slice_index, refl, list_all, list_any, result_ok, ◌∙◌, ap, sym, subst, arith, inl, inr, true≢false, cases_lt, eqb-true, get_or_past, Fetched, FetchFault, flow, Located, memory_of, in_code, HasAt, IsUnset, starts, goes_on, SetsStack, sets_sp, uses_sp, is_marked, AreClosed, IsClosedAt, LeadsToMarked}
+use Rattle.verify80_stores.proofs.Names.{◌≡◌, ◌<◌, ◌==◌, ◌||◌, ℕ, Bool, true, false, not, List, [], ◌∷◌, Some, None, Result, Ok, Err, length, slice_index, refl, list_all, list_any, result_ok, ◌∙◌, ap, sym, subst, inl, inr, true≢false, cases_lt, eqb-true, get_or_past, Fetched, FetchFault, flow, Located, memory_of, in_code, HasAt, IsUnset, starts, goes_on, SetsStack, sets_sp, uses_sp, is_marked, AreClosed, IsClosedAt, LeadsToMarked, and_parts, same_Some}
 use Rattle.decode80.specs.{Fetch.fetch as fetch_in}
 use Rattle.machine80.specs.Step.{fetch}
 
@@ -7,12 +7,9 @@ use Rattle.machine80.specs.Step.{fetch}
 abbrev Finds : Located → (at : ℕ) → Result Fetched FetchFault → Type 0
 Finds image at found = fetch_in (in_code image.regions) (λ place. slice_index (memory_of image.chunks) place) at ≡ found
 
-same_found : {a b : Fetched} → Some a ≡ Some b → a ≡ b
-same_found {a} {b} h = let e : Some a ≡ Some b = h in cc
-
 has_found : (image : Located) (at : ℕ) (found other : Fetched) → Finds image at (Ok found) → HasAt image at other → found ≡ other
 unfolding fetch
-has_found image at found other finds has = same_found (sym (ap result_ok finds) ∙ has)
+has_found image at found other finds has = same_Some found other (sym (ap result_ok finds) ∙ has)
 
 has_none : (image : Located) (at : ℕ) (fault : FetchFault) (other : Fetched) → Finds image at (Err fault) → HasAt image at other → ⊥
 unfolding fetch
@@ -33,26 +30,13 @@ closed_without image marks at fault finds = record {
   leads = λ other has unset. absurd (has_none image at fault other finds has);
 }
 
--- one more address
-pub one_more_closed : (image : Located) (marks : List Bool) (n : ℕ) → AreClosed image marks n → (is_marked marks n ≡ true → IsClosedAt image marks n) → AreClosed image marks (n + 1)
-one_more_closed image marks n before here = λ at less marked. elim (cases_lt at n) [
-  | inl earlier ↦ before at earlier marked
-  | inr late ↦
-      let e : n ≡ at = omega (arith, less, late) in
-      subst (IsClosedAt image marks) e (here (subst (λ a. is_marked marks a ≡ true) (sym e) marked))
-]
-
 -- targets that are marked
-both : (a b : Bool) → (a && b) ≡ true → (a ≡ true) × (b ≡ true)
-both true b e = (refl, e)
-both false b e = absurd (cc)
-
 pub target_marked : (marks : List Bool) (targets : List ℕ) (to : ℕ) → list_all (is_marked marks) targets ≡ true → not (list_any (λ target. target == to) targets) ≡ false →
     is_marked marks to ≡ true
 target_marked marks [] to all inside = absurd (true≢false inside)
 target_marked marks (target ∷ targets) to all inside =
-    by (both (is_marked marks target) (list_all (is_marked marks) targets) all).0
-    (λ rest. target_marked marks targets to (both (is_marked marks target) (list_all (is_marked marks) targets) all).1 rest)
+    by (and_parts (is_marked marks target) (list_all (is_marked marks) targets) all).0
+    (λ rest. target_marked marks targets to (and_parts (is_marked marks target) (list_all (is_marked marks) targets) all).1 rest)
     (target == to) refl inside
   where
     by : is_marked marks target ≡ true → (not (list_any (λ t. t == to) targets) ≡ false → is_marked marks to ≡ true) → (b : Bool) → (target == to) ≡ b →

@@ -1,15 +1,12 @@
 -- The stores of runs, by what is listed.
-use Rattle.verify80_stores.proofs.Names.{◌≡◌, ◌≢◌, ◌⊎◌, ℕ, zero, suc, ◌<◌, ◌==◌, Bool, true, false, not, List, [], ◌∷◌, All, Any, Contains, Option, None, Some, Ok, length, slice_get, refl, if◌then◌else◌, list_any, list_any_at, option_map_or, nat_tests, subst, sym, ap, ◌∙◌, inl, inr, arith, get_or, Contains-get_or, All-nil, All-cons, Instr, Bc, De, Fetched, Store, MviMemory, InrMemory, DcrMemory, Stax, In, Out, Pchl, Hlt, direct_bytes, in_range, Areas, in_data, targets_at, Located, End, Registers, InputEnd, OutputRefused, StoreOutside, JumpOutside, Fetch, Stack, Direct, hl_of, index_pair_of, next_input, pointed_bytes, stack_bytes, Machine, Stop, first_outside, ends_at, guard, guarded, execute, turn_of, leads_outside, proceeded, with_input, step_on, World, turn_at, fetched_by, refuses, IsProperEnd, code_of, declared_targets, is_pchl, IsStart, IsWorldFrom, NeverGoesWrongFromPowerOn, StandsOnWalk, StaysOnWalks, AreReached, found_at, Span, State, HoldsBytes, HoldsRegisters, entry_in, is_marked, KeepsTo, RunsKeepTo, Within, AreShown, KeptTable, stores_by_pair, pointer_span, IsLeftOpen, OpenStore, IsReachedAs, AreReachedAs, IsOpen, GoesAsListed, EndsAsListed, StoresGoAsListed, AreStoresOf, AreAllBelow, AreOpenBelow, IsSpanned, IsLeftAt, IsListed, is_kind, is_at, is_marked_at}
-use Rattle.verify80_stores.proofs.{HullLemmas.inside_within, ReachedLemmas.kind_there, ReachedLemmas.there_if_reached, ShownLemmas.first_of}
+use Rattle.verify80_stores.proofs.Names.{◌≡◌, ◌≢◌, ◌⊎◌, ℕ, zero, suc, ◌<◌, ◌==◌, Bool, true, false, not, List, [], ◌∷◌, All, Any, Contains, Option, None, Some, Ok, length, slice_get, refl, if◌then◌else◌, list_any, list_any_at, option_map_or, nat_tests, subst, sym, ap, ◌∙◌, inl, inr, arith, get_or, Contains-get_or, All-nil, All-cons, Instr, Bc, De, Fetched, In, Out, Pchl, Hlt, direct_bytes, in_range, Areas, in_data, targets_at, Located, End, Registers, InputEnd, OutputRefused, StoreOutside, JumpOutside, Fetch, Stack, Direct, hl_of, index_pair_of, next_input, pointed_bytes, stack_bytes, Machine, Stop, first_outside, ends_at, guard, guarded, execute, turn_of, leads_outside, proceeded, with_input, step_on, World, turn_at, fetched_by, refuses, IsProperEnd, code_of, declared_targets, is_pchl, IsStart, IsWorldFrom, NeverGoesWrongFromPowerOn, StandsOnWalk, StaysOnWalks, AreReached, found_at, Span, State, HoldsBytes, HoldsRegisters, entry_in, is_marked, KeepsTo, RunsKeepTo, Within, AreShown, KeptTable, stores_by_pair, pointer_span, IsLeftOpen, OpenStore, IsReachedAs, AreReachedAs, IsOpen, GoesAsListed, EndsAsListed, StoresGoAsListed, AreStoresOf, AreAllBelow, AreOpenBelow, IsSpanned, IsLeftAt, IsListed, is_kind, is_at, and_parts, cases_eq, and_from, is_listed, storing, Storing, Through, ThroughHl, pointed_by, is_through_pair, span_through, IsInside, true≢false}
+use Rattle.verify80_stores.proofs.ReachedLemmas.{kind_there, there_if_reached}
 
 -- an instruction that stores by a pair is such a store
-by_any_pair : (i : Instr) (s : State) (span : Span) → pointer_span i s ≡ Some span → stores_by_pair i ≡ true
-by_any_pair (Store from) s span h = refl
-by_any_pair (MviMemory byte) s span h = refl
-by_any_pair InrMemory s span h = refl
-by_any_pair DcrMemory s span h = refl
-by_any_pair (Stax pair) s span h = refl
-by_any_pair i s span h = cc
+by_any_pair : (w : Storing) (s : State) (span : Span) → span_through w s ≡ Some span → is_through_pair w ≡ true
+by_any_pair ThroughHl s span h = refl
+by_any_pair (Through pair) s span h = refl
+by_any_pair w s span h = cc
 
 -- a store is no PCHL
 no_jump : (i : Instr) → stores_by_pair i ≡ true → is_pchl i ≡ true → ⊥
@@ -17,38 +14,32 @@ no_jump Pchl stores jump = cc
 no_jump i stores jump = cc
 
 -- the address that a pair points to is one of its span
-record Points (i : Instr) (s : State) (address : ℕ) : Type 0 where
+record Points (w : Storing) (s : State) (address : ℕ) : Type 0 where
   span : Span
-  is : pointer_span i s ≡ Some span
+  is : span_through w s ≡ Some span
   within : Within span address
 
 alone : (x y : ℕ) → Contains (x ∷ []) y → x ≡ y
 alone x y (zero, inside, same) = same
 alone x y (suc k, inside, same) = absurd (omega arith)
 
-by_hl : (i : Instr) (s : State) (r : Registers) (address : ℕ) → pointer_span i s ≡ Some s.hl.words → HoldsRegisters s r → Contains (hl_of r ∷ []) address → Points i s address
-by_hl i s r address is holds there = record { span = s.hl.words; is = is; within = subst (λ a. Within s.hl.words a) (alone (hl_of r) address there) holds.hl.words }
-
-points_by : (i : Instr) (s : State) (r : Registers) (address : ℕ) → HoldsRegisters s r → Contains (pointed_bytes i r) address → Points i s address
-points_by (Store from) s r address holds there = by_hl (Store from) s r address refl holds there
-points_by (MviMemory byte) s r address holds there = by_hl (MviMemory byte) s r address refl holds there
-points_by InrMemory s r address holds there = by_hl InrMemory s r address refl holds there
-points_by DcrMemory s r address holds there = by_hl DcrMemory s r address refl holds there
-points_by (Stax Bc) s r address holds there = record { span = s.bc.words; is = refl; within = subst (λ a. Within s.bc.words a) (alone (index_pair_of r Bc) address there) holds.bc.words }
-points_by (Stax De) s r address holds there = record { span = s.de.words; is = refl; within = subst (λ a. Within s.de.words a) (alone (index_pair_of r De) address there) holds.de.words }
-points_by i s r address holds there = absurd (omega (arith, there.1))
+points_by : (w : Storing) (s : State) (r : Registers) (address : ℕ) → HoldsRegisters s r → Contains (pointed_by w r) address → Points w s address
+points_by ThroughHl s r address holds there = record { span = s.hl.words; is = refl; within = subst (λ a. Within s.hl.words a) (alone (hl_of r) address there) holds.hl.words }
+points_by (Through Bc) s r address holds there = record { span = s.bc.words; is = refl; within = subst (λ a. Within s.bc.words a) (alone (index_pair_of r Bc) address there) holds.bc.words }
+points_by (Through De) s r address holds there = record { span = s.de.words; is = refl; within = subst (λ a. Within s.de.words a) (alone (index_pair_of r De) address there) holds.de.words }
+points_by w s r address holds there = absurd (omega (arith, there.1))
 
 -- an address is listed, or it isn't
 pub listed_or_not : (at : ℕ) (stores : List OpenStore) → Any (λ store. store.at ≡ at) stores ⊎ All (λ store. store.at ≢ at) stores
 listed_or_not at [] = inr (All-nil (λ (store : OpenStore). store.at ≢ at))
-listed_or_not at (store ∷ stores) = go (nat_same store.at at) (listed_or_not at stores) where
-  nat_same : (a b : ℕ) → (a ≡ b) ⊎ (a ≢ b)
-  nat_same a b = grind arith
-
+listed_or_not at (store ∷ stores) = go (cases_eq store.at at) (listed_or_not at stores) where
   go : (store.at ≡ at) ⊎ (store.at ≢ at) → Any (λ store. store.at ≡ at) stores ⊎ All (λ store. store.at ≢ at) stores → Any (λ store. store.at ≡ at) (store ∷ stores) ⊎ All (λ store. store.at ≢ at) (store ∷ stores)
   go (inl same) rest = inl (0, store, omega arith, refl, same)
   go (inr other) (inl (k, x, inside, is, same)) = inl (suc k, x, omega arith, is, same)
   go (inr other) (inr none) = inr (All-cons (λ (store : OpenStore). store.at ≢ at) store stores other none)
+
+inside_within : (s t : Span) (n : ℕ) → IsInside s t → Within s n → Within t n
+inside_within s t n inside within = record { above = omega arith; below = omega arith }
 
 -- the first address outside is one of the list, and is outside
 first_step : (inside : ℕ → Bool) (x : ℕ) (xs : List ℕ) (a : ℕ) (b : Bool) → inside x ≡ b → (first_outside inside xs ≡ Some a → Contains xs a × (inside a ≡ false)) → first_outside inside (x ∷ xs) ≡ Some a →
@@ -111,7 +102,7 @@ jump_is regions refused Pchl next m to h = (refl, outside_if (leads_outside (tar
 jump_is regions refused i next m to h = cc
 
 -- what is one of the declared targets isn't outside them
-pub any_by : (x : ℕ) (xs : List ℕ) → Contains xs x → list_any (λ y. y == x) xs ≡ true
+any_by : (x : ℕ) (xs : List ℕ) → Contains xs x → list_any (λ y. y == x) xs ≡ true
 any_by x xs (k, inside, same) = list_any_at (λ y. y == x) xs k x inside (grind (arith, nat_tests, same))
 
 store_ends : (regions : Areas) (g : Option End) (refused : Bool) (found : Fetched) (m : Machine) (a : ℕ) → guard regions found.instr m.cpu ≡ g → guarded regions g refused found m ≡ Stop (StoreOutside a) →
@@ -131,9 +122,9 @@ jump_ends regions (Some e) refused found m to is h =
     (is ∙ ap (λ (x : End). Some x) same))
 
 -- a target that is declared is not outside
-inside_targets : (declared : Option (List ℕ)) (hl : ℕ) → leads_outside declared hl ≡ true → Contains (option_map_or (λ targets. targets) declared []) hl → ⊥
-inside_targets None hl outside there = cc
-inside_targets (Some targets) hl outside there = (let any : list_any (λ y. y == hl) targets ≡ true = any_by hl targets there in let e : not (list_any (λ y. y == hl) targets) ≡ true = outside in cc)
+pub not_outside : (declared : Option (List ℕ)) (hl : ℕ) → Contains (option_map_or (λ targets. targets) declared []) hl → leads_outside declared hl ≡ false
+not_outside None hl there = refl
+not_outside (Some targets) hl there = ap (λ b. not b) (any_by hl targets there)
 
 -- none is listed there
 none_listed : (at : ℕ) (stores : List OpenStore) → Any (λ store. store.at ≡ at) stores → All (λ store. store.at ≢ at) stores → ⊥
@@ -146,7 +137,7 @@ KeepsToEach image quiet w = (t : KeptTable image quiet) → KeepsTo image t.tabl
 module _ (image : Located) (bytes : ℕ) (quiet : ℕ → Bool) (reached : List (Option Fetched)) (marks : List Bool) (spans : List (Option Span)) (addresses : List ℕ) (stores : List OpenStore) (jumps open_jumps : List ℕ)
     (sound : NeverGoesWrongFromPowerOn image bytes) (walks : StaysOnWalks image) (are : AreReached (code_of image) reached) (whole : length reached ≡ 65536) (keeps : (t : KeptTable image quiet) → RunsKeepTo image t.table)
     (shown : AreShown image quiet reached marks spans) (each_store : AreAllBelow (is_at stores_by_pair reached) 65536 addresses)
-    (open_below : AreOpenBelow reached marks spans 65536 stores) (each_jump : AreAllBelow (is_at is_pchl reached) 65536 jumps) (each_open_jump : AreAllBelow (is_marked_at is_pchl reached marks) 65536 open_jumps) where
+    (open_below : AreOpenBelow reached marks spans 65536 stores) (each_jump : AreAllBelow (is_at is_pchl reached) 65536 jumps) (each_open_jump : AreAllBelow (is_listed is_pchl true reached marks) 65536 open_jumps) where
   -- a world stands at an instruction that is reached
   record Here (w : World) (found : Fetched) : Type 0 where
     there : found_at reached w.machine.cpu.pc ≡ Some found
@@ -159,11 +150,8 @@ module _ (image : Located) (bytes : ℕ) (quiet : ℕ → Bool) (reached : List 
       let two : there.found ≡ stands.found = (let f : (code_of image).look w.machine.cpu.pc ≡ Ok there.found = there.looked in let g : (code_of image).look w.machine.cpu.pc ≡ Ok stands.found = stands.looked in cc) in
       record { there = there.there ∙ ap (λ (f : Fetched). Some f) (two ∙ one); small = omega (arith, there.within, whole) }
 
-  -- it is marked as open, or it stays inside
-  marked_so : (kind : Instr → Bool) (at : ℕ) (found : Fetched) → found_at reached at ≡ Some found → kind found.instr ≡ true → is_marked marks at ≡ true → is_marked_at kind reached marks at ≡ true
-  marked_so kind at found there is marked =
-      let here : is_at kind reached at ≡ true = ap (λ (o : Option Fetched). is_kind kind o) there ∙ is in
-      rw (here, marked) refl
+  kind_at : (kind : Instr → Bool) (at : ℕ) (found : Fetched) → found_at reached at ≡ Some found → kind found.instr ≡ true → is_at kind reached at ≡ true
+  kind_at kind at found there is = ap (λ (o : Option Fetched). is_kind kind o) there ∙ is
 
   -- what a world does at an address that a table shows
   data_stores : (w : World) (found : Fetched) (address : ℕ) → KeepsToEach image quiet w → found_at reached w.machine.cpu.pc ≡ Some found → Contains (pointed_bytes found.instr w.machine.cpu.registers) address →
@@ -171,7 +159,7 @@ module _ (image : Located) (bytes : ℕ) (quiet : ℕ → Bool) (reached : List 
   data_stores w found address keep instr there unmarked =
       let it = shown.stays w.machine.cpu.pc unmarked in
       let k = keep it.by in
-      let points = points_by found.instr k.placed.state w.machine.cpu.registers address k.holds.registers there in
+      let points = points_by (storing found.instr) k.placed.state w.machine.cpu.registers address k.holds.registers there in
       (it.shut k.place k.placed found k.there k.at instr).stores points.span points.is address points.within
 
   target_jumps : (w : World) (found : Fetched) → KeepsToEach image quiet w → found_at reached w.machine.cpu.pc ≡ Some found → is_pchl found.instr ≡ true → is_marked marks w.machine.cpu.pc ≡ false →
@@ -191,7 +179,7 @@ module _ (image : Located) (bytes : ℕ) (quiet : ℕ → Bool) (reached : List 
       Contains (pointed_bytes found.instr w.machine.cpu.registers) address → GoesAsListed image.regions stores w.machine.cpu.pc address
   goes_if w found stands keep fetched address there =
       let here = here_if w found stands fetched in
-      let points = points_by found.instr (keep shown.first).placed.state w.machine.cpu.registers address (keep shown.first).holds.registers there in
+      let points = points_by (storing found.instr) (keep shown.first).placed.state w.machine.cpu.registers address (keep shown.first).holds.registers there in
       let whole_span = spanned w found (keep shown.first) points.span here.there points.is in
       let within : Within whole_span.whole address = inside_within points.span whole_span.whole address whole_span.inside points.within in
       record {
@@ -205,8 +193,9 @@ module _ (image : Located) (bytes : ℕ) (quiet : ℕ → Bool) (reached : List 
         go : Here w found → (span : Span) → pointer_span found.instr (keep shown.first).placed.state ≡ Some span → (whole_one : Span) → entry_in (slice_get spans w.machine.cpu.pc) ≡ Some whole_one →
             All (λ store. store.at ≢ w.machine.cpu.pc) stores → (b : Bool) → is_marked marks w.machine.cpu.pc ≡ b → in_data image.regions address ≡ true
         go here span is whole_one there_one none true marked =
+            let store = kind_at stores_by_pair w.machine.cpu.pc found here.there (by_any_pair (storing found.instr) (keep shown.first).placed.state span is) in
             absurd (none_listed w.machine.cpu.pc stores
-            (open_below.all w.machine.cpu.pc whole_one here.small (marked_so stores_by_pair w.machine.cpu.pc found here.there (by_any_pair found.instr (keep shown.first).placed.state span is) marked) there_one) none)
+            (open_below.all w.machine.cpu.pc here.small whole_one (and_from (is_at stores_by_pair reached w.machine.cpu.pc) (is_marked marks w.machine.cpu.pc) store marked) there_one) none)
         go here span is whole_one there_one none false unmarked = data_stores w found address keep here.there there unmarked
 
   -- a PCHL is listed, or goes to a declared target
@@ -214,7 +203,7 @@ module _ (image : Located) (bytes : ℕ) (quiet : ℕ → Bool) (reached : List 
       Contains open_jumps w.machine.cpu.pc ⊎ Contains (declared_targets image.regions w.machine.cpu.pc) (hl_of w.machine.cpu.registers)
   jump_there w found stands keep fetched jump = go (here_if w found stands fetched) (is_marked marks w.machine.cpu.pc) refl where
     go : Here w found → (b : Bool) → is_marked marks w.machine.cpu.pc ≡ b → Contains open_jumps w.machine.cpu.pc ⊎ Contains (declared_targets image.regions w.machine.cpu.pc) (hl_of w.machine.cpu.registers)
-    go here true marked = inl (each_open_jump.all w.machine.cpu.pc here.small (marked_so is_pchl w.machine.cpu.pc found here.there jump marked))
+    go here true marked = inl (each_open_jump.all w.machine.cpu.pc here.small (and_from (is_marked marks w.machine.cpu.pc) (is_at is_pchl reached w.machine.cpu.pc) marked (kind_at is_pchl w.machine.cpu.pc found here.there jump)))
     go here false unmarked = inr (target_jumps w found keep here.there jump unmarked)
 
   -- each world of a run keeps to each table
@@ -244,7 +233,7 @@ module _ (image : Located) (bytes : ℕ) (quiet : ℕ → Bool) (reached : List 
   jump_listed : (w : World) (to : ℕ) → leads_outside (targets_at image.regions w.machine.cpu.pc) (hl_of w.machine.cpu.registers) ≡ true →
       Contains open_jumps w.machine.cpu.pc ⊎ Contains (declared_targets image.regions w.machine.cpu.pc) (hl_of w.machine.cpu.registers) → Contains open_jumps w.machine.cpu.pc
   jump_listed w to outside (inl listed) = listed
-  jump_listed w to outside (inr target) = absurd (inside_targets (targets_at image.regions w.machine.cpu.pc) (hl_of w.machine.cpu.registers) outside target)
+  jump_listed w to outside (inr target) = absurd (true≢false (sym outside ∙ not_outside (targets_at image.regions w.machine.cpu.pc) (hl_of w.machine.cpu.registers) target))
 
   ends_so : (start : Machine) → IsStart image start → HoldsBytes start → (most : Option ℕ) (w : World) (e : End) → IsWorldFrom image start most w → turn_at image.regions most w ≡ Stop e → IsProperEnd e → EndsAsListed stores open_jumps w.machine.cpu.pc e
   ends_so start begins held most w (StoreOutside address) from stops proper =
@@ -274,10 +263,10 @@ module _ (image : Located) (bytes : ℕ) (quiet : ℕ → Bool) (reached : List 
   }
 
   open_jump_there : (at : ℕ) → Contains open_jumps at → IsReachedAs (code_of image) is_pchl at
-  open_jump_there at there = kind_there (code_of image) reached are is_pchl at (found_at reached at) refl (first_of (is_at is_pchl reached at) (is_marked marks at) (each_open_jump.each at there).1)
+  open_jump_there at there = kind_there (code_of image) reached are is_pchl at (found_at reached at) refl (and_parts (is_marked marks at) (is_at is_pchl reached at) (each_open_jump.each at there).1).1
 
   -- a state that leaves a store open shows an address of its whole span that is no data
-  open_by : (store : OpenStore) (l : IsListed reached marks spans 65536 store) (left : IsLeftAt image.regions reached shown.first.table store.at) → left.found ≡ l.found → IsOpen image store
+  open_by : (store : OpenStore) (l : IsListed reached marks spans store) (left : IsLeftAt image.regions reached shown.first.table store.at) → left.found ≡ l.found → IsOpen image store
   open_by store l left same = go left.leaves where
     go : IsLeftOpen image.regions left.found.instr left.placed.state → IsOpen image store
     go (inl may) =
@@ -300,7 +289,7 @@ module _ (image : Located) (bytes : ℕ) (quiet : ℕ → Bool) (reached : List 
         let is : left.found.instr ≡ store.instr = ap (λ (f : Fetched). f.instr) same ∙ l.instr in
         absurd (no_jump store.instr l.stores (sym (ap is_pchl is) ∙ jump))
 
-  open_there : (store : OpenStore) → IsListed reached marks spans 65536 store → IsOpen image store
+  open_there : (store : OpenStore) → IsListed reached marks spans store → IsOpen image store
   open_there store l =
       let left = shown.leaves store.at l.marked in
       open_by store l left (let f : found_at reached store.at ≡ Some left.found = left.instr in let g : found_at reached store.at ≡ Some l.found = l.there in let e : left.found ≡ l.found = cc in e)

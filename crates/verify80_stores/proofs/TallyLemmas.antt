@@ -1,12 +1,36 @@
 -- What is noted by address of the states of a table, place by place.
-use Rattle.verify80_stores.proofs.Names.{◌≡◌, ◌≢◌, ◌⊎◌, ℕ, ◌<◌, ◌+◌, Bool, true, false, List, Option, None, Some, ◌≤◌, length, slice_get, slice_index, slice_set, refl, if◌then◌else◌, subst, sym, ap, ◌∙◌, inl, inr, arith, get_or-set_other, get_or-set_same, length-set, slice_get_within, Fetched, Areas, in_code, Located, memory_of, declared_targets, found_at, Span, Placed, IsInside, entry_in, AreCodeBytes, code_in, is_marked, pointer_span, span_in, joined_span, StaysIn, IsLeftOpen, AreOpenMarks, AreSpans, IsLeftAt, IsSpanned}
-use Rattle.verify80_stores.proofs.HullLemmas.{hull_left, hull_right, inside_again, inside_itself}
-use Rattle.verify80_stores.proofs.VecLemmas.{nat_same, split, marked_here, marked_elsewhere, entry_here, entry_elsewhere}
+use Rattle.verify80_stores.proofs.Names.{◌≡◌, ◌≢◌, ◌⊎◌, ℕ, ◌<◌, ◌+◌, Bool, true, false, List, Option, None, Some, ◌≤◌, length, slice_get, slice_index, slice_set, refl, if◌then◌else◌, subst, sym, ap, ◌∙◌, inl, inr, arith, get_or-set_other, get_or-set_same, length-set, slice_get_within, Fetched, Areas, in_code, Located, memory_of, declared_targets, found_at, Span, Placed, IsInside, entry_in, AreCodeBytes, code_in, is_marked, pointer_span, span_in, joined_span, StaysIn, IsLeftOpen, AreOpenMarks, AreSpans, IsLeftAt, IsSpanned, cases_eq, zero, suc, [], ◌∷◌, slice_index_or, nat_tests, hull}
+
+split : (a n : ℕ) → a < n + 1 → (a < n) ⊎ (a ≡ n)
+split a n h = grind arith
+
+-- two ways to read a table of entries
+same_entry : {A : Type 0} (table : List (Option A)) (at : ℕ) → entry_in (slice_get table at) ≡ slice_index_or table at None
+same_entry [] at = refl
+same_entry (entry ∷ table) zero = refl
+same_entry (entry ∷ table) (suc at) = same_entry table at
+
+-- entries, one of which is set
+entry_here : {A : Type 0} (table : List (Option A)) (at : ℕ) (x : Option A) → at < length table → entry_in (slice_get (slice_set table at x) at) ≡ x
+entry_here table at x inside = same_entry (slice_set table at x) at ∙ get_or-set_same table at x None inside
+
+entry_elsewhere : {A : Type 0} (table : List (Option A)) (at other : ℕ) (x : Option A) → other ≢ at → entry_in (slice_get (slice_set table at x) other) ≡ entry_in (slice_get table other)
+entry_elsewhere table at other x apart = same_entry (slice_set table at x) other ∙ get_or-set_other table at other x None apart ∙ sym (same_entry table other)
+
+-- spans inside others
+hull_left : (s t : Span) → IsInside s (hull s t)
+hull_left s t = record { above = grind (arith, nat_tests); below = grind (arith, nat_tests) }
+
+hull_right : (s t : Span) → IsInside t (hull s t)
+hull_right s t = record { above = grind (arith, nat_tests); below = grind (arith, nat_tests) }
+
+inside_again : (s t u : Span) → IsInside s t → IsInside t u → IsInside s u
+inside_again s t u first second = record { above = omega arith; below = omega arith }
 
 -- the bytes of code, one of which is set
 pub code_set : (image : Located) (code : List (Option ℕ)) (at : ℕ) (o : Option ℕ) → length code ≡ 65536 → at < 65536 → AreCodeBytes image code →
     ((byte : ℕ) → o ≡ Some byte → (in_code image.regions at ≡ true) × (slice_index (memory_of image.chunks) at ≡ byte)) → AreCodeBytes image (slice_set code at o)
-code_set image code at o whole small are here other byte is = go (nat_same other at) where
+code_set image code at o whole small are here other byte is = go (cases_eq other at) where
   go : (other ≡ at) ⊎ (other ≢ at) → (in_code image.regions other ≡ true) × (slice_index (memory_of image.chunks) other ≡ byte)
   go (inl same) =
       let it : entry_in (slice_get (slice_set code at o) at) ≡ o = entry_here code at o (omega (arith, whole, small)) in
@@ -42,23 +66,23 @@ module _ (regions : Areas) (reached : List (Option Fetched)) (table : List Place
       ((found : Fetched) × ((found_at reached e.at ≡ Some found) × IsLeftOpen regions found.instr e.state)) → Marks regions reached table (n + 1) (slice_set marks e.at true)
   marks_open n marks e there below small left = record {
     whole = length-set marks e.at true ∙ below.whole;
-    stays = λ place placed found less got_it instr unmarked. stay place placed found got_it instr unmarked (split place n less) (nat_same placed.at e.at);
-    leaves = λ at marked. leave at marked (nat_same at e.at);
+    stays = λ place placed found less got_it instr unmarked. stay place placed found got_it instr unmarked (split place n less) (cases_eq placed.at e.at);
+    leaves = λ at marked. leave at marked (cases_eq at e.at);
   } where
     set_here : is_marked (slice_set marks e.at true) e.at ≡ true
-    set_here = let whole = below.whole in marked_here marks e.at (omega (arith, whole, small))
+    set_here = let whole = below.whole in get_or-set_same marks e.at true false (omega (arith, whole, small))
 
     stay : (place : ℕ) (placed : Placed) (found : Fetched) → slice_get table place ≡ Some placed → found_at reached placed.at ≡ Some found → is_marked (slice_set marks e.at true) placed.at ≡ false →
         (place < n) ⊎ (place ≡ n) → (placed.at ≡ e.at) ⊎ (placed.at ≢ e.at) → StaysIn regions (declared_targets regions placed.at) found.instr placed.state
     stay place placed found got_it instr unmarked less (inl same) =
         absurd (let h : is_marked (slice_set marks e.at true) e.at ≡ false = subst (λ k. is_marked (slice_set marks e.at true) k ≡ false) same unmarked in let g = set_here in cc (h, g))
-    stay place placed found got_it instr unmarked (inl less) (inr apart) = below.stays place placed found less got_it instr (sym (marked_elsewhere marks e.at placed.at apart) ∙ unmarked)
+    stay place placed found got_it instr unmarked (inl less) (inr apart) = below.stays place placed found less got_it instr (sym (get_or-set_other marks e.at placed.at true false apart) ∙ unmarked)
     stay place placed found got_it instr unmarked (inr now) (inr apart) =
         absurd (apart (ap (λ (p : Placed). p.at) (let h : slice_get table n ≡ Some placed = subst (λ k. slice_get table k ≡ Some placed) now got_it in let same : placed ≡ e = cc in same)))
 
     leave : (at : ℕ) → is_marked (slice_set marks e.at true) at ≡ true → (at ≡ e.at) ⊎ (at ≢ e.at) → IsLeftAt regions reached table at
     leave at marked (inl same) = record { place = n; placed = e; found = left.0; there = there; here = sym same; instr = subst (λ k. found_at reached k ≡ Some left.0) (sym same) left.1.0; leaves = left.1.1 }
-    leave at marked (inr apart) = below.leaves at (sym (marked_elsewhere marks e.at at apart) ∙ marked)
+    leave at marked (inr apart) = below.leaves at (sym (get_or-set_other marks e.at at true false apart) ∙ marked)
 
   pub marks_shut : (n : ℕ) (marks : List Bool) (e : Placed) → slice_get table n ≡ Some e → Marks regions reached table n marks →
       ((found : Fetched) → found_at reached e.at ≡ Some found → StaysIn regions (declared_targets regions e.at) found.instr e.state) → Marks regions reached table (n + 1) marks
@@ -87,11 +111,8 @@ pub record Spans (reached : List (Option Fetched)) (table : List Placed) (n : �
       pointer_span found.instr placed.state ≡ Some span → IsSpanned spans placed.at span
 
 joined_right : (o : Option Span) (span : Span) → IsInside span (joined_span o span)
-joined_right None span = inside_itself span
+joined_right None span = record { above = omega arith; below = omega arith }
 joined_right (Some old) span = hull_right old span
-
-joined_left : (old span : Span) → IsInside old (joined_span (Some old) span)
-joined_left old span = hull_left old span
 
 module _ (reached : List (Option Fetched)) (table : List Placed) where
   pub spans_none : (spans : List (Option Span)) → length spans ≡ 65536 → Spans reached table 0 spans
@@ -107,7 +128,7 @@ module _ (reached : List (Option Fetched)) (table : List Placed) where
       Spans reached table (n + 1) (slice_set spans e.at (Some (joined_span (entry_in (slice_get spans e.at)) new)))
   spans_more n spans e new there below small is_new = record {
     whole = length-set spans e.at (Some (joined_span (entry_in (slice_get spans e.at)) new)) ∙ below.whole;
-    each = λ place placed found span less got_it instr is. go place placed found span got_it instr is (split place n less) (nat_same placed.at e.at);
+    each = λ place placed found span less got_it instr is. go place placed found span got_it instr is (split place n less) (cases_eq placed.at e.at);
   } where
     here : entry_in (slice_get (spans_with spans e new) e.at) ≡ Some (joined_span (entry_in (slice_get spans e.at)) new)
     here = let whole = below.whole in entry_here spans e.at (Some (joined_span (entry_in (slice_get spans e.at)) new)) (omega (arith, whole, small))
@@ -120,7 +141,7 @@ module _ (reached : List (Option Fetched)) (table : List Placed) where
         (record {
           whole = joined_span (entry_in (slice_get spans e.at)) new;
           there = here;
-          inside = rw old.there (inside_again span old.whole (joined_span (Some old.whole) new) old.inside (joined_left old.whole new));
+          inside = rw old.there (inside_again span old.whole (joined_span (Some old.whole) new) old.inside (hull_left old.whole new));
         })
     go place placed found span got_it instr is (inl less) (inr apart) =
         let old = below.each place placed found span less got_it instr is in
@@ -157,7 +178,7 @@ module _ (reached : List (Option Fetched)) (table : List Placed) where
 
 -- marks, one of which is set or cleared: what holds of the addresses that are marked
 pub marks_set : (P : ℕ → Type 0) (marks : List Bool) (at : ℕ) (b : Bool) → length marks ≡ 65536 → at < 65536 → ((k : ℕ) → is_marked marks k ≡ true → P k) → (b ≡ true → P at) → (k : ℕ) → is_marked (slice_set marks at b) k ≡ true → P k
-marks_set P marks at b whole small before here k is = go (nat_same k at) where
+marks_set P marks at b whole small before here k is = go (cases_eq k at) where
   go : (k ≡ at) ⊎ (k ≢ at) → P k
   go (inl same) =
       let it : is_marked (slice_set marks at b) at ≡ b = get_or-set_same marks at b false (omega (arith, whole, small)) in

@@ -1,5 +1,5 @@
 -- What is listed of the instructions that are reached, by the states that a table has for them. (This project's own.)
-use Rattle.std.specs.Prelude.{◌≡◌, ◌<◌, ◌&&◌, ◌||◌, ℕ, Bool, true, false, List, All, AllPairs, Any, Contains, Option, None, Some, slice_get}
+use Rattle.std.specs.Prelude.{◌≡◌, ◌<◌, ◌&&◌, ◌||◌, ℕ, Bool, true, false, not, List, All, AllPairs, Any, Contains, Option, None, Some, slice_get}
 use Rattle.decode80.specs.declared.{instr.Instr.Instr, fetching.Fetched.Fetched}
 use Rattle.image80.specs.{Regions.Areas, Regions.AreRegions, Image.Located}
 use Rattle.machine80.specs.{Step.Machine, World.World}
@@ -40,6 +40,10 @@ is_at kind reached at = is_kind kind (found_at reached at)
 abbrev pub is_marked_at : (Instr → Bool) → List (Option Fetched) → (marks : List Bool) → ℕ → Bool
 is_marked_at kind reached marks at = is_at kind reached at && is_marked marks at
 
+-- the same, if the mark is asked for
+abbrev pub is_listed : (Instr → Bool) → (only_marked : Bool) → List (Option Fetched) → (marks : List Bool) → ℕ → Bool
+is_listed kind only_marked reached marks at = (not only_marked || is_marked marks at) && is_at kind reached at
+
 -- addresses, ascending: all of those below a bound for which something holds
 pub record AreAllBelow (is : ℕ → Bool) (bound : ℕ) (addresses : List ℕ) : Type 0 where
   pub ascending : AllPairs (λ a b. a < b) addresses
@@ -74,8 +78,7 @@ AreSpans reached table spans = (place : ℕ) (placed : Placed) (found : Fetched)
     found_at reached placed.at ≡ Some found → pointer_span found.instr placed.state ≡ Some span → IsSpanned spans placed.at span
 
 -- an open store is that of its address: the instruction, which is marked, and its span
-pub record IsListed (reached : List (Option Fetched)) (marks : List Bool) (spans : List (Option Span)) (bound : ℕ) (store : OpenStore) : Type 0 where
-  pub below : store.at < bound
+pub record IsListed (reached : List (Option Fetched)) (marks : List Bool) (spans : List (Option Span)) (store : OpenStore) : Type 0 where
   pub found : Fetched
   pub there : found_at reached store.at ≡ Some found
   pub instr : found.instr ≡ store.instr
@@ -86,6 +89,7 @@ pub record IsListed (reached : List (Option Fetched)) (marks : List Bool) (spans
 -- the open stores below a bound, ascending: each marked store that has a span is there
 pub record AreOpenBelow (reached : List (Option Fetched)) (marks : List Bool) (spans : List (Option Span)) (bound : ℕ) (stores : List OpenStore) : Type 0 where
   pub ascending : AllPairs (λ a b. a.at < b.at) stores
-  pub each : All (IsListed reached marks spans bound) stores
-  pub all : (at : ℕ) (span : Span) → at < bound → is_marked_at stores_by_pair reached marks at ≡ true →
+  pub below : All (λ store. store.at < bound) stores
+  pub each : All (IsListed reached marks spans) stores
+  pub all : (at : ℕ) → at < bound → (span : Span) → is_marked_at stores_by_pair reached marks at ≡ true →
       entry_in (slice_get spans at) ≡ Some span → Any (λ store. store.at ≡ at) stores

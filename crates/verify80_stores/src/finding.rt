@@ -8,7 +8,7 @@ ghost use Rattle.verify80_stores.specs.{Boards.PromiseHoldsOnBoards, Boards.Prom
 ghost use Rattle.verify80_stores.specs.Stores.{AreStoresOf, WatchedRunsGoAsListed};
 
 use crate::laws::watched_runs_go_as_listed;
-use crate::listing::{Kind, addresses_of, open_jumps, open_stores};
+use crate::listing::{Kind, addresses_of, open_stores};
 use crate::showing::show;
 use crate::stack_pointer::sets_stack;
 use crate::stores::Stores;
@@ -65,10 +65,10 @@ pub fn find_stores(alloc: Global, vouched: &Vouched, quiet: &[Range]) -> Result<
     let found = find_reached(alloc, vouched)?;
     let reached = found.instructions();
     let shown = show(alloc, image, vouched.rows(), reached, quiet)?;
-    let addresses = addresses_of(alloc, Kind::Store, reached)?;
+    let addresses = addresses_of(alloc, Kind::Store, false, reached, &shown.marks)?;
     let open = open_stores(alloc, reached, &shown.marks, &shown.spans)?;
-    let jumps = addresses_of(alloc, Kind::Jump, reached)?;
-    let open_jumps = open_jumps(alloc, reached, &shown.marks)?;
+    let jumps = addresses_of(alloc, Kind::Jump, false, reached, &shown.marks)?;
+    let open_jumps = addresses_of(alloc, Kind::Jump, true, reached, &shown.marks)?;
     Ok(Stores {
         addresses,
         open,

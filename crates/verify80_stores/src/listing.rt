@@ -1,13 +1,13 @@
 //! What is listed of the instructions that are reached.
 
 ghost use Rattle.std.specs.Prelude.{◌≡◌, ◌+◌, ◌<◌, ℕ, true, false, Some, Contains, IfOk, IfSome, IfNone, length, slice_get};
-ghost use Rattle.verify80.specs.{Looking.declared_targets, Looking.is_pchl, Reached.found_at};
+ghost use Rattle.verify80.specs.{Looking.declared_targets, Reached.found_at};
 ghost use Rattle.verify80_spans.specs.declared.span.Span.{Span};
 ghost use Rattle.verify80_spans.specs.Span.{Within};
 ghost use Rattle.verify80_states.specs.{Following.entry_in, Marks.is_marked};
 ghost use Rattle.verify80_stores.specs.{DataReach.AreDataEnds, Pointers.stores_by_pair, Kinds.is_of};
 ghost use Rattle.verify80_stores.specs.Opening.{joined_span, span_in, StaysIn, IsLeftOpen};
-ghost use Rattle.verify80_stores.specs.Listing.{AreAllBelow, AreOpenBelow, AreOpenMarks, AreSpans, IsListed, is_at, is_marked_at};
+ghost use Rattle.verify80_stores.specs.Listing.{AreAllBelow, AreOpenBelow, AreOpenMarks, AreSpans, IsListed, is_at, is_listed, is_marked_at};
 
 use crate::data_ends::{data_ends, is_all_data};
 use crate::marks::unmarked;
@@ -39,21 +39,23 @@ impl Kind {
     }
 }
 
-/// The addresses of the instructions of a kind.
+/// The addresses of the instructions of a kind; of the marked ones, if they alone are asked for.
 ///
 /// # Errors
 /// `AllocError` if memory runs out.
 pub(crate) fn addresses_of(
     alloc: Global,
     kind: Kind,
+    only_marked: bool,
     reached: &[Option<Fetched>],
+    marks: &[bool],
 ) -> Result<Vec<u16>, AllocError>
-    ensures { IfOk result (λ addresses. AreAllBelow (is_at (is_of kind) reached.now) 65536 addresses.items) }
+    ensures { IfOk result (λ addresses. AreAllBelow (is_listed (is_of kind) only_marked reached.now marks.now) 65536 addresses.items) }
 {
     let mut addresses = Vec::new(alloc);
     for at in 0..65_536_usize {
         let address = at as u16;
-        if is_at(kind, reached, address) {
+        if is_listed(kind, only_marked, reached, marks, address) {
             addresses.push(address)?;
         }
     }
@@ -70,32 +72,17 @@ fn is_at(kind: Kind, reached: &[Option<Fetched>], at: u16) -> bool
     }
 }
 
-/// The PCHLs that are marked as open.
-///
-/// # Errors
-/// `AllocError` if memory runs out.
-pub(crate) fn open_jumps(
-    alloc: Global,
+/// Whether an instruction of a kind is reached at an address, which is marked, if that is asked for.
+fn is_listed(
+    kind: Kind,
+    only_marked: bool,
     reached: &[Option<Fetched>],
     marks: &[bool],
-) -> Result<Vec<u16>, AllocError>
-    ensures { IfOk result (λ addresses. AreAllBelow (is_marked_at is_pchl reached.now marks.now) 65536 addresses.items) }
+    at: u16,
+) -> bool
+    ensures { result ≡ is_listed (is_of kind) only_marked reached.now marks.now at }
 {
-    let mut addresses = Vec::new(alloc);
-    for at in 0..65_536_usize {
-        let address = at as u16;
-        if is_open_jump(reached, marks, address) {
-            addresses.push(address)?;
-        }
-    }
-    Ok(addresses)
-}
-
-/// Whether a PCHL is reached at an address that is marked as open.
-fn is_open_jump(reached: &[Option<Fetched>], marks: &[bool], at: u16) -> bool
-    ensures { result ≡ is_marked_at is_pchl reached.now marks.now at }
-{
-    is_at(Kind::Jump, reached, at) && is_marked(marks, at)
+    (!only_marked || is_marked(marks, at)) && is_at(kind, reached, at)
 }
 
 /// Whether an instruction in a state stores to data and jumps to a declared target, if it does so by a pair.
@@ -241,7 +228,7 @@ fn open_store(
     spans: &[Option<Span>],
     at: u16,
 ) -> Option<OpenStore>
-    ensures some { IfSome result (λ store. (store.at ≡ at) × IsListed reached.now marks.now spans.now (at + 1) store) }
+    ensures some { IfSome result (λ store. (store.at ≡ at) × IsListed reached.now marks.now spans.now store) }
     ensures none { IfNone result ((span : Span) → is_marked_at stores_by_pair reached.now marks.now at ≡ true →
         entry_in (slice_get spans.now at) ≡ Some span → ⊥) }
 {

@@ -103,10 +103,8 @@ impl<'a> Setters<'a> {
 
     /// The word that an LXI loads, from which a pair comes before an address by INX, DCX and DAD; `None` if there is no such LXI.
     pub fn loaded(&self, at: u16, pair: Pair) -> Option<u16> {
-        match self
-            .program
-            .instr(found_at(&self.of(Place::Pair(pair)).loaded, at)?)?
-        {
+        let by = found_at(&self.of(Place::Pair(pair)).loaded, at)?;
+        match self.program.instr(by)? {
             Instr::Lxi(_, word) => Some(word),
             _ => None,
         }

@@ -96,10 +96,8 @@ impl<'a> Ways<'a> {
     /// Follows an instruction to where it leads: a call both to its callee and behind it, a return behind the calls of its group.
     fn follow(&mut self, at: u16, found: Fetched, by: u16) -> Result<(), AllocError> {
         let (direct, targets) = self.program.ways_inside(at, found);
-        for to in &direct {
-            if let Some(to) = to {
-                self.reach(*to, by)?;
-            }
+        for to in direct.iter().flatten() {
+            self.reach(*to, by)?;
         }
         for to in targets {
             self.reach(*to, by)?;
@@ -132,13 +130,12 @@ impl<'a> Ways<'a> {
 
     /// Notes the instruction `by` from which an address is reached, if the address wasn't reached before.
     fn reach(&mut self, at: u16, by: u16) -> Result<(), AllocError> {
-        match self.found.get_mut(usize::from(at)) {
-            Some(found) if found.is_none() => {
+        if let Some(found) = self.found.get_mut(usize::from(at)) {
+            if found.is_none() {
                 *found = Some(by);
                 self.reached.push(at)?;
-                Ok(())
             }
-            _ => Ok(()),
         }
+        Ok(())
     }
 }

@@ -1,7 +1,7 @@
 //! What becomes of a state at an instruction.
 
 ghost use Rattle.std.specs.Prelude.{◌≡◌};
-ghost use Rattle.verify80_states.specs.Following.{byte_at, known_pair, loaded_at, loaded, moved, counted, resulted, tested, operand_bytes, after_operation, added_carry, turned, exchanged_pairs, index_words, popped_to, registers_after, pushed_pair, called, returned, words_after, state_after};
+ghost use Rattle.verify80_states.specs.Following.{byte_at, loaded_at, loaded, moved, counted, resulted, tested, operand_bytes, after_operation, added_carry, turned, exchanged_pairs, index_words, popped_to, registers_after, pushed_pair, called, returned, words_after, state_after};
 ghost use Rattle.verify80_spans.specs.Span.{uncarried};
 ghost use Rattle.verify80_states.specs.State.{compared_with, with_outcome};
 
@@ -20,16 +20,6 @@ fn byte_at(code: &[Option<u8>], at: u16) -> Option<u8>
     match code.get(usize::from(at)) {
         Some(byte) => *byte,
         None => None,
-    }
-}
-
-/// What a word on the stack may be: any word, if nothing is known of it.
-fn known_pair(word: Option<PairSpan>) -> PairSpan
-    ensures { result ≡ known_pair word }
-{
-    match word {
-        Some(span) => span,
-        None => PairSpan::ANY,
     }
 }
 
@@ -278,8 +268,8 @@ fn registers_after(code: &[Option<u8>], instr: Instr, state: State) -> State
             .with_byte(Register::H, loaded_at(code, state.cells, ahead(address, 1)))
             .with_byte(Register::L, loaded_at(code, state.cells, address)),
         Instr::Xchg => exchanged_pairs(state),
-        Instr::Pop(pair) => popped_to(pair, known_pair(state.words.first), state),
-        Instr::Xthl => state.with_span(Pair::Hl, known_pair(state.words.first)),
+        Instr::Pop(pair) => popped_to(pair, state.words.first.unwrap_or(PairSpan::ANY), state),
+        Instr::Xthl => state.with_span(Pair::Hl, state.words.first.unwrap_or(PairSpan::ANY)),
         Instr::Store(_)
         | Instr::MviMemory(_)
         | Instr::Jmp(_)

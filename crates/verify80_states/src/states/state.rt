@@ -34,7 +34,7 @@ pub struct State {
 }
 
 ghost use Rattle.std.specs.Prelude.{◌≡◌, true};
-ghost use Rattle.verify80_states.specs.State.{copy_without, copy_outside, IsFlagInside, IsComparisonInside, IsCopyInside};
+ghost use Rattle.verify80_states.specs.State.{copy_without, copy_outside, IsSameIfKnown, IsCopyInside};
 
 /// The register that has A's byte after a register is written: A itself, if none else does.
 fn copy_without(written: Register, copy: Register) -> Register
@@ -66,21 +66,21 @@ fn copy_outside(written: Pair, copy: Register) -> Register
 
 /// Whether `inner`, what is known of a flag, says all that `outer` does.
 fn is_flag_inside(inner: Option<bool>, outer: Option<bool>) -> bool
-    ensures { result ≡ true → IsFlagInside inner outer }
+    ensures { result ≡ true → IsSameIfKnown inner outer }
 {
     outer.is_none() || inner == outer
 }
 
 /// Whether `inner`, what A is known to be compared with, says all that `outer` does.
 fn is_comparison_inside(inner: Option<u8>, outer: Option<u8>) -> bool
-    ensures { result ≡ true → IsComparisonInside inner outer }
+    ensures { result ≡ true → IsSameIfKnown inner outer }
 {
     outer.is_none() || inner == outer
 }
 
 /// Whether `inner`, the known address of the byte that A has, says all that `outer` does.
 fn is_source_inside(inner: Option<u16>, outer: Option<u16>) -> bool
-    ensures { result ≡ true → IsComparisonInside inner outer }
+    ensures { result ≡ true → IsSameIfKnown inner outer }
 {
     outer.is_none() || inner == outer
 }
