@@ -1,6 +1,6 @@
 //! Why the system failed, in words.
 
-ghost use Rattle.std.specs.Prelude.{◌≡◌, ◌⊎◌, None, Some, IfNone, IfSome};
+ghost use Rattle.std.specs.Prelude.{◌≡◌, ◌≢◌, ◌⊎◌, None, Some, IfNone, IfSome};
 ghost use Rattle.plm80_console.specs.FailureWords.{failure_of};
 
 use std::io::ErrorKind;
@@ -24,6 +24,10 @@ impl FailureWords {
     pub fn of(failure: Option<ErrorKind>) -> Option<FailureWords>
         ensures failure { IfSome result (λ words. failure ≡ Some (failure_of words)) }
         ensures none { IfNone result ((failure ≡ None) ⊎ (failure ≡ Some ErrorKind.OutOfMemory)) }
+        ensures memory { failure ≡ Some ErrorKind.OutOfMemory → result ≡ None }
+        ensures not_found { failure ≡ Some ErrorKind.NotFound → result ≡ Some FailureWords.NotFound }
+        ensures too_long { failure ≡ Some ErrorKind.InvalidFilename → result ≡ Some FailureWords.NameTooLong }
+        ensures not_closed { IfSome result (λ words. words ≢ FailureWords.OutputClosed) }
     {
         match failure? {
             ErrorKind::NotFound => Some(FailureWords::NotFound),
@@ -37,6 +41,10 @@ impl FailureWords {
     pub fn of_output(failure: Option<ErrorKind>) -> Option<FailureWords>
         ensures failure { IfSome result (λ words. failure ≡ Some (failure_of words)) }
         ensures none { IfNone result ((failure ≡ None) ⊎ (failure ≡ Some ErrorKind.OutOfMemory)) }
+        ensures memory { failure ≡ Some ErrorKind.OutOfMemory → result ≡ None }
+        ensures not_found { failure ≡ Some ErrorKind.NotFound → result ≡ Some FailureWords.NotFound }
+        ensures too_long { failure ≡ Some ErrorKind.InvalidFilename → result ≡ Some FailureWords.NameTooLong }
+        ensures closed { failure ≡ Some ErrorKind.NotConnected → result ≡ Some FailureWords.OutputClosed }
     {
         match failure {
             Some(ErrorKind::NotConnected) => Some(FailureWords::OutputClosed),

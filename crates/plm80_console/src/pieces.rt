@@ -1,6 +1,6 @@
 //! Files read in pieces, each handed on before the next one is read.
 
-ghost use Rattle.std.specs.Prelude.{◌≢◌, ℕ, ◌++◌, List, OnOk, Err};
+ghost use Rattle.std.specs.Prelude.{◌≡◌, ◌≢◌, ℕ, ◌++◌, List, IsErrAnd, OnErr, OnOk, Err};
 ghost use Rattle.omf_module.specs.Fault.{no_memory};
 
 use omf_library::{LibraryFault, LibraryFeed};
@@ -30,7 +30,8 @@ impl TakePieces for FileFeed {
 
 /// `AllocError` if memory ran out at a piece of an object file; `Ok` for every other fault, which the feed keeps.
 fn check_module_memory(answer: Result<usize, ModuleFault>) -> Result<(), AllocError>
-    ensures { OnOk result (answer ≢ Err no_memory) }
+    ensures taken { OnOk result (answer ≢ Err no_memory) }
+    ensures memory { OnErr result (IsErrAnd answer (λ fault. fault.cause ≡ Cause.Memory)) }
 {
     match answer {
         Err(
@@ -55,7 +56,8 @@ impl TakePieces for LibraryFeed {
 
 /// `AllocError` if memory ran out at a piece of a library; `Ok` for every other fault, which the feed keeps.
 fn check_library_memory(answer: Result<usize, LibraryFault>) -> Result<(), AllocError>
-    ensures { OnOk result (answer ≢ Err LibraryFault.Memory) }
+    ensures taken { OnOk result (answer ≢ Err LibraryFault.Memory) }
+    ensures memory { OnErr result (answer ≡ Err LibraryFault.Memory) }
 {
     match answer {
         Err(LibraryFault::Memory) => Err(AllocError),

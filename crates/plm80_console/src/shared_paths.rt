@@ -42,6 +42,8 @@ impl<'a> Syntax<'a> {
         comparison: Comparison,
     ) -> Option<SharedPath<'m, 'a>>
         ensures shared { IfSome result (IsWrittenBy matches.now) }
+        ensures letters { comparison ≡ Comparison.Letters → IfSome result (λ shared.
+            has_path shared.other.kind matches.now shared.other.name.now shared.path.now ≡ true) }
         ensures apart { comparison ≡ Comparison.Letters → IfNone result (AreApart matches.now self.now.arguments.now) }
     {
         for index in 0..self.arguments.len() {
@@ -62,6 +64,8 @@ impl<'a> Syntax<'a> {
         index: usize,
     ) -> Option<SharedPath<'m, 'a>>
         ensures shared { IfSome result (IsWrittenBy matches.now) }
+        ensures letters { comparison ≡ Comparison.Letters → IfSome result (λ shared.
+            has_path shared.other.kind matches.now shared.other.name.now shared.path.now ≡ true) }
         ensures apart { comparison ≡ Comparison.Letters → IfNone result (IsApart matches.now self.now.arguments.now index) }
     {
         let written = *self.arguments.get(index)?;
@@ -157,6 +161,8 @@ impl<'a> Argument<'a> {
     ) -> bool
         ensures replaced { result ≡ true → may_replace self.now.kind other.now.name.now ≡ false }
         ensures apart { comparison ≡ Comparison.Letters → result ≡ false → IsApartFrom matches.now self.now path.now other.now }
+        ensures letters { comparison ≡ Comparison.Letters → result ≡ true
+            → has_path other.now.kind matches.now other.now.name.now path.now ≡ true }
     {
         !self.may_replace(other) && other.has_path(console, matches, comparison, path)
     }

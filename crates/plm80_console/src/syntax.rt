@@ -1,7 +1,7 @@
 //! A command for clap: its name, its help text and its arguments, as a table.
 
 ghost use Rattle.std.specs.Prelude.{◌≡◌, ◌++◌, ◌∷◌, [], Some, true, false, codes, IfOk};
-ghost use Rattle.clap.specs.Simple.{app_of};
+ghost use Rattle.clap.specs.{declared.builder.texts.Texts.TheVariants.One, Simple.app_of};
 ghost use Rattle.plm80_console.specs.{Kinds.is_required, SyntaxTable.arguments_in, SyntaxTable.arguments_of};
 
 use clap::{Arg, ArgAction, Command};
@@ -105,7 +105,7 @@ impl<'a> Argument<'a> {
 
 /// Makes an argument of clap an option of this name. The help text calls its value by this word; the value may begin with a hyphen.
 fn option<'a>(arg: Arg<'a>, name: &'a str, value: &'a str) -> Arg<'a>
-    ensures { result ≡ record arg.entry { long = Some name.entry; val_names = result.val_names; allow_hyphen_values = true } }
+    ensures { result ≡ record arg.entry { long = Some name.entry; val_names = One value.entry; allow_hyphen_values = true } }
 {
     arg.long(name).value_name(value).allow_hyphen_values(true)
 }

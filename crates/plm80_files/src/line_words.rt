@@ -7,8 +7,8 @@ ghost use Rattle.plm80_files.specs.Lines.{ends_in_blank, has_comment, has_flaw, 
 use plm80_console::{Console, are_digits};
 use thiserror::Error;
 
-/// The byte 1A: the end of a text in CP/M, and Ctrl-Z on other systems.
-const CONTROL_Z: u8 = 0x1A;
+/// The byte 1A, Ctrl-Z: the end of a text in CP/M, which fills the last part of a file with it.
+pub(crate) const CONTROL_Z: u8 = 0x1A;
 
 /// What is often wrong with a line of the program's texts.
 #[derive(Clone, Copy, Debug, Error)]

@@ -1,17 +1,16 @@
 //! Bytes of an object file that aren't read, in words.
 
-ghost use Rattle.std.specs.Prelude.{◌≡◌, ℕ, List, Some, IfSome, slice_get};
+ghost use Rattle.std.specs.Prelude.{◌≡◌, ◌<◌, ◌≤◌, ℕ, List, Some, true, length, slice_get, IfNone, IfSome, OnSome};
+ghost use Rattle.omf_core.specs.Record.{record_size};
 ghost use Rattle.plm80_files.specs.UnreadBytes.{AreUnread, IsBehindEnd, after_record, is_filling};
 
+use crate::line_words::CONTROL_Z;
 use omf_core::RecordKind;
 use plm80_console::Console;
 use thiserror::Error;
 
 /// The type of the record with which an object file ends.
 const END_OF_FILE: u8 = RecordKind::EndOfFile as u8;
-
-/// What CP/M fills the last part of a file with.
-const CONTROL_Z: u8 = 0x1A;
 
 /// Words on the bytes of an object file that aren't read: how many there are behind its end record.
 #[derive(Clone, Copy, Debug, Error)]
@@ -26,6 +25,7 @@ impl<'a> UnreadBytes<'a> {
     pub fn of(path: &'a str, bytes: &[u8]) -> Option<UnreadBytes<'a>>
         ensures path { IfSome result (λ unread. unread.path.now ≡ path.now) }
         ensures bytes { IfSome result (λ unread. AreUnread bytes.now unread.count) }
+        ensures none { IfNone result ((rest : List ℕ) × IsBehindEnd bytes.now rest × (is_filling rest ≡ true)) }
     {
         let unread = bytes_behind_end(bytes);
         if is_filling(unread) {
@@ -61,13 +61,11 @@ fn bytes_behind_end(bytes: &[u8]) -> &[u8]
     ensures { IsBehindEnd bytes.now result.now }
 {
     let mut rest = bytes;
-    // A record has four bytes at least.
-    for _ in 0..bytes.len() {
-        match split_record(rest) {
-            Some((END_OF_FILE, after)) => return after,
-            Some((_, after)) => rest = after,
-            None => break,
+    while let Some((kind, after)) = split_record(rest) {
+        if kind == END_OF_FILE {
+            return after;
         }
+        rest = after;
     }
     b""
 }
@@ -76,6 +74,9 @@ fn bytes_behind_end(bytes: &[u8]) -> &[u8]
 fn split_record(bytes: &[u8]) -> Option<(u8, &[u8])>
     ensures kind { IfSome result (λ found. slice_get bytes.now 0 ≡ Some found.0) }
     ensures after { IfSome result (λ found. found.1.now ≡ after_record bytes.now) }
+    ensures shorter { IfSome result (λ found. length found.1.now < length bytes.now) }
+    ensures whole { OnSome result (record_size bytes.now ≤ length bytes.now) }
+    ensures none { IfNone result (length bytes.now < record_size bytes.now) }
 {
     let [kind, low, high, body @ ..] = bytes else {
         return None;

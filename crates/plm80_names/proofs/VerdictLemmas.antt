@@ -5,7 +5,7 @@ use Rattle.image80.specs.{Image.Located, RegionsText.Spells}
 use Rattle.image80_file.specs.ImageFile.{SpellsImage, without_regions}
 use Rattle.verify80_flow.specs.{declared.refusal.Refusal.Refusal, declared.refusal.Refusal.TheVariants.Memory, Faults.Holds}
 use Rattle.verify80.specs.Looking.{code_of}
-use Rattle.plm80_names.specs.{Printed.AreNamesOf, Printed.named_refusal_line, Verdict.AreOfFiles, Verdict.IsProgramRead, Verdict.IsRefusal}
+use Rattle.plm80_names.specs.{Printed.AreNamesOf, Printed.named_refusal_line, Verdict.IsProgramRead, Verdict.IsRefusal}
 use Rattle.plm80_console.specs.Journal.{Journal, and_read}
 
 -- what was read of two files is a program's

@@ -1,13 +1,13 @@
 //! The names of an image's addresses, as commands print them.
 
-ghost use Rattle.std.specs.Prelude.{◌≡◌, ◌==◌, ◌++◌, [], length, IfErr, IfOk, OnOk};
-ghost use Rattle.image80_text.specs.NameText.{label_text, labelled_text, name_text, named_text};
+ghost use Rattle.std.specs.Prelude.{◌≡◌, [], IfErr, IfOk};
+ghost use Rattle.image80_text.specs.NameText.{labelled_text, named_text};
 ghost use Rattle.plm80_console.specs.Journal.{OnlyReports};
 ghost use Rattle.plm80_names.specs.Printed.{named_end, AreNamesOf};
 
 use image80::Range;
 use image80_text::laws::texts_without_names_are_as_before;
-use image80_text::{PublicTable, append_label, append_name, label_lines, name_line, name_lines};
+use image80_text::{PublicTable, label_lines, name_line, name_lines};
 use omf_module::{Cause, Public};
 use place80_text::read_publics;
 use plm80_console::{Console, Reported};
@@ -61,13 +61,6 @@ impl Names {
         ensures { result.now ≡ self.now }
     {
         &self.publics
-    }
-
-    /// Whether there are no names.
-    pub fn is_empty(&self) -> bool
-        ensures { result ≡ (length self.now == 0) }
-    {
-        self.publics.is_empty()
     }
 
     /// A text of instructions, one a line, with a line before each whose address has a name; the lines of a trace are `numbered`. Without
@@ -126,32 +119,6 @@ impl Names {
             Some(line) => name_line(alloc, &self.publics, code, address, line),
             None => Ok(text),
         }
-    }
-
-    /// Appends a blank and the name of an address to a text; nothing if the address has no name.
-    ///
-    /// # Errors
-    /// `AllocError` only if memory runs out.
-    pub fn append(
-        &self,
-        alloc: Global,
-        code: &[Range],
-        address: u16,
-        text: &mut Vec<u8>,
-    ) -> Result<(), AllocError>
-        ensures { OnOk result (text.new.items ≡ text.old.items ++ name_text code.now self.now address) }
-    {
-        append_name(alloc, &self.publics, code, address, text)
-    }
-
-    /// Appends a line with the name of an address to a text; nothing if the address has no name.
-    ///
-    /// # Errors
-    /// `AllocError` only if memory runs out.
-    pub fn append_label(&self, address: u16, text: &mut Vec<u8>) -> Result<(), AllocError>
-        ensures { OnOk result (text.new.items ≡ text.old.items ++ label_text self.now address) }
-    {
-        append_label(&self.publics, address, text)
     }
 }
 

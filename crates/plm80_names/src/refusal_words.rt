@@ -1,8 +1,8 @@
 //! What is at the address of a refusal, in words.
 
-ghost use Rattle.std.specs.Prelude.{◌≡◌, ℕ, List, [], true, false, find, option_copied, IfNone, IfOk, IfSome};
+ghost use Rattle.std.specs.Prelude.{◌≡◌, ℕ, List, [], true, false, not, find, option_copied, IfNone, IfOk, IfSome};
 ghost use Rattle.place80_text.specs.ImagePublics.{HasPublics};
-ghost use Rattle.decode80.specs.Text.{text as text_of};
+ghost use Rattle.decode80.specs.{Fetch.direct_bytes, Text.text as text_of};
 ghost use Rattle.image80.specs.{Range.in_range, Regions.in_data};
 ghost use Rattle.verify80.specs.Looking.{code_of};
 ghost use Rattle.verify80_flow.specs.Faults.{Holds};
@@ -201,7 +201,7 @@ fn text_of(alloc: Global, instr: Instr) -> Result<Vec<u8>, AllocError>
 
 /// The first address outside DATA that an instruction names to store to; `None` if it names none.
 fn stored_outside(image: &Image, instr: Instr) -> Option<u16>
-    ensures { IfSome result (λ address. in_data image.now.regions address ≡ false) }
+    ensures { result ≡ find (λ address. not (in_data image.now.regions address)) (direct_bytes instr) }
 {
     let [first, second] = direct_bytes(instr);
     match first {

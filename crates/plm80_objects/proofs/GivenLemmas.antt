@@ -1,6 +1,6 @@
 -- Answers that are given to files that were read.
-use Rattle.plm80_objects.proofs.Names.{◌≡◌, ℕ, Bool, true, if◌then◌else◌, List, Result, Ok, Err, IfOk, IfErr, IsOkAnd, ◌∙◌, subst}
-use Rattle.plm80_objects.proofs.Names.{cond-true, IfErr-weaker, IfOk-weaker, AnswerValue, GaveUp, Gives, GivesUp, IsAnswered, IsGiven}
+use Rattle.plm80_objects.proofs.Names.{◌≡◌, ℕ, List, Result, Ok, Err, IfOk, IfErr, IsOkAnd, subst, IfErr-weaker, IfOk-weaker}
+use Rattle.plm80_objects.proofs.Names.{AnswerValue, GaveUp, Gives, GivesUp, IsAnswered, IsGiven}
 use Rattle.plm80_objects.proofs.Names.{IsGivenUp, paths_of, FileValue, Journal, OnlyReports, and_read_files, FaultsFollowReading}
 use Rattle.plm80_console.specs.Answer.IsGivenUp.{before as before_it, within as within_it}
 use Rattle.plm80_console.specs.Answer.GivesUp.{before, within}
@@ -14,10 +14,6 @@ pub reports_after : {A E : Type 0} (old between new : Journal) (files : List Fil
     → between ≡ and_read_files old files → IfErr r (λ _. OnlyReports between new) → IfErr r (λ _. OnlyReports old new)
 reports_after old between new files r follow read is =
     IfErr-weaker r (λ _. OnlyReports between new) (λ _. OnlyReports old new) (λ _ only. follow old between new files read only) is
-
--- a push that went well
-pub pushed : {X : Type 0} (ok : Bool) (old more new : List X) → new ≡ (if ok then more else old) → ok ≡ true → new ≡ more
-pushed ok old more new is well = is ∙ cond-true ok more old well
 
 -- what becomes of a part of a command whose answers are these
 abbrev pub IsAnsweredOrGivenUp : {E : Type 0} (Part : AnswerValue → Type 0) (old new : Journal) → Result ℕ E → Type 0

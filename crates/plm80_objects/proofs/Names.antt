@@ -6,7 +6,7 @@ pub use Rattle.omf_module.specs.Spelled.{SpellsFile}
 pub use Rattle.omf_text.specs.ModuleText.{module_text}
 pub use Rattle.plm80_console.specs.Answer.{AnswerValue, GaveUp, Gives, GivesUp, IsAnswered, IsGiven, IsGivenUp, paths_of}
 pub use Rattle.plm80_console.specs.Journal.{FileValue, Journal, OnlyReports, and_read, and_read_files, file_value}
-pub use Rattle.plm80_console.specs.{JournalLaws.FaultsFollowReading, NumberText.word_value, Ranges.AreRangesOf}
+pub use Rattle.plm80_console.specs.{JournalLaws.FaultsFollowReading, Ranges.AreRangesOf}
 pub use Rattle.plm80_files.specs.declared.link_feed.LinkFile.{LinkFile}
 pub use Rattle.plm80_names.specs.Printed.{AreNamesOf}
 pub use Rattle.plm80_objects.specs.Absolute.{AreDumpsRead, AreRomFiles, ExtractsFile, GivesUpDumps, IsRomFile, WritesDumps, WritesImage}
@@ -21,8 +21,8 @@ pub use Rattle.rom80.specs.Rom.{chunks_of, is_covered}
 pub use Rattle.rom80_find.specs.Dump.{DumpValue, dump_of}
 pub use Rattle.std.proofs.Common.{[], add-one, ap, append_assoc, arith, drop, drop-cons, get_or, map, refl, subst, sym, take, ◌++◌, ◌∙◌}
 pub use Rattle.std.proofs.Common.{◌∷◌, ◌≡◌}
-pub use Rattle.std.proofs.lemmas.List.{append-nil, map-append, take_more}
-pub use Rattle.std.proofs.{lemmas.Bool.cond-true, lemmas.Result.IfErr-weaker, lemmas.Result.IfOk-weaker}
-pub use Rattle.std.specs.Prelude.{Bool, Err, IfErr, IfOk, IsOkAnd, List, None, Ok, Result, codes, if◌then◌else◌, is_ok, length, not}
+pub use Rattle.std.proofs.lemmas.List.{append-nil, map-append, map_more, take_more}
+pub use Rattle.std.proofs.lemmas.{Bool.cond-true, Result.IfErr-weaker, Result.IfOk-weaker, Slice.Zip.all_zipped_more}
+pub use Rattle.std.specs.Prelude.{Bool, Err, IfErr, IfOk, IsOkAnd, List, None, Ok, Result, codes, is_ok, length, not}
 pub use Rattle.std.specs.Prelude.{slice_index_or, suc, true, zero, ℕ, ◌&&◌, ◌+◌, ◌<◌}
-pub use Rattle.std.specs.{Borrow.Bor, List.AllZip, List.flat_map, List.repeat}
+pub use Rattle.std.specs.{Borrow.Bor, List.flat_map, List.repeat}

@@ -1,8 +1,9 @@
 -- Files that are read one after another, and what they have.
 use Rattle.plm80_objects.proofs.Names.{◌≡◌, ℕ, ◌+◌, ◌<◌, List, [], ◌∷◌, ◌++◌, length, drop, take, slice_index_or, map, refl, Bor, ◌∙◌, ap}
-use Rattle.plm80_objects.proofs.Names.{arith, get_or, subst, sym, append-nil, append_assoc, map-append, take_more, ModuleValue, SpellsFile}
+use Rattle.plm80_objects.proofs.Names.{arith, get_or, subst, sym, append-nil, append_assoc, map-append, map_more, take_more, ModuleValue, SpellsFile}
 use Rattle.plm80_objects.proofs.Names.{PlacedBytes, chunks_of, AnswerValue, paths_of, FileValue, Journal, and_read, and_read_files}
-use Rattle.plm80_objects.proofs.Names.{file_value, RomFile, AreDumpsRead, chunks_from, rom_paths, AnswersModules, OfProgram, AreRead}
+use Rattle.plm80_objects.proofs.Names.{file_value, FaultsFollowReading, OnlyReports, RomFile, AreDumpsRead, chunks_from, rom_paths}
+use Rattle.plm80_objects.proofs.Names.{AnswersModules, OfProgram, AreRead}
 
 abbrev pub text_of : Bor (List ℕ) → List ℕ
 text_of text = text.now
@@ -38,10 +39,15 @@ one_read path_of xs i d old between new Have More bytes before after made below 
       files = read.files ++ file ∷ [];
       paths_are = map-append (λ (f : FileValue). f.path) read.files (file ∷ [])
           ∙ ap (λ (ps : List (List ℕ)). ps ++ file.path ∷ []) read.paths_are
-          ∙ sym (ap (map path_of) (take_more xs i d below) ∙ map-append path_of (take i xs) (get_or xs i d ∷ []));
+          ∙ sym (map_more path_of xs i d below);
       have = subst (More (read.files ++ file ∷ [])) (sym is) (more read.files read.paths_are read.have);
       journal = one ∙ ap (λ (j : Journal). and_read j file.path bytes) read.journal ∙ read_more old read.files file.path bytes;
     }
+
+-- a fault behind files that were read
+pub faults_behind : {X : Type 0} {Have : List FileValue → X → Type 0} {paths : List (List ℕ)} {old between new : Journal} {x : X}
+    → AreRead Have paths old between x → FaultsFollowReading → OnlyReports between new → OnlyReports old new
+faults_behind {old = old} {between = between} {new = new} read follow only = follow old between new read.files read.journal only
 
 -- ---- dumps
 

@@ -1,20 +1,13 @@
 -- The files of dumps, one after another.
-use Rattle.plm80_objects.proofs.Names.{◌≡◌, ℕ, ◌+◌, ◌<◌, List, [], ◌∷◌, ◌++◌, length, take, Bor, AllZip, sym, subst, get_or, take_more}
+use Rattle.plm80_objects.proofs.Names.{◌≡◌, ℕ, ◌+◌, ◌<◌, List, [], ◌∷◌, ◌++◌, length, take, Bor, all_zipped_more, sym, subst, get_or, take_more}
 use Rattle.plm80_objects.proofs.Names.{AreRomFiles, IsRomFile, RomFile}
-
-zip_pushed : {A B : Type 0} (R : A → B → Type 0) (xs : List A) (ys : List B) (x : A) (y : B) → AllZip R xs ys → R x y
-    → AllZip R (xs ++ x ∷ []) (ys ++ y ∷ [])
-zip_pushed R [] [] x y zip one = (one, tt)
-zip_pushed R [] (z ∷ ys) x y zip one = absurd zip
-zip_pushed R (w ∷ xs) [] x y zip one = absurd zip
-zip_pushed R (w ∷ xs) (z ∷ ys) x y zip one = (zip.0, zip_pushed R xs ys x y zip.1 one)
 
 -- one more file behind the first
 pushed : (path first : List ℕ) (xs : List (Bor (List ℕ))) (files : List RomFile) (text : Bor (List ℕ)) (file : RomFile)
     → AreRomFiles path first xs files → IsRomFile text.now file → AreRomFiles path first (xs ++ text ∷ []) (files ++ file ∷ [])
 pushed path first xs [] text file are is = absurd are
 pushed path first xs (f ∷ files) text file are is =
-    (are.0, are.1, zip_pushed (λ (t : Bor (List ℕ)) (rom : RomFile). IsRomFile t.now rom) xs files text file are.2 is)
+    (are.0, are.1, all_zipped_more (λ (t : Bor (List ℕ)) (rom : RomFile). IsRomFile t.now rom) xs files text file are.2 is)
 
 pub rom_more : (path first : List ℕ) (xs ys : List (Bor (List ℕ))) (i : ℕ) (d : Bor (List ℕ)) (file : RomFile)
     (files after : List RomFile) → ys ≡ xs → i < length ys → AreRomFiles path first (take i xs) files

@@ -1,6 +1,6 @@
 -- What `absolute` writes: the image of dumps; and `extract`: bytes of an image.
 -- (ISIS-II User's Guide: absolute object modules.)
-use Rattle.std.specs.Prelude.{◌≡◌, ℕ, if◌then◌else◌, List, [], ◌∷◌, ◌++◌, map}
+use Rattle.std.specs.Prelude.{◌≡◌, ◌<◌, ◌+◌, ℕ, if◌then◌else◌, List, [], ◌∷◌, ◌++◌, map}
 use Rattle.std.specs.{Borrow.Bor, List.AllZip}
 use Rattle.image80.specs.Image.{Located, PlacedBytes}
 use Rattle.image80_file.specs.ImageFile.{SpellsImage, image_bytes, without_regions}
@@ -30,7 +30,7 @@ pub record IsRomFile (text : List ℕ) (file : RomFile) : Type 0 where
 abbrev pub AreRomFiles : (path first : List ℕ) → (further : List (Bor (List ℕ))) → List RomFile → Type 0
 AreRomFiles path first further [] = ⊥
 AreRomFiles path first further (file ∷ files) =
-    (file.path.now ≡ path) × (file.first ≡ word_value first) × AllZip (λ text rom. IsRomFile text.now rom) further files
+    (file.path.now ≡ path) × (IsWordText first × (file.first ≡ word_value first)) × AllZip (λ text rom. IsRomFile text.now rom) further files
 
 -- the chunks of files' bytes, each from its address on, one after another
 abbrev pub chunks_from : List RomFile → List FileValue → List PlacedBytes
@@ -56,6 +56,7 @@ AreRomsOf arguments roms = AreRomFiles arguments.bytes.now arguments.first.text.
 pub record GivesDumps (arguments : AbsoluteArguments) (old new : Journal) (status : ℕ) : Type 0 where
   pub roms : List RomFile
   pub are_roms : AreRomsOf arguments roms
+  pub start : IsWordText arguments.start.text.now
   pub gives : Gives (WritesDumps arguments roms) (rom_paths roms) old new status
 
 pub data GivesUpDumps (arguments : AbsoluteArguments) (old new : Journal) : Type 0 where
@@ -65,7 +66,7 @@ pub data GivesUpDumps (arguments : AbsoluteArguments) (old new : Journal) : Type
 
 -- ---- extract
 
--- the bytes of an image over a range go to a file, and the line of their sum is printed if it is asked for
+-- the bytes of an image over a range, which doesn't go past FFFF, go to a file, and the line of their sum is printed if it is asked for
 pub record ExtractsFile (arguments : ExtractArguments) (files : List FileValue) (answer : AnswerValue) : Type 0 where
   pub file : FileValue
   pub files_are : files ≡ file ∷ []
@@ -73,5 +74,6 @@ pub record ExtractsFile (arguments : ExtractArguments) (files : List FileValue) 
   pub contents : SpellsImage file.bytes (without_regions image)
   pub extent : Extent
   pub is_extent : IsExtentOf arguments extent
+  pub in_memory : ¬ (65536 < extent.first + extent.length)
   pub answer_is : let bytes = bytes_over extent.fill image.chunks extent.first extent.length in
       answer ≡ writes arguments.out.now bytes (if arguments.sum then sum_line bytes else [])

@@ -1,9 +1,10 @@
 -- Which argument of the command line each value of a command is, and the numbers that options write.
-use Rattle.std.specs.Prelude.{◌≡◌, ℕ, List, Option, map, option_map, unwrap_or, codes}
+use Rattle.std.specs.Prelude.{◌≡◌, ℕ, List, Option, IfSome, map, option_map, unwrap_or, codes}
 use Rattle.clap.specs.{declared.parser.matches.ArgMatches.ArgMatches, Matches.first_value, Matches.found_of}
 use Rattle.place80.specs.declared.options.Options.{Options}
 use Rattle.plm80_console.specs.Arguments.{argument_text, argument_values}
-use Rattle.plm80_console.specs.{declared.options.OptionText.OptionText, NumberText.word_value}
+use Rattle.plm80_console.specs.NumberText.{IsByteText, IsLengthText, IsWordText, word_value}
+use Rattle.plm80_console.specs.declared.options.OptionText.{OptionText}
 use Rattle.plm80_names.specs.Arguments.{IsFlag}
 use Rattle.plm80_objects.specs.{declared.absolute.AbsoluteArguments.AbsoluteArguments, declared.compare.CompareArguments.CompareArguments}
 use Rattle.plm80_objects.specs.{declared.extract.Extent.Extent, declared.extract.ExtractArguments.ExtractArguments}
@@ -25,19 +26,27 @@ pub record AreLocateTexts (matches : ArgMatches) (texts : LocateTexts) : Type 0 
   pub stack_size : text_if_given texts.stack_size ≡ first_value (found_of matches) (codes "stack-size")
   pub memory_size : text_if_given texts.memory_size ≡ first_value (found_of matches) (codes "memory-size")
 
+-- the word that an option writes, in one to four hexadecimal digits, and the byte, in two
+abbrev pub WritesWord : OptionText → (word : ℕ) → Type 0
+WritesWord option word = IsWordText option.text.now × (word ≡ word_value option.text.now)
+
+abbrev pub WritesByte : OptionText → (byte : ℕ) → Type 0
+WritesByte option byte = IsByteText option.text.now × (byte ≡ word_value option.text.now)
+
 -- the word that an option writes, if it is given
-abbrev pub word_if_given : Option OptionText → Option ℕ
-word_if_given option = option_map (λ given. word_value given.text.now) option
+abbrev pub WritesWordIfGiven : Option OptionText → Option ℕ → Type 0
+WritesWordIfGiven option word =
+    IfSome option (λ given. IsWordText given.text.now) × (word ≡ option_map (λ given. word_value given.text.now) option)
 
 -- the numbers that the options of LOCATE write
 pub record AreNumbersOf (texts : LocateTexts) (options : Options) : Type 0 where
-  pub code : options.code ≡ word_if_given texts.code
-  pub stack : options.stack ≡ word_if_given texts.stack
-  pub common : options.common ≡ word_if_given texts.common
-  pub data_base : options.data_base ≡ word_if_given texts.data_base
-  pub memory : options.memory ≡ word_if_given texts.memory
-  pub stack_size : options.stack_size ≡ word_if_given texts.stack_size
-  pub memory_size : options.memory_size ≡ word_if_given texts.memory_size
+  pub code : WritesWordIfGiven texts.code options.code
+  pub stack : WritesWordIfGiven texts.stack options.stack
+  pub common : WritesWordIfGiven texts.common options.common
+  pub data_base : WritesWordIfGiven texts.data_base options.data_base
+  pub memory : WritesWordIfGiven texts.memory options.memory
+  pub stack_size : WritesWordIfGiven texts.stack_size options.stack_size
+  pub memory_size : WritesWordIfGiven texts.memory_size options.memory_size
 
 pub record AreLocateArguments (matches : ArgMatches) (arguments : LocateArguments) : Type 0 where
   pub object : arguments.object.now ≡ argument_text matches (codes "IN")
@@ -98,6 +107,6 @@ pub record AreAbsoluteArguments (matches : ArgMatches) (arguments : AbsoluteArgu
 
 -- the numbers of a range of bytes, as its options write them
 pub record IsExtentOf (arguments : ExtractArguments) (extent : Extent) : Type 0 where
-  pub first : extent.first ≡ word_value arguments.first.text.now
-  pub length : extent.length ≡ word_value arguments.length.text.now
-  pub fill : extent.fill ≡ word_value arguments.fill.text.now
+  pub first : WritesWord arguments.first extent.first
+  pub length : IsLengthText arguments.length.text.now × (extent.length ≡ word_value arguments.length.text.now)
+  pub fill : WritesByte arguments.fill extent.fill

@@ -1,15 +1,19 @@
 -- What `compare` prints of an image and a dump.
 -- (The form of the lines and the status are this project's own.)
-use Rattle.std.specs.Prelude.{◌≡◌, ℕ, List, [], ◌∷◌, length, codes}
+use Rattle.std.specs.Prelude.{◌≡◌, ◌≢◌, ◌+◌, ◌<◌, ℕ, List, [], ◌∷◌, length, codes}
 use Rattle.omf_model.specs.declared.symbols.Public.{Public}
 use Rattle.image80.specs.Image.{Located, PlacedBytes}
 use Rattle.image80_file.specs.ImageFile.{SpellsImage, without_regions}
 use Rattle.image80_text.specs.NameText.{named_text}
 use Rattle.rom80.specs.Compare.{AreDifferences, comparison_text}
 use Rattle.rom80.specs.{declared.comparing.Difference.Difference, Ranges.byte_ranges, Rom.bytes_over}
-use Rattle.plm80_console.specs.{Answer.AnswerValue, Answer.prints, Journal.FileValue, NumberText.word_value}
+use Rattle.plm80_console.specs.{Answer.AnswerValue, Answer.prints, Journal.FileValue}
 use Rattle.plm80_names.specs.Printed.{AreNamesOf}
-use Rattle.plm80_objects.specs.declared.compare.CompareArguments.{CompareArguments}
+use Rattle.plm80_objects.specs.{declared.compare.CompareArguments.CompareArguments, Arguments.WritesByte, Arguments.WritesWord}
+
+-- bytes can be a dump's from an address on: there are some, and they don't go past FFFF
+abbrev pub IsDump : (first : ℕ) → (bytes : List ℕ) → Type 0
+IsDump first bytes = (length bytes ≢ 0) × ¬ (65536 < first + length bytes)
 
 -- the status is 0 if no bytes differ
 abbrev pub status_of : List Difference → ℕ
@@ -31,9 +35,10 @@ pub record ComparesFiles (arguments : CompareArguments) (files : List FileValue)
   pub dump : FileValue
   pub files_are : files ≡ file ∷ dump ∷ []
   pub first : ℕ
-  pub first_is : first ≡ word_value arguments.first.text.now
+  pub first_is : WritesWord arguments.first first
+  pub whole : IsDump first dump.bytes
   pub fill : ℕ
-  pub fill_is : fill ≡ word_value arguments.fill.text.now
+  pub fill_is : WritesByte arguments.fill fill
   pub image : Located
   pub contents : SpellsImage file.bytes (without_regions image)
   pub publics : List Public

@@ -4,8 +4,8 @@ use Rattle.std.specs.Prelude.{◌≡◌, ℕ, Bool, true, false, ◌&&◌, List,
 use Rattle.rom80_find.specs.{Dump.DumpValue, Found.PrintsMembers, Found.PrintsModules}
 use Rattle.plm80_files.specs.declared.link_feed.LinkFile.TheVariants.{Modules, Library}
 use Rattle.plm80_files.specs.{declared.link_feed.LinkFile.LinkFile, LinkFiles.SpellsEither}
-use Rattle.plm80_console.specs.{Answer.AnswerValue, Answer.prints, Journal.FileValue, Journal.Journal, NumberText.word_value}
-use Rattle.plm80_objects.specs.{declared.find.FindArguments.FindArguments, Read.AreRead}
+use Rattle.plm80_console.specs.{Answer.AnswerValue, Answer.prints, Journal.FileValue, Journal.Journal}
+use Rattle.plm80_objects.specs.{declared.find.FindArguments.FindArguments, Arguments.WritesWord, Compare.IsDump, Read.AreRead}
 
 -- what is found of a file's modules behind a text, and whether all of an object file's are there; of a library's some may be missing
 abbrev pub PrintsFile : DumpValue → LinkFile → (are_there : Bool) → (before after : List ℕ) → Type 0
@@ -49,5 +49,5 @@ pub record FindsIn (dump : DumpValue) (files : List FileValue) (answer : AnswerV
 -- of the dump that the first file has, from the option's first address on
 abbrev pub FindsModules : FindArguments → List FileValue → AnswerValue → Type 0
 FindsModules arguments (dump ∷ files) answer =
-    FindsIn (record { first = word_value arguments.first.text.now; bytes = dump.bytes }) files answer
+    (first : ℕ) × WritesWord arguments.first first × IsDump first dump.bytes × FindsIn (record { first = first; bytes = dump.bytes }) files answer
 FindsModules arguments [] answer = ⊥

@@ -1,17 +1,17 @@
 -- What `module`, `map`, `locate` and `lib` answer to object files.
 -- (ISIS-II User's Guide, LOCATE and LIB. The form of the lines is this project's own.)
-use Rattle.std.specs.Prelude.{◌≡◌, ℕ, List, [], ◌∷◌, ◌++◌, None, map}
+use Rattle.std.specs.Prelude.{◌≡◌, ℕ, false, List, [], ◌∷◌, ◌++◌, None, map}
 use Rattle.std.specs.List.{flat_map}
 use Rattle.omf_model.specs.Modules.{ModuleValue}
 use Rattle.omf_module.specs.Spelled.{SpellsFile}
 use Rattle.image80.specs.declared.range.Range.{Range}
-use Rattle.omf_library.specs.Writing.{library_bytes}
+use Rattle.omf_library.specs.Writing.{is_too_large, library_bytes}
 use Rattle.omf_text.specs.ModuleText.{module_text}
 use Rattle.place80.specs.{declared.options.Options.Options, Layout.layout_of, PlaceFault.locate_fault}
 use Rattle.place80_text.specs.Map.{IsMap}
 use Rattle.plm80_console.specs.Journal.{FileValue, Journal, OnlyReports}
 use Rattle.plm80_console.specs.{Answer.AnswerValue, Answer.prints, Ranges.AreRangesOf, Replaced.GaveUpKeeping, Replaced.IsReplacedKeeping}
-use Rattle.plm80_objects.specs.Locate.{WritesProgram, unmapped_of}
+use Rattle.plm80_objects.specs.Locate.{WritesProgram, fault_of, unmapped_of}
 use Rattle.plm80_objects.specs.{declared.library.LibraryArguments.LibraryArguments, declared.locate.LocateArguments.LocateArguments}
 use Rattle.plm80_objects.specs.{declared.map.MapArguments.MapArguments, Arguments.AreNumbersOf, Read.AreRead}
 
@@ -44,9 +44,10 @@ pub record MapsFile (arguments : MapArguments) (files : List FileValue) (answer 
   pub are_options : AreNumbersOf arguments.options options
   pub answers : AnswersModules (OfProgram (PrintsMap options)) files answer
 
--- the image of a program, for which the board has memory if it is named, and its regions are written
+-- the image of a program that can be located, for which the board has memory if it is named, and its regions are written
 pub record WritesLocated (arguments : LocateArguments) (options : Options) (rom ram : List Range) (program : ModuleValue)
     (answer : AnswerValue) : Type 0 where
+  pub none : fault_of arguments.restart options program ≡ None
   pub on_board : unmapped_of rom ram arguments.restart options program ≡ None
   pub writes : WritesProgram arguments.image.now arguments.regions.now arguments.restart arguments.publics options program answer
 
@@ -74,11 +75,13 @@ AreAllRead = AreRead AreModulesOf
 abbrev pub library_paths : LibraryArguments → List (List ℕ)
 library_paths arguments = map (λ path. path.now) arguments.files.items
 
--- The files were read, and the library of their modules was written; a copy of an object file in its place was kept before.
+-- The files were read, and the library of their modules, which one library can hold, was written; a copy of an object file in its place was
+-- kept before.
 pub record WritesLibrary (arguments : LibraryArguments) (old new : Journal) (status : ℕ) : Type 0 where
   pub between : Journal
   pub modules : List ModuleValue
   pub read : AreAllRead (library_paths arguments) old between modules
+  pub fits : is_too_large modules ≡ false
   pub replaced : IsReplacedKeeping arguments.library.now (library_bytes modules) between new
   pub status_is : status ≡ 0
 

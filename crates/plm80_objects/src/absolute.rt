@@ -6,6 +6,7 @@ ghost use Rattle.plm80_console.specs.Journal.{OnlyReports};
 ghost use Rattle.plm80_objects.specs.Absolute.{AreDumpsRead, AreRomFiles, GivesDumps, GivesUpDumps, IsRomFile, WritesImage};
 ghost use Rattle.plm80_objects.specs.{Arguments.AreAbsoluteArguments, RomFaults.IsRefusedWith};
 
+use crate::extract::FIRST;
 use crate::helpers::dump_words::DumpWords;
 use crate::helpers::rom_faults::report_rom_fault;
 use clap::ArgMatches;
@@ -63,11 +64,7 @@ pub const ABSOLUTE: Syntax<'static> = Syntax {
             kind: Kind::Written,
             help: "The file to write the image to, an absolute object file",
         },
-        Argument {
-            name: "first",
-            kind: Kind::Required("FIRST"),
-            help: "The address of the first byte",
-        },
+        FIRST,
         Argument {
             name: "start",
             kind: Kind::Required("START"),

@@ -1,12 +1,13 @@
 //! `plm80 compare`: where an image and a dump differ.
 
-ghost use Rattle.std.specs.Prelude.{◌≡◌, ◌∷◌, [], codes, length, IfOk, IfErr};
+ghost use Rattle.std.specs.Prelude.{◌≡◌, ◌∷◌, [], codes, length, IfOk, IfErr, OnOk};
 ghost use Rattle.image80_text.specs.NameText.{named_text};
 ghost use Rattle.rom80.specs.{Ranges.byte_ranges, Rom.bytes_over};
 ghost use Rattle.plm80_console.specs.{Answer.Gives, Journal.OnlyReports};
-ghost use Rattle.plm80_objects.specs.{Arguments.AreCompareArguments, Compare.ComparesFiles, Compare.PrintsDifferences, RomFaults.IsRefused};
+ghost use Rattle.plm80_objects.specs.Compare.{ComparesFiles, IsDump, PrintsDifferences};
+ghost use Rattle.plm80_objects.specs.{Arguments.AreCompareArguments, RomFaults.IsRefused};
 
-use crate::extract::{FILL, fill_of};
+use crate::extract::{FILL, FIRST, fill_of};
 use crate::helpers::byte_words::explain_bytes;
 use crate::helpers::dump_words::DumpWords;
 use crate::helpers::rom_faults::report_rom_fault;
@@ -60,11 +61,7 @@ pub const COMPARE: Syntax<'static> = Syntax {
             kind: Kind::Path,
             help: "The bytes that were read from a PROM",
         },
-        Argument {
-            name: "first",
-            kind: Kind::Required("FIRST"),
-            help: "The address of the first byte",
-        },
+        FIRST,
         FILL,
         NAMES,
     ],
@@ -141,6 +138,7 @@ fn compare_dump<'a>(
     ensures answer { let bytes = dump.now.bytes.items in IfOk result
         (PrintsDifferences image.now.chunks (bytes_over fill image.now.chunks first (length bytes)) bytes first names.now) }
     ensures no_file { IfOk result (λ answer. answer.files ≡ []) }
+    ensures whole { OnOk result (IsDump first dump.now.bytes.items) }
     ensures fault { IfErr result (λ f. (f.path.now ≡ dump.now.path.now) × IsRefused first dump.now.bytes.items f.fault) }
 {
     let comparison = match compare(alloc, image, first, &dump.bytes, fill) {

@@ -52,11 +52,7 @@ pub const EXTRACT: Syntax<'static> = Syntax {
             kind: Kind::Written,
             help: "The file to write the bytes to",
         },
-        Argument {
-            name: "first",
-            kind: Kind::Required("FIRST"),
-            help: "The address of the first byte",
-        },
+        FIRST,
         Argument {
             name: "length",
             kind: Kind::Required("LENGTH"),
@@ -69,6 +65,13 @@ pub const EXTRACT: Syntax<'static> = Syntax {
             help: "Print the sum of the bytes",
         },
     ],
+};
+
+/// The option `--first`: the address of the first byte of a file.
+pub const FIRST: Argument<'static> = Argument {
+    name: "first",
+    kind: Kind::Required("FIRST"),
+    help: "The address of the first byte",
 };
 
 /// The option `--fill`: the byte that stands where an image has none.

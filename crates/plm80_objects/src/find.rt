@@ -1,11 +1,12 @@
 //! `plm80 find`: where modules of object files and libraries lie in a dump.
 
-ghost use Rattle.std.specs.Prelude.{◌≡◌, ◌+◌, ◌≤◌, ◌∷◌, [], length, map, IfOk, IfErr};
+ghost use Rattle.std.specs.Prelude.{◌≡◌, ◌∷◌, [], map, IfOk, IfErr, OnOk};
 ghost use Rattle.rom80_find.specs.Dump.{dump_of};
 ghost use Rattle.plm80_console.specs.{Answer.Gives, Journal.OnlyReports};
 ghost use Rattle.plm80_objects.specs.Find.{AreFilesRead, FindsIn, FindsModules, PrintsFile, PrintsFound};
-ghost use Rattle.plm80_objects.specs.{Arguments.AreFindArguments, RomFaults.IsRefused};
+ghost use Rattle.plm80_objects.specs.{Arguments.AreFindArguments, Compare.IsDump, RomFaults.IsRefused};
 
+use crate::extract::FIRST;
 use crate::helpers::dump_words::DumpWords;
 use crate::helpers::image_words::explain_images;
 use crate::helpers::rom_faults::report_rom_fault;
@@ -62,11 +63,7 @@ pub const FIND: Syntax<'static> = Syntax {
             kind: Kind::Paths,
             help: "The object files and libraries to look for",
         },
-        Argument {
-            name: "first",
-            kind: Kind::Required("FIRST"),
-            help: "The address of the first byte",
-        },
+        FIRST,
     ],
 };
 
@@ -175,7 +172,7 @@ fn read_all<C: Console>(console: &mut C, paths: &[&str]) -> Result<Vec<LinkFile>
 /// The bytes of a file as a dump from the address `first` on. The fault has the file's path: no bytes, or bytes past FFFF.
 fn dump_of<'a, 'b>(first: u16, file: &'b ReadFile<'a>) -> Result<Dump<'b>, FaultOf<'a, RomFault>>
     ensures dump { IfOk result (λ dump. (dump.first ≡ first) × (dump.bytes.now ≡ file.now.bytes.items)) }
-    ensures within { IfOk result (λ dump. first + length file.now.bytes.items ≤ 65536) }
+    ensures whole { OnOk result (IsDump first file.now.bytes.items) }
     ensures fault { IfErr result (λ f. (f.path.now ≡ file.now.path.now) × IsRefused first file.now.bytes.items f.fault) }
 {
     if file.bytes.is_empty() {

@@ -1,6 +1,6 @@
 //! `plm80 lib`: a library of the modules of object files.
 
-ghost use Rattle.std.specs.Prelude.{◌≡◌, map, IfErr, IfOk, IsErrOf, IsTrue};
+ghost use Rattle.std.specs.Prelude.{◌≡◌, false, map, IfErr, IfOk, IsErrOf, IsTrue, OnOk};
 ghost use Rattle.omf_library.specs.Writing.{library_bytes, is_too_large};
 ghost use Rattle.plm80_console.specs.Journal.{OnlyReports};
 ghost use Rattle.plm80_objects.specs.{Arguments.AreLibraryArguments, Modules.AreAllRead, Modules.GivesUpLibrary, Modules.WritesLibrary};
@@ -97,6 +97,7 @@ pub fn write_library_file<C: Console>(
 /// The bytes of the library of these modules. `TooLarge` if there are too many modules, names or bytes for one.
 fn library_of(alloc: Global, modules: &[Module]) -> Result<Vec<u8>, LibraryPutFault>
     ensures library { IfOk result (λ library. library.items ≡ library_bytes modules.now) }
+    ensures fits { OnOk result (is_too_large modules.now ≡ false) }
     ensures too_large { IsErrOf result LibraryPutFault.TooLarge → IsTrue (is_too_large modules.now) }
 {
     let mut library = Vec::new(alloc);

@@ -273,13 +273,8 @@ fn file_of(
         let Ok(layout) = layout(alloc, program, options) else {
             return Err(AllocError);
         };
-        write_image_with_publics(
-            alloc,
-            image,
-            program.publics(),
-            &layout.segments,
-            &mut bytes,
-        )?;
+        let names = program.publics();
+        write_image_with_publics(alloc, image, names, &layout.segments, &mut bytes)?;
     } else {
         write_image(alloc, image, &mut bytes)?;
     }

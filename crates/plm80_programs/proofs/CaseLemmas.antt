@@ -18,8 +18,13 @@ at_of finding = finding.at
 
 module _ (image : Located) (reached taken : List Bool) where
   -- no address
-  pub nothing : AreFoundBelow image reached taken 0 [] []
+  nothing : AreFoundBelow image reached taken 0 [] []
   nothing = record { findings = []; each = All-nil (IsFinding image reached taken); of_all = refl; cases_are = refl; notes_are = refl }
+
+  pub found_nothing : (cases : List DeclaredCase) (notes : List Note) → cases ≡ [] → notes ≡ [] → AreFoundBelow image reached taken 0 cases notes
+  found_nothing cases notes no_cases no_notes =
+      subst (λ (cs : List DeclaredCase). AreFoundBelow image reached taken 0 cs notes) (sym no_cases)
+      (subst (λ (ns : List Note). AreFoundBelow image reached taken 0 [] ns) (sym no_notes) nothing)
 
   filtered : (at : ℕ) (b : Bool) → is_open image reached at ≡ b
       → filter (is_open image reached) (range_with_len 0 (at + 1)) ≡ filter (is_open image reached) (range_with_len 0 at) ++ (if b then at ∷ [] else [])
@@ -96,50 +101,22 @@ finds_cases image reached taken limit cases notes searched all found = record {
   found = subst (λ (n : ℕ). AreFoundBelow image reached taken n cases notes) all found;
 }
 
--- ---- cases that are kept with their lines
-
-pub record Kept (image : Located) (reached taken : List Bool) (limit : ℕ) (cases : List DeclaredCase) (notes : List Note) (lines : List ℕ) : Type 0 where
-  pub found : AreFoundBelow image reached taken limit cases notes
-  pub lines_are : lines ≡ cases_text cases
-
-module _ (image : Located) (reached taken : List Bool) where
-  pub kept_nothing : (cases : List DeclaredCase) (notes : List Note) (lines : List ℕ) → cases ≡ [] → notes ≡ [] → lines ≡ []
-      → Kept image reached taken 0 cases notes lines
-  kept_nothing cases notes lines no_cases no_notes no_lines = record {
-    found = subst (λ (cs : List DeclaredCase). AreFoundBelow image reached taken 0 cs notes) (sym no_cases)
-        (subst (λ (ns : List Note). AreFoundBelow image reached taken 0 [] ns) (sym no_notes) (nothing image reached taken));
-    lines_are = no_lines ∙ sym (ap cases_text no_cases);
-  }
-
-  module _ (at : ℕ) (cases : List DeclaredCase) (notes : List Note) (lines : List ℕ) (kept : Kept image reached taken at cases notes lines) where
-    pub kept_passed : is_open image reached at ≡ false → Kept image reached taken (at + 1) cases notes lines
-    kept_passed closed = record { found = passed image reached taken at cases notes kept.found closed; lines_are = kept.lines_are }
-
-    pub kept_next : (found : FoundCase) (after_cases : List DeclaredCase) (after_notes : List Note) (after_lines : List ℕ)
-        → IsFoundAt image reached taken at found → after_cases ≡ cases ++ cons_option found.case []
-        → after_lines ≡ lines ++ cases_text (cons_option found.case []) → after_notes ≡ notes ++ cons_option found.note []
-        → Kept image reached taken (at + 1) after_cases after_notes after_lines
-    kept_next found after_cases after_notes after_lines here cases_are lines_are notes_are = record {
-      found = one_more image reached taken at cases notes kept.found found after_cases after_notes here cases_are notes_are;
-      lines_are = lines_more cases (cons_option found.case []) after_cases lines after_lines kept.lines_are lines_are cases_are;
-    }
-
 -- ---- lines that are too long
 
 pub long_cases : (image : Located) (reached taken : List Bool) (at : ℕ) (cases : List DeclaredCase) (notes : List Note) (lines : List ℕ)
-    → Kept image reached taken at cases notes lines → IsSearched image reached taken → (found : FoundCase)
+    → AreFoundBelow image reached taken at cases notes → lines ≡ cases_text cases → IsSearched image reached taken → (found : FoundCase)
     → IsFoundAt image reached taken at found → text_limit < length (lines ++ cases_text (cons_option found.case [])) → HasLongCases image
-long_cases image reached taken at cases notes lines kept searched found here long = record {
+long_cases image reached taken at cases notes lines so_far lines_are searched found here long = record {
   reached = reached;
   taken = taken;
   searched = searched;
   limit = at + 1;
   cases = cases ++ cons_option found.case [];
   notes = notes ++ cons_option found.note [];
-  found = one_more image reached taken at cases notes kept.found found (cases ++ cons_option found.case []) (notes ++ cons_option found.note [])
+  found = one_more image reached taken at cases notes so_far found (cases ++ cons_option found.case []) (notes ++ cons_option found.note [])
       here refl refl;
   too_long = subst (λ (l : List ℕ). text_limit < length l)
-      (ap (λ (l : List ℕ). l ++ cases_text (cons_option found.case [])) kept.lines_are ∙ sym (cases_more cases (cons_option found.case []))) long;
+      (ap (λ (l : List ℕ). l ++ cases_text (cons_option found.case [])) lines_are ∙ sym (cases_more cases (cons_option found.case []))) long;
 }
 
 -- ---- lines that are written as they are found
@@ -153,7 +130,7 @@ module _ (image : Located) (reached taken : List Bool) where
   pub shown_nothing : (notes : List Note) (old : Option (List ℕ)) → notes ≡ [] → Shown image reached taken 0 notes old old
   shown_nothing notes old none = record {
     cases = [];
-    found = subst (λ (ns : List Note). AreFoundBelow image reached taken 0 [] ns) (sym none) (nothing image reached taken);
+    found = found_nothing image reached taken [] notes refl none;
     written = Appends-nil old;
   }
 

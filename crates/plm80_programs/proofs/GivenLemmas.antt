@@ -1,11 +1,11 @@
 -- Answers that are given to files that were read.
 use Rattle.plm80_programs.proofs.Names.{◌≡◌, ℕ, ◌==◌, ◌&&◌, not, is_none, Bool, false, List, [], ◌∷◌, Option, None, Some, Result, Ok, Err}
 use Rattle.plm80_programs.proofs.Names.{IfOk, IfErr, IsOkAnd, option_map, refl, MatchBool, ◌∙◌, ap, subst, sym, IfErr-weaker, IfOk-weaker}
-use Rattle.plm80_programs.proofs.Names.{Public, Located, bad_line, inputs_of, Voucher, AnswerValue, GaveUp, Gives, GivesUp, IsAnswered}
+use Rattle.plm80_programs.proofs.Names.{Public, Located, Voucher, AnswerValue, GaveUp, Gives, GivesUp, IsAnswered}
 use Rattle.plm80_programs.proofs.Names.{IsGiven, IsGivenUp, paths_of, prints, FileValue, Journal, OnlyReports, and_read_files, file_value}
 use Rattle.plm80_programs.proofs.Names.{FaultsFollowReading, count_value, Limits, AnswersProgram, AnswersVerdict, IsAccepted, IsProgramRead}
 use Rattle.plm80_programs.proofs.Names.{IsRefusal, RunFiles, RunArguments, dump_of, run_paths, AnswersCases, PrintsCases, AnswersRun}
-use Rattle.plm80_programs.proofs.Names.{AnswersSession, AreLimitsOf, EndsRun, IsRunRead, RunsFiles, is_session}
+use Rattle.plm80_programs.proofs.Names.{AnswersSession, AreLimitsOf, EndsRun, IsRunRead, RunsFiles, WritesCount, is_session}
 use Rattle.plm80_console.specs.Answer.IsGivenUp.{before as before_it, within as within_it}
 use Rattle.plm80_console.specs.Answer.GivesUp.{before, within}
 use Rattle.plm80_names.specs.Verdict.AnswersVerdict.{accepted, refused}
@@ -169,55 +169,48 @@ module _ {image_path regions_path : List ℕ} {old between : Journal} {image : L
 
 -- ---- the inputs of a run, too
 
--- three files were read; the image, the names and the inputs are those that they have
-pub record IsRunKnown (paths : RunFiles) (asked : Bool) (old new : Journal) (image : Located) (publics : List Public)
-    (inputs : List (ℕ × ℕ)) : Type 0 where
-  pub text : List ℕ
-  pub read : IsRunRead paths asked old new image publics text
-  pub good : bad_line text ≡ None
-  pub spelled : inputs ≡ inputs_of text
-
--- nothing came of reading the inputs from their text
-pub run_known : {paths : RunFiles} {asked : Bool} {old between new : Journal} {image : Located} {publics : List Public} {text same : List ℕ}
-    {inputs : List (ℕ × ℕ)} → IsRunRead paths asked old between image publics text → new ≡ between → same ≡ text → bad_line same ≡ None
-    → inputs ≡ inputs_of same → IsRunKnown paths asked old new image publics inputs
-run_known {text = text} read unchanged is good spelled = record {
-  text = text;
-  read = record { file = read.file; text = read.text; are_read = read.are_read; journal = unchanged ∙ read.journal };
-  good = subst (λ (t : List ℕ). bad_line t ≡ None) is good;
-  spelled = spelled ∙ ap inputs_of is;
+-- nothing came behind the reading of an image, its regions and its inputs
+pub run_read_on : {paths : RunFiles} {asked : Bool} {old between after : Journal} {image : Located} {publics : List Public}
+    {spelling : List ℕ} {inputs : List (ℕ × ℕ)} → IsRunRead paths asked old between image publics spelling inputs → after ≡ between
+    → IsRunRead paths asked old after image publics spelling inputs
+run_read_on read unchanged = record {
+  file = read.file;
+  text = read.text;
+  are_read = read.are_read;
+  journal = unchanged ∙ read.journal;
+  good = read.good;
+  spelled = read.spelled;
 }
 
-module _ {paths : RunFiles} {asked : Bool} {old between : Journal} {image : Located} {publics : List Public} {inputs : List (ℕ × ℕ)}
-    (known : IsRunKnown paths asked old between image publics inputs) (new : Journal) where
+module _ {paths : RunFiles} {asked : Bool} {old between : Journal} {image : Located} {publics : List Public} {spelling : List ℕ}
+    {inputs : List (ℕ × ℕ)} (read : IsRunRead paths asked old between image publics spelling inputs) (new : Journal) where
   abbrev files_read : List FileValue
-  files_read = file_value paths.image.now known.read.file ∷ file_value paths.regions.now known.read.text
-      ∷ file_value paths.inputs.now known.text ∷ []
+  files_read = file_value paths.image.now read.file ∷ file_value paths.regions.now read.text ∷ file_value paths.inputs.now spelling ∷ []
 
   pub run_reports : {A E : Type 0} (r : Result A E) → FaultsFollowReading → IfErr r (λ _. OnlyReports between new)
       → IfErr r (λ _. OnlyReports old new)
-  run_reports r follow is = reports_after old between new files_read r follow known.read.journal is
+  run_reports r follow is = reports_after old between new files_read r follow read.journal is
 
   module _ (Answers : List (ℕ × ℕ) → List Public → Voucher → AnswerValue → Type 0) where
     answers_run : (answer : AnswerValue) → AnswersVerdict (Answers inputs publics) image publics answer
         → AnswersRun Answers asked files_read answer
     answers_run answer answers = record {
-      image_file = file_value paths.image.now known.read.file;
-      regions_file = file_value paths.regions.now known.read.text;
-      inputs_file = file_value paths.inputs.now known.text;
+      image_file = file_value paths.image.now read.file;
+      regions_file = file_value paths.regions.now read.text;
+      inputs_file = file_value paths.inputs.now spelling;
       files_are = refl;
       image = image;
       publics = publics;
-      are_read = known.read.are_read;
-      good = known.good;
-      answers = subst (λ (pairs : List (ℕ × ℕ)). AnswersVerdict (Answers pairs publics) image publics answer) known.spelled answers;
+      are_read = read.are_read;
+      good = read.good;
+      answers = subst (λ (pairs : List (ℕ × ℕ)). AnswersVerdict (Answers pairs publics) image publics answer) read.spelled answers;
     }
 
     pub run_given : {E F : Type 0} (made : Result AnswerValue F) (r : Result ℕ E)
         → IfOk made (AnswersVerdict (Answers inputs publics) image publics) → IfOk r (λ status. IsOkAnd made (λ answer. IsGiven answer between new status))
         → IfOk r (Gives (AnswersRun Answers asked) (run_paths paths) old new)
     run_given made r answers gave =
-        part_given (AnswersRun Answers asked) (run_paths paths) old between new files_read refl known.read.journal
+        part_given (AnswersRun Answers asked) (run_paths paths) old between new files_read refl read.journal
         (AnswersVerdict (Answers inputs publics) image publics) answers_run r
         (answered_if_made (AnswersVerdict (Answers inputs publics) image publics) between new made r answers gave)
 
@@ -225,7 +218,7 @@ module _ {paths : RunFiles} {asked : Bool} {old between : Journal} {image : Loca
     pub run_refused : {E : Type 0} (line : List ℕ) (answer : AnswerValue) (r : Result ℕ E) → IsRefusal image publics line → answer ≡ prints line 1
         → IfOk r (IsGiven answer between new) → IfOk r (Gives (AnswersRun Answers asked) (run_paths paths) old new)
     run_refused line answer r is answer_is gave =
-        gives (AnswersRun Answers asked) (run_paths paths) old between new files_read refl known.read.journal answer r
+        gives (AnswersRun Answers asked) (run_paths paths) old between new files_read refl read.journal answer r
         (answers_run answer (refused line is answer_is)) gave
 
     -- of one that is accepted, what is answered of its run, or given up
@@ -233,13 +226,13 @@ module _ {paths : RunFiles} {asked : Bool} {old between : Journal} {image : Loca
       pub run_accepted : {E : Type 0} (r : Result ℕ E) → IfOk r (IsAnswered (Answers inputs publics program) between new)
           → IfOk r (Gives (AnswersRun Answers asked) (run_paths paths) old new)
       run_accepted r gave =
-          part_given (AnswersRun Answers asked) (run_paths paths) old between new files_read refl known.read.journal
+          part_given (AnswersRun Answers asked) (run_paths paths) old between new files_read refl read.journal
           (Answers inputs publics program) (λ answer answers. answers_run answer (accepted program is answers)) r gave
 
       pub run_or_gives_up : {E : Type 0} (r : Result ℕ E) → FaultsFollowReading
           → IsAnsweredOrGivenUp (Answers inputs publics program) between new r → GivesOrGivesUp (AnswersRun Answers asked) (run_paths paths) old new r
       run_or_gives_up r follow gave =
-          part_gives_or_gives_up (AnswersRun Answers asked) (run_paths paths) old between new files_read refl known.read.journal
+          part_gives_or_gives_up (AnswersRun Answers asked) (run_paths paths) old between new files_read refl read.journal
           (Answers inputs publics program) (λ answer answers. answers_run answer (accepted program is answers)) r follow gave
 
 -- ---- run
@@ -250,19 +243,20 @@ none_mapped f (Some x) = refl
 
 -- a run that is watched, if `last` is the number that its text writes
 pub watched_runs : (arguments : RunArguments) (limits : Limits) (last : ℕ) (tested : Bool) → AreLimitsOf arguments.limits limits
-    → last ≡ count_value arguments.last.text.now → tested ≡ ((last == 0 && is_none arguments.dump) && not arguments.names) → tested ≡ false
+    → WritesCount arguments.last last → tested ≡ ((last == 0 && is_none arguments.dump) && not arguments.names) → tested ≡ false
     → (files : List FileValue) (answer : AnswerValue)
     → AnswersRun (λ inputs. EndsRun inputs limits last (dump_of arguments)) arguments.names files answer → RunsFiles arguments files answer
 watched_runs arguments limits last tested are counted is untrue files answer answers = record {
   limits = limits;
   are_limits = are;
+  last = counted.0;
   answers =
       subst (λ (b : Bool). MatchBool b (AnswersSession limits files answer)
       (AnswersRun (λ inputs. EndsRun inputs limits (count_value arguments.last.text.now) (dump_of arguments)) arguments.names files answer)) (sym watched)
-      (subst (λ (n : ℕ). AnswersRun (λ inputs. EndsRun inputs limits n (dump_of arguments)) arguments.names files answer) counted answers);
+      (subst (λ (n : ℕ). AnswersRun (λ inputs. EndsRun inputs limits n (dump_of arguments)) arguments.names files answer) counted.1 answers);
 }
   where
     watched : is_session arguments ≡ false
     watched =
-        ap (λ (n : ℕ). (n == 0 && is_none (dump_of arguments)) && not arguments.names) (sym counted)
+        ap (λ (n : ℕ). (n == 0 && is_none (dump_of arguments)) && not arguments.names) (sym counted.1)
         ∙ ap (λ (none : Bool). (last == 0 && none) && not arguments.names) (none_mapped (λ path. path.now) arguments.dump) ∙ sym is ∙ untrue

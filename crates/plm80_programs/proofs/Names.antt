@@ -4,7 +4,7 @@ pub use Rattle.image80.specs.{Case.DeclaredCase, Image.Located, Regions.Areas, d
 pub use Rattle.image80_text.specs.NameText.{named_text}
 pub use Rattle.loader80.specs.TranscriptText.{output_line, stack_line}
 pub use Rattle.loader80.specs.declared.fault.SessionFault.TheVariants.{Image, Inputs, Read, Refused, Regions, TooLong, Write}
-pub use Rattle.loader80.specs.{InputsText.bad_line, InputsText.inputs_of, Sends.Sends, Session.Says, Texts.Texts}
+pub use Rattle.loader80.specs.{Sends.Sends, Session.Says, Texts.Texts}
 pub use Rattle.loader80.specs.{declared.fault.SessionFault.SessionFault, declared.replies.Outcome.Outcome, declared.running.Ended.Ended}
 pub use Rattle.loader80_text.specs.{Words.word_of, declared.inputs.repeated.Repeated.Repeated}
 pub use Rattle.loader80_trace.specs.{Traces.last_number, declared.limits.Limits.Limits, declared.limits.Span.Span}
@@ -26,14 +26,14 @@ pub use Rattle.plm80_programs.specs.InputWords.{AnswersWords, IsFirstBadWord, Is
 pub use Rattle.plm80_programs.specs.Printed.{AnswersStores, CountsRun, ListsCode, ListsStores, PrintsCalls, PrintsListing, PrintsReport}
 pub use Rattle.plm80_programs.specs.Printed.{PrintsStores, stores_lines}
 pub use Rattle.plm80_programs.specs.Running.{AnswersRun, AnswersSession, AnswersTexts, AreLimitsOf, CoversFiles, EndsRun, IsRunRead}
-pub use Rattle.plm80_programs.specs.Running.{IsTraceOf, RunsFiles, TracesFiles, TracesRun, WatchesRun, ending, is_session, last_lines}
-pub use Rattle.plm80_programs.specs.Running.{run_files, session_status, start_of, texts_of, trace_ending, trace_lines, with_memory}
+pub use Rattle.plm80_programs.specs.Running.{IsTraceOf, RunsFiles, TracesFiles, TracesRun, WatchesRun, WritesCount, ending, is_session}
+pub use Rattle.plm80_programs.specs.Running.{last_lines, run_files, session_status, start_of, texts_of, trace_ending, trace_lines, with_memory}
 pub use Rattle.plm80_programs.specs.{Explanations.ShowsRest.behind, Status.notes_status, Status.stores_status, Suggest.AdvisesRegions}
 pub use Rattle.plm80_programs.specs.{Suggest.AnswersAdvice, Written.AnswersRegions, declared.cases.FoundCase.FoundCase}
 pub use Rattle.plm80_programs.specs.{declared.helpers.run_arguments.RunFiles.RunFiles, declared.helpers.run_arguments.RunTexts.RunTexts}
 pub use Rattle.plm80_programs.specs.{declared.run.RunArguments.RunArguments, declared.stores.ListedStores.ListedStores}
 pub use Rattle.std.proofs.Common.{ap, append-nil, append_assoc, arith, get_or, refl, rules, subst, sym, ◌∙◌}
-pub use Rattle.std.proofs.lemmas.List.{drop_more, map-append, take-append-drop, take_more}
+pub use Rattle.std.proofs.lemmas.List.{drop_more, map-append, map_more, take-append-drop}
 pub use Rattle.std.proofs.lemmas.List.Elements.{All-nil, All-push, filter-append, filter_map-append}
 pub use Rattle.std.proofs.lemmas.Result.{IfErr-weaker, IfOk-weaker}
 pub use Rattle.std.proofs.{KnownBytes.Appends-nil, KnownBytes.Appends-trans, Math.Nat.min-eq_left, lemmas.Grind.flat_map-append}

@@ -103,11 +103,6 @@ given_behind answer old between new lines status printed given = record {
   status_is = given.status_is;
 }
 
--- no file is written of an ending
-pub trace_files : (program : Voucher) (publics : List Public) (ended : Option Ended) → (trace_ending program publics ended).files ≡ []
-trace_files program publics None = refl
-trace_files program publics (Some ended) = refl
-
 -- ---- answers that were given
 
 -- the lines of a run were printed, and behind them how it ended

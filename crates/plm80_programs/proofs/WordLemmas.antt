@@ -1,16 +1,11 @@
 -- Words of the command line, one after another.
 use Rattle.plm80_programs.proofs.Names.{◌≡◌, ◌≢◌, ℕ, ◌+◌, ◌<◌, List, [], ◌∷◌, ◌++◌, All, None, Option, Some, IfSome, unwrap_or, length, map}
 use Rattle.plm80_programs.proofs.Names.{take, drop, Bor, ◌∙◌, ap, append-nil, get_or, refl, subst, sym, flat_map-append, drop_more}
-use Rattle.plm80_programs.proofs.Names.{map-append, take-append-drop, take_more, All-push, Repeated, word_of, IsFirstBadWord, IsGoodWord}
+use Rattle.plm80_programs.proofs.Names.{map-append, map_more, take-append-drop, All-push, Repeated, word_of, IsFirstBadWord, IsGoodWord}
 use Rattle.plm80_programs.proofs.Names.{inputs_named}
 
 abbrev text_of : Bor (List ℕ) → List ℕ
 text_of text = text.now
-
-pub texts_more : (texts : List (Bor (List ℕ))) (i : ℕ) (d : Bor (List ℕ)) → i < length texts
-    → map (λ t. t.now) (take (i + 1) texts) ≡ map (λ t. t.now) (take i texts) ++ (get_or texts i d).now ∷ []
-texts_more texts i d lt =
-    ap (map text_of) (take_more texts i d lt) ∙ map-append text_of (take i texts) (get_or texts i d ∷ [])
 
 pub named_more : (words : List (List ℕ)) (word : List ℕ) (before after : List Repeated) → before ≡ inputs_named words
     → after ≡ before ++ unwrap_or (word_of word) [] → after ≡ inputs_named (words ++ word ∷ [])
@@ -42,14 +37,14 @@ first_bad texts i d lt good bad = record {
 pub good_more : (texts : List (Bor (List ℕ))) (i : ℕ) (d : Bor (List ℕ)) → i < length texts
     → All IsGoodWord (map (λ t. t.now) (take i texts)) → word_of (get_or texts i d).now ≢ None → All IsGoodWord (map (λ t. t.now) (take (i + 1) texts))
 good_more texts i d lt good one =
-    subst (λ (l : List (List ℕ)). All IsGoodWord l) (sym (texts_more texts i d lt))
+    subst (λ (l : List (List ℕ)). All IsGoodWord l) (sym (map_more text_of texts i d lt))
     (All-push IsGoodWord (map text_of (take i texts)) (get_or texts i d).now good one)
 
 pub inputs_more : (texts : List (Bor (List ℕ))) (i : ℕ) (d : Bor (List ℕ)) (before after : List Repeated) → i < length texts
     → before ≡ inputs_named (map (λ t. t.now) (take i texts)) → after ≡ before ++ unwrap_or (word_of (get_or texts i d).now) []
     → after ≡ inputs_named (map (λ t. t.now) (take (i + 1) texts))
 inputs_more texts i d before after lt so_far one =
-    subst (λ (l : List (List ℕ)). after ≡ inputs_named l) (sym (texts_more texts i d lt))
+    subst (λ (l : List (List ℕ)). after ≡ inputs_named l) (sym (map_more text_of texts i d lt))
     (named_more (map text_of (take i texts)) (get_or texts i d).now before after so_far one)
 
 -- what a word added, if it names inputs

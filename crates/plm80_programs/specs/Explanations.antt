@@ -60,12 +60,12 @@ same_address _ _ = false
 abbrev pub is_of : Refusal → ShownRefusal → Bool
 is_of refusal one = (refusal_code one.refusal == refusal_code refusal) && same_address (refusal_address one.refusal) (refusal_address refusal)
 
--- a text goes on with the verifier's refusal and what shows it, or it ends if that is shown already
+-- a text goes on with the verifier's refusal and what shows it, unless that is shown already
 pub data ShowsRest (image : Located) (publics : List Public) (refusal : Refusal) (shown : List ShownRefusal) (further : ℕ)
     (before text : List ℕ) : Type 0 where
   among : list_any (is_of refusal) shown ≡ true → further ≡ 0 → text ≡ before → ShowsRest image publics refusal shown further before text
-  behind : (rest : List ℕ) → ShowsRefusal image publics refusal rest → further ≡ 1 → text ≡ before ++ rest
-      → ShowsRest image publics refusal shown further before text
+  behind : (rest : List ℕ) → list_any (is_of refusal) shown ≡ false → ShowsRefusal image publics refusal rest → further ≡ 1
+      → text ≡ before ++ rest → ShowsRest image publics refusal shown further before text
 
 -- refusals, each with what shows it; that there are more, if so; the verifier's refusal, if it is none of these; and how many there are
 pub record ShowsAll (image : Located) (publics : List Public) (refusal : Refusal) (text : List ℕ) : Type 0 where

@@ -15,8 +15,10 @@ use Rattle.verify80.specs.Vouched.{Voucher}
 use Rattle.loader80_trace.specs.Traces.{IsTraced, count_within, last_number, run_lines}
 use Rattle.loader80_trace.specs.{declared.limits.Limits.Limits, declared.limits.Span.Span}
 use Rattle.plm80_console.specs.Journal.{FileValue, Journal, and_read}
-use Rattle.plm80_console.specs.{Answer.AnswerValue, Answer.behind_file, Answer.prints, NumberText.count_value}
+use Rattle.plm80_console.specs.{Answer.AnswerValue, Answer.behind_file, Answer.prints, declared.options.OptionText.OptionText}
+use Rattle.plm80_console.specs.NumberText.{IsCountText, count_value}
 use Rattle.plm80_names.specs.Verdict.{AnswersVerdict, AreOfFiles}
+use Rattle.plm80_console.specs.declared.read_file.ReadFile.{ReadFile}
 use Rattle.plm80_programs.specs.{declared.cover.CoverArguments.CoverArguments, declared.helpers.run_arguments.LimitTexts.LimitTexts}
 use Rattle.plm80_programs.specs.{declared.helpers.run_arguments.RunFiles.RunFiles, declared.run.RunArguments.RunArguments}
 use Rattle.plm80_programs.specs.{declared.trace.TraceArguments.TraceArguments, declared.helpers.run_arguments.RunTexts.RunTexts}
@@ -99,12 +101,15 @@ pub record EndsRun (inputs : List (ℕ × ℕ)) (limits : Limits) (last : ℕ) (
 
 -- ---- three files
 
--- three files were read: an image, its regions and the text of its run's inputs
-pub record IsRunRead (paths : RunFiles) (asked : Bool) (old new : Journal) (image : Located) (publics : List Public) (inputs : List ℕ) : Type 0 where
+-- three files were read: an image, its regions, and the text of the inputs of its run
+pub record IsRunRead (paths : RunFiles) (asked : Bool) (old new : Journal) (image : Located) (publics : List Public) (spelling : List ℕ)
+    (inputs : List (ℕ × ℕ)) : Type 0 where
   pub file : List ℕ
   pub text : List ℕ
   pub are_read : AreOfFiles asked file text image publics
-  pub journal : new ≡ and_read (and_read (and_read old paths.image.now file) paths.regions.now text) paths.inputs.now inputs
+  pub journal : new ≡ and_read (and_read (and_read old paths.image.now file) paths.regions.now text) paths.inputs.now spelling
+  pub good : bad_line spelling ≡ None
+  pub spelled : inputs ≡ inputs_of spelling
 
 -- an answer to an image, its regions and its names, and the inputs of its run, as three files have them
 pub record AnswersRun (Answers : List (ℕ × ℕ) → List Public → Voucher → AnswerValue → Type 0) (asked : Bool) (files : List FileValue)
@@ -156,15 +161,19 @@ pub record AnswersSession (limits : Limits) (files : List FileValue) (answer : A
 
 -- ---- limits
 
+-- the number that an option writes, in decimal digits
+abbrev pub WritesCount : OptionText → (count : ℕ) → Type 0
+WritesCount option count = IsCountText option.text.now × (count ≡ count_value option.text.now)
+
 -- how long a run may last, as the options write it
 pub record AreLimitsOf (texts : LimitTexts) (limits : Limits) : Type 0 where
-  pub steps : limits.steps ≡ count_value texts.steps.text.now
-  pub outputs : limits.outputs ≡ count_value texts.outputs.text.now
+  pub steps : WritesCount texts.steps limits.steps
+  pub outputs : WritesCount texts.outputs limits.outputs
 
 -- which of its instructions are shown
 pub record IsSpanOf (arguments : TraceArguments) (span : Span) : Type 0 where
-  pub from : span.from ≡ count_value arguments.from.text.now
-  pub count : span.count ≡ count_value arguments.count.text.now
+  pub from : WritesCount arguments.from span.from
+  pub count : WritesCount arguments.count span.count
 
 -- ---- commands, by their arguments
 
@@ -188,14 +197,15 @@ is_session arguments = (count_value arguments.last.text.now == 0 && is_none (dum
 pub record RunsFiles (arguments : RunArguments) (files : List FileValue) (answer : AnswerValue) : Type 0 where
   pub limits : Limits
   pub are_limits : AreLimitsOf arguments.limits limits
+  pub last : IsCountText arguments.last.text.now
   pub answers : MatchBool (is_session arguments) (AnswersSession limits files answer)
       (AnswersRun (λ inputs. EndsRun inputs limits (count_value arguments.last.text.now) (dump_of arguments)) arguments.names files answer)
 
 -- ---- faults
 
--- the path of the file that a fault of a session is of; none if it is of no file's bytes
-abbrev pub fault_path : RunTexts → SessionFault → Option (List ℕ)
-fault_path texts (Image f) = Some texts.program.image.path.now
-fault_path texts (Regions f) = Some texts.program.regions.path.now
-fault_path texts (Inputs n) = Some texts.inputs.path.now
-fault_path texts _ = None
+-- the file that a fault of a session is of; none if it is of no file's bytes
+abbrev pub fault_file : RunTexts → SessionFault → Option ReadFile
+fault_file texts (Image f) = Some texts.program.image
+fault_file texts (Regions f) = Some texts.program.regions
+fault_file texts (Inputs n) = Some texts.inputs
+fault_file texts _ = None

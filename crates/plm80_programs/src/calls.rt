@@ -81,13 +81,8 @@ pub fn show_calls<C: Console>(
     let answer = shown(console.alloc(), image, arguments.dot, &names);
     let given = console.give_if_made(answer);
     let files = arguments.files;
-    explain_given(
-        console,
-        &given,
-        files.names,
-        files.image,
-        Some(files.regions),
-    );
+    let (path, regions) = (files.image, files.regions);
+    explain_given(console, &given, files.names, path, Some(regions));
     given
 }
 

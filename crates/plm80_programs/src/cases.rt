@@ -19,7 +19,7 @@ use loader80_trace::TraceFault;
 use plm80_console::laws::reading_leaves_files_alone;
 use plm80_console::{Answer, Argument, Console, Kind, Reported, Syntax, argument_text};
 use plm80_files::{IMAGE, REGIONS};
-use plm80_names::ProgramTexts;
+use plm80_names::NamedFiles;
 use std::alloc::{AllocError, Global};
 use stream80::{Sink, write_all};
 use verify80::ImageCode;
@@ -93,8 +93,12 @@ pub fn suggest_for_files<C: Console>(
         (asked.image.now ∷ asked.regions.now ∷ []) (C.journal console.old) (C.journal console.new)) }
 {
     reading_leaves_files_alone();
-    let texts = ProgramTexts::read(console, arguments.image, arguments.regions)?;
-    let (image, _) = texts.program(console, false)?;
+    let files = NamedFiles {
+        image: arguments.image,
+        regions: arguments.regions,
+        names: false,
+    };
+    let (image, _) = files.read(console)?;
     suggest(console, arguments.out, &image)
 }
 

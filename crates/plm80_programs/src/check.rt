@@ -46,13 +46,8 @@ pub fn check_files<C: Console>(console: &mut C, files: NamedFiles<'_>) -> Result
     let (image, names) = files.read(console)?;
     let answer = checked(console.alloc(), image, &names);
     let given = console.give_if_made(answer);
-    explain_given(
-        console,
-        &given,
-        files.names,
-        files.image,
-        Some(files.regions),
-    );
+    let (path, regions) = (files.image, files.regions);
+    explain_given(console, &given, files.names, path, Some(regions));
     given
 }
 

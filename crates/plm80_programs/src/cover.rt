@@ -3,7 +3,7 @@
 ghost use Rattle.std.specs.Prelude.{◌≡◌, [], IfErr, IfOk};
 ghost use Rattle.plm80_console.specs.{Answer.Gives, Journal.OnlyReports};
 ghost use Rattle.plm80_programs.specs.Arguments.{AreCoverArguments, run_paths};
-ghost use Rattle.plm80_programs.specs.{Printed.CountsRun, Printed.PrintsCover, Running.AnswersRun, Running.CoversFiles};
+ghost use Rattle.plm80_programs.specs.{Printed.CountsRun, Printed.PrintsCover, Running.CoversFiles};
 
 use crate::helpers::run_arguments::{INPUTS, LimitTexts, OUTPUTS, RunFiles, STEPS};
 use clap::ArgMatches;
@@ -69,36 +69,16 @@ pub fn cover_files<C: Console>(
         (C.journal console.old) (C.journal console.new)) }
     ensures fault { IfErr result (λ _. OnlyReports (C.journal console.old) (C.journal console.new)) }
 {
+    reading_leaves_files_alone();
     let limits = arguments.limits.numbers(console)?;
-    let given = cover_within(console, arguments.files, limits, arguments.names);
+    let program = arguments.files.read(console, arguments.names)?;
+    let alloc = console.alloc();
+    let inputs = program.inputs;
+    let answer = covered(alloc, program.image, &program.names, inputs, limits);
+    let given = console.give_if_made(answer);
     let (image, regions) = (arguments.files.image, arguments.files.regions);
     explain_given(console, &given, arguments.names, image, Some(regions));
     given
-}
-
-/// Reads the files of a run, runs the image within these limits, prints its code with the counts of the run, or its refusal, and returns
-/// the exit status.
-fn cover_within<C: Console>(
-    console: &mut C,
-    files: RunFiles<'_>,
-    limits: Limits,
-    names: bool,
-) -> Result<u8, Reported>
-    ensures done { IfOk result (Gives (AnswersRun (λ inputs. CountsRun inputs limits) names) (run_paths files.entry)
-        (C.journal console.old) (C.journal console.new)) }
-    ensures fault { IfErr result (λ _. OnlyReports (C.journal console.old) (C.journal console.new)) }
-{
-    reading_leaves_files_alone();
-    let program = files.read(console, names)?;
-    let inputs = files.inputs_of(console, &program.inputs)?;
-    let answer = covered(
-        console.alloc(),
-        program.image,
-        &program.names,
-        inputs,
-        limits,
-    );
-    console.give_if_made(answer)
 }
 
 /// What `cover` answers: the code of `image` with the counts of its run; the line of its refusal if the verifier refuses it.

@@ -83,13 +83,8 @@ pub fn list_files<C: Console>(console: &mut C, arguments: ListArguments<'_>) -> 
     let answer = listed(console.alloc(), image, arguments.reached, &names);
     let given = console.give_if_made(answer);
     let files = arguments.files;
-    explain_given(
-        console,
-        &given,
-        files.names,
-        files.image,
-        Some(files.regions),
-    );
+    let (path, regions) = (files.image, files.regions);
+    explain_given(console, &given, files.names, path, Some(regions));
     given
 }
 

@@ -105,13 +105,8 @@ pub fn list_stores<C: Console>(
             explain_causes(console, &causes);
             let given = Ok(status);
             let files = arguments.files;
-            explain_given(
-                console,
-                &given,
-                files.names,
-                files.image,
-                Some(files.regions),
-            );
+            let (path, regions) = (files.image, files.regions);
+            explain_given(console, &given, files.names, path, Some(regions));
             given
         }
         Err(_) => Err(console.report_memory()),

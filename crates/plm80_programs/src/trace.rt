@@ -1,9 +1,8 @@
 //! `plm80 trace`: the instructions of a located program's run, a line each.
 
-ghost use Rattle.std.specs.Prelude.{◌≡◌, ◌<◌, true, IfErr, IfOk, OnOk};
-ghost use Rattle.std.specs.Io.KnownBytes.{Appends};
+ghost use Rattle.std.specs.Prelude.{◌≡◌, IfErr, IfOk};
 ghost use Rattle.plm80_console.specs.{Answer.Gives, Answer.IsAnswered, Answer.IsGiven, Journal.OnlyReports};
-ghost use Rattle.plm80_programs.specs.Running.{AnswersRun, IsSpanOf, IsTraceOf, TracesFiles, TracesRun, trace_ending, trace_lines};
+ghost use Rattle.plm80_programs.specs.Running.{AnswersRun, IsSpanOf, TracesFiles, TracesRun, trace_ending};
 ghost use Rattle.plm80_programs.specs.Arguments.{AreTraceArguments, run_paths};
 
 use crate::EndWords;
@@ -11,14 +10,13 @@ use crate::helpers::endings::{Traced, report_lines, trace_ending_of, write_trace
 use crate::helpers::run_arguments::{INPUTS, LimitTexts, OUTPUTS, RunFiles, STEPS};
 use clap::ArgMatches;
 use loader80::{Ended, Vouched};
-use loader80_trace::{Limits, Span, TraceFault};
+use loader80_trace::{Limits, Span};
 use machine80::Inputs;
 use plm80_console::laws::reading_leaves_files_alone;
 use plm80_console::{Answer, Argument, Console, Kind, OptionText, Reported, Syntax};
 use plm80_files::{IMAGE, REGIONS};
 use plm80_names::{NAMES, Names, Verdict, explain_given, judge};
-use std::alloc::{AllocError, Global};
-use stream80::Sink;
+use std::alloc::AllocError;
 
 /// The arguments of the command `trace`.
 #[derive(Clone, Copy)]
@@ -129,7 +127,7 @@ fn trace_within<C: Console>(
 {
     reading_leaves_files_alone();
     let program = files.read(console, names)?;
-    let inputs = files.inputs_of(console, &program.inputs)?;
+    let inputs = program.inputs;
     match judge(console.alloc(), program.image, &program.names) {
         Ok(Verdict::Accepted(vouched)) => {
             print_trace(console, &vouched, inputs, limits, span, &program.names)
@@ -152,39 +150,6 @@ fn print_trace<C: Console>(
         (C.journal console.old) (C.journal console.new)) }
     ensures fault { IfErr result (λ _. OnlyReports (C.journal console.old) (C.journal console.new)) }
 {
-    let mut output = console.output();
-    let traced = write_trace(
-        console.alloc(),
-        vouched,
-        inputs,
-        limits,
-        span,
-        names,
-        &mut output,
-    );
-    let failure = console.take_back(output);
-    match traced {
-        Ok(ended) => end_trace(console, vouched, &ended, names),
-        Err(fault) => Err(report_lines(console, fault, failure)),
-    }
-}
-
-/// Writes the instructions of `span` of a program's run, with their numbers, and returns how the run ended; `None` if they don't reach
-/// that.
-fn write_trace<K: Sink>(
-    alloc: Global,
-    vouched: &Vouched,
-    inputs: Inputs,
-    limits: Limits,
-    span: Span,
-    names: &Names,
-    out: &mut K,
-) -> Result<Option<Ended>, TraceFault>
-    requires { K.failed out.old < u64.MAX }
-    ensures lines { OnOk result (Appends (K.written out.old) (K.written out.new)
-        (trace_lines inputs.pairs.items limits span true names.now vouched.now)) }
-    ensures traced { IfOk result (IsTraceOf inputs.pairs.items limits span vouched.now) }
-{
     let traced = Traced {
         vouched,
         names,
@@ -192,7 +157,13 @@ fn write_trace<K: Sink>(
         span,
         numbered: true,
     };
-    write_traced(alloc, traced, inputs, out)
+    let mut output = console.output();
+    let written = write_traced(console.alloc(), traced, inputs, &mut output);
+    let failure = console.take_back(output);
+    match written {
+        Ok(ended) => end_trace(console, vouched, &ended, names),
+        Err(fault) => Err(report_lines(console, fault, failure)),
+    }
 }
 
 /// Prints how a run ended, if its lines reached that, and returns the exit status: 0 if they didn't.

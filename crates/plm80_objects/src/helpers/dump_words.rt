@@ -1,6 +1,6 @@
 //! What a dump seems to be, in words, if it isn't bytes as they are.
 
-ghost use Rattle.std.specs.Prelude.{◌≡◌, ℕ, List, Some, true, IfSome};
+ghost use Rattle.std.specs.Prelude.{◌≡◌, ◌↔◌, ℕ, List, Some, true, IfSome};
 ghost use Rattle.rom80.specs.DumpKinds.{dump_kind};
 
 use plm80_console::Console;
@@ -28,7 +28,7 @@ impl<'a> DumpWords<'a> {
 
     /// Whether the words are on a dump that seems to be an object file.
     pub(crate) fn is_of_object_file(self) -> bool
-        ensures { result ≡ true → self.entry.kind ≡ DumpKind.ObjectFile }
+        ensures { (result ≡ true) ↔ (self.entry.kind ≡ DumpKind.ObjectFile) }
     {
         matches!(self.kind, DumpKind::ObjectFile)
     }

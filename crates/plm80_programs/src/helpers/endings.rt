@@ -46,15 +46,8 @@ pub fn write_traced<K: Sink>(
         numbered: traced.numbered,
         publics: traced.names.publics(),
     };
-    write_lines(
-        alloc,
-        traced.vouched,
-        inputs,
-        traced.limits,
-        traced.span,
-        form,
-        out,
-    )
+    let (vouched, limits, span) = (traced.vouched, traced.limits, traced.span);
+    write_lines(alloc, vouched, inputs, limits, span, form, out)
 }
 
 /// What is printed of how a run ended: its last line, with a name for the address in it, and the exit status.

@@ -1,11 +1,8 @@
 //! The image, its regions and the inputs of its run, and how far it runs: what several commands that run it take.
 
 ghost use Rattle.std.specs.Prelude.{◌≡◌, None, IfErr, IfOk, OnOk};
-ghost use Rattle.image80.specs.RegionsText.{Spells};
-ghost use Rattle.image80_file.specs.ImageFile.{SpellsImage, without_regions};
 ghost use Rattle.loader80.specs.InputsText.{bad_line, inputs_of};
 ghost use Rattle.plm80_console.specs.Journal.{OnlyReports, and_read_files};
-ghost use Rattle.plm80_names.specs.Printed.{AreNamesOf};
 ghost use Rattle.plm80_programs.specs.Running.{AreLimitsOf, IsRunRead, run_files};
 ghost use Rattle.plm80_programs.specs.Arguments.{AreLimitTexts, AreRunFiles};
 
@@ -54,12 +51,13 @@ pub struct RunTexts<'a> {
     pub inputs: ReadFile<'a>,
 }
 
-/// An image that was read, its names if they are asked for, and the text of the inputs of its run.
+/// An image that was read, its names if they are asked for, and the inputs of its run with the text that spells them.
 #[derive(Drop)]
 pub struct RunProgram {
     pub image: Image,
     pub names: Names,
-    pub inputs: Vec<u8>,
+    pub inputs: Inputs,
+    pub text: Vec<u8>,
 }
 
 impl<'a> RunFiles<'a> {
@@ -74,15 +72,22 @@ impl<'a> RunFiles<'a> {
         }
     }
 
-    /// Reads an image with its regions, its names if they are asked for, and the text of the inputs of its run. All three files are read
-    /// before one is checked, and they are checked in the order of `run`; the first fault is reported.
-    pub fn read<C: Console>(self, console: &mut C, names: bool) -> Result<RunProgram, Reported>
-        ensures read { IfOk result (λ read. IsRunRead self.entry names (C.journal console.old) (C.journal console.new)
-            read.image read.names read.inputs.items) }
+    /// Reads an image with its regions, its names if they are asked for, and the inputs of its run. All three files are read before one is
+    /// checked, and they are checked in the order of `run`; the first fault is reported.
+    pub fn read<C: Console>(self, console: &mut C, asked: bool) -> Result<RunProgram, Reported>
+        ensures read { IfOk result (λ read. IsRunRead self.entry asked (C.journal console.old) (C.journal console.new)
+            read.image read.names read.text.items read.inputs.pairs.items) }
         ensures fault { IfErr result (λ _. OnlyReports (C.journal console.old) (C.journal console.new)) }
     {
         let texts = self.texts(console)?;
-        texts.program(console, names)
+        let (image, names) = texts.program.program(console, asked)?;
+        let inputs = self.inputs_of(console, &texts.inputs.bytes)?;
+        Ok(RunProgram {
+            image,
+            names,
+            inputs,
+            text: texts.inputs.bytes,
+        })
     }
 
     /// Reads the three files of a run whole: the image, its regions, then its inputs.
@@ -114,26 +119,6 @@ impl<'a> RunFiles<'a> {
             }
             Err(InputsFault::Memory) => Err(console.report_memory()),
         }
-    }
-}
-
-impl<'a> RunTexts<'a> {
-    /// The image that the texts spell, with its regions, its names if they are asked for, and the text of the inputs. Reports the first
-    /// fault of the image and its regions.
-    fn program<C: Console>(self, console: &mut C, asked: bool) -> Result<RunProgram, Reported>
-        ensures contents { IfOk result (λ read. SpellsImage self.entry.program.image.bytes.items (without_regions read.image)) }
-        ensures regions { IfOk result (λ read. Spells self.entry.program.regions.bytes.items read.image.regions) }
-        ensures names { IfOk result (λ read. AreNamesOf asked self.entry.program.image.bytes.items read.names) }
-        ensures inputs { IfOk result (λ read. read.inputs.items ≡ self.entry.inputs.bytes.items) }
-        ensures unchanged { IfOk result (λ _. C.journal console.new ≡ C.journal console.old) }
-        ensures fault { IfErr result (λ _. OnlyReports (C.journal console.old) (C.journal console.new)) }
-    {
-        let (image, names) = self.program.program(console, asked)?;
-        Ok(RunProgram {
-            image,
-            names,
-            inputs: self.inputs.bytes,
-        })
     }
 }
 

@@ -1,9 +1,9 @@
 //! A session on files, with its transcript on standard output.
 
-ghost use Rattle.std.specs.Prelude.{◌≡◌, ◌<◌, IfErr, IfOk, option_map};
+ghost use Rattle.std.specs.Prelude.{◌≡◌, ◌<◌, IfErr, IfOk, option_copied};
 ghost use Rattle.loader80.specs.Sends.{Sends};
 ghost use Rattle.plm80_console.specs.{Answer.Gives, Answer.IsAnswered, Journal.OnlyReports, Journal.and_reported};
-ghost use Rattle.plm80_programs.specs.Running.{AnswersSession, AnswersTexts, fault_path, session_status, texts_of};
+ghost use Rattle.plm80_programs.specs.Running.{AnswersSession, AnswersTexts, fault_file, session_status, texts_of};
 ghost use Rattle.plm80_programs.specs.Arguments.{run_paths};
 
 use crate::helpers::run_arguments::{RunFiles, RunTexts};
@@ -111,7 +111,7 @@ fn report_session<C: Console>(
 
 /// The file of whose bytes a fault of a session is; `None` if it is of no file's bytes.
 fn file_of_fault<'t, 'a>(texts: &'t RunTexts<'a>, fault: SessionFault) -> Option<&'t ReadFile<'a>>
-    ensures { option_map (λ file. file.now.path.now) result ≡ fault_path texts.now fault }
+    ensures { option_copied result ≡ fault_file texts.now fault }
 {
     match fault {
         SessionFault::Image(_) => Some(&texts.program.image),

@@ -59,8 +59,8 @@ pub fn watch_run<C: Console>(
 {
     reading_leaves_files_alone();
     let program = files.read(console, names)?;
-    let first = files.inputs_of(console, &program.inputs)?;
-    let second = files.inputs_of(console, &program.inputs)?;
+    let second = files.inputs_of(console, &program.text)?;
+    let first = program.inputs;
     let inputs = InputsTwice { first, second };
     match judge(console.alloc(), program.image, &program.names) {
         Ok(Verdict::Accepted(vouched)) => {

@@ -1,18 +1,19 @@
+use Rattle.std.proofs.Common.{[]}
 use Rattle.plm80_files.proofs.UnreadLemmas.{ends_here, goes_on}
 use Rattle.plm80_files.specs.UnreadBytes.{none}
 use Rattle.plm80_files.proofs.unread_bytes.bytes_behind_end.Goals as goal
 
-pub returns-in-Some-eq14-default : goal.returns-in-Some-eq14-default
-returns-in-Some-eq14-default c =
-    c.loop.invariant c.in-Some-eq14-default.after.now
-    (ends_here c.loop.rest.now c.in-Some-eq14-default.after.now
-    (cc (c.in-Some-eq14-default.ensures.kind, c.in-Some-eq14-default.field-0-0-test, c.in-Some-eq14-default.field-0-0-is))
-    (cc (c.in-Some-eq14-default.ensures.after, c.in-Some-eq14-default.after-is)))
+pub returns-then-kind-eq-END_OF_FILE : goal.returns-then-kind-eq-END_OF_FILE
+returns-then-kind-eq-END_OF_FILE c =
+    c.loop-kind.invariant c.in-Some.after.now
+    (ends_here c.loop-kind.rest.now c.in-Some.after.now c.in-Some.kind c.in-Some.ensures.whole c.in-Some.ensures.kind
+    c.if-kind-eq-END_OF_FILE.true c.in-Some.ensures.after)
 
-pub loop-preserved : goal.loop-preserved
-loop-preserved c = λ after behind.
-    c.loop.invariant after
-    (goes_on c.loop.rest.now c.in-Some.after.now after (cc (c.in-Some.ensures.after, c.in-Some.after-is)) behind)
+pub loop-kind-preserved : goal.loop-kind-preserved
+loop-kind-preserved c = λ after behind.
+    c.loop-kind.invariant after
+    (goes_on c.loop-kind.rest.now c.in-Some.after.now after c.in-Some.kind c.in-Some.ensures.whole c.in-Some.ensures.kind
+    c.if-kind-eq-END_OF_FILE.false c.in-Some.ensures.after behind)
 
 pub returns : goal.returns
-returns c = none c.args.bytes.now
+returns c = c.loop-kind.invariant [] (none c.loop-kind.rest.now c.in_default.ensures.none)

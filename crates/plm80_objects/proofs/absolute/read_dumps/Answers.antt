@@ -1,21 +1,18 @@
-use Rattle.plm80_objects.proofs.{Names.file_value, Names.◌∷◌, Names.[], GivenLemmas.err_from, ReadLemmas.dumps_more}
+use Rattle.plm80_objects.proofs.{Names.file_value, Names.◌∷◌, Names.[], GivenLemmas.err_from, ReadLemmas.dumps_more, ReadLemmas.faults_behind}
 use Rattle.plm80_objects.proofs.absolute.read_dumps.Goals as goal
 
 pub returns-in_err-file-clause-fault : goal.returns-in_err-file-clause-fault
 returns-in_err-file-clause-fault g c =
-    let read = c.loop-rom.invariant.read in
     err_from c.from_residual.result
-    (c.reading_leaves_files_alone.ensures.faults (g.C.Console.journal c.args.console.now) (g.C.Console.journal c.loop-rom.console)
-    (g.C.Console.journal c.read_file.new.self) read.files read.journal c.in_err-file.ensures.fault)
+    (faults_behind c.loop-rom.invariant.read c.reading_leaves_files_alone.ensures.faults c.in_err-file.ensures.fault)
 
 pub returns-in-Err-clause-fault : goal.returns-in-Err-clause-fault
 returns-in-Err-clause-fault g c =
     let law = c.reading_leaves_files_alone.ensures in
-    let journal = g.C.Console.journal in
-    let read = c.loop-rom.invariant.read in
-    law.faults (journal c.args.console.now) (journal c.loop-rom.console) (journal c.report_rom_fault.new.console) read.files read.journal
-    (law.reported (journal c.loop-rom.console) (journal c.read_file.new.self) (journal c.report_rom_fault.new.console)
-    (file_value _ c.in_ok-file.file.bytes.items ∷ []) c.in_ok-file.ensures.read c.report_rom_fault.ensures)
+    faults_behind c.loop-rom.invariant.read law.faults
+    (law.reported (g.C.Console.journal c.loop-rom.console) (g.C.Console.journal c.read_file.new.self)
+    (g.C.Console.journal c.report_rom_fault.new.console) (file_value _ c.in_ok-file.file.bytes.items ∷ []) c.in_ok-file.ensures.read
+    c.report_rom_fault.ensures)
 
 pub loop-rom-preserved : goal.loop-rom-preserved
 loop-rom-preserved g c = record {

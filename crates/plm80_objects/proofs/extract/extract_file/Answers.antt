@@ -21,6 +21,7 @@ both g c =
       contents = subst (λ (bs : List ℕ). SpellsImage bs (without_regions c.in_ok-image.image)) c.deref.ensures.value c.in_ok-image.ensures.image;
       extent = c.in_ok-extent.extent;
       is_extent = c.in_ok-extent.ensures.extent;
+      in_memory = (λ past. cc (c.in-Ok.ensures.past.1 past));
       answer_is = c.in-Ok.ensures.answer;
     })
     c.give-given.ensures.given c.give-given.ensures.fault

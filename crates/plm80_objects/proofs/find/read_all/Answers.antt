@@ -1,5 +1,5 @@
-use Rattle.plm80_objects.proofs.Names.{◌++◌, ◌∷◌, [], is_ok, not, ◌∙◌, ap, file_value, AreLinkFiles}
-use Rattle.plm80_objects.proofs.{GivenLemmas.err_from, GivenLemmas.pushed, ReadLemmas.none_read, ReadLemmas.one_read, ReadLemmas.text_of}
+use Rattle.plm80_objects.proofs.Names.{◌++◌, ◌∷◌, [], is_ok, not, ◌∙◌, ap, cond-true, file_value, AreLinkFiles}
+use Rattle.plm80_objects.proofs.{GivenLemmas.err_from, ReadLemmas.faults_behind, ReadLemmas.none_read, ReadLemmas.one_read, ReadLemmas.text_of}
 use Rattle.plm80_objects.specs.Find.AreLinkFiles.{none, more}
 use Rattle.plm80_objects.proofs.find.read_all.Goals as goal
 
@@ -9,19 +9,15 @@ loop-path-init g c =
 
 pub returns-in_err-file-clause-fault : goal.returns-in_err-file-clause-fault
 returns-in_err-file-clause-fault g c =
-    let read = c.loop-path.invariant in
-    err_from c.from_residual.result
-    (c.reading_leaves_files_alone.ensures.faults (g.C.Console.journal c.args.console.now) (g.C.Console.journal c.loop-path.console)
-    (g.C.Console.journal c.read_link_file.new.console) read.files read.journal c.in_err-file.ensures.fault)
+    err_from c.from_residual.result (faults_behind c.loop-path.invariant c.reading_leaves_files_alone.ensures.faults c.in_err-file.ensures.fault)
 
 pub returns-then-is_err-clause-fault : goal.returns-then-is_err-clause-fault
 returns-then-is_err-clause-fault g c =
     let law = c.reading_leaves_files_alone.ensures in
-    let journal = g.C.Console.journal in
-    law.faults (journal c.args.console.now) (journal c.loop-path.console) (journal c.report_memory.new.self) c.loop-path.invariant.files
-    c.loop-path.invariant.journal
-    (law.reported (journal c.loop-path.console) (journal c.read_link_file.new.console) (journal c.report_memory.new.self)
-    (file_value _ c.in_ok-file.ensures.read.0 ∷ []) c.in_ok-file.ensures.read.1 c.report_memory.ensures)
+    faults_behind c.loop-path.invariant law.faults
+    (law.reported (g.C.Console.journal c.loop-path.console) (g.C.Console.journal c.read_link_file.new.console)
+    (g.C.Console.journal c.report_memory.new.self) (file_value _ c.in_ok-file.ensures.read.0 ∷ []) c.in_ok-file.ensures.read.1
+    c.report_memory.ensures)
 
 pub loop-path-preserved : goal.loop-path-preserved
 loop-path-preserved g c =
@@ -30,5 +26,5 @@ loop-path-preserved g c =
     one_read text_of c.args.paths.now c.loop-path.path-index _ (g.C.Console.journal c.args.console.now) (g.C.Console.journal c.loop-path.console)
     (g.C.Console.journal c.read_link_file.new.console) AreLinkFiles AreLinkFiles c.in_ok-file.ensures.read.0 files c.push.new.self.items all
     c.loop-path-test.true c.loop-path.invariant c.in_ok-file.ensures.read.1
-    (pushed (is_ok c.push.result) files all c.push.new.self.items c.push.ensures.items (c.is_err.ensures.negation ∙ ap not c.if-is_err.false))
+    (c.push.ensures.items ∙ cond-true (is_ok c.push.result) all files (c.is_err.ensures.negation ∙ ap not c.if-is_err.false))
     (λ read named have. more read files _ c.in_ok-file.file have c.in_ok-file.ensures.read.2)

@@ -1,5 +1,5 @@
 use Rattle.plm80_objects.proofs.Names.{◌∷◌, [], refl, file_value, AreLinkFilesOf}
-use Rattle.plm80_objects.proofs.{GivenLemmas.err_from, ReadLemmas.none_read, ReadLemmas.one_read, ReadLemmas.text_of}
+use Rattle.plm80_objects.proofs.{GivenLemmas.err_from, ReadLemmas.faults_behind, ReadLemmas.none_read, ReadLemmas.one_read, ReadLemmas.text_of}
 use Rattle.plm80_objects.specs.Link.AreLinkFilesOf.{none, more}
 use Rattle.plm80_objects.proofs.link.read_files.Goals as goal
 
@@ -10,19 +10,15 @@ loop-path-init g c =
 
 pub returns-in_err-file-clause-fault : goal.returns-in_err-file-clause-fault
 returns-in_err-file-clause-fault g c =
-    let read = c.loop-path.invariant in
-    err_from c.from_residual.result
-    (c.reading_leaves_files_alone.ensures.faults (g.C.Console.journal c.args.console.now) (g.C.Console.journal c.loop-path.console)
-    (g.C.Console.journal c.read_link_file.new.console) read.files read.journal c.in_err-file.ensures.fault)
+    err_from c.from_residual.result (faults_behind c.loop-path.invariant c.reading_leaves_files_alone.ensures.faults c.in_err-file.ensures.fault)
 
 pub returns-in-Err-clause-fault : goal.returns-in-Err-clause-fault
 returns-in-Err-clause-fault g c =
     let law = c.reading_leaves_files_alone.ensures in
-    let journal = g.C.Console.journal in
-    law.faults (journal c.args.console.now) (journal c.loop-path.console) (journal c.report_memory.new.self) c.loop-path.invariant.files
-    c.loop-path.invariant.journal
-    (law.reported (journal c.loop-path.console) (journal c.read_link_file.new.console) (journal c.report_memory.new.self)
-    (file_value _ c.in_ok-file.ensures.read.0 ∷ []) c.in_ok-file.ensures.read.1 c.report_memory.ensures)
+    faults_behind c.loop-path.invariant law.faults
+    (law.reported (g.C.Console.journal c.loop-path.console) (g.C.Console.journal c.read_link_file.new.console)
+    (g.C.Console.journal c.report_memory.new.self) (file_value _ c.in_ok-file.ensures.read.0 ∷ []) c.in_ok-file.ensures.read.1
+    c.report_memory.ensures)
 
 pub loop-path-preserved : goal.loop-path-preserved
 loop-path-preserved g c =

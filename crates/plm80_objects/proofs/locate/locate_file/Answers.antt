@@ -30,6 +30,7 @@ both g c =
       answers = of_program (WritesLocated asked options rom ram) file c.in_ok-modules.modules.items program c.in-Ok.answer read.2
           c.in_ok-modules.ensures.one c.index-program.ensures
           (record {
+            none = c.in-Ok.ensures.none;
             on_board = subst (λ (l : List Range). unmapped_of rom l asked.restart options program ≡ None) c.deref-4.ensures.value
                 (subst (λ (l : List Range). unmapped_of l c.deref-4.result.now asked.restart options program ≡ None) c.deref-3.ensures.value
                 c.in-Ok.ensures.on_board);

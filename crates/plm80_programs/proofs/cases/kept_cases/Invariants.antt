@@ -1,7 +1,9 @@
 -- the cases so far, and their lines
-use Rattle.plm80_programs.proofs.CaseLemmas.{Kept}
+use Rattle.plm80_programs.proofs.Names.{◌≡◌, cases_text, AreFoundBelow}
 use Rattle.plm80_programs.proofs.cases.kept_cases.Given as goal
 
 abbrev pub invariant-loop-address : goal.invariant-loop-address
-invariant-loop-address l =
-    Kept l.image l.search-inside.reached.items l.search-inside.taken.items l.address l.kept.cases.items l.kept.notes.items l.kept.lines.items
+invariant-loop-address l = record {
+  found : AreFoundBelow l.image l.search-inside.reached.items l.search-inside.taken.items l.address l.kept.cases.items l.kept.notes.items;
+  lines_are : l.kept.lines.items ≡ cases_text l.kept.cases.items;
+}

@@ -1,4 +1,4 @@
-use Rattle.plm80_programs.proofs.Names.{[], ◌∷◌, false, ◌∙◌, IsProgramRead, cases_path, AnswersCases}
+use Rattle.plm80_programs.proofs.Names.{[], ◌∷◌, cases_path, AnswersCases}
 use Rattle.plm80_programs.proofs.GivenLemmas.{GivesOrGivesUp, cases_or_gives_up}
 use Rattle.plm80_programs.proofs.cases.suggest_for_files.Given as given
 use Rattle.plm80_programs.proofs.cases.suggest_for_files.Goals.{After-suggest}
@@ -8,19 +8,7 @@ both : (g : given.Over) (c : After-suggest g) → GivesOrGivesUp (AnswersCases (
     (c.args.arguments.image.now ∷ c.args.arguments.regions.now ∷ []) (g.C.Console.journal c.args.console.now)
     (g.C.Console.journal c.suggest.new.console) c.suggest.result
 both g c =
-    let asked = c.args.arguments in
-    let read : IsProgramRead asked.image.now asked.regions.now false (g.C.Console.journal c.args.console.now) (g.C.Console.journal c.program.new.console)
-    c.in_ok-image.image c.in_ok-image.field-0-1 = record {
-      file = c.in_ok-texts.texts.image.bytes.items;
-      text = c.in_ok-texts.texts.regions.bytes.items;
-      are_read = record {
-        contents = c.in_ok-image.ensures.contents;
-        regions = c.in_ok-image.ensures.regions;
-        names = c.in_ok-image.ensures.names;
-      };
-      journal = c.in_ok-image.ensures.unchanged ∙ c.in_ok-texts.ensures.read;
-    } in
-    cases_or_gives_up read (g.C.Console.journal c.suggest.new.console) (cases_path asked) c.suggest.result
+    cases_or_gives_up c.in_ok-image.ensures.read (g.C.Console.journal c.suggest.new.console) (cases_path c.args.arguments) c.suggest.result
     c.reading_leaves_files_alone.ensures.faults (c.suggest.ensures.done, c.suggest.ensures.fault)
 
 pub returns-clause-done : goal.returns-clause-done

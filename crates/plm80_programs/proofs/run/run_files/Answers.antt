@@ -12,7 +12,7 @@ both g c =
     let last = c.in_ok-last.last in
     more_or_gives_up (AnswersRun (λ inputs. EndsRun inputs limits last (dump_path asked.dump)) asked.names) (RunsFiles asked) (run_paths asked.files)
     (g.C.Console.journal c.args.console.now) (g.C.Console.journal c.count.new.console) (g.C.Console.journal c.watch_run-given.new.console)
-    (watched_runs asked limits last c.is_session.result c.in_ok-limits.ensures.limits c.in_ok-last.ensures.count.1 c.is_session.ensures c.if-is_session.false)
+    (watched_runs asked limits last c.is_session.result c.in_ok-limits.ensures.limits c.in_ok-last.ensures.count c.is_session.ensures c.if-is_session.false)
     (c.in_ok-last.ensures.unchanged ∙ c.in_ok-limits.ensures.unchanged) c.watch_run-given.result
     (c.watch_run-given.ensures.done, c.watch_run-given.ensures.fault)
 

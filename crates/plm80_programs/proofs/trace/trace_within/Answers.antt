@@ -1,31 +1,23 @@
-use Rattle.plm80_programs.proofs.GivenLemmas.{IsRunKnown, run_accepted, run_known, run_refused, run_reports}
+use Rattle.plm80_programs.proofs.GivenLemmas.{run_accepted, run_refused, run_reports}
 use Rattle.plm80_programs.proofs.Names.{subst, IsVerdict, TracesRun}
-use Rattle.plm80_programs.proofs.trace.trace_within.Given as given
-use Rattle.plm80_programs.proofs.trace.trace_within.Goals.{After-judge}
 use Rattle.plm80_programs.proofs.trace.trace_within.Goals as goal
-
-known : (g : given.Over) (c : After-judge g) → IsRunKnown c.args.files c.args.names (g.C.Console.journal c.args.console.now)
-    (g.C.Console.journal c.inputs_of.new.console) c.in_ok-program.program.image c.in_ok-program.program.names c.in_ok-inputs.inputs.pairs.items
-known g c =
-    run_known c.in_ok-program.ensures.read c.in_ok-inputs.ensures.unchanged c.deref.ensures.value c.in_ok-inputs.ensures.good
-    c.in_ok-inputs.ensures.inputs
 
 pub returns-in-Ok-Accepted-clause-done : goal.returns-in-Ok-Accepted-clause-done
 returns-in-Ok-Accepted-clause-done g c =
     let program = c.in_ok-program.program in
-    run_accepted (known g (goal.at.returns-in-Ok-Accepted-clause-done g c).After-judge) (g.C.Console.journal c.print_trace.new.console)
+    run_accepted c.in_ok-program.ensures.read (g.C.Console.journal c.print_trace.new.console)
     (λ inputs. TracesRun inputs c.args.limits c.args.span) c.in-Ok-Accepted.vouched
     (subst (IsVerdict program.image program.names) c.in-Ok-Accepted.field-0-is c.in-Ok-Accepted.ensures) c.print_trace.result
     c.print_trace.ensures.done
 
 pub returns-in-Ok-Accepted-clause-fault : goal.returns-in-Ok-Accepted-clause-fault
 returns-in-Ok-Accepted-clause-fault g c =
-    run_reports (known g (goal.at.returns-in-Ok-Accepted-clause-fault g c).After-judge) (g.C.Console.journal c.print_trace.new.console)
-    c.print_trace.result c.reading_leaves_files_alone.ensures.faults c.print_trace.ensures.fault
+    run_reports c.in_ok-program.ensures.read (g.C.Console.journal c.print_trace.new.console) c.print_trace.result
+    c.reading_leaves_files_alone.ensures.faults c.print_trace.ensures.fault
 
 pub returns-in-Ok-Refused-clause-done : goal.returns-in-Ok-Refused-clause-done
 returns-in-Ok-Refused-clause-done g c =
     let program = c.in_ok-program.program in
-    run_refused (known g (goal.at.returns-in-Ok-Refused-clause-done g c).After-judge) (g.C.Console.journal c.give.new.self)
+    run_refused c.in_ok-program.ensures.read (g.C.Console.journal c.give.new.self)
     (λ inputs. TracesRun inputs c.args.limits c.args.span) c.in-Ok-Refused.line.items c.prints.result c.give.result
     (subst (IsVerdict program.image program.names) c.in-Ok-Refused.field-0-is c.in-Ok-Refused.ensures) c.prints.ensures c.give.ensures.given

@@ -15,4 +15,4 @@ returns c =
       fault = λ f none other is.
           let x = other_fault _ c.piece.result f (c.piece.ensures.fault none) other is in (x.0, ap (λ (v : FileFeedValue). v.kept) x.1);
     }))
-    c.check_module_memory.ensures
+    c.check_module_memory.ensures.taken

@@ -14,4 +14,4 @@ returns c =
       taken = on_ok_weaker c.piece.result (λ is. (ap (λ (v : LibraryFeedValue). v.bytes) is, ap (λ (v : LibraryFeedValue). v.kept) is)) c.piece.ensures.taken;
       fault = λ f none other is. let x = c.piece.ensures.fault f none other is in (x.0, ap (λ (v : LibraryFeedValue). v.kept) x.1);
     }))
-    c.check_library_memory.ensures
+    c.check_library_memory.ensures.taken
