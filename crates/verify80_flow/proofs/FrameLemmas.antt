@@ -11,10 +11,6 @@ stays_same frames = record { stays = λ id frame e. e }
 pub stays_then : (a b c : List StackFrame) → StayNumbered a b → StayNumbered b c → StayNumbered a c
 stays_then a b c first second = record { stays = λ id frame e. second.stays id frame (first.stays id frame e) }
 
--- where the lists are the same
-pub stays_for : (a b c d : List StackFrame) → a ≡ c → b ≡ d → StayNumbered a b → StayNumbered c d
-stays_for a b c d old new stays = subst (λ (f : List StackFrame). StayNumbered f d) old (subst (λ (f : List StackFrame). StayNumbered a f) new stays)
-
 -- a number that is there stays there, with its frame
 module _ (old new : List StackFrame) (s : StayNumbered old new) (id : ℕ) (there : id < length old) where
   pub stays_there : id < length new

@@ -50,16 +50,10 @@ holds_exactly code (ReturnNotOwn at) holds = holds refl
 holds_exactly code TooManyPoints holds = holds
 holds_exactly code Memory holds = holds
 
--- of an empty table it is known whether its frames forget
+-- an empty table's frames forget as it was asked
 pub nothing_is : (known : Known) (forgets : Bool) → known ≡ nothing_known forgets → known ≡ nothing_known known.forgets
 nothing_is known forgets is = is ∙ ap nothing_known (sym (ap (λ (k : Known). k.forgets) is))
 
--- a table whose frames forget nothing answers what holds
-pub holds_of_new : (code : Code) (known : Known) (refusal : Refusal) → known ≡ nothing_known false → Refused (is_exact known.forgets) code refusal → HoldsAnyway code refusal
-holds_of_new code known refusal is refused =
-    holds_exactly code refusal (subst (λ (f : Bool). Refused (is_exact f) code refusal) (ap (λ (k : Known). k.forgets) is) refused)
-
-pub answers_of_new : {A : Type 0} (code : Code) (known : Known) (result : Result A Refusal) → known ≡ nothing_known false → IfErr result (Refused (is_exact known.forgets) code) →
-    IfErr result (HoldsAnyway code)
-answers_of_new code known (Ok answer) is refused = tt
-answers_of_new code known (Err refusal) is refused = holds_of_new code known refusal is refused
+pub answers_exactly : {A : Type 0} (code : Code) (result : Result A Refusal) → IfErr result (Refused true code) → IfErr result (HoldsAnyway code)
+answers_exactly code (Ok answer) refused = tt
+answers_exactly code (Err refusal) refused = holds_exactly code refusal refused

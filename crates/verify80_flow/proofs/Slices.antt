@@ -18,15 +18,6 @@ grown (z ∷ xs) y (suc i) x is = by (grown xs y i x is)
     by (inl before) = inl before
     by (inr last) = inr (record { place = ap suc last.place; is = last.is })
 
-pub grown_last : {A : Type 0} (xs : List A) (y : A) → slice_get (xs ++ y ∷ []) (length xs) ≡ Some y
-grown_last [] y = refl
-grown_last (z ∷ xs) y = grown_last xs y
-
-pub grown_before : {A : Type 0} (xs : List A) (y : A) (i : ℕ) (x : A) → slice_get xs i ≡ Some x → slice_get (xs ++ y ∷ []) i ≡ Some x
-grown_before [] y i x is = absurd (let e : None ≡ Some x = is in cc)
-grown_before (z ∷ xs) y zero x is = is
-grown_before (z ∷ xs) y (suc i) x is = grown_before xs y i x is
-
 pub length_grown : {A : Type 0} (xs : List A) (y : A) → length (xs ++ y ∷ []) ≡ length xs + 1
 length_grown [] y = refl
 length_grown (z ∷ xs) y = ap suc (length_grown xs y) ∙ omega arith
@@ -46,11 +37,6 @@ changed_at (z ∷ xs) (suc at) y (suc i) x is = by (changed_at xs at y i x is)
     by : ((i ≡ at) × (x ≡ y)) ⊎ IsOther xs at i x → ((suc i ≡ suc at) × (x ≡ y)) ⊎ IsOther (z ∷ xs) (suc at) (suc i) x
     by (inl here) = inl (ap suc here.0, here.1)
     by (inr other) = inr (record { before = other.before; place = λ e. other.place (omega (arith, e)) })
-
-pub changed_here : {A : Type 0} (xs : List A) (at : ℕ) (y x : A) → slice_get xs at ≡ Some x → slice_get (slice_set xs at y) at ≡ Some y
-changed_here [] at y x is = absurd (let e : None ≡ Some x = is in cc)
-changed_here (z ∷ xs) zero y x is = refl
-changed_here (z ∷ xs) (suc at) y x is = changed_here xs at y x is
 
 pub length_changed : {A : Type 0} (xs : List A) (at : ℕ) (y : A) → length (slice_set xs at y) ≡ length xs
 length_changed [] at y = refl

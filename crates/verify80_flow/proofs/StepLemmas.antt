@@ -131,21 +131,6 @@ on_way g targets next = record { leads = (refl, refl); only = λ a h leads. lead
 pub jump_way : (g : StackFrame) (targets : List ℕ) (next to : ℕ) → OneWay (Jump g to) targets next to g
 jump_way g targets next to = record { leads = (refl, refl); only = λ a h leads. leads; no_call = refl; no_return = refl }
 
--- a move that leads nowhere
-pub steps_end : (known : Known) (p : Procedure) (at : ℕ) (targets : List ℕ) (next : ℕ) (role : Role) → IsSmall known → Steps known known p at targets next role End (Ok false)
-steps_end known p at targets next role small = record {
-  small = small;
-  more = omega arith;
-  stands = λ exact code stands here. stands;
-  goes = record { same = λ _. refl; less = λ e. absurd (true≢false (sym e)) };
-  there = λ _ f carries. record {
-    on = λ a h leads. absurd leads;
-    enters = λ target is. absurd (let e : None ≡ Some target = is in cc);
-    after = λ target taken is exit. absurd (let e : None ≡ Some target = is in cc);
-    return = λ entry taken in_entry is. absurd (let e : None ≡ Some taken = is in cc);
-  };
-}
-
 -- a first way on that is refused
 pub steps_first_refused : FrameLaws → (old new : Known) (p : Procedure) (at : ℕ) (targets : List ℕ) (next to : ℕ) (role : Role) (moves : Moves) (g : StackFrame) (r : Refusal) →
     LeadsTo moves targets next to g → Flows old new p to g (Err r) → Steps old new p at targets next role moves (Err r)

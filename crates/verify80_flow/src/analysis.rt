@@ -1,6 +1,6 @@
 //! The whole analysis of a program.
 
-ghost use Rattle.std.specs.Prelude.{◌≡◌, IfOk, IfErr, IfSome};
+ghost use Rattle.std.specs.Prelude.{◌≡◌, false, true, is_some, None, IfOk, IfErr, IfSome};
 ghost use Rattle.verify80_flow.specs.Accepted.{IsAccepted, IsAnalysis, IsMeasured};
 ghost use Rattle.verify80_flow.specs.Faults.{Holds, HoldsAnyway};
 ghost use Rattle.verify80_flow.specs.Known.{IsFilled, Refused, is_exact, nothing_known};
@@ -18,7 +18,7 @@ use crate::walks::go_along;
 use crate::wants::find_wants;
 use frames80::{Code, Procedure};
 use std::alloc::Global;
-use verify80_hints::{AskedPlaces, find_steps};
+use verify80_hints::find_steps;
 
 /// How many visits the first attempt at a program gets, beside those for each of its points.
 const FIRST_VISITS: u64 = 20_000;
@@ -68,8 +68,7 @@ fn measure_in_few_visits<C: Code>(alloc: Global, program: &C) -> Result<Option<A
     ensures found { IfOk result (λ found. IfSome found (IsAnalysis (C.code program.now))) }
     ensures refused { IfErr result (HoldsAnyway (C.code program.now)) }
 {
-    let mut table = Table::new(alloc, program, None, FIRST_VISITS)?;
-    fill_and_report(alloc, program, &mut table)
+    measure_once(alloc, program, false, Some(FIRST_VISITS))
 }
 
 /// Measures a program with frames that forget what no return asks for. `None` if a return is
@@ -79,24 +78,7 @@ fn measure_asked<C: Code>(alloc: Global, program: &C) -> Result<Option<Analysis>
     ensures found { IfOk result (λ found. IfSome found (IsAnalysis (C.code program.now))) }
     ensures refused { IfErr result (HoldsAnyway (C.code program.now)) }
 {
-    let asked = AskedPlaces::find(alloc, program)?;
-    let mut table = Table::new(alloc, program, Some(asked), u64::MAX)?;
-    fill_asked_and_report(alloc, program, &mut table)
-}
-
-/// Fills an empty table for a program and reports on it; `None` in place of `ReturnNotOwn`, which
-/// may come of a forgotten word. Any refusal but `Memory` holds. `table` must have no points and no
-/// returns before.
-fn fill_asked_and_report<C: Code>(
-    alloc: Global,
-    program: &C,
-    table: &mut Table,
-) -> Result<Option<Analysis>, Refusal>
-    requires { table.old.known ≡ nothing_known table.old.known.forgets }
-    ensures found { IfOk result (λ found. IfSome found (IsAnalysis (C.code program.now))) }
-    ensures refused { IfErr result (HoldsAnyway (C.code program.now)) }
-{
-    match fill_and_report(alloc, program, table) {
+    match measure_once(alloc, program, true, None) {
         Ok(found) => Ok(found),
         Err(refusal) if refusal.rests_on_a_word() => Ok(None),
         Err(refusal) => Err(refusal),
@@ -119,39 +101,47 @@ fn measure_whole<C: Code>(alloc: Global, program: &C) -> Result<Analysis, Refusa
     ensures found { IfOk result (IsAnalysis (C.code program.now)) }
     ensures refused { IfErr result (HoldsAnyway (C.code program.now)) }
 {
-    let mut table = Table::new(alloc, program, None, u64::MAX)?;
-    fill_whole_and_report(alloc, program, &mut table)
+    match measure_once(alloc, program, false, None)? {
+        Some(found) => Ok(found),
+        None => unreachable!(),
+    }
 }
 
-/// Fills an empty table for a program, however many visits that takes, and reports on it. Any
-/// refusal but `Memory` holds; only `ReturnNotOwn` may not, if the table's frames forget. `table`
-/// must have no points and no returns before.
-fn fill_whole_and_report<C: Code>(
+/// Measures a program by a table of its own, whose frames forget what no return asks for if
+/// `forgets` is set; `None` if that takes more than `visits` visits and four more for each point,
+/// but never if `visits` is `None`. Any refusal but `Memory` holds; only `ReturnNotOwn` may not, if
+/// frames forget.
+fn measure_once<C: Code>(
     alloc: Global,
     program: &C,
-    table: &mut Table,
-) -> Result<Analysis, Refusal>
-    requires { table.old.known ≡ nothing_known table.old.known.forgets }
-    ensures found { IfOk result (IsAnalysis (C.code program.now)) }
-    ensures refused { IfErr result (Refused (is_exact table.old.known.forgets) (C.code program.now)) }
+    forgets: bool,
+    visits: Option<u64>,
+) -> Result<Option<Analysis>, Refusal>
+    ensures found { IfOk result (λ found. IfSome found (IsAnalysis (C.code program.now))) }
+    ensures whole { visits ≡ None → IfOk result (λ found. is_some found ≡ true) }
+    ensures refused { IfErr result (Refused (is_exact forgets) (C.code program.now)) }
 {
-    fill(program, table, false)?;
-    report_on(alloc, program, table)
+    let mut table = Table::new(alloc, program, visits.unwrap_or(u64::MAX))?;
+    fill_and_report(alloc, program, forgets, visits.is_some(), &mut table)
 }
 
-/// Fills an empty table for a program and reports on it; `None` if the table's visits are spent
-/// before. Any refusal but `Memory` holds; only `ReturnNotOwn` may not, if the table's frames
-/// forget. `table` must have no points and no returns before.
+/// Fills an empty table for a program and reports on it; `None` only if `gives_up` is set and the
+/// table's visits are spent before. With `forgets`, its frames forget what no return asks for. Any
+/// refusal but `Memory` holds; only `ReturnNotOwn` may not, if frames forget. `table` must be new.
 fn fill_and_report<C: Code>(
     alloc: Global,
     program: &C,
+    forgets: bool,
+    gives_up: bool,
     table: &mut Table,
 ) -> Result<Option<Analysis>, Refusal>
-    requires { table.old.known ≡ nothing_known table.old.known.forgets }
+    requires { table.old.known ≡ nothing_known false }
     ensures found { IfOk result (λ found. IfSome found (IsAnalysis (C.code program.now))) }
-    ensures refused { IfErr result (Refused (is_exact table.old.known.forgets) (C.code program.now)) }
+    ensures whole { gives_up ≡ false → IfOk result (λ found. is_some found ≡ true) }
+    ensures refused { IfErr result (Refused (is_exact forgets) (C.code program.now)) }
 {
-    if !fill(program, table, true)? {
+    table.prepare(alloc, program, forgets)?;
+    if !fill(program, table, gives_up)? {
         return Ok(None);
     }
     Ok(Some(report_on(alloc, program, table)?))

@@ -52,10 +52,11 @@ impl Points {
     pub(crate) fn new(alloc: Global) -> Result<Points, AllocError>
         ensures { IfOk result (λ points. points ≡ record { points = []; frames = [] }) }
     {
+        let numbers = PointNumbers::new(alloc)?;
         Ok(Points {
             frames: Frames::new(alloc),
             stored: Vec::new(alloc),
-            numbers: PointNumbers::new(alloc)?,
+            numbers,
         })
     }
 

@@ -62,30 +62,50 @@ impl Model for Table {
 }
 
 impl Table {
-    /// An empty table for `program`. With `asked`, the frames of new points forget what no return
-    /// asks for. The table is spent after `visits_left` visits, and four more for each point that
-    /// is added before.
+    /// An empty table for `program`, whose frames forget nothing. The table is spent after
+    /// `visits_left` visits, and four more for each point that is added before.
     ///
     /// # Errors
     /// `AllocError` if memory runs out.
     pub(crate) fn new<C: Code>(
         alloc: Global,
         program: &C,
-        asked: Option<AskedPlaces>,
         visits_left: u64,
     ) -> Result<Table, AllocError>
-        ensures { IfOk result (λ table. table.known ≡ nothing_known (is_some asked)) }
+        ensures { IfOk result (λ table. table.known ≡ nothing_known false) }
     {
+        // The points are made last: what is made before them is given back if they can't be.
         let exits = no_exits(alloc)?;
         let callers = Callers::new(alloc)?;
+        let pending = Pending::new(alloc, program)?;
         Ok(Table {
             points: Points::new(alloc)?,
             exits,
             callers,
-            pending: Pending::new(alloc, program)?,
-            asked,
+            pending,
+            asked: None,
             visits_left,
         })
+    }
+
+    /// Finds what returns ask for, if the frames of new points are to forget the rest. The table
+    /// must be new.
+    ///
+    /// # Errors
+    /// `AllocError` if memory runs out.
+    pub(crate) fn prepare<C: Code>(
+        &mut self,
+        alloc: Global,
+        program: &C,
+        forgets: bool,
+    ) -> Result<(), AllocError>
+        requires { self.old.known ≡ nothing_known false }
+        ensures { OnOk result (self.new.known ≡ nothing_known forgets) }
+    {
+        if forgets {
+            self.asked = Some(AskedPlaces::find(alloc, program)?);
+        }
+        Ok(())
     }
 
     /// Adds a frame that reaches an address of a procedure: the point is new with this frame, or

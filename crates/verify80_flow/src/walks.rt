@@ -49,15 +49,26 @@ pub(crate) fn go_along<C: Code>(alloc: Global, program: &C, steps: &[Step]) -> R
         frames: Frames::new(alloc),
         points: Vec::new(alloc),
     };
-    for step in steps {
-        if !walks.take(program, *step)? {
-            break;
-        }
-    }
-    Ok(())
+    walks.take_all(program, steps)
 }
 
 impl Walks {
+    /// Takes steps until one can't be taken. A walk must reach each point that is recorded.
+    ///
+    /// # Errors
+    /// `ReturnNotOwn` or `HeightsDiffer`, if it holds; or `Memory`.
+    fn take_all<C: Code>(&mut self, program: &C, steps: &[Step]) -> Result<(), Refusal>
+        requires { AreWalked (C.code program.now) self.old }
+        ensures { IfErr result (HoldsAnyway (C.code program.now)) }
+    {
+        for step in steps {
+            if !self.take(program, *step)? {
+                break;
+            }
+        }
+        Ok(())
+    }
+
     /// Takes a step and records the point that it reaches. Answers false, with nothing recorded, if
     /// the step can't be taken. A walk must reach each point that is recorded; one reaches the new
     /// point too.
