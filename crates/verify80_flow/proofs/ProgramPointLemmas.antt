@@ -1,6 +1,6 @@
 -- The points that are kept of a filled table are those of walks.
-use Rattle.std.proofs.Common.{◌≡◌, ◌<◌, ◌≤◌, ◌+◌, ℕ, zero, suc, Bool, true, false, eqb, List, [], ◌∷◌, ◌++◌, length, get_or, map, take, inl, inr, refl, sym, ap, subst, ◌∙◌, arith}
-use Rattle.std.specs.Prelude.{All, AllPairs, Contains, IsPermutation, Some, None, slice_get}
+use Rattle.std.proofs.Common.{◌≡◌, ◌<◌, ◌≤◌, ◌+◌, ℕ, zero, suc, false, eqb, List, [], ◌∷◌, ◌++◌, length, get_or, map, take, inl, inr, refl, sym, ap, subst, ◌∙◌, arith}
+use Rattle.std.specs.Prelude.{AllPairs, Contains, IsPermutation, Some, slice_get}
 use Rattle.std.specs.List.{IsDistinct}
 use Rattle.std.specs.List.Sorted.{IsNonDecreasingBy}
 use Rattle.std.proofs.lemmas.Bool.{cases_Bool, eqb-true}
@@ -9,16 +9,13 @@ use Rattle.std.proofs.lemmas.List.{map-append}
 use Rattle.std.proofs.lemmas.List.Sorted.{IsPermutation-map, All-permutation, Contains-permutation}
 use Rattle.std.proofs.lemmas.Map.Keys.{IsDistinct-IsPermutation, IsDistinct-from_apart, apart_from_distinct}
 use Rattle.std.proofs.lemmas.Option.{none-some, same_Some}
-use Rattle.frames80.specs.StackFrame.{StackFrame}
-use Rattle.frames80.specs.declared.procedure.Procedure.{Procedure}
 use Rattle.frames80.specs.Procedures.{slot_of}
 use Rattle.frames80.specs.Code.{Code}
 use Rattle.verify80_flow.specs.declared.report.ProgramPoint.{ProgramPoint}
-use Rattle.verify80_flow.specs.Walks.{Walk}
 use Rattle.verify80_flow.specs.Points.{Point, AreAddresses, AreApart}
 use Rattle.verify80_flow.specs.Shown.{FrameLaws}
 use Rattle.verify80_flow.specs.Known.{Known, IsFilled}
-use Rattle.verify80_flow.specs.ProgramPoints.{ArePoints, AreOfTable, HasReachedPoint, IsReachedPoint, program_point, rank_of}
+use Rattle.verify80_flow.specs.ProgramPoints.{ArePoints, AreOfTable, IsReachedPoint, program_point, rank_of}
 use Rattle.verify80_flow.proofs.GraphLemmas.{has_walk, walk_at}
 use Rattle.verify80_flow.proofs.SurveyLemmas.{slot_apart}
 use Rattle.verify80_flow.proofs.VisitLemmas.{some_at}

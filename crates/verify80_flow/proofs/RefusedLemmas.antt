@@ -57,3 +57,7 @@ nothing_is known forgets is = is ∙ ap nothing_known (sym (ap (λ (k : Known). 
 pub answers_exactly : {A : Type 0} (code : Code) (result : Result A Refusal) → IfErr result (Refused true code) → IfErr result (HoldsAnyway code)
 answers_exactly code (Ok answer) refused = tt
 answers_exactly code (Err refusal) refused = holds_exactly code refusal refused
+
+pub answers_of : {A : Type 0} (code : Code) (known : Known) (forgets : Bool) (result : Result A Refusal) → known ≡ nothing_known forgets →
+    IfErr result (Refused (is_exact known.forgets) code) → IfErr result (Refused (is_exact forgets) code)
+answers_of code known forgets result is refused = subst (λ (f : Bool). IfErr result (Refused (is_exact f) code)) (ap (λ (k : Known). k.forgets) is) refused

@@ -121,26 +121,24 @@ fn measure_once<C: Code>(
     ensures whole { visits ≡ None → IfOk result (λ found. is_some found ≡ true) }
     ensures refused { IfErr result (Refused (is_exact forgets) (C.code program.now)) }
 {
-    let mut table = Table::new(alloc, program, visits.unwrap_or(u64::MAX))?;
-    fill_and_report(alloc, program, forgets, visits.is_some(), &mut table)
+    let mut table = Table::new(alloc, program, forgets, visits.unwrap_or(u64::MAX))?;
+    fill_and_report(alloc, program, visits.is_some(), &mut table)
 }
 
 /// Fills an empty table for a program and reports on it; `None` only if `gives_up` is set and the
-/// table's visits are spent before. With `forgets`, its frames forget what no return asks for. Any
-/// refusal but `Memory` holds; only `ReturnNotOwn` may not, if frames forget. `table` must be new.
+/// table's visits are spent before. Any refusal but `Memory` holds; only `ReturnNotOwn` may not, if
+/// the table's frames forget. `table` must have no points and no returns before.
 fn fill_and_report<C: Code>(
     alloc: Global,
     program: &C,
-    forgets: bool,
     gives_up: bool,
     table: &mut Table,
 ) -> Result<Option<Analysis>, Refusal>
-    requires { table.old.known ≡ nothing_known false }
+    requires { table.old.known ≡ nothing_known table.old.known.forgets }
     ensures found { IfOk result (λ found. IfSome found (IsAnalysis (C.code program.now))) }
     ensures whole { gives_up ≡ false → IfOk result (λ found. is_some found ≡ true) }
-    ensures refused { IfErr result (Refused (is_exact forgets) (C.code program.now)) }
+    ensures refused { IfErr result (Refused (is_exact table.old.known.forgets) (C.code program.now)) }
 {
-    table.prepare(alloc, program, forgets)?;
     if !fill(program, table, gives_up)? {
         return Ok(None);
     }

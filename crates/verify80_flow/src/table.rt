@@ -62,50 +62,34 @@ impl Model for Table {
 }
 
 impl Table {
-    /// An empty table for `program`, whose frames forget nothing. The table is spent after
-    /// `visits_left` visits, and four more for each point that is added before.
+    /// An empty table for `program`. With `forgets`, the frames of new points forget what no return
+    /// asks for. The table is spent after `visits_left` visits, and four more for each point that is
+    /// added before.
     ///
     /// # Errors
     /// `AllocError` if memory runs out.
     pub(crate) fn new<C: Code>(
         alloc: Global,
         program: &C,
+        forgets: bool,
         visits_left: u64,
     ) -> Result<Table, AllocError>
-        ensures { IfOk result (λ table. table.known ≡ nothing_known false) }
+        ensures { IfOk result (λ table. table.known ≡ nothing_known forgets) }
     {
         // The points are made last: what is made before them is given back if they can't be.
         let exits = no_exits(alloc)?;
         let callers = Callers::new(alloc)?;
         let pending = Pending::new(alloc, program)?;
+        let asked = find_asked(alloc, program, forgets)?;
+        let points = Points::new(alloc)?;
         Ok(Table {
-            points: Points::new(alloc)?,
+            points,
             exits,
             callers,
             pending,
-            asked: None,
+            asked,
             visits_left,
         })
-    }
-
-    /// Finds what returns ask for, if the frames of new points are to forget the rest. The table
-    /// must be new.
-    ///
-    /// # Errors
-    /// `AllocError` if memory runs out.
-    pub(crate) fn prepare<C: Code>(
-        &mut self,
-        alloc: Global,
-        program: &C,
-        forgets: bool,
-    ) -> Result<(), AllocError>
-        requires { self.old.known ≡ nothing_known false }
-        ensures { OnOk result (self.new.known ≡ nothing_known forgets) }
-    {
-        if forgets {
-            self.asked = Some(AskedPlaces::find(alloc, program)?);
-        }
-        Ok(())
     }
 
     /// Adds a frame that reaches an address of a procedure: the point is new with this frame, or
@@ -468,6 +452,23 @@ impl Table {
     {
         self.pending.add(point, at)
     }
+}
+
+/// What a program's returns ask for, if `wanted` is set.
+///
+/// # Errors
+/// `AllocError` if memory runs out.
+fn find_asked<C: Code>(
+    alloc: Global,
+    program: &C,
+    wanted: bool,
+) -> Result<Option<AskedPlaces>, AllocError>
+    ensures { IfOk result (λ asked. is_some asked ≡ wanted) }
+{
+    if !wanted {
+        return Ok(None);
+    }
+    Ok(Some(AskedPlaces::find(alloc, program)?))
 }
 
 /// A table of 65,536 entries without any return seen. `AllocError` if memory runs out.

@@ -50,15 +50,7 @@ struct Search {
 /// `AllocError` if memory runs out.
 pub(crate) fn rank_addresses<C: Code>(alloc: Global, program: &C) -> Result<Vec<u32>, AllocError> {
     let mut search = Search::new(alloc)?;
-    search.roots.push(program.start())?;
-    // The bound is never met: a root is added by a call that is seen, and each address is seen once.
-    for _ in 0..u64::MAX {
-        let Some(root) = search.roots.pop() else {
-            break;
-        };
-        search.enter(program, root)?;
-        search.go_through(program)?;
-    }
+    search.go_through_all(program)?;
     Ok(search.ranks)
 }
 
@@ -75,6 +67,21 @@ impl Search {
             path: Vec::new(alloc),
             roots: Vec::new(alloc),
         })
+    }
+
+    /// Goes through the code of the main program and of each procedure that it calls. `AllocError`
+    /// if memory runs out.
+    fn go_through_all<C: Code>(&mut self, program: &C) -> Result<(), AllocError> {
+        self.roots.push(program.start())?;
+        // The bound is never met: a root is added by a call that is seen, and each address is seen once.
+        for _ in 0..u64::MAX {
+            let Some(root) = self.roots.pop() else {
+                break;
+            };
+            self.enter(program, root)?;
+            self.go_through(program)?;
+        }
+        Ok(())
     }
 
     /// Puts an address on the path, unless it was seen before. A procedure that its instruction

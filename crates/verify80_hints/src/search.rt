@@ -79,12 +79,16 @@ pub(crate) struct Search<'a, C> {
 /// # Errors
 /// `AllocError` if memory runs out.
 pub fn find_steps<C: Code>(alloc: Global, program: &C) -> Result<Vec<Step>, AllocError> {
-    let search = Search::of(alloc, program)?;
-    let is_whole = search.is_found && search.steps.len() < MOST_STEPS;
-    if !is_whole && !search.differs {
+    let Search {
+        steps,
+        differs,
+        is_found,
+        ..
+    } = Search::of(alloc, program)?;
+    let is_whole = is_found && steps.len() < MOST_STEPS;
+    if !is_whole && !differs {
         return Ok(Vec::new(alloc));
     }
-    let Search { steps, .. } = search;
     Ok(steps)
 }
 
@@ -96,39 +100,27 @@ impl<'a, C: Code> Search<'a, C> {
     /// `AllocError` if memory runs out.
     pub(crate) fn of(alloc: Global, program: &'a C) -> Result<Search<'a, C>, AllocError> {
         let mut search = Search::new(alloc, program)?;
-        let none = Counts {
-            taken: 0,
-            height: 0,
-        };
-        search.come(Procedure::Main, program.start(), none, Step::Begins)?;
-        // The bound is never met: each point is left once, and once more when its callee's return is seen, and each place asked for once.
-        for _ in 0..u64::MAX {
-            if search.is_found {
-                break;
-            } else if let Some(number) = search.left.pop() {
-                search.leave(number)?;
-            } else if let Some(places) = search.asks.take() {
-                search.go_back(places)?;
-            } else {
-                break;
-            }
-        }
+        search.go_through()?;
         Ok(search)
     }
 
     /// A search that has reached no point. `AllocError` if memory runs out.
     fn new(alloc: Global, program: &'a C) -> Result<Search<'a, C>, AllocError> {
+        let exits = vec![in alloc; None; 65536]?;
+        let ranks = rank_addresses(alloc, program)?;
+        let cases = Cases::new(alloc)?;
+        let numbers = PointNumbers::new(alloc)?;
         Ok(Search {
             program,
-            numbers: PointNumbers::new(alloc)?,
+            numbers,
             points: Vec::new(alloc),
-            ranks: rank_addresses(alloc, program)?,
+            ranks,
             steps: Vec::new(alloc),
             leading: Lists::new(alloc),
-            cases: Cases::new(alloc)?,
+            cases,
             hubs: Hubs::new(alloc),
             noted: Marks::new(alloc),
-            exits: vec![in alloc; None; 65536]?,
+            exits,
             callers: Lists::new(alloc),
             left: Vec::new(alloc),
             asked: PlaceSets::new(alloc),
@@ -139,17 +131,40 @@ impl<'a, C: Code> Search<'a, C> {
         })
     }
 
+    /// Goes through the points until a walk is found to a return with another word than the return
+    /// address, or nothing is left. `AllocError` if memory runs out.
+    fn go_through(&mut self) -> Result<(), AllocError> {
+        let none = Counts {
+            taken: 0,
+            height: 0,
+        };
+        self.come(Procedure::Main, self.program.start(), none, Step::Begins)?;
+        // The bound is never met: each point is left once, and once more when its callee's return is seen, and each place asked for once.
+        for _ in 0..u64::MAX {
+            if self.is_found {
+                break;
+            } else if let Some(number) = self.left.pop() {
+                self.leave(number)?;
+            } else if let Some(places) = self.asks.take() {
+                self.go_back(places)?;
+            } else {
+                break;
+            }
+        }
+        Ok(())
+    }
+
     /// The numbers of the points, and what is asked for at each. Nothing is asked for if a walk was
     /// found to a return with another word than the return address.
     pub(crate) fn into_asked(self, alloc: Global) -> (PointNumbers, PlaceSets) {
         let Search {
             numbers,
-            asked,
+            mut asked,
             is_found,
             ..
         } = self;
         if is_found {
-            return (numbers, PlaceSets::new(alloc));
+            asked = PlaceSets::new(alloc);
         }
         (numbers, asked)
     }

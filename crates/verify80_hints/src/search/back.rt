@@ -1,6 +1,6 @@
 //! What is asked for at a point is asked for where it comes from.
 
-use crate::lists::{Turn, Way};
+use crate::lists::{Lists, Turn, Way};
 use crate::places::{Place, Places};
 use crate::point::Point;
 use crate::search::{Exit, Search};
@@ -211,17 +211,22 @@ impl<'a, C: Code> Search<'a, C> {
             Some(end) => end.counts.taken,
             None => 0,
         };
-        if let Some(exit) = self.exits.get_mut(usize::from(entry)) {
-            *exit = Some(Exit { step, taken });
+        if let Some(known) = self.exits.get_mut(usize::from(entry)) {
+            *known = Some(Exit { step, taken });
         }
-        let mut link = self.callers.newest(usize::from(entry));
-        for _ in 0..u32::MAX {
-            let Some(caller) = link else {
-                break;
-            };
-            self.left.push(caller.way.from)?;
-            link = self.callers.before(caller);
-        }
-        Ok(())
+        push_callers(&self.callers, usize::from(entry), &mut self.left)
     }
+}
+
+/// Appends the points of the ways of a list, the newest first. `AllocError` if memory runs out.
+fn push_callers(callers: &Lists, list: usize, left: &mut Vec<u32>) -> Result<(), AllocError> {
+    let mut link = callers.newest(list);
+    for _ in 0..u32::MAX {
+        let Some(caller) = link else {
+            break;
+        };
+        left.push(caller.way.from)?;
+        link = callers.before(caller);
+    }
+    Ok(())
 }
