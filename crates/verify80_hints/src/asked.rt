@@ -35,7 +35,7 @@ impl AskedPlaces {
     /// # Errors
     /// `AllocError` if memory runs out.
     pub fn find<C: Code>(alloc: Global, program: &C) -> Result<AskedPlaces, AllocError> {
-        let (numbers, asked) = Search::of(alloc, program)?.into_asked(alloc);
+        let (numbers, asked) = Search::of(alloc, program)?.into_asked();
         Ok(AskedPlaces {
             numbers,
             asked,

@@ -31,6 +31,12 @@ impl PlaceSets {
         }
     }
 
+    /// Empties all sets.
+    pub(crate) fn clear(&mut self) {
+        self.rows.clear();
+        self.words.clear();
+    }
+
     /// How many blocks of places any set may have.
     pub(crate) fn blocks(&self) -> u32 {
         u32::try_from(self.rows.len()).unwrap_or(u32::MAX)

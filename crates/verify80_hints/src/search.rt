@@ -79,17 +79,7 @@ pub(crate) struct Search<'a, C> {
 /// # Errors
 /// `AllocError` if memory runs out.
 pub fn find_steps<C: Code>(alloc: Global, program: &C) -> Result<Vec<Step>, AllocError> {
-    let Search {
-        steps,
-        differs,
-        is_found,
-        ..
-    } = Search::of(alloc, program)?;
-    let is_whole = is_found && steps.len() < MOST_STEPS;
-    if !is_whole && !differs {
-        return Ok(Vec::new(alloc));
-    }
-    Ok(steps)
+    Ok(Search::of(alloc, program)?.into_steps())
 }
 
 impl<'a, C: Code> Search<'a, C> {
@@ -151,21 +141,32 @@ impl<'a, C: Code> Search<'a, C> {
                 break;
             }
         }
+        self.settle();
         Ok(())
     }
 
-    /// The numbers of the points, and what is asked for at each. Nothing is asked for if a walk was
-    /// found to a return with another word than the return address.
-    pub(crate) fn into_asked(self, alloc: Global) -> (PointNumbers, PlaceSets) {
-        let Search {
-            numbers,
-            mut asked,
-            is_found,
-            ..
-        } = self;
-        if is_found {
-            asked = PlaceSets::new(alloc);
+    /// Leaves of a search that has ended what it shows: nothing is asked for if a walk was found to
+    /// a return with another word than the return address, and there are steps only if they are
+    /// whole.
+    fn settle(&mut self) {
+        if self.is_found {
+            self.asked.clear();
         }
+        let is_whole = self.is_found && self.steps.len() < MOST_STEPS;
+        if !is_whole && !self.differs {
+            self.steps.clear();
+        }
+    }
+
+    /// The steps that the search shows.
+    fn into_steps(self) -> Vec<Step> {
+        let Search { steps, .. } = self;
+        steps
+    }
+
+    /// The numbers of the points, and what is asked for at each.
+    pub(crate) fn into_asked(self) -> (PointNumbers, PlaceSets) {
+        let Search { numbers, asked, .. } = self;
         (numbers, asked)
     }
 
