@@ -269,9 +269,20 @@ impl Search {
         };
         self.calls.push(call)?;
         self.calls_of.push(slot(callee))?;
-        for number in self.exits_of.of(alloc, slot(callee))? {
-            if let Some(exit) = self.exits.get(number) {
-                let exit = *exit;
+        let exits = self.exits_of.of(alloc, slot(callee))?;
+        self.come_back_by(alloc, program, call, &exits)
+    }
+
+    /// Adds the point after a call for each of the exits with these numbers.
+    fn come_back_by<C: Code>(
+        &mut self,
+        alloc: Global,
+        program: &C,
+        call: CallingPoint,
+        exits: &[usize],
+    ) -> Result<(), Unexplained> {
+        for number in exits {
+            if let Some(exit) = self.exits.get(*number).copied() {
                 self.come_back(alloc, program, call, exit)?;
             }
         }
@@ -294,9 +305,20 @@ impl Search {
         let exit = Exit { point, taken };
         self.exits.push(exit)?;
         self.exits_of.push(slot(procedure))?;
-        for number in self.calls_of.of(alloc, slot(procedure))? {
-            if let Some(call) = self.calls.get(number) {
-                let call = *call;
+        let calls = self.calls_of.of(alloc, slot(procedure))?;
+        self.come_back_to(alloc, program, &calls, exit)
+    }
+
+    /// Adds the point after each of the calls with these numbers, for an exit of their callee.
+    fn come_back_to<C: Code>(
+        &mut self,
+        alloc: Global,
+        program: &C,
+        calls: &[usize],
+        exit: Exit,
+    ) -> Result<(), Unexplained> {
+        for number in calls {
+            if let Some(call) = self.calls.get(*number).copied() {
                 self.come_back(alloc, program, call, exit)?;
             }
         }
