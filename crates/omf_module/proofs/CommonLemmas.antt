@@ -14,7 +14,7 @@ use Rattle.omf_module.specs.declared.fault.Cause.{Cause}
 use Rattle.omf_model.specs.declared.symbols.Common.{Common}
 use Rattle.omf_model.specs.Rules.{each_after, is_new_common}
 use Rattle.omf_module.specs.Spelled.{read_new_common, FaultsCommons, here, later, commons_cause}
-use Rattle.omf_module.specs.Reading.{common_of, TakesCommons, RefusesCommons}
+use Rattle.omf_module.specs.Reading.{common_of, RefusesCommons}
 use Rattle.omf_module.proofs.ListLemmas.{each_after_push}
 use Rattle.omf_model.specs.SoundParts.{new_common}
 
@@ -56,20 +56,6 @@ one_taken before bytes now rest after e s read spelled named new =
           (subst (λ (b : List Common). is_new_common b (common_of e) ≡ true) s.all new));
       later_fault = λ fault f. s.later_fault fault (later now (common_of e) rest after fault read f);
     }
-
-pub all_taken : (before : List Common) (bytes : List ℕ) (now : List Common) (rest : List ℕ) → CommonsSoFar before bytes now rest
-    → rest ≡ [] → TakesCommons before bytes now
-all_taken before bytes now rest s end = record {
-  entries = s.front;
-  spelled = record {
-    joined = s.joined
-        ∙ (ap (λ (b : List ℕ). flat_map common_bytes s.front ++ b) end ∙ append-nil (flat_map common_bytes s.front));
-    sound =
-        s.sound;
-  };
-  all = s.all;
-  new = s.new;
-}
 
 pub refused : (before : List Common) (bytes : List ℕ) (now : List Common) (rest : List ℕ) (fault : FieldFault) (why : Cause)
     → CommonsSoFar before bytes now rest → 0 < length rest → read_new_common now rest ≡ Err fault → why ≡ commons_cause fault

@@ -13,7 +13,7 @@ use Rattle.omf_model.specs.ImageByte.{ByteChunk, patch_with, target_word, chunk_
 use Rattle.omf_model.specs.Patches.{byte_with}
 use Rattle.omf_model.specs.SoundModules.{RulesOf, LiesIn, HasItsFixups, PartsOfOneStartAtZero}
 use Rattle.rom80_find.specs.CodeBytes.{byte_by}
-use Rattle.rom80_find.specs.Modules.{covers, covers_code, byte_in, code_byte_at, code_length}
+use Rattle.rom80_find.specs.Modules.{covers, covers_code, byte_in, code_length}
 use Rattle.rom80_find.specs.Chunks.{is_code, code_chunks, chunk_byte}
 use Rattle.rom80_find.proofs.BaseLemmas.{Agrees}
 use Rattle.rom80_find.proofs.ByteLemmas.{byte_same}
@@ -162,12 +162,6 @@ module _ (m : ModuleValue) (bases : Bases) (address : ℕ) (la : address < 65536
       go rest false code = rest
 
   -- the last content in CODE over an offset
-  abbrev pub last_content : (o : ℕ) → Option ContentValue
-  last_content o = last_or None (filter (covers_code o) m.contents)
-
-  pub code_byte_is : (o : ℕ) → code_byte_at m o ≡ option_map (byte_in m o) (last_or None (filter (covers_code o) m.contents))
-  code_byte_is o = last_map (byte_in m o) None (filter (covers_code o) m.contents)
-
   pub last_over_is : (rules : RulesOf m) (a : ℕ) → a < 65536
       → last_over (code_chunks bases m) a ≡ option_map (chunk_of bases (m ∷ []) (0, m)) (last_or None (filter (covers_code (offset_at address a)) m.contents))
   last_over_is rules a lt =

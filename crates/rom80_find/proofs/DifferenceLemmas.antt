@@ -59,12 +59,6 @@ lies_but : (dump : DumpValue) (code : List CodeByte) (b : CodeByte) (address : �
     → LiesWith dump code address value
 lies_but dump code b address value h = record { absolute = h.absolute; here = h.here; bytes = all_but (Lies dump address value) code b h.bytes }
 
-pub below_and : (count : ℕ) (code : List CodeByte) (b : CodeByte) → AreBelow count code → number_of b.target < count → AreBelow count (code ++ b ∷ [])
-below_and count code b h lt = all_and (λ (b : CodeByte). number_of b.target < count) code b h lt
-
-pub none_reduced : IsReduced [] [] []
-none_reduced = record { fewer = λ dump address value h. h; have = λ dump address value h. refl; whole = λ dump address value h all. h }
-
 -- which is kept
 pub kept_byte : (code bytes : List CodeByte) (differences : List Difference) (b : CodeByte) → IsReduced code bytes differences
     → IsReduced (code ++ b ∷ []) (bytes ++ b ∷ []) differences

@@ -64,16 +64,6 @@ module _ (dump : DumpValue) (code : List CodeByte) (at : ℕ) (places : List ℕ
     ascending = all_pairs_push (λ (p q : ℕ). p < q) places at h.ascending (λ k d lt. (h.lies (get_or places k d) (listed_at places k d lt)).0);
   }
 
-pub none_yet : (dump : DumpValue) (code : List CodeByte) → ArePlaces dump code 0 []
-none_yet dump code = record {
-  lies = λ a e. elim (true≢false (sym e)) [ ];
-  all = λ a lt l. elim (lt_zero a lt) [ ];
-  ascending = λ i j d ij lj. elim (lt_zero j lj) [ ];
-}
-  where
-    lt_zero : (a : ℕ) → a < 0 → ⊥
-    lt_zero a lt = omega arith
-
 -- one address, by what is left of the sieve and the bytes in fixups
 module _ (dump : DumpValue) (lone : List Bool) (code : List CodeByte) (at : ℕ) (are : AreLone code lone)
     (here : Bool) (sieved : here ≡ list_all (passes dump lone at) code) where

@@ -27,7 +27,7 @@ use Rattle.verify80_flow.specs.Walks.{called}
 use Rattle.verify80_flow.specs.Fitting.{Table, Has, CallFits, Fits}
 use Rattle.verify80.specs.Looking.{code_of}
 use Rattle.verify80.proofs.StackLemmas.{pointer, stack_word, Written, Touches, touches_pushed, touches_popped, after_pop, after_push, word_on_top, word_pushed, word_swapped}
-use Rattle.verify80.proofs.StoreLemmas.{Ground, StoresData, same_memory, SameCode, data_keeps_code, data_keeps_words, word_keeps_code}
+use Rattle.verify80.proofs.StoreLemmas.{Ground, StoresData, SameCode, data_keeps_code, data_keeps_words, word_keeps_code}
 use Rattle.verify80.proofs.PairLemmas.{pair_value}
 use Rattle.verify80.proofs.ChainLemmas.{HasRoom, Chain, in_main, in_call, chain_room, height, callee_room, chain_kept, takes_one, Watched, Arrives, arrived}
 use Rattle.verify80.proofs.StepLemmas.{SameFrame}
@@ -90,10 +90,6 @@ module _ (image : Located) (table : Table) (most : ℕ) (rules : Ground image.re
           code = data_keeps_code image.regions (memory_of image.chunks) w.machine.memory m.memory rules stored_data s.code;
           size = stored_data.size ∙ s.size;
         }
-
-    -- nothing but the program counter has changed
-    pub jumps_there : (to : ℕ) → Has table s.procedure to s.frame → Arrives image table most (record w.machine { cpu = record w.machine.cpu { pc = to } }) w.places s.procedure s.frame s.base s.place
-    jumps_there to has = stays_there (record w.machine { cpu = record w.machine.cpu { pc = to } }) to s.frame has refl refl (same_memory image.regions w.machine.memory) (record { words = refl; taken = refl }) s.pairs
 
     -- a word is pushed
     pub pushes : (m : Machine) (to high low : ℕ) (above : Word) (g : StackFrame) → Has table s.procedure to g → g ≡ pushed above s.frame → m.cpu.pc ≡ to → m.cpu.sp ≡ behind w.machine.cpu.sp 2 →
