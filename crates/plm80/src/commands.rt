@@ -9,7 +9,7 @@ mod arguments;
 mod program_syntax;
 
 use arguments::{Request, read_arguments};
-use plm80_console::{Console, Reported};
+use plm80_console::{Console, Reported, exit_code};
 use plm80_objects::{
     compare_files, describe_file, extract_file, find_modules, link_files, locate_file, map_file,
     write_absolute, write_library_file,
@@ -46,10 +46,7 @@ pub fn explain_if<C: Console>(console: &mut C, asked: bool)
 fn do_request<C: Console>(console: &mut C, request: Request<'_>) -> ExitCode
     ensures { IsDone request.entry (C.journal console.old) (C.journal console.new) (exit_status result) }
 {
-    match perform(console, request) {
-        Ok(status) => ExitCode::from(status),
-        Err(reported) => reported.status(),
-    }
+    exit_code(perform(console, request))
 }
 
 /// Prints the error of arguments that are no text, and gives the exit status, 2.

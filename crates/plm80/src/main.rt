@@ -22,7 +22,7 @@ use bundle_words::explain_bundle;
 use commands::{explain_if, refuse_arguments, run_command};
 use loader80::{Outcome, SessionFault};
 pub use loader80_text::{BUNDLE_LIMIT, BundleFault, bundle};
-use plm80_console::{Console, Reported};
+use plm80_console::{Console, Reported, exit_code};
 use plm80_host::HostConsole;
 use plm80_programs::{EndWords, status_of};
 use std::alloc::{AllocError, Global};
@@ -91,10 +91,7 @@ fn run_bundle<C: Console>(console: &mut C, why: bool) -> ExitCode
     ensures { IsBundleDone (C.journal console.old) (C.journal console.new) (exit_status result) }
 {
     explain_if(console, why);
-    match transcribe(console) {
-        Ok(status) => ExitCode::from(status),
-        Err(reported) => reported.status(),
-    }
+    exit_code(transcribe(console))
 }
 
 /// Runs the bundle on standard input, prints its transcript, and gives the exit status.

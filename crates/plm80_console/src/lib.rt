@@ -5,6 +5,7 @@
 //! | Item | What it is |
 //! |---|---|
 //! | [`Console`], [`Reported`] | what a command runs on: reports faults, reads and writes files, prints; a fault that was reported |
+//! | [`exit_code`] | the exit status of an answer, or of a fault that was reported |
 //! | [`Syntax`], [`Argument`], [`Kind`] | a command and its arguments, as tables for clap |
 //! | [`OptionText`], [`ranges_of`] | an option with its value; a [`Console`] reads it as a number, a name, or ranges of addresses |
 //! | [`Answer`], [`WrittenFile`] | what a command answers: files, lines and a status; a [`Console`] does it |
@@ -45,5 +46,5 @@ pub use options::OptionText;
 pub use pieces::TakePieces;
 pub use ranges::ranges_of;
 pub use read_file::{FaultOf, ReadFile};
-pub use reported::Reported;
+pub use reported::{Reported, exit_code};
 pub use syntax::{Argument, Kind, Syntax, WHY};

@@ -1,6 +1,6 @@
 //! A fault that has been reported.
 
-ghost use Rattle.std.specs.Prelude.{◌≡◌};
+ghost use Rattle.std.specs.Prelude.{◌≡◌, IfOk, IfErr};
 ghost use Rattle.std.specs.Process.{exit_status};
 
 use std::fmt::Display;
@@ -23,5 +23,16 @@ impl Reported {
     {
         let Reported(()) = self;
         ExitCode::from(2)
+    }
+}
+
+/// The exit status of what was asked for: that of its answer, or 2 if a fault was reported.
+pub fn exit_code(done: Result<u8, Reported>) -> ExitCode
+    ensures answer { IfOk done (λ status. exit_status result ≡ status) }
+    ensures fault { IfErr done (λ _. exit_status result ≡ 2) }
+{
+    match done {
+        Ok(status) => ExitCode::from(status),
+        Err(reported) => reported.status(),
     }
 }
