@@ -3,9 +3,12 @@
 //! | Module | What it tests |
 //! |---|---|
 //! | `vouching` | `verify80` and `loader80`: an image that is verified, vouched for and run |
+//! | `machine`, `memory` | `machine80`: programs step by step, and ports that are lists |
+//! | `quick_steps` | `machine80_quick`: a quick step does what the step does |
+//! | `texts` | `decode80`: texts of instructions |
 //! | `sessions` | `loader80`: sessions, over readers and writers that give and take a byte at a time |
-//! | `failures` | `loader80` and `loader80_bundle`: sessions and bundles whose readers or writers fail, or never end |
-//! | `faults` | `loader80` and `loader80_bundle`: faults as they are shown |
+//! | `failures` | `loader80` and `loader80_text`: sessions and bundles whose readers or writers fail, or never end |
+//! | `faults` | `loader80` and `loader80_text`: faults as they are shown |
 //! | `frames`, `numbered_frames` | `frames80` and `frames80_interned`: frames, and frames by number |
 //! | `pushing`, `outside` | the program, and the sources and sinks, of these tests |
 //!

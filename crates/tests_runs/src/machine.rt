@@ -55,11 +55,21 @@ fn runs_as_listed<B: Bus>(alloc: Global, program: &Program, bus: &mut B) -> Resu
     Ok((end, steps, cpu.pc(), cpu.sp()) == program.ends)
 }
 
+/// Whether a program runs as it is listed in a memory in one piece.
+fn runs_in_one_piece(alloc: Global, program: &Program) -> Result<bool, Fail> {
+    let mut memory = empty_memory(alloc)?;
+    runs_as_listed(alloc, program, &mut memory)
+}
+
+/// Whether a program runs as it is listed in a memory in pages.
+fn runs_in_pages(alloc: Global, program: &Program) -> Result<bool, Fail> {
+    let mut pages = empty_pages(alloc)?;
+    runs_as_listed(alloc, program, &mut pages)
+}
+
 /// Whether a program runs as it is listed in a memory in one piece, and in one in pages.
 fn runs_as_listed_in_each_memory(alloc: Global, program: &Program) -> Result<bool, Fail> {
-    let mut memory = empty_memory(alloc)?;
-    let mut pages = empty_pages(alloc)?;
-    Ok(runs_as_listed(alloc, program, &mut memory)? && runs_as_listed(alloc, program, &mut pages)?)
+    Ok(runs_in_one_piece(alloc, program)? && runs_in_pages(alloc, program)?)
 }
 
 #[test]
@@ -74,17 +84,30 @@ fn programs_run_as_listed(rt: HostRuntime) -> Result<(), Fail> {
     Ok(())
 }
 
-/// Of two outputs one is kept, and the other is refused and counted.
-#[test]
-fn an_output_past_the_limit_is_refused(rt: HostRuntime) -> Result<(), Fail> {
-    let mut ports = ListPorts::new(rt.alloc(), no_inputs(rt.alloc()), 1);
+/// Whether of two outputs one is kept, and the other is refused and counted.
+fn refuse_second_output(ports: &mut ListPorts) -> Result<bool, Fail> {
+    if ports.refusals() > 0 {
+        return Ok(false);
+    }
     if ports.give(0xFF, 0x41).is_err() {
         return Err("no memory for an output".into());
     }
-    assert!(rt; ports.refusals() < 2);
-    assert!(rt; ports.give(0x01, 0x42) == Err(PortRefused));
-    assert!(rt; ports.refusals() == 1);
-    assert!(rt; ports.outputs() == [(0xFF, 0x41)].as_slice());
+    if ports.refusals() > 0 {
+        return Ok(false);
+    }
+    let refused = ports.give(0x01, 0x42) == Err(PortRefused) && ports.refusals() == 1;
+    Ok(refused && ports.outputs() == [(0xFF, 0x41)].as_slice())
+}
+
+/// Whether ports that keep one output refuse the second.
+fn keep_one_output(alloc: Global) -> Result<bool, Fail> {
+    let mut ports = ListPorts::new(alloc, no_inputs(alloc), 1);
+    refuse_second_output(&mut ports)
+}
+
+#[test]
+fn an_output_past_the_limit_is_refused(rt: HostRuntime) -> Result<(), Fail> {
+    assert!(rt; keep_one_output(rt.alloc())?);
     Ok(())
 }
 
@@ -107,12 +130,16 @@ fn gives_its_half(ports: &mut ListPorts, port: u8) -> bool {
     ports.take(port).is_none()
 }
 
+/// Whether each of two ports gives its half of a million inputs, and a third none.
+fn gives_inputs(alloc: Global) -> Result<bool, AllocError> {
+    let mut ports = a_million_inputs(alloc)?;
+    let gives = gives_its_half(&mut ports, 0x01) && gives_its_half(&mut ports, 0x00);
+    Ok(gives && ports.take(0x02).is_none())
+}
+
 /// Each port is emptied alone and in order, in a time that grows with the number of its bytes.
 #[test]
 fn each_port_gives_its_half_of_a_million_inputs(rt: HostRuntime) -> Result<(), Fail> {
-    let mut ports = a_million_inputs(rt.alloc())?;
-    assert!(rt; gives_its_half(&mut ports, 0x01));
-    assert!(rt; gives_its_half(&mut ports, 0x00));
-    assert!(rt; ports.take(0x02).is_none());
+    assert!(rt; gives_inputs(rt.alloc())?);
     Ok(())
 }

@@ -4,25 +4,29 @@ ghost use Rattle.std.specs.Prelude.{◌≡◌};
 
 use loader80::{Failed, Sink, Source};
 
-/// A source that gives one byte a read, until its reads fail.
+/// A source that gives one byte a read, until its reads fail. It ends with its bytes, or never.
 #[derive(Drop)]
 pub struct ByteSource<'a> {
     /// The bytes that are left.
     left: &'a [u8],
     /// How many more reads succeed.
     reads: usize,
+    /// Whether line feeds follow the bytes without end.
+    is_endless: bool,
     /// How many reads have failed.
     failures: u64,
 }
 
 impl<'a> ByteSource<'a> {
-    /// A source of these bytes of which all reads fail after the first `reads`.
-    pub fn new(left: &'a [u8], reads: usize) -> Self
+    /// A source of these bytes, and of line feeds without end after them if `is_endless` is set.
+    /// All reads fail after the first `reads`.
+    pub fn new(left: &'a [u8], reads: usize, is_endless: bool) -> Self
         ensures { ⟦<ByteSource<'a> as Source>⟧.failed result ≡ 0 }
     {
         ByteSource {
             left,
             reads,
+            is_endless,
             failures: 0,
         }
     }
@@ -40,7 +44,7 @@ impl<'a> Source for ByteSource<'a> {
         self.failures
     }
 
-    /// Gives one byte, or none at the end; fails once `reads` reads have succeeded.
+    /// Gives one byte; at the end none, or line feeds. Fails once `reads` reads have succeeded.
     fn read(&mut self, buffer: &mut [u8]) -> Result<usize, Failed> {
         if self.reads == 0 {
             self.failures += 1;
@@ -48,46 +52,15 @@ impl<'a> Source for ByteSource<'a> {
         }
         self.reads -= 1;
         if self.left.is_empty() {
+            if self.is_endless {
+                buffer.fill(b'\n');
+                return Ok(buffer.len());
+            }
             return Ok(0);
         }
         buffer[0] = self.left[0];
         self.left = &self.left[1..];
         Ok(1)
-    }
-}
-
-/// A source of line feeds that never ends.
-#[derive(Drop)]
-pub struct EndlessSource {
-    /// How many reads have failed: none.
-    failures: u64,
-}
-
-impl EndlessSource {
-    /// A source of line feeds that never ends.
-    pub fn new() -> Self
-        ensures { ⟦<EndlessSource as Source>⟧.failed result ≡ 0 }
-    {
-        EndlessSource { failures: 0 }
-    }
-}
-
-impl Source for EndlessSource {
-    ghost use Rattle.std.specs.Prelude.{None};
-
-    ghost left = { λ _. None };
-
-    ghost failed = { λ s. s.failures };
-
-    /// How many reads have failed: none.
-    fn failures(&self) -> u64 {
-        self.failures
-    }
-
-    /// Fills the buffer with line feeds.
-    fn read(&mut self, buffer: &mut [u8]) -> Result<usize, Failed> {
-        buffer.fill(b'\n');
-        Ok(buffer.len())
     }
 }
 

@@ -165,10 +165,20 @@ fn compare_each_first_byte(
     Ok(())
 }
 
+/// Asserts that both steps agree, in new memories, for every first byte.
+fn compare_in_new_memories(
+    rt: &impl Abort,
+    alloc: Global,
+    regions: &Regions,
+    map: &RegionMap,
+) -> Result<(), Fail> {
+    let mut memories = make_memories(alloc)?;
+    compare_each_first_byte(rt, alloc, &mut memories, regions, map)
+}
+
 #[test]
 fn quick_steps_agree_for_every_first_byte(rt: HostRuntime) -> Result<(), Fail> {
     let regions = read_regions(rt.alloc(), REGIONS)?;
     let map = RegionMap::new(rt.alloc(), &regions)?;
-    let mut memories = make_memories(rt.alloc())?;
-    compare_each_first_byte(&rt, rt.alloc(), &mut memories, &regions, &map)
+    compare_in_new_memories(&rt, rt.alloc(), &regions, &map)
 }

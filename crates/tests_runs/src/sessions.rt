@@ -1,7 +1,7 @@
 //! Sessions: three readers and a writer.
 
-use loader80::{Outcome, Reading, SessionFault, Writing, session};
-use std::alloc::Global;
+use loader80::{Reading, SessionFault, Writing, session};
+use std::alloc::{AllocError, Global};
 use std::io::{Error, ErrorKind, Read, Write};
 use std::test::Fail;
 
@@ -88,17 +88,12 @@ fn reader(left: &[u8], fails: bool) -> SlowReader<'_> {
     }
 }
 
-/// The answer of a session on this image, these regions and these inputs.
-fn run_session(
-    alloc: Global,
-    image: SlowReader<'_>,
-    regions: SlowReader<'_>,
-    inputs: SlowReader<'_>,
-    writer: &mut SlowWriter,
-) -> Result<Outcome, SessionFault> {
-    let mut image = Reading::new(image);
-    let mut regions = Reading::new(regions);
-    let mut inputs = Reading::new(inputs);
+/// The fault of a session of which the read of text `number` (1 the image, 2 the regions, 3 the
+/// inputs; 0 none) after two bytes is interrupted.
+fn fault_of(alloc: Global, number: u8, writer: &mut SlowWriter) -> Option<SessionFault> {
+    let mut image = Reading::new(reader(&IMAGE, number == 1));
+    let mut regions = Reading::new(reader(REGIONS, number == 2));
+    let mut inputs = Reading::new(reader(INPUTS, number == 3));
     let mut out = Writing::new(writer);
     session(
         alloc,
@@ -109,47 +104,55 @@ fn run_session(
         1_000_000,
         65_536,
     )
+    .err()
 }
+
+/// The fault of a session whose writer takes `full` bytes, and the bytes that it has taken. Then a
+/// write is interrupted if `fails` is set, and else takes no byte.
+fn write_until_full(
+    alloc: Global,
+    full: usize,
+    fails: bool,
+) -> Result<(Option<SessionFault>, Vec<u8>), AllocError> {
+    let taken = Vec::with_capacity(alloc, 64)?;
+    let mut writer = SlowWriter { taken, full, fails };
+    let fault = fault_of(alloc, 0, &mut writer);
+    Ok((fault, writer.taken))
+}
+
+/// How many bytes a writer takes, whether a write is interrupted then, the fault, and the bytes
+/// that are written.
+#[rattlefmt::skip]
+static WRITES: [(usize, bool, Option<SessionFault>, &[u8]); 3] = [
+    (0, true, Some(SessionFault::Write), b""),
+    (20, false, Some(SessionFault::Write), b"STACK 0\nOUT 01 41\nHA"),
+    (64, false, None, b"STACK 0\nOUT 01 41\nHALT 3004 AFTER 3\n"),
+];
 
 #[test]
 fn a_session_writes_its_transcript(rt: HostRuntime) -> Result<(), Fail> {
-    let alloc = rt.alloc();
-    let expected = b"STACK 0\nOUT 01 41\nHALT 3004 AFTER 3\n";
-    for full in [0, 20, 64] {
-        let mut writer = SlowWriter {
-            taken: Vec::with_capacity(alloc, 64)?,
-            full,
-            fails: full == 0,
-        };
-        let image = reader(&IMAGE, false);
-        let inputs = reader(INPUTS, false);
-        let answer = run_session(alloc, image, reader(REGIONS, false), inputs, &mut writer);
-        let fault = if full < 64 {
-            Some(SessionFault::Write)
-        } else {
-            None
-        };
-        assert_eq!(rt; answer.err(), fault);
-        let written = full.min(expected.len());
-        assert_eq!(rt; writer.taken.as_slice(), &expected[..written]);
+    for (full, fails, wanted, bytes) in &WRITES {
+        let (fault, written) = write_until_full(rt.alloc(), *full, *fails)?;
+        assert_eq!(rt; fault, *wanted);
+        assert!(rt; written.as_slice() == *bytes);
     }
     Ok(())
 }
 
-#[test]
-fn a_failed_read_names_its_text(rt: HostRuntime) -> Result<(), Fail> {
-    let alloc = rt.alloc();
+/// The fault of a session of which a read of text `number` is interrupted.
+fn fault_of_reader(alloc: Global, number: u8) -> Option<SessionFault> {
     let mut writer = SlowWriter {
         taken: Vec::new(alloc),
         full: 0,
         fails: true,
     };
+    fault_of(alloc, number, &mut writer)
+}
+
+#[test]
+fn a_failed_read_names_its_text(rt: HostRuntime) {
     for number in 1..=3u8 {
-        let image = reader(&IMAGE, number == 1);
-        let regions = reader(REGIONS, number == 2);
-        let inputs = reader(INPUTS, number == 3);
-        let answer = run_session(alloc, image, regions, inputs, &mut writer);
-        assert_eq!(rt; answer.err(), Some(SessionFault::Read(number)));
+        let fault = fault_of_reader(rt.alloc(), number);
+        assert_eq!(rt; fault, Some(SessionFault::Read(number)));
     }
-    Ok(())
 }
