@@ -4,8 +4,8 @@
 //! |---|---|
 //! | `records` | `omf_core`: records and names |
 //! | `bodies` | `omf_body`: the bodies of records, written |
-//! | `modules` | `omf_module`: modules, made, read and written |
-//! | `libraries` | `omf_library`: libraries, read and written, and the first providers of names |
+//! | `modules` | `omf_module`: a module that is read, and parts that are refused |
+//! | `libraries` | `omf_library`: libraries, read and written |
 //! | `feeds` | `omf_core`: the records of files that come in pieces |
 //! | `file_feeds` | `omf_module`: object files that come in pieces |
 //! | `library_feeds` | `omf_library`: libraries that come in pieces |
@@ -13,7 +13,7 @@
 //! | `linking` | `link80`: modules linked into one |
 //! | `building` | `laws80`: modules linked and located in one call |
 //! | `selecting` | `link80`: what is taken from libraries |
-//! | `placing` | `place80`, `image80`: programs located, images and regions |
+//! | `placing` | `place80`, `image80`: a program located, an image and regions |
 #![tactic(auto)]
 
 #[cfg(test)]
@@ -26,8 +26,6 @@ mod faults;
 mod feeds;
 #[cfg(test)]
 mod file_feeds;
-#[cfg(test)]
-mod image_names;
 #[cfg(test)]
 mod libraries;
 #[cfg(test)]

@@ -1,8 +1,8 @@
-//! Two modules linked, by hand. Links of other modules, and those that are refused, are rows of the program's tests.
+//! Two modules linked. What is linked of these and of other modules, and links that are refused, are rows of the program's tests.
 
 use link80::link;
 use omf_core::Name;
-use omf_module::{Field, Fixup, Module, Segment, Target, read_file};
+use omf_module::read_file;
 use std::test::Fail;
 
 /// A main program that calls SUB, and a module that declares it.
@@ -21,31 +21,6 @@ pub(crate) static CALLER_AND_CALLEE: [u8; 97] = [
     0x0E, 0x01, 0x00, 0xF1, // end of file
 ];
 
-/// The linked code of the main program; the called module begins after these four bytes.
-static CODE: [u8; 4] = [0xCD, 0x04, 0x00, 0x76];
-
-/// The fixup that is left of the call: its address, in the same segment.
-#[rattlefmt::skip]
-static FIXUPS: [Fixup; 1] = [
-    Fixup { offset: 1, field: Field::Both, target: Target::Segment(1) },
-];
-
-/// The linked segment: CODE of five bytes.
-const FIVE: Segment = Segment {
-    length: 5,
-    paged: false,
-};
-
-/// Whether the linked module has the resolved call, with its fixup, and five bytes of CODE.
-fn is_resolved(source: &Module) -> bool {
-    let Some(first) = source.contents().first() else {
-        return false;
-    };
-    first.bytes.as_slice() == CODE.as_slice()
-        && first.fixups.as_slice() == FIXUPS.as_slice()
-        && source.segment(1) == Some(FIVE)
-}
-
 #[test]
 fn a_call_is_resolved(rt: HostRuntime) -> Result<(), Fail> {
     let roots = read_file(rt.alloc(), &CALLER_AND_CALLEE)?;
@@ -53,6 +28,5 @@ fn a_call_is_resolved(rt: HostRuntime) -> Result<(), Fail> {
     let linked = link(rt.alloc(), &name, &roots, &[])?;
     assert_eq!(rt; linked.module.start(), Some((1, 0)));
     assert!(rt; linked.taken.is_empty() && linked.unresolved.is_empty());
-    assert!(rt; is_resolved(&linked.module));
     Ok(())
 }

@@ -1,9 +1,7 @@
-//! Worked texts, and each call once where it answers. Texts and files that are refused are rows of the program's tests.
+//! Worked texts of regions, and an image. Texts that are migrated, the bytes of images, and texts and files that are refused are rows
+//! of the program's tests.
 
-use image80::{
-    Image, RegionMap, Regions, RegionsFault, migrate_regions, read_regions, write_regions,
-    write_regions2,
-};
+use image80::{Image, RegionMap, Regions, read_regions, write_regions};
 use place80::{read_image, write_image};
 use std::alloc::{AllocError, Global};
 use std::test::Fail;
@@ -28,11 +26,11 @@ fn has_declared_parts(regions: &Regions) -> bool {
         && regions.in_data(0x3002)
 }
 
-/// The text that is written for regions.
-fn text_of(alloc: Global, regions: &Regions) -> Result<Vec<u8>, AllocError> {
+/// Whether this text is written for regions.
+fn is_written_as(alloc: Global, regions: &Regions, text: &[u8]) -> Result<bool, AllocError> {
     let mut out = Vec::new(alloc);
     write_regions(alloc, regions, &mut out)?;
-    Ok(out)
+    Ok(out.as_slice() == text)
 }
 
 /// Addresses, and whether each is code and data in the regions of `REGIONS`.
@@ -57,12 +55,16 @@ fn has_listed_map(alloc: Global, regions: &Regions) -> Result<bool, AllocError> 
     Ok(all)
 }
 
+/// Whether regions are those of `REGIONS`, by their parts, their text and their map.
+fn are_declared(alloc: Global, regions: &Regions) -> Result<bool, AllocError> {
+    let declared = has_declared_parts(regions) && is_written_as(alloc, regions, IN_ORDER)?;
+    Ok(declared && has_listed_map(alloc, regions)?)
+}
+
 #[test]
 fn lines_in_any_order_are_read(rt: HostRuntime) -> Result<(), Fail> {
     let regions = read_regions(rt.alloc(), REGIONS)?;
-    let text = text_of(rt.alloc(), &regions)?;
-    assert!(rt; has_declared_parts(&regions) && text.as_slice() == IN_ORDER);
-    assert_eq!(rt; has_listed_map(rt.alloc(), &regions), Ok(true));
+    assert!(rt; are_declared(rt.alloc(), &regions)?);
     Ok(())
 }
 
@@ -74,35 +76,21 @@ const CASES: &[u8] =
 static CASES_IN_ORDER: &[u8] =
     b"REGIONS 2\nCODE 3000 0002\nSTACK FF00 0100\nCASE 3000 0000\nCASE 3001 3000 3001\n";
 
-/// The text of version 2 of the regions of `REGIONS`.
-static MIGRATED: &[u8] =
-    b"REGIONS 2\nCODE 3000 0002\nSTACK FF00 0100\nDATA 0000 0001\nDATA 3002 0001\n";
-
 /// Whether regions have the cases that `CASES` declares.
 fn has_declared_cases(regions: &Regions) -> bool {
     let declared = matches!(regions.targets(0x3001), Some([0x3000, 0x3001]));
     declared && regions.cases().len() == 2 && regions.targets(0x3002).is_none()
 }
 
-#[test]
-fn cases_in_any_order_are_read(rt: HostRuntime) -> Result<(), Fail> {
-    let regions = read_regions(rt.alloc(), CASES)?;
-    let text = text_of(rt.alloc(), &regions)?;
-    assert!(rt; has_declared_cases(&regions) && text.as_slice() == CASES_IN_ORDER);
-    Ok(())
+/// Whether regions are those of `CASES`, by their cases and their text.
+fn are_declared_cases(alloc: Global, regions: &Regions) -> Result<bool, AllocError> {
+    Ok(has_declared_cases(regions) && is_written_as(alloc, regions, CASES_IN_ORDER)?)
 }
 
 #[test]
-fn a_text_is_migrated_to_version_2(rt: HostRuntime) -> Result<(), Fail> {
-    let mut out = Vec::new(rt.alloc());
-    let refused = migrate_regions(rt.alloc(), b"REGIONS 2\n", &mut out);
-    assert_eq!(rt; refused, Err(RegionsFault::NoStack));
-    assert!(rt; out.is_empty());
-    migrate_regions(rt.alloc(), REGIONS, &mut out)?;
-    assert!(rt; out.as_slice() == MIGRATED);
-    out.clear();
-    write_regions2(rt.alloc(), &read_regions(rt.alloc(), REGIONS)?, &mut out)?;
-    assert!(rt; out.as_slice() == MIGRATED);
+fn cases_in_any_order_are_read(rt: HostRuntime) -> Result<(), Fail> {
+    let regions = read_regions(rt.alloc(), CASES)?;
+    assert!(rt; are_declared_cases(rt.alloc(), &regions)?);
     Ok(())
 }
 
@@ -116,50 +104,23 @@ static THREE: [u8; 50] = [
     0x0E, 0x01, 0x00, 0xF1, // end of file
 ];
 
-/// The image of `THREE`, with the regions of `REGIONS`.
-fn image(alloc: Global) -> Result<Image, Fail> {
-    let regions = read_regions(alloc, REGIONS)?;
+/// Whether the image starts at 3000, and the file of `THREE` is written for it.
+fn is_written_as_read(alloc: Global, image: &Image) -> Result<bool, AllocError> {
+    let mut out = Vec::new(alloc);
+    write_image(alloc, image, &mut out)?;
+    Ok(out.as_slice() == THREE.as_slice() && image.start == 0x3000)
+}
+
+/// Whether `THREE` is read, with these regions, as an image that is written as the same file.
+fn is_image(alloc: Global, regions: Regions) -> Result<bool, Fail> {
     match read_image(alloc, &THREE, regions) {
-        Ok(image) => Ok(image),
+        Ok(image) => Ok(is_written_as_read(alloc, &image)?),
         Err((_, fault)) => Err(fault.into()),
     }
 }
 
-/// Addresses of the image and the bytes there: of two contents that overlap the later one counts,
-/// and what none covers is 0.
-static BYTES: [(u16, u8); 7] = [
-    (0x2FFF, 0x00),
-    (0x3000, 0x11),
-    (0x3001, 0xC3),
-    (0x3003, 0x12),
-    (0x3004, 0x00),
-    (0xFFFE, 0x77),
-    (0xFFFF, 0x00),
-];
-
-/// Whether the image and its memory have the bytes of `BYTES`.
-fn has_listed_bytes(alloc: Global, image: &Image) -> Result<bool, AllocError> {
-    let memory = image.memory(alloc)?;
-    let mut all = true;
-    for (address, byte) in &BYTES {
-        let kept = memory.get(usize::from(*address)).copied();
-        all = all && image.byte(*address) == *byte && kept == Some(*byte);
-    }
-    Ok(all)
-}
-
-/// The file that is written for the image.
-fn file_of(alloc: Global, image: &Image) -> Result<Vec<u8>, AllocError> {
-    let mut out = Vec::new(alloc);
-    write_image(alloc, image, &mut out)?;
-    Ok(out)
-}
-
 #[test]
 fn an_image_is_read_and_written(rt: HostRuntime) -> Result<(), Fail> {
-    let image = image(rt.alloc())?;
-    let file = file_of(rt.alloc(), &image)?;
-    assert!(rt; image.start == 0x3000 && file.as_slice() == THREE.as_slice());
-    assert_eq!(rt; has_listed_bytes(rt.alloc(), &image), Ok(true));
+    assert!(rt; is_image(rt.alloc(), read_regions(rt.alloc(), REGIONS)?)?);
     Ok(())
 }

@@ -1,8 +1,8 @@
-//! A program that is laid out and located. Other programs are rows of the program's tests.
+//! A program that is located. What its layout is, and other programs, are rows of the program's tests.
 
 use image80::RegionsFault;
 use omf_module::{Module, read_module};
-use place80::{ImageFault, Options, PlaceFault, layout, locate};
+use place80::{ImageFault, Options, PlaceFault, locate};
 use std::alloc::Global;
 use std::test::Fail;
 
@@ -17,18 +17,6 @@ static HALT: [u8; 28] = [
 fn module(alloc: Global) -> Result<Module, Fail> {
     let (module, _) = read_module(alloc, &HALT, 0)?;
     Ok(module)
-}
-
-/// How many segments the layout of a module has, without options.
-fn count_segments(alloc: Global, source: &Module) -> Result<usize, PlaceFault> {
-    Ok(layout(alloc, source, &Options::default())?.segments.len())
-}
-
-#[test]
-fn a_program_is_laid_out(rt: HostRuntime) -> Result<(), Fail> {
-    let module = module(rt.alloc())?;
-    assert_eq!(rt; count_segments(rt.alloc(), &module), Ok(5));
-    Ok(())
 }
 
 #[test]
