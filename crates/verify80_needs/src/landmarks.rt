@@ -1,11 +1,11 @@
 //! The numbers to which spans grow.
 
-use crate::cells::{cell_at, change_cells};
 use crate::program::ReachedProgram;
 use decode80::{Instr, Operand};
 use image80::RegionMap;
 use std::alloc::{AllocError, Global};
-use verify80_states::{ByteSpan, Cell, PairSpan, Span, State, Words};
+use std::array;
+use verify80_states::{ByteSpan, Cell, Cells, PairSpan, Span, State, Words};
 
 /// How often a state takes in others as they are.
 const JOINS: u32 = 4;
@@ -73,10 +73,11 @@ impl Landmarks {
                 third: self.grown_word(old.words.third, new.words.third, growths),
                 fourth: self.grown_word(old.words.fourth, new.words.fourth, growths),
             },
-            cells: change_cells(
-                old.cells,
-                |place, cell| self.grown_cell(cell, cell_at(new.cells, place), growths),
-            ),
+            cells: Cells {
+                each: array::from_fn(|place| {
+                    self.grown_cell(old.cells.each[place], new.cells.each[place], growths)
+                }),
+            },
         }
     }
 

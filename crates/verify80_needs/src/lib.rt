@@ -12,7 +12,6 @@
 //! | [`mark`] | marks an address |
 #![tactic(auto)]
 
-mod cells;
 mod landmarks;
 mod marks;
 mod moving;

@@ -1,12 +1,12 @@
 //! The bytes of memory that a state may know, at each address: each has a place among eight, in all states the same.
 
-use crate::cells::change_cells;
 use crate::marks::mark;
 use crate::program::ReachedProgram;
 use crate::units::Units;
 use crate::variables::Variables;
 use decode80::{Fetched, Flow, Instr, Operand, Pair};
 use std::alloc::{AllocError, Global};
+use std::array;
 use verify80_spans::ByteSpan;
 use verify80_states::{Cell, Cells, is_marked};
 
@@ -231,29 +231,29 @@ pub fn parts_stored(instr: Instr, pointer: Option<u16>, after: Slots) -> Units {
 
 /// The cells of the addresses of slots, from cells or else from variables. What is known of other addresses is forgotten.
 pub fn placed_cells(cells: Cells, slots: Slots, variables: &Variables, set: u64) -> Cells {
-    change_cells(cells, |place, cell| match slots.at(place) {
-        None => Cell::ANY,
-        Some(at) if cell.at == at && cell.bytes != ByteSpan::ANY => cell,
-        Some(at) => Cell {
+    let each = array::from_fn(|place| match (slots.at(place), cells.each[place]) {
+        (None, _) => Cell::ANY,
+        (Some(at), cell) if cell.at == at && cell.bytes != ByteSpan::ANY => cell,
+        (Some(at), _) => Cell {
             at,
             bytes: variables.bytes_at(set, at),
         },
-    })
+    });
+    Cells { each }
 }
 
 /// Cells, of which the one of an address may be these bytes too.
 pub fn widened_cells(cells: Cells, address: u16, bytes: ByteSpan) -> Cells {
-    change_cells(cells, |_, cell| {
-        if cell.at == address {
-            Cell {
-                at: address,
-                bytes: ByteSpan {
-                    first: cell.bytes.first.min(bytes.first),
-                    last: cell.bytes.last.max(bytes.last),
-                },
-            }
-        } else {
-            cell
+    let each = cells.each.map(|cell| if cell.at == address {
+        Cell {
+            at: address,
+            bytes: ByteSpan {
+                first: cell.bytes.first.min(bytes.first),
+                last: cell.bytes.last.max(bytes.last),
+            },
         }
-    })
+    } else {
+        cell
+    });
+    Cells { each }
 }

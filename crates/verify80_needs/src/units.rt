@@ -1,9 +1,9 @@
 //! The parts of a state, by which it is cut down, and distinguished from others.
 
-use crate::cells::change_cells;
 use bitflags::{Flags, bitflags};
 use decode80::{Condition, IndexPair, Pair, Register, StackPair};
-use verify80_states::{ByteSpan, Cell, PairSpan, State, Words};
+use std::array;
+use verify80_states::{ByteSpan, Cell, Cells, PairSpan, State, Words};
 
 /// A set of parts of a state: a bit for each.
 #[derive(Clone, Copy, Debug, PartialEq, Eq)]
@@ -155,17 +155,16 @@ pub fn reduce(state: State, parts: Units) -> State {
             third: known_if(parts.intersects(Units::THIRD), state.words.third),
             fourth: known_if(parts.intersects(Units::FOURTH), state.words.fourth),
         },
-        cells: change_cells(
-            state.cells,
-            |place, cell| Cell {
-                at: cell.at,
-                bytes: if parts.intersects(Units::of_cell(place)) {
-                    cell.bytes
-                } else {
-                    ByteSpan::ANY
-                },
-            },
-        ),
+        cells: Cells {
+            each: array::from_fn(|place| {
+                let Cell { at, bytes } = state.cells.each[place];
+                let is_kept = parts.intersects(Units::of_cell(place));
+                Cell {
+                    at,
+                    bytes: if is_kept { bytes } else { ByteSpan::ANY },
+                }
+            }),
+        },
     }
 }
 
@@ -191,6 +190,7 @@ const FIRST_CELL: usize = 15;
 
 /// The parts of a state as numbers, by which states are distinguished, in the order of their bits.
 pub fn values_of(state: State) -> [u32; PARTS] {
+    let [first, second, third, fourth, fifth, sixth, seventh, eighth] = state.cells.each;
     [
         byte_value(state.a),
         byte_value(state.bc.high()),
@@ -207,14 +207,14 @@ pub fn values_of(state: State) -> [u32; PARTS] {
         word_value(state.words.second),
         word_value(state.words.third),
         word_value(state.words.fourth),
-        byte_value(state.cells.first.bytes),
-        byte_value(state.cells.second.bytes),
-        byte_value(state.cells.third.bytes),
-        byte_value(state.cells.fourth.bytes),
-        byte_value(state.cells.fifth.bytes),
-        byte_value(state.cells.sixth.bytes),
-        byte_value(state.cells.seventh.bytes),
-        byte_value(state.cells.eighth.bytes),
+        byte_value(first.bytes),
+        byte_value(second.bytes),
+        byte_value(third.bytes),
+        byte_value(fourth.bytes),
+        byte_value(fifth.bytes),
+        byte_value(sixth.bytes),
+        byte_value(seventh.bytes),
+        byte_value(eighth.bytes),
     ]
 }
 

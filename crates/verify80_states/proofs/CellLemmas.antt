@@ -1,25 +1,16 @@
 -- What is known of bytes of memory, along stores and where it is read.
-use Rattle.verify80_states.proofs.Names.{◌≡◌, ◌≢◌, ◌⊎◌, ◌<◌, ◌&&◌, ◌==◌, ℕ, Bool, true, false, List, [], ◌∷◌, Option, None, Some, nat_le, length, slice_index, slice_set, refl, subst, sym, ap, ◌∙◌, arith, inl, inr, eqb-true, nat_tests, get_or-set_same, length-set, Areas, in_data, byte_in, stored, Span, ByteSpan, Cell, Cells, Variable, State, HoldsSet, IsSaid, HasBytes, Within, ByteWithin, is_alone, HoldsCell, EachCell, HoldsCells, IsSaidByCell, IsCellInside, AreCellsInside, IsQuietCell, AreQuietCells, any_cell, no_cells, map_cells, cut_cell, cut_cells, stored_cell, HoldsSource, IsQuietSource, IsQuietState, anything, cells_after, StoredByte, All-set, IsByte}
+use Rattle.verify80_states.proofs.Names.{◌≡◌, ◌≢◌, ◌⊎◌, ◌<◌, ◌&&◌, ◌==◌, ℕ, Bool, true, false, List, [], ◌∷◌, Option, None, Some, nat_le, length, slice_index, slice_set, refl, subst, sym, ap, ◌∙◌, arith, inl, inr, eqb-true, nat_tests, get_or-set_same, length-set, Areas, in_data, byte_in, stored, Span, ByteSpan, Cell, Cells, Variable, State, HoldsSet, IsSaid, HasBytes, Within, ByteWithin, is_alone, HoldsCell, HoldsCells, IsByteInside, any_byte, IsCellInside, AreCellsInside, IsQuietCell, AreQuietCells, any_cell, no_cells, map, get_or, All, All-map, All-replicate, slice_get-get_or, cut_cell, cut_cells, stored_cell, HoldsSource, IsQuietSource, IsQuietState, anything, cells_after, StoredByte, All-set, IsByte}
 use Rattle.verify80_states.proofs.{ByteLemmas.byte_at as memory_byte, SpanLemmas.any_byte_within, SpanLemmas.byte_inside_within, SpanLemmas.meet_bytes_within, MemoryLemmas.Ground, MemoryLemmas.one_stored, StoredLemmas.AreStored, StoredLemmas.stack_stored}
 
 -- what holds of each cell holds of what becomes of it
-each_so : (P Q W : Cell → Type 0) (f : Cell → Cell) (cells : Cells) → ((c : Cell) → P c → Q c → W (f c)) → EachCell P cells → EachCell Q cells → EachCell W (map_cells f cells)
-each_so P Q W f cells so one two = record {
-  first = so cells.first one.first two.first;
-  second = so cells.second one.second two.second;
-  third = so cells.third one.third two.third;
-  fourth = so cells.fourth one.fourth two.fourth;
-  fifth = so cells.fifth one.fifth two.fifth;
-  sixth = so cells.sixth one.sixth two.sixth;
-  seventh = so cells.seventh one.seventh two.seventh;
-  eighth = so cells.eighth one.eighth two.eighth;
-}
+each_so : (P W : Cell → Type 0) (f : Cell → Cell) (cells : List Cell) → ((c : Cell) → P c → W (f c)) → All P cells → All W (map f cells)
+each_so P W f cells so are = All-map W f cells (λ k d inside. so (get_or cells k d) (are k d inside))
 
 -- cells around others
 module _ (variables : List Variable) (set : ℕ) (memory : List ℕ) (bytes : HasBytes memory) (named : HoldsSet variables set memory) where
   around : (c d : Cell) → IsCellInside variables set c d → HoldsCell c memory → HoldsCell d memory
   around c d inside holds = by inside.either where
-    by : IsSaidByCell c d ⊎ IsSaid variables set d → HoldsCell d memory
+    by : ((d.bytes ≡ any_byte) ⊎ ((c.at ≡ d.at) × IsByteInside c.bytes d.bytes)) ⊎ IsSaid variables set d → HoldsCell d memory
     by (inl (inl any)) = subst (λ (s : ByteSpan). ByteWithin s (byte_in memory d.at)) (sym any) (any_byte_within (byte_in memory d.at) (memory_byte memory d.at bytes))
     by (inl (inr so)) = subst (λ n. ByteWithin d.bytes (byte_in memory n)) so.0 (byte_inside_within c.bytes d.bytes (byte_in memory c.at) so.1 holds)
     by (inr said) =
@@ -27,34 +18,25 @@ module _ (variables : List Variable) (set : ℕ) (memory : List ℕ) (bytes : Ha
         subst (λ n. ByteWithin d.bytes (byte_in memory n)) said.at (byte_inside_within v.bytes d.bytes (byte_in memory v.at) said.inside (named v said.named))
 
   pub cells_around : (cells others : Cells) → AreCellsInside variables set cells others → HoldsCells cells memory → HoldsCells others memory
-  cells_around cells others inside holds = record {
-    first = around cells.first others.first inside.first holds.first;
-    second = around cells.second others.second inside.second holds.second;
-    third = around cells.third others.third inside.third holds.third;
-    fourth = around cells.fourth others.fourth inside.fourth holds.fourth;
-    fifth = around cells.fifth others.fifth inside.fifth holds.fifth;
-    sixth = around cells.sixth others.sixth inside.sixth holds.sixth;
-    seventh = around cells.seventh others.seventh inside.seventh holds.seventh;
-    eighth = around cells.eighth others.eighth inside.eighth holds.eighth;
-  }
+  cells_around cells others inside holds k d less =
+      let within : k < length cells.each = (let long = inside.long in omega arith) in
+      around (get_or cells.each k d) (get_or others.each k d) (inside.at k _ _ (slice_get-get_or cells.each k d within) (slice_get-get_or others.each k d less)) (holds k d within)
 
 pub none_hold : (memory : List ℕ) → HasBytes memory → HoldsCells no_cells memory
-none_hold memory bytes =
-    let any : HoldsCell any_cell memory = any_byte_within (byte_in memory 0) (memory_byte memory 0 bytes) in
-    record { first = any; second = any; third = any; fourth = any; fifth = any; sixth = any; seventh = any; eighth = any }
+none_hold memory bytes = All-replicate (λ c. HoldsCell c memory) 8 any_cell (any_byte_within (byte_in memory 0) (memory_byte memory 0 bytes))
 
 -- cells of quiet addresses stay where the bytes of these do
-beside : (quiet : ℕ → Bool) (m m' : List ℕ) (c : Cell) → ((at : ℕ) → quiet at ≡ true → slice_index m' at ≡ slice_index m at) → HasBytes m' → IsQuietCell quiet c → HoldsCell c m → HoldsCell c m'
+beside : (quiet : ℕ → Bool) (m m' : List ℕ) (c : Cell) → ((at : ℕ) → quiet at ≡ true → slice_index m' at ≡ slice_index m at) → HasBytes m' → (c.bytes ≡ any_byte) ⊎ (quiet c.at ≡ true) → HoldsCell c m → HoldsCell c m'
 beside quiet m m' c same bytes (inl any) holds = subst (λ (s : ByteSpan). ByteWithin s (byte_in m' c.at)) (sym any) (any_byte_within (byte_in m' c.at) (memory_byte m' c.at bytes))
 beside quiet m m' c same bytes (inr here) holds = subst (λ n. ByteWithin c.bytes n) (sym (same c.at here)) holds
 
 pub cells_beside : (quiet : ℕ → Bool) (m m' : List ℕ) (cells : Cells) → ((at : ℕ) → quiet at ≡ true → slice_index m' at ≡ slice_index m at) → HasBytes m' → AreQuietCells quiet cells → HoldsCells cells m → HoldsCells cells m'
-cells_beside quiet m m' cells same bytes are holds = each_so (IsQuietCell quiet) (λ c. HoldsCell c m) (λ c. HoldsCell c m') (λ c. c) cells (λ c is at. beside quiet m m' c same bytes is at) are holds
+cells_beside quiet m m' cells same bytes are holds k d inside = beside quiet m m' (get_or cells.each k d) same bytes (are k d inside).either (holds k d inside)
 
 -- addresses that are quiet are others that are
-quieter : (quiet other : ℕ → Bool) (c : Cell) → ((at : ℕ) → quiet at ≡ true → other at ≡ true) → IsQuietCell quiet c → IsQuietCell other c
-quieter quiet other c more (inl any) = inl any
-quieter quiet other c more (inr here) = inr (more c.at here)
+quieter : (quiet other : ℕ → Bool) (c : Cell) → ((at : ℕ) → quiet at ≡ true → other at ≡ true) → (c.bytes ≡ any_byte) ⊎ (quiet c.at ≡ true) → IsQuietCell other c
+quieter quiet other c more (inl any) = record { either = inl any }
+quieter quiet other c more (inr here) = record { either = inr (more c.at here) }
 
 source_quieter : (quiet other : ℕ → Bool) (o : Option ℕ) → ((at : ℕ) → quiet at ≡ true → other at ≡ true) → IsQuietSource quiet o → IsQuietSource other o
 source_quieter quiet other None more is = tt
@@ -62,14 +44,12 @@ source_quieter quiet other (Some at) more is = more at is
 
 pub state_quieter : (quiet other : ℕ → Bool) (s : State) → ((at : ℕ) → quiet at ≡ true → other at ≡ true) → IsQuietState quiet s → IsQuietState other s
 state_quieter quiet other s more are = record {
-  cells = each_so (IsQuietCell quiet) (IsQuietCell quiet) (IsQuietCell other) (λ c. c) s.cells (λ c is same. quieter quiet other c more is) are.cells are.cells;
+  cells = λ k d inside. quieter quiet other (get_or s.cells.each k d) more (are.cells k d inside).either;
   source = source_quieter quiet other s.source more are.source;
 }
 
 pub none_quiet : (quiet : ℕ → Bool) → IsQuietState quiet anything
-none_quiet quiet =
-    let any : IsQuietCell quiet any_cell = inl refl in
-    record { cells = record { first = any; second = any; third = any; fourth = any; fifth = any; sixth = any; seventh = any; eighth = any }; source = tt }
+none_quiet quiet = record { cells = All-replicate (IsQuietCell quiet) 8 any_cell (record { either = inl refl }); source = tt }
 
 -- what devices don't touch stays that of A
 pub source_beside : (quiet : ℕ → Bool) (m m' : List ℕ) (o : Option ℕ) (a : ℕ) → ((at : ℕ) → quiet at ≡ true → slice_index m' at ≡ slice_index m at) → IsQuietSource quiet o → HoldsSource o m a → HoldsSource o m' a
@@ -93,7 +73,7 @@ module _ (s : StoredByte) (m : List ℕ) (b x : ℕ) (whole : length m ≡ 65536
 
   cells_are_stored : (cells : Cells) → HoldsCells cells m → HoldsCells (cells_after (Some s) cells) (stored m ((b, x) ∷ []))
   cells_are_stored cells holds =
-      each_so (λ c. HoldsCell c m) (λ c. HoldsCell c m) (λ c. HoldsCell c (stored m ((b, x) ∷ []))) (stored_cell s) cells (λ c is same. cell_stored_by c (nat_le s.at.first c.at && nat_le c.at s.at.last) (is_alone s.at) refl refl is) holds holds
+      each_so (λ c. HoldsCell c m) (λ c. HoldsCell c (stored m ((b, x) ∷ []))) (stored_cell s) cells.each (λ c is. cell_stored_by c (nat_le s.at.first c.at && nat_le c.at s.at.last) (is_alone s.at) refl refl is) holds
 
 -- a cell is cut
 module _ (at : ℕ) (bytes : ByteSpan) where
@@ -103,19 +83,19 @@ module _ (at : ℕ) (bytes : ByteSpan) where
   cell_cut_by m c false same inside holds = rw same holds
 
   quiet_cut_by : (quiet : ℕ → Bool) (c : Cell) (b : Bool) → (c.at == at) ≡ b → quiet at ≡ true → IsQuietCell quiet c → IsQuietCell quiet (cut_cell at bytes c)
-  quiet_cut_by quiet c true same here is = rw same (inr (subst (λ n. quiet n ≡ true) (sym (eqb-true c.at at same)) here))
+  quiet_cut_by quiet c true same here is = rw same (record { either = inr (subst (λ n. quiet n ≡ true) (sym (eqb-true c.at at same)) here) })
   quiet_cut_by quiet c false same here is = rw same is
 
 pub cells_cut : (o : Option ℕ) (bytes : ByteSpan) (cells : Cells) (m : List ℕ) (a : ℕ) → HoldsSource o m a → ByteWithin bytes a → HoldsCells cells m → HoldsCells (cut_cells o bytes cells) m
 cells_cut None bytes cells m a is inside holds = holds
 cells_cut (Some at) bytes cells m a is inside holds =
-    each_so (λ c. HoldsCell c m) (λ c. HoldsCell c m) (λ c. HoldsCell c m) (cut_cell at bytes) cells
-    (λ c here same. cell_cut_by at bytes m c (c.at == at) refl (subst (λ n. ByteWithin bytes n) (sym is) inside) here) holds holds
+    each_so (λ c. HoldsCell c m) (λ c. HoldsCell c m) (cut_cell at bytes) cells.each
+    (λ c here. cell_cut_by at bytes m c (c.at == at) refl (subst (λ n. ByteWithin bytes n) (sym is) inside) here) holds
 
 pub cells_cut_quiet : (quiet : ℕ → Bool) (o : Option ℕ) (bytes : ByteSpan) (cells : Cells) → IsQuietSource quiet o → AreQuietCells quiet cells → AreQuietCells quiet (cut_cells o bytes cells)
 cells_cut_quiet quiet None bytes cells is are = are
 cells_cut_quiet quiet (Some at) bytes cells is are =
-    each_so (IsQuietCell quiet) (IsQuietCell quiet) (IsQuietCell quiet) (cut_cell at bytes) cells (λ c here same. quiet_cut_by at bytes quiet c (c.at == at) refl is here) are are
+    each_so (IsQuietCell quiet) (IsQuietCell quiet) (cut_cell at bytes) cells.each (λ c here. quiet_cut_by at bytes quiet c (c.at == at) refl is here) are
 
 -- what an instruction stores
 module _ (regions : Areas) (ground : Ground regions) where

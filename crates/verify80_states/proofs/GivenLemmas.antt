@@ -1,5 +1,5 @@
 -- What a condition leaves of a state holds if the condition does.
-use Rattle.verify80_states.proofs.Names.{◌≡◌, ◌==◌, ◌+◌, ◌-◌, ℕ, Bool, true, false, not, Option, None, Some, nat_lt, nat_le, min, max, refl, arith, subst, sym, ap, ◌∙◌, nat_tests, Register, A, Condition, NonZero, Zero, NoCarry, Carry, Plus, Minus, Areas, Registers, Machine, ByteSpan, Words, State, AreBytes, ByteWithin, byte_alone, only, without, below, from, Holds, HoldsRegisters, HoldsWords, HoldsSource, IsQuietSource, IsQuietState, Compares, cut, cut_copy, if_same, zero_bytes, carry_bytes, cut_to, given_zero, given_carry, given_sign, given, not-not}
+use Rattle.verify80_states.proofs.Names.{◌≡◌, ◌==◌, ◌+◌, ◌-◌, ℕ, Bool, true, false, not, Option, None, Some, nat_lt, nat_le, min, max, refl, arith, subst, sym, ap, ◌∙◌, nat_tests, Register, A, Condition, NonZero, Zero, NoCarry, Carry, Plus, Minus, Areas, Registers, Machine, ByteSpan, Words, State, AreBytes, ByteWithin, byte_alone, only, without, below, from, Holds, HoldsRegisters, HoldsWords, HoldsSource, IsQuietSource, IsQuietState, Compares, cut, cut_copy, given_flag, zero_bytes, carry_bytes, cut_to, given_zero, given_carry, given_sign, given, not-not}
 use Rattle.verify80_spans.specs.Span.{IsKnown}
 use Rattle.machine80.specs.{Flags.holds as holds_of}
 use Rattle.verify80_states.proofs.{StateLemmas.cut_holds, CellLemmas.cells_cut, CellLemmas.cells_cut_quiet}
@@ -78,10 +78,12 @@ module _ (quiet : ℕ → Bool) (regions : Areas) (m : Machine) (bytes : AreByte
         source = holds.source;
       }
 
-  same_left : (known wanted truth : Bool) (s : State) → Holds regions s m → IsQuietState quiet s → truth ≡ known → truth ≡ wanted → LeavesOf s.set (if_same known wanted s)
-  same_left true true truth s holds are one two = record { left = s; is = refl; holds = holds; are = are; same = refl }
-  same_left false false truth s holds are one two = record { left = s; is = refl; holds = holds; are = are; same = refl }
-  same_left known wanted truth s holds are one two = cc
+  -- what is left if a flag is as it is, if that isn't known
+  flag_given : (known : Option Bool) (wanted truth : Bool) (s : State) (o : Option State) → Holds regions s m → IsQuietState quiet s → IsKnown known truth → truth ≡ wanted → LeavesOf s.set o → LeavesOf s.set (given_flag known wanted s o)
+  flag_given None wanted truth s o holds are knows is left = left
+  flag_given (Some true) true truth s o holds are knows is left = record { left = s; is = refl; holds = holds; are = are; same = refl }
+  flag_given (Some false) false truth s o holds are knows is left = record { left = s; is = refl; holds = holds; are = are; same = refl }
+  flag_given (Some known) wanted truth s o holds are knows is left = cc
 
   -- a state in which A has one of some bytes too
   pub cut_state : (s : State) (span : ByteSpan) → Holds regions s m → ByteWithin span m.cpu.registers.a → Holds regions (cut s span) m
@@ -104,25 +106,25 @@ module _ (quiet : ℕ → Bool) (regions : Areas) (m : Machine) (bytes : AreByte
   cut_left o t holds are byte =
       record { left = cut t byte.span; is = ap (λ (x : Option ByteSpan). cut_to x t) byte.is; holds = cut_state t byte.span holds byte.inside; are = cut_are t byte.span are; same = cut_set t byte.span }
 
-  zero_given : (known : Option Bool) (wanted : Bool) (s : State) → Holds regions s m → IsQuietState quiet s → IsKnown known m.cpu.registers.flags.zero → m.cpu.registers.flags.zero ≡ wanted → LeavesOf s.set (given_zero known wanted s)
-  zero_given (Some known) wanted s holds are knows is = same_left known wanted m.cpu.registers.flags.zero s holds are knows is
-  zero_given None wanted s holds are knows is =
+  zero_given : (wanted : Bool) (s : State) → Holds regions s m → IsQuietState quiet s → m.cpu.registers.flags.zero ≡ wanted → LeavesOf s.set (given_zero wanted s)
+  zero_given wanted s holds are is =
       let flags = holds.registers.flags in
-      cut_left (zero_bytes s.compared wanted s.a) (record s { zero = Some wanted }) (with_flags s (Some wanted) s.carry s.sign holds is flags.carry flags.sign) (record { cells = are.cells; source = are.source })
-      (zero_leaves s.compared wanted s m.cpu.registers holds.registers flags.compared is)
+      flag_given s.zero wanted m.cpu.registers.flags.zero s _ holds are flags.zero is
+      (cut_left (zero_bytes s.compared wanted s.a) (record s { zero = Some wanted }) (with_flags s (Some wanted) s.carry s.sign holds is flags.carry flags.sign) (record { cells = are.cells; source = are.source })
+      (zero_leaves s.compared wanted s m.cpu.registers holds.registers flags.compared is))
 
-  carry_given : (known : Option Bool) (wanted : Bool) (s : State) → Holds regions s m → IsQuietState quiet s → IsKnown known m.cpu.registers.flags.carry → m.cpu.registers.flags.carry ≡ wanted → LeavesOf s.set (given_carry known wanted s)
-  carry_given (Some known) wanted s holds are knows is = same_left known wanted m.cpu.registers.flags.carry s holds are knows is
-  carry_given None wanted s holds are knows is =
+  carry_given : (wanted : Bool) (s : State) → Holds regions s m → IsQuietState quiet s → m.cpu.registers.flags.carry ≡ wanted → LeavesOf s.set (given_carry wanted s)
+  carry_given wanted s holds are is =
       let flags = holds.registers.flags in
-      cut_left (carry_bytes s.compared wanted s.a) (record s { carry = Some wanted }) (with_flags s s.zero (Some wanted) s.sign holds flags.zero is flags.sign) (record { cells = are.cells; source = are.source })
-      (carry_leaves s.compared wanted s m.cpu.registers holds.registers flags.compared is)
+      flag_given s.carry wanted m.cpu.registers.flags.carry s _ holds are flags.carry is
+      (cut_left (carry_bytes s.compared wanted s.a) (record s { carry = Some wanted }) (with_flags s s.zero (Some wanted) s.sign holds flags.zero is flags.sign) (record { cells = are.cells; source = are.source })
+      (carry_leaves s.compared wanted s m.cpu.registers holds.registers flags.compared is))
 
-  sign_given : (known : Option Bool) (wanted : Bool) (s : State) → Holds regions s m → IsQuietState quiet s → IsKnown known m.cpu.registers.flags.sign → m.cpu.registers.flags.sign ≡ wanted → LeavesOf s.set (given_sign known wanted s)
-  sign_given (Some known) wanted s holds are knows is = same_left known wanted m.cpu.registers.flags.sign s holds are knows is
-  sign_given None wanted s holds are knows is =
+  sign_given : (wanted : Bool) (s : State) → Holds regions s m → IsQuietState quiet s → m.cpu.registers.flags.sign ≡ wanted → LeavesOf s.set (given_sign wanted s)
+  sign_given wanted s holds are is =
       let flags = holds.registers.flags in
-      record { left = record s { sign = Some wanted }; is = refl; holds = with_flags s s.zero s.carry (Some wanted) holds flags.zero flags.carry is; are = record { cells = are.cells; source = are.source }; same = refl }
+      flag_given s.sign wanted m.cpu.registers.flags.sign s _ holds are flags.sign is
+      (record { left = record s { sign = Some wanted }; is = refl; holds = with_flags s s.zero s.carry (Some wanted) holds flags.zero flags.carry is; are = record { cells = are.cells; source = are.source }; same = refl })
 
 turned : (b c : Bool) → not b ≡ c → b ≡ not c
 turned b c h = sym (not-not b) ∙ ap (λ (x : Bool). not x) h
@@ -130,10 +132,10 @@ turned b c h = sym (not-not b) ∙ ap (λ (x : Bool). not x) h
 pub given_holds : (quiet : ℕ → Bool) (regions : Areas) (m : Machine) (bytes : AreBytes m.cpu.registers) (c : Condition) (wanted : Bool) (s : State) → Holds regions s m → IsQuietState quiet s → holds_of c m.cpu.registers.flags ≡ wanted →
     Leaves quiet regions m s.set (given c wanted s)
 unfolding holds_of
-given_holds quiet regions m bytes Zero wanted s holds are is = zero_given quiet regions m bytes s.zero wanted s holds are holds.registers.flags.zero is
-given_holds quiet regions m bytes NonZero wanted s holds are is = zero_given quiet regions m bytes s.zero (not wanted) s holds are holds.registers.flags.zero (turned m.cpu.registers.flags.zero wanted is)
-given_holds quiet regions m bytes Carry wanted s holds are is = carry_given quiet regions m bytes s.carry wanted s holds are holds.registers.flags.carry is
-given_holds quiet regions m bytes NoCarry wanted s holds are is = carry_given quiet regions m bytes s.carry (not wanted) s holds are holds.registers.flags.carry (turned m.cpu.registers.flags.carry wanted is)
-given_holds quiet regions m bytes Minus wanted s holds are is = sign_given quiet regions m bytes s.sign wanted s holds are holds.registers.flags.sign is
-given_holds quiet regions m bytes Plus wanted s holds are is = sign_given quiet regions m bytes s.sign (not wanted) s holds are holds.registers.flags.sign (turned m.cpu.registers.flags.sign wanted is)
+given_holds quiet regions m bytes Zero wanted s holds are is = zero_given quiet regions m bytes wanted s holds are is
+given_holds quiet regions m bytes NonZero wanted s holds are is = zero_given quiet regions m bytes (not wanted) s holds are (turned m.cpu.registers.flags.zero wanted is)
+given_holds quiet regions m bytes Carry wanted s holds are is = carry_given quiet regions m bytes wanted s holds are is
+given_holds quiet regions m bytes NoCarry wanted s holds are is = carry_given quiet regions m bytes (not wanted) s holds are (turned m.cpu.registers.flags.carry wanted is)
+given_holds quiet regions m bytes Minus wanted s holds are is = sign_given quiet regions m bytes wanted s holds are is
+given_holds quiet regions m bytes Plus wanted s holds are is = sign_given quiet regions m bytes (not wanted) s holds are (turned m.cpu.registers.flags.sign wanted is)
 given_holds quiet regions m bytes c wanted s holds are is = record { left = s; is = refl; holds = holds; are = are; same = refl }

@@ -11,6 +11,7 @@ mod CellReads
 mod FollowLemmas
 mod MemoryLemmas
 mod StoredLemmas
+mod ArrayLemmas
 mod CellLemmas
 mod SourceLemmas
 mod VariableLemmas

@@ -1,6 +1,6 @@
 -- A table that fits what is reached fits the program.
-use Rattle.verify80_states.proofs.Names.{IsBehind, ◌≡◌, ◌+◌, ◌++◌, ℕ, zero, suc, ◌<◌, Bool, List, [], ◌∷◌, All, Option, None, Some, Ok, length, slice_get, slice_index_or, refl, subst, sym, ap, ◌∙◌, arith, true, Fetched, Located, World, world_of, Code, slice_get-last, code_of, AreReached, IsReached, StandsOnWalk, found_at, Placed, Variable, HoldsBytes, MemoryKeepsItsLength, IsQuietState, anything, HasCode, ReturnFacts, no_returns, Has, KnowsQuiet, AllFit, Fits, SaysNothingAt, KeepsToCalls, IsKept, FetchedOperandsAreBounded, slice_get-append, below_more}
-use Rattle.verify80_states.proofs.{MemoryLemmas.Ground, CellLemmas.none_quiet, CallLemmas.nothing_owed, KeepLemmas.nothing_holds, KeepLemmas.code_stays, KeepLemmas.still_keeps}
+use Rattle.verify80_states.proofs.Names.{IsBehind, ◌≡◌, ℕ, zero, suc, ◌<◌, Bool, List, [], ◌∷◌, Option, None, Some, Ok, length, slice_get, slice_index_or, refl, subst, sym, ap, ◌∙◌, arith, true, Fetched, Located, World, world_of, Code, code_of, AreReached, IsReached, StandsOnWalk, found_at, Placed, Variable, HoldsBytes, MemoryKeepsItsLength, IsQuietState, anything, HasCode, ReturnFacts, no_returns, Has, KnowsQuiet, AllFit, Fits, nothing_at, FitsWhereReached, map, range_with_len, All-map, slice_get-get_or, get_or-map-range_with_len, length-map-range_with_len, KeepsToCalls, IsKept, FetchedOperandsAreBounded}
+use Rattle.verify80_states.proofs.{VariableLemmas.one_of, MemoryLemmas.Ground, CellLemmas.none_quiet, CallLemmas.nothing_owed, KeepLemmas.nothing_holds, KeepLemmas.code_stays, KeepLemmas.still_keeps}
 
 -- an entry that is there is within the table
 entry_within : {A : Type 0} (table : List (Option A)) (at : ℕ) (x : A) → slice_index_or table at None ≡ Some x → at < length table
@@ -22,7 +22,7 @@ fits_program image quiet reached bytes returns variables table are whole start f
   start = start;
   knows = knows;
   quiet_variables = quiet_variables;
-  entries = λ place placed found there walk looked. fit.entries place placed found there (here placed.at found walk looked);
+  entries = λ place placed found there walk looked. (one_of (FitsWhereReached image.regions bytes returns reached variables table) table place placed fit.entries there).fits found (here placed.at found walk looked);
   accounts = λ at found walk looked. fit.accounts at found (let inside = entry_within reached at found (here at found walk looked) in omega (arith, inside, whole)) (here at found walk looked);
 } where
   here : (at : ℕ) (found : Fetched) → IsReached (code_of image) at → (code_of image).look at ≡ Ok found → found_at reached at ≡ Some found
@@ -30,8 +30,8 @@ fits_program image quiet reached bytes returns variables table are whole start f
 
 -- a table that says nothing anywhere is kept
 pub nothing_is_kept : (image : Located) (quiet : ℕ → Bool) (reached : List (Option Fetched)) (table : List Placed) → AreReached (code_of image) reached → length reached ≡ 65536 → Ground image.regions → FetchedOperandsAreBounded → MemoryKeepsItsLength →
-    ((at : ℕ) → at < 65536 → SaysNothingAt table at) → All (λ placed. placed.state ≡ anything) table → IsKept image quiet table
-nothing_is_kept image quiet reached table are whole ground bounded length_stays everywhere nothing = record {
+    table ≡ map nothing_at (range_with_len 0 65536) → IsKept image quiet table
+nothing_is_kept image quiet reached table are whole ground bounded length_stays is = record {
   returns = no_returns;
   variables = [];
   starts = λ start pc code size held stands. here (world_of start) stands held code size;
@@ -41,29 +41,27 @@ nothing_is_kept image quiet reached table are whole ground bounded length_stays 
   disturbed = λ w memory leaves stays keeps. still_keeps image ground quiet no_returns [] table w memory knows (λ number v there. cc) leaves stays keeps;
 } where
   knows : KnowsQuiet quiet table
-  knows = λ k d inside. subst (IsQuietState quiet) (sym (nothing k d inside)) (none_quiet quiet)
+  knows = subst (KnowsQuiet quiet) (sym is) (All-map (λ (placed : Placed). IsQuietState quiet placed.state) nothing_at (range_with_len 0 65536) (λ k d inside. none_quiet quiet))
+
+  there_at : (at : ℕ) → at < 65536 → slice_get table at ≡ Some (nothing_at at)
+  there_at at less = subst (λ (t : List Placed). slice_get t at ≡ Some (nothing_at at)) (sym is)
+      (slice_get-get_or (map nothing_at (range_with_len 0 65536)) at (nothing_at at) (let long = length-map-range_with_len nothing_at 0 65536 in omega (arith, long, less))
+      ∙ ap (λ (p : Placed). Some p) (get_or-map-range_with_len nothing_at 0 65536 at at (nothing_at at) less (omega arith)))
 
   here : (w : World) → StandsOnWalk image w → HoldsBytes w.machine → HasCode image w.machine.memory → length w.machine.memory ≡ 65536 → KeepsToCalls image no_returns [] table w
   here w stands held code size =
       let pc = w.machine.cpu.pc in
       let inside = entry_within reached pc stands.found (found_there (code_of image) reached pc stands.found (found_at reached pc) are refl stands.reached stands.looked) in
-      let says = everywhere pc (omega (arith, inside, whole)) in
       record {
         keeps = record {
-          place = says.place;
-          placed = says.placed;
-          there = says.there;
-          at = says.here;
-          holds = rw says.nothing (nothing_holds image.regions ground 0 w.machine held);
+          place = pc;
+          placed = nothing_at pc;
+          there = there_at pc (omega (arith, inside, whole));
+          at = refl;
+          holds = nothing_holds image.regions ground 0 w.machine held;
           code = code;
           whole = size;
         };
         set = λ v named. absurd (let there = named.there in cc there);
         owes = nothing_owed (IsBehind [] table w.machine.memory) w.machine.cpu.pc w.places;
       }
-
--- states that say nothing, one more
-pub nothing_more : (table : List Placed) (e : Placed) (n : ℕ) → ((at : ℕ) → at < n → SaysNothingAt table at) → e.at ≡ n → e.state ≡ anything → (at : ℕ) → at < n + 1 → SaysNothingAt (table ++ e ∷ []) at
-nothing_more table e n below here nothing = below_more (SaysNothingAt (table ++ e ∷ [])) n
-    (λ at less. let says = below at less in record { place = says.place; placed = says.placed; there = slice_get-append table (e ∷ []) says.place says.placed says.there; here = says.here; nothing = says.nothing })
-    (record { place = length table; placed = e; there = slice_get-last table e; here = here; nothing = nothing })

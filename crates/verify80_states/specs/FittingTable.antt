@@ -1,7 +1,7 @@
 -- A table of states that fits a program: the runs of the program are followed along such a table. At the start nothing is known; wherever
 -- an instruction leads there is a state for what it makes of each of its states; and behind a call whose callee may return one for what
 -- its returns bring, or one that says nothing. (This project's own.)
-use Rattle.std.specs.Prelude.{◌≡◌, ◌<◌, ℕ, Bool, true, List, Option, Some, Ok, slice_get}
+use Rattle.std.specs.Prelude.{◌≡◌, ◌<◌, ℕ, Bool, true, List, All, Option, Some, Ok, slice_get}
 use Rattle.std.specs.List.{list_all}
 use Rattle.decode80.specs.{declared.fetching.Fetched.Fetched, Facts.flow}
 use Rattle.frames80.specs.Code.{Code}
@@ -26,16 +26,14 @@ pub record Fits (quiet : ℕ → Bool) (code : Code) (bytes : List (Option ℕ))
   pub quiet_variables : (number : ℕ) (v : Variable) → slice_get variables number ≡ Some v → quiet v.at ≡ true
 
 -- the same of the instructions that are reached, by address
+pub record FitsWhereReached (regions : Areas) (bytes : List (Option ℕ)) (returns : ReturnFacts) (reached : List (Option Fetched)) (variables : List Variable) (table : List Placed) (placed : Placed) : Type 0 where
+  pub fits : (found : Fetched) → found_at reached placed.at ≡ Some found → EntryFits bytes returns (declared_targets regions placed.at) variables table placed.at placed.state found
+
 pub record AllFit (regions : Areas) (bytes : List (Option ℕ)) (returns : ReturnFacts) (reached : List (Option Fetched)) (variables : List Variable) (table : List Placed) : Type 0 where
-  pub entries : (place : ℕ) (placed : Placed) (found : Fetched) → slice_get table place ≡ Some placed → found_at reached placed.at ≡ Some found →
-      EntryFits bytes returns (declared_targets regions placed.at) variables table placed.at placed.state found
+  pub entries : All (FitsWhereReached regions bytes returns reached variables table) table
   pub accounts : (at : ℕ) (found : Fetched) → at < 65536 → found_at reached at ≡ Some found →
       AccountsFor returns (declared_targets regions at) at found.next (flow found.instr)
 
--- the state at an address says nothing
-pub record SaysNothingAt (table : List Placed) (at : ℕ) : Type 0 where
-  pub place : ℕ
-  pub placed : Placed
-  pub there : slice_get table place ≡ Some placed
-  pub here : placed.at ≡ at
-  pub nothing : placed.state ≡ anything
+-- a state that says nothing
+abbrev pub nothing_at : (at : ℕ) → Placed
+nothing_at at = record { at = at; state = anything; hint = 0 }

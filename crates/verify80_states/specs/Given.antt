@@ -6,13 +6,6 @@ use Rattle.verify80_spans.specs.declared.byte_span.ByteSpan.{ByteSpan}
 use Rattle.verify80_states.specs.{declared.states.state.State.State, State.cut}
 use Rattle.verify80_spans.specs.Span.{only, without, below, from}
 
--- a state that is left if a known flag is as it is wanted
-abbrev pub if_same : (known wanted : Bool) → State → Option State
-if_same true true s = Some s
-if_same false false s = Some s
-if_same true false s = None
-if_same false true s = None
-
 -- the bytes of A that are left if Z, or CY, is as it is wanted
 abbrev pub zero_bytes : (compared : Option ℕ) → (wanted : Bool) → ByteSpan → Option ByteSpan
 zero_bytes None wanted a = Some a
@@ -28,25 +21,29 @@ abbrev pub cut_to : Option ByteSpan → State → Option State
 cut_to None s = None
 cut_to (Some byte) s = Some (cut s byte)
 
-abbrev pub given_zero : (known : Option Bool) → (wanted : Bool) → State → Option State
-given_zero (Some known) wanted s = if_same known wanted s
-given_zero None wanted s = cut_to (zero_bytes s.compared wanted s.a) (record s { zero = Some wanted })
+-- what is left if a flag is as it is wanted: the state if it is known to be, none if it is known not to be, and `left` if it isn't known
+abbrev pub given_flag : (known : Option Bool) → (wanted : Bool) → State → (left : Option State) → Option State
+given_flag None wanted s left = left
+given_flag (Some true) true s left = Some s
+given_flag (Some false) false s left = Some s
+given_flag (Some known) wanted s left = None
 
-abbrev pub given_carry : (known : Option Bool) → (wanted : Bool) → State → Option State
-given_carry (Some known) wanted s = if_same known wanted s
-given_carry None wanted s = cut_to (carry_bytes s.compared wanted s.a) (record s { carry = Some wanted })
+abbrev pub given_zero : (wanted : Bool) → State → Option State
+given_zero wanted s = given_flag s.zero wanted s (cut_to (zero_bytes s.compared wanted s.a) (record s { zero = Some wanted }))
 
-abbrev pub given_sign : (known : Option Bool) → (wanted : Bool) → State → Option State
-given_sign (Some known) wanted s = if_same known wanted s
-given_sign None wanted s = Some (record s { sign = Some wanted })
+abbrev pub given_carry : (wanted : Bool) → State → Option State
+given_carry wanted s = given_flag s.carry wanted s (cut_to (carry_bytes s.compared wanted s.a) (record s { carry = Some wanted }))
+
+abbrev pub given_sign : (wanted : Bool) → State → Option State
+given_sign wanted s = given_flag s.sign wanted s (Some (record s { sign = Some wanted }))
 
 -- the state that is left if a condition holds, or doesn't; none, if that can't be
 abbrev pub given : Condition → (holds : Bool) → State → Option State
-given Zero wanted s = given_zero s.zero wanted s
-given NonZero wanted s = given_zero s.zero (not wanted) s
-given Carry wanted s = given_carry s.carry wanted s
-given NoCarry wanted s = given_carry s.carry (not wanted) s
-given Minus wanted s = given_sign s.sign wanted s
-given Plus wanted s = given_sign s.sign (not wanted) s
+given Zero wanted s = given_zero wanted s
+given NonZero wanted s = given_zero (not wanted) s
+given Carry wanted s = given_carry wanted s
+given NoCarry wanted s = given_carry (not wanted) s
+given Minus wanted s = given_sign wanted s
+given Plus wanted s = given_sign (not wanted) s
 given ParityOdd wanted s = Some s
 given ParityEven wanted s = Some s

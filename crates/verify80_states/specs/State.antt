@@ -193,6 +193,13 @@ copy_outside Hl H = A
 copy_outside Hl L = A
 copy_outside pair copy = copy
 
+-- a pair is another one, with the same copy of A
+abbrev pub with_pair : State → Pair → PairSpan → State
+with_pair s Bc span = record s { bc = span }
+with_pair s De span = record s { de = span }
+with_pair s Hl span = record s { hl = span }
+with_pair s Sp span = s
+
 -- a register is written: the other half of its pair stays
 abbrev pub with_byte : State → Register → ByteSpan → State
 with_byte s A byte = record s { a = byte; copy = A; compared = None; source = None }
@@ -205,10 +212,7 @@ with_byte s L byte = record s { hl = pair_of_halves (high_of s.hl.words) byte; c
 
 -- a pair is written
 abbrev pub with_span : State → Pair → PairSpan → State
-with_span s Bc span = record s { bc = span; copy = copy_outside Bc s.copy }
-with_span s De span = record s { de = span; copy = copy_outside De s.copy }
-with_span s Hl span = record s { hl = span; copy = copy_outside Hl s.copy }
-with_span s Sp span = s
+with_span s pair span = record (with_pair s pair span) { copy = copy_outside pair s.copy }
 
 -- the flags are those of a result
 abbrev pub with_outcome : State → Outcome → State
@@ -245,12 +249,12 @@ sum_pair p q = cut_low (pair_of_words (sum_span p.words q.words)) (sum_of p.low 
 
 abbrev pub cut_copy : State → Register → ByteSpan → State
 cut_copy s A byte = s
-cut_copy s B byte = record s { bc = cut_high s.bc byte }
-cut_copy s C byte = record s { bc = cut_low s.bc byte }
-cut_copy s D byte = record s { de = cut_high s.de byte }
-cut_copy s E byte = record s { de = cut_low s.de byte }
-cut_copy s H byte = record s { hl = cut_high s.hl byte }
-cut_copy s L byte = record s { hl = cut_low s.hl byte }
+cut_copy s B byte = with_pair s Bc (cut_high s.bc byte)
+cut_copy s C byte = with_pair s Bc (cut_low s.bc byte)
+cut_copy s D byte = with_pair s De (cut_high s.de byte)
+cut_copy s E byte = with_pair s De (cut_low s.de byte)
+cut_copy s H byte = with_pair s Hl (cut_high s.hl byte)
+cut_copy s L byte = with_pair s Hl (cut_low s.hl byte)
 
 -- A is known to hold one of these bytes too, and so are the register and the byte of memory that have its byte
 abbrev pub cut : State → ByteSpan → State

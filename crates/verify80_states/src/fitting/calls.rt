@@ -51,12 +51,7 @@ impl CallReturns {
     fn has_each_within(&self, at: u16, targets: &[u16]) -> bool
         ensures { result ≡ true → (to : ℕ) → Contains targets.now to → IsWithin (returns_of self.now) at to }
     {
-        for to in targets {
-            if !self.has_within(at, *to) {
-                return false;
-            }
-        }
-        true
+        targets.iter().all(|to| self.has_within(at, *to))
     }
 
     /// Whether the marks at `at` agree with those where its instruction leads: if a return may come from there on, one may from `at` on,

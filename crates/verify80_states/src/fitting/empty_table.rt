@@ -1,9 +1,10 @@
 //! A table that says nothing.
 
-ghost use Rattle.std.specs.Prelude.{◌≡◌, ℕ, Bool, IfOk, length};
+ghost use Rattle.std.specs.Prelude.{◌≡◌, ℕ, Bool, IfOk, length, map};
+ghost use Rattle.std.specs.List.{range_with_len};
 ghost use Rattle.image80.specs.Regions.{AreRegions};
 ghost use Rattle.verify80.specs.{Looking.code_of, Reached.AreReached};
-ghost use Rattle.verify80_states.specs.Runs.{IsKept};
+ghost use Rattle.verify80_states.specs.{FittingTable.nothing_at, Runs.IsKept};
 
 use crate::bytes::bytes_stay_bytes;
 use crate::fitting::fitting::Placed;
@@ -29,13 +30,19 @@ pub fn anything(
 {
     bytes_stay_bytes();
     code_data_and_stack_are_apart();
-    let mut table = Vec::with_capacity(alloc, 65_536)?;
-    for at in 0..65_536_usize {
-        table.push(Placed {
+    let table = nothing_everywhere(alloc)?;
+    Ok(table)
+}
+
+/// A state at each address that says nothing.
+fn nothing_everywhere(alloc: Global) -> Result<Vec<Placed>, AllocError>
+    ensures { IfOk result (λ table. table.items ≡ map nothing_at (range_with_len 0 65536)) }
+{
+    (0..65_536_u32)
+        .map(|at| Placed {
             at: at as u16,
             state: State::ANY,
             hint: 0,
-        })?;
-    }
-    Ok(table)
+        })
+        .collect(alloc)
 }

@@ -1,11 +1,11 @@
 //! Whether a table of states fits a program.
 
 ghost use Rattle.std.specs.List.{list_all};
-ghost use Rattle.std.specs.Prelude.{◌≡◌, ◌<◌, ℕ, Bool, true, false, Contains, Some, length, slice_get};
+ghost use Rattle.std.specs.Prelude.{◌≡◌, ◌<◌, ℕ, Bool, true, false, All, Contains, Some, length};
 ghost use Rattle.decode80.specs.{declared.fetching.Fetched.Fetched, Facts.flow};
 ghost use Rattle.image80.specs.Regions.{AreRegions, in_data};
 ghost use Rattle.verify80.specs.{Looking.code_of, Looking.declared_targets, Reached.AreReached, Reached.found_at};
-ghost use Rattle.verify80_states.specs.{declared.fitting.fitting.Placed.Placed, State.cut, State.unknown_but, Following.is_steady, Following.state_after, Marks.is_marked, Steps.AreCodeBytes, FittingTable.EntryFits, Runs.IsKept};
+ghost use Rattle.verify80_states.specs.{State.cut, State.unknown_but, Following.is_steady, Following.state_after, Marks.is_marked, Steps.AreCodeBytes, FittingTable.FitsWhereReached, Runs.IsKept};
 ghost use Rattle.verify80_spans.specs.Span.{Within, ByteWithin, byte_alone};
 ghost use Rattle.verify80_states.specs.Fitting.{CallsEntry, Has, Covers, CoversAfter, FitsAt, KnowsQuiet};
 ghost use Rattle.verify80_states.specs.Calls.{AccountsFor, KnowsReturn, KnowsReturnsOf, returns_of};
@@ -189,22 +189,14 @@ impl Fit<'_> {
 
     /// Whether each state of the table fits the instruction at its address.
     fn all_fit(&self) -> bool
-        ensures { result ≡ true → (place : ℕ) (placed : Placed) (found : Fetched) → slice_get self.now.table.now place ≡ Some placed →
-            found_at self.now.reached.now placed.at ≡ Some found →
-            EntryFits self.now.code.now (returns_of self.now.returns.now) (declared_targets self.now.regions.now placed.at) self.now.variables.now self.now.table.now placed.at placed.state found }
+        ensures { result ≡ true → All (FitsWhereReached self.now.regions.now self.now.code.now (returns_of self.now.returns.now) self.now.reached.now self.now.variables.now self.now.table.now) self.now.table.now }
     {
-        for placed in self.table {
-            if !self.placed_fits(*placed) {
-                return false;
-            }
-        }
-        true
+        self.table.iter().all(|placed| self.placed_fits(*placed))
     }
 
     /// Whether a state of the table fits the instruction at its address; true if none is reached there.
     fn placed_fits(&self, placed: Placed) -> bool
-        ensures { result ≡ true → (found : Fetched) → found_at self.now.reached.now placed.at ≡ Some found →
-            EntryFits self.now.code.now (returns_of self.now.returns.now) (declared_targets self.now.regions.now placed.at) self.now.variables.now self.now.table.now placed.at placed.state found }
+        ensures { result ≡ true → FitsWhereReached self.now.regions.now self.now.code.now (returns_of self.now.returns.now) self.now.reached.now self.now.variables.now self.now.table.now placed }
     {
         match reached_at(self.reached, placed.at) {
             Some(found) => {
@@ -342,12 +334,7 @@ pub fn fits(
 fn all_know_quiet(table: &[Placed], quiet: &[bool]) -> bool
     ensures { result ≡ true → KnowsQuiet (is_marked quiet.now) table.now }
 {
-    for placed in table {
-        if !placed.state.is_quiet(quiet) {
-            return false;
-        }
-    }
-    true
+    table.iter().all(|placed| placed.state.is_quiet(quiet))
 }
 
 /// Whether each variable is at a quiet address.

@@ -1,19 +1,22 @@
 //! What a condition says of a state.
 
 ghost use Rattle.std.specs.Prelude.{◌≡◌};
-ghost use Rattle.verify80_states.specs.Given.{if_same, zero_bytes, carry_bytes, cut_to, given_zero, given_carry, given_sign, given};
+ghost use Rattle.verify80_states.specs.Given.{given_flag, zero_bytes, carry_bytes, cut_to, given_zero, given_carry, given_sign, given};
 
 use crate::states::state::State;
 use decode80::Condition;
 use verify80_spans::ByteSpan;
 
-/// The state, if a known flag is as wanted; `None` if it isn't.
-fn if_same(known: bool, wanted: bool, state: State) -> Option<State>
-    ensures { result ≡ if_same known wanted state }
+/// What is left if a flag is as wanted: the state if it is known to be, `None` if it is known not to be, and `left` if it isn't known.
+fn given_flag(known: Option<bool>, wanted: bool, state: State, left: Option<State>) -> Option<State>
+    ensures { result ≡ given_flag known wanted state left }
 {
-    match (known, wanted) {
-        (true, true) | (false, false) => Some(state),
-        (true, false) | (false, true) => None,
+    match known {
+        None => left,
+        Some(known) => match (known, wanted) {
+            (true, true) | (false, false) => Some(state),
+            (true, false) | (false, true) => None,
+        },
     }
 }
 
@@ -51,47 +54,38 @@ fn cut_to(bytes: Option<ByteSpan>, state: State) -> Option<State>
 
 /// The state that is left if Z is as wanted; `None` if it can't be.
 fn given_zero(wanted: bool, state: State) -> Option<State>
-    ensures { result ≡ given_zero state.zero wanted state }
+    ensures { result ≡ given_zero wanted state }
 {
-    match state.zero {
-        Some(known) => if_same(known, wanted, state),
-        None => cut_to(
-            zero_bytes(state.compared, wanted, state.a),
-            State {
-                zero: Some(wanted),
-                ..state
-            },
-        ),
-    }
+    let bytes = zero_bytes(state.compared, wanted, state.a);
+    let zero = Some(wanted);
+    given_flag(
+        state.zero,
+        wanted,
+        state,
+        cut_to(bytes, State { zero, ..state }),
+    )
 }
 
 /// The state that is left if CY is as wanted; `None` if it can't be.
 fn given_carry(wanted: bool, state: State) -> Option<State>
-    ensures { result ≡ given_carry state.carry wanted state }
+    ensures { result ≡ given_carry wanted state }
 {
-    match state.carry {
-        Some(known) => if_same(known, wanted, state),
-        None => cut_to(
-            carry_bytes(state.compared, wanted, state.a),
-            State {
-                carry: Some(wanted),
-                ..state
-            },
-        ),
-    }
+    let bytes = carry_bytes(state.compared, wanted, state.a);
+    let carry = Some(wanted);
+    given_flag(
+        state.carry,
+        wanted,
+        state,
+        cut_to(bytes, State { carry, ..state }),
+    )
 }
 
 /// The state that is left if S is as wanted; `None` if it can't be.
 fn given_sign(wanted: bool, state: State) -> Option<State>
-    ensures { result ≡ given_sign state.sign wanted state }
+    ensures { result ≡ given_sign wanted state }
 {
-    match state.sign {
-        Some(known) => if_same(known, wanted, state),
-        None => Some(State {
-            sign: Some(wanted),
-            ..state
-        }),
-    }
+    let sign = Some(wanted);
+    given_flag(state.sign, wanted, state, Some(State { sign, ..state }))
 }
 
 /// The state that is left if a condition holds, or if it doesn't; `None` if that can't be.

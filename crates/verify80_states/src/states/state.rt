@@ -96,7 +96,7 @@ impl State {
     ghost use Rattle.std.specs.Prelude.{◌≡◌, ◌⊎◌, true, Some, slice_get};
     ghost use Rattle.verify80_spans.specs.Span.{IsByteInside};
     ghost use Rattle.verify80_states.specs.{declared.states.variables.Variable.Variable, Variables.is_bit, Cells.bytes_at, Marks.is_marked};
-    ghost use Rattle.verify80_states.specs.State.{byte_of, span_of, with_byte, with_span, with_outcome, with_carry, with_any_flags, cut, cut_copy, AreRegistersInside, IsSetInside, IsStateInside, IsQuietState};
+    ghost use Rattle.verify80_states.specs.State.{byte_of, span_of, with_byte, with_pair, with_span, with_outcome, with_carry, with_any_flags, cut, cut_copy, AreRegistersInside, IsSetInside, IsStateInside, IsQuietState};
 
     /// The state that says nothing.
     pub const ANY: State = State {
@@ -198,25 +198,16 @@ impl State {
         }
     }
 
-    /// This state with another span for BC.
-    fn with_bc(self, bc: PairSpan) -> State
-        ensures { result ≡ record self { bc = bc } }
+    /// This state with another span for a pair, and the same copy of A. Of SP nothing is known.
+    fn with_pair(self, pair: Pair, span: PairSpan) -> State
+        ensures { result ≡ with_pair self pair span }
     {
-        State { bc, ..self }
-    }
-
-    /// This state with another span for DE.
-    fn with_de(self, de: PairSpan) -> State
-        ensures { result ≡ record self { de = de } }
-    {
-        State { de, ..self }
-    }
-
-    /// This state with another span for HL.
-    fn with_hl(self, hl: PairSpan) -> State
-        ensures { result ≡ record self { hl = hl } }
-    {
-        State { hl, ..self }
+        match pair {
+            Pair::Bc => State { bc: span, ..self },
+            Pair::De => State { de: span, ..self },
+            Pair::Hl => State { hl: span, ..self },
+            Pair::Sp => self,
+        }
     }
 
     /// This state after a register is written: the other half of its pair stays.
@@ -235,12 +226,12 @@ impl State {
                 source: None,
                 ..self
             },
-            Register::B => after.with_bc(PairSpan::of_halves(byte, self.bc.low)),
-            Register::C => after.with_bc(PairSpan::of_halves(self.bc.high(), byte)),
-            Register::D => after.with_de(PairSpan::of_halves(byte, self.de.low)),
-            Register::E => after.with_de(PairSpan::of_halves(self.de.high(), byte)),
-            Register::H => after.with_hl(PairSpan::of_halves(byte, self.hl.low)),
-            Register::L => after.with_hl(PairSpan::of_halves(self.hl.high(), byte)),
+            Register::B => after.with_pair(Pair::Bc, PairSpan::of_halves(byte, self.bc.low)),
+            Register::C => after.with_pair(Pair::Bc, PairSpan::of_halves(self.bc.high(), byte)),
+            Register::D => after.with_pair(Pair::De, PairSpan::of_halves(byte, self.de.low)),
+            Register::E => after.with_pair(Pair::De, PairSpan::of_halves(self.de.high(), byte)),
+            Register::H => after.with_pair(Pair::Hl, PairSpan::of_halves(byte, self.hl.low)),
+            Register::L => after.with_pair(Pair::Hl, PairSpan::of_halves(self.hl.high(), byte)),
         }
     }
 
@@ -248,15 +239,9 @@ impl State {
     pub fn with_span(self, pair: Pair, span: PairSpan) -> State
         ensures { result ≡ with_span self pair span }
     {
-        let after = State {
+        State {
             copy: copy_outside(pair, self.copy),
-            ..self
-        };
-        match pair {
-            Pair::Bc => after.with_bc(span),
-            Pair::De => after.with_de(span),
-            Pair::Hl => after.with_hl(span),
-            Pair::Sp => self,
+            ..self.with_pair(pair, span)
         }
     }
 
@@ -303,12 +288,12 @@ impl State {
     {
         match self.copy {
             Register::A => self,
-            Register::B => self.with_bc(self.bc.cut_high(byte)),
-            Register::C => self.with_bc(self.bc.cut_low(byte)),
-            Register::D => self.with_de(self.de.cut_high(byte)),
-            Register::E => self.with_de(self.de.cut_low(byte)),
-            Register::H => self.with_hl(self.hl.cut_high(byte)),
-            Register::L => self.with_hl(self.hl.cut_low(byte)),
+            Register::B => self.with_pair(Pair::Bc, self.bc.cut_high(byte)),
+            Register::C => self.with_pair(Pair::Bc, self.bc.cut_low(byte)),
+            Register::D => self.with_pair(Pair::De, self.de.cut_high(byte)),
+            Register::E => self.with_pair(Pair::De, self.de.cut_low(byte)),
+            Register::H => self.with_pair(Pair::Hl, self.hl.cut_high(byte)),
+            Register::L => self.with_pair(Pair::Hl, self.hl.cut_low(byte)),
         }
     }
 

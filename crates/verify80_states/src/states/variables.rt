@@ -40,12 +40,7 @@ pub fn is_bit(set: u64, number: usize) -> bool
 pub(crate) fn is_said(variables: &[Variable], set: u64, cell: Cell) -> bool
     ensures { result ≡ true → IsSaid variables.now set cell }
 {
-    for number in 0..variables.len() {
-        if is_said_by(variables, set, number, cell) {
-            return true;
-        }
-    }
-    false
+    (0..variables.len()).any(|number| is_said_by(variables, set, number, cell))
 }
 
 /// Whether a set names the variable with a number, and this says all that a cell does.
