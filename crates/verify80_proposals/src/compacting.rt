@@ -41,7 +41,7 @@ pub(crate) fn compact(
 
 /// By place the place of each state when those are left out that were taken in.
 fn number_states(alloc: Global, nodes: &Nodes) -> Result<Vec<u32>, AllocError> {
-    let mut places = Vec::with_capacity(alloc, nodes.len())?;
+    let mut places = Vec::with_capacity(alloc, nodes.nodes.len())?;
     let mut count = 0_u32;
     for (number, node) in nodes.nodes.iter().enumerate() {
         places.push(count)?;

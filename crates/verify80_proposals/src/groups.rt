@@ -141,11 +141,9 @@ struct Joined {
 impl Joined {
     /// All addresses, none of them joined with another.
     fn new(alloc: Global) -> Result<Joined, AllocError> {
-        let mut others = Vec::with_capacity(alloc, 65_536)?;
-        for number in 0..65_536_u32 {
-            others.push(number as u16)?;
-        }
-        Ok(Joined { others })
+        Ok(Joined {
+            others: (0..65_536_u32).map(|number| number as u16).collect(alloc)?,
+        })
     }
 
     /// An address that this one is joined with; the same one, if it stands for its group.

@@ -25,7 +25,7 @@ impl Nodes {
     fn places_at(&self, alloc: Global, at: u16) -> Result<Vec<u32>, AllocError> {
         let mut places = Vec::new(alloc);
         let mut place = self.group(at).first;
-        for _ in 0..self.len() {
+        for _ in 0..self.nodes.len() {
             let Some(node) = self.get(place) else {
                 break;
             };

@@ -64,6 +64,7 @@ impl Group {
 /// The states that are known so far, and those from which others have still to be followed.
 #[derive(Drop)]
 pub(crate) struct Nodes {
+    /// All states, with those that were taken in.
     pub(crate) nodes: Vec<Node>,
     groups: Vec<Group>,
     /// The first state of each list.
@@ -78,8 +79,8 @@ pub(crate) struct Nodes {
     pub(crate) hints: Vec<u32>,
     /// The parts by which states are never distinguished.
     never: Units,
-    /// Whether each address is to have one state from now on.
-    is_late: bool,
+    /// Whether each address has one state from now on, and spans grow at once to any word.
+    pub(crate) is_late: bool,
     /// How many states an address has, at most.
     most: u32,
 }
@@ -118,16 +119,6 @@ impl Nodes {
         })
     }
 
-    /// How many states there are, with those that were taken in.
-    pub fn len(&self) -> usize {
-        self.nodes.len()
-    }
-
-    /// From now on each address has one state, and spans grow at once to any word.
-    pub fn hurry(&mut self) {
-        self.is_late = true;
-    }
-
     /// The state at a place; `None` if the list ends before.
     pub fn get(&self, place: u32) -> Option<&Node> {
         self.nodes.get(place as usize)
@@ -140,13 +131,6 @@ impl Nodes {
         }
         if let Some(node) = self.nodes.get_mut(place as usize) {
             node.taken_by = holder;
-        }
-    }
-
-    /// Notes where the hints of a state begin.
-    pub fn set_hint(&mut self, place: u32, hint: u32) {
-        if let Some(node) = self.nodes.get_mut(place as usize) {
-            node.hint = hint;
         }
     }
 

@@ -93,7 +93,7 @@ fn follow_from_start(
     let mut nodes = Nodes::new(alloc, needs, landmarks, variables, limits.states)?;
     nodes.enter(alloc, program.start, State::ANY)?;
     if !follow_all(alloc, &mut nodes, program, limits.ways, left)? {
-        nodes.hurry();
+        nodes.is_late = true;
         if !follow_all(alloc, &mut nodes, program, limits.late_ways, left)? {
             return Ok(None);
         }
@@ -143,7 +143,9 @@ fn follow(
     let first = if node.hint == NOWHERE {
         let first = nodes.hints.len();
         nodes.hints.resize(first.saturating_add(ways), NOWHERE)?;
-        nodes.set_hint(place, place_of(first));
+        if let Some(node) = nodes.nodes.get_mut(place as usize) {
+            node.hint = place_of(first);
+        }
         first
     } else {
         node.hint as usize
