@@ -3,14 +3,14 @@
 use crate::moving::parts_before;
 use crate::program::ReachedProgram;
 use crate::slots::{
-    SLOTS, Slots, find_places, find_pointers, parts_stored, placed_cells, pointer_at, slots_before,
+    SLOTS, Slots, find_places, find_pointers, parts_stored, placed_cells, slots_before,
     slots_stored,
 };
 use crate::units::{Units, reduce};
 use crate::variables::Variables;
 use decode80::{Fetched, Flow, Instr, Storing};
 use std::alloc::{AllocError, Global};
-use verify80_states::State;
+use verify80_states::{State, entry_at};
 
 /// How often the program is gone through, at most: then the rest is left as it is.
 const SWEEPS: usize = 32;
@@ -228,7 +228,7 @@ impl Reading<'_> {
 
     /// What is needed before an instruction that goes on, given what is needed after it.
     fn through(self, at: u16, instr: Instr, need: Need) -> Need {
-        let pointer = pointer_at(self.pointers, at);
+        let pointer = entry_at(self.pointers, at);
         let pointed = match instr.storing() {
             Storing::ThroughHl => Units::HL,
             Storing::Through(pair) => Units::of_index_pair(pair),
@@ -256,7 +256,7 @@ impl Reading<'_> {
             if let Some(Fetched { instr, next }) = self.program.at(at) {
                 let after = match instr.flow() {
                     _ if self.is_local => {
-                        slots_stored(self.places, instr, pointer_at(self.pointers, at))
+                        slots_stored(self.places, instr, entry_at(self.pointers, at))
                     }
                     Flow::Continues | Flow::Pushes | Flow::Pops | Flow::Exchanges => {
                         need_at(needs, next).slots

@@ -2,7 +2,7 @@
 
 use decode80::{Fetched, Flow, Instr};
 use image80::{Image, Regions};
-use verify80_states::{PairSpan, Span, State, given, is_marked, reached_at, state_after};
+use verify80_states::{PairSpan, Span, State, entry_at, given, is_marked, state_after, targets_at};
 
 /// A program: its code, its instructions that may be reached, and which of its procedures return.
 #[derive(Clone, Copy)]
@@ -52,7 +52,7 @@ impl<'a> ReachedProgram<'a> {
 
     /// The instruction at an address and the address behind it, if the program may reach it.
     pub fn at(self, address: u16) -> Option<Fetched> {
-        reached_at(self.instructions, address)
+        entry_at(self.instructions, address)
     }
 
     /// The instruction at an address alone, if the program may reach it.
@@ -68,8 +68,7 @@ impl<'a> ReachedProgram<'a> {
 
     /// The targets that are declared for the PCHL at an address.
     pub fn targets(self, address: u16) -> &'a [u16] {
-        let regions = self.regions;
-        regions.targets(address).unwrap_or(&[])
+        targets_at(self.regions, address)
     }
 
     /// Where the instruction at an address leads inside its procedure: past a CALL that is taken it leads nowhere. The second list has the

@@ -8,7 +8,7 @@ use decode80::{Fetched, Flow, Instr, Operand, Pair};
 use std::alloc::{AllocError, Global};
 use std::array;
 use verify80_spans::ByteSpan;
-use verify80_states::{Cell, Cells, is_marked};
+use verify80_states::{Cell, Cells, entry_at, is_marked};
 
 /// How many bytes a state may know.
 pub const SLOTS: usize = 8;
@@ -119,7 +119,7 @@ pub fn find_places(
     for number in 0..65_536_u32 {
         let at = number as u16;
         if let Some(instr) = program.instr(at) {
-            for (address, _) in bytes_read(instr, pointer_at(pointers, at))
+            for (address, _) in bytes_read(instr, entry_at(pointers, at))
                 .into_iter()
                 .flatten()
             {
@@ -151,7 +151,7 @@ pub fn find_pointers(
     let mut pointers = vec![in alloc; None; 65_536]?;
     for number in 0..65_536_u32 {
         if let Some(found) = program.at(number as u16) {
-            let after = pointer_after(found, pointer_at(&pointers, number as u16));
+            let after = pointer_after(found, entry_at(&pointers, number as u16));
             let place = pointers.get_mut(usize::from(found.next));
             if let (Some(_), Some(place)) = (after, place) {
                 *place = after;
@@ -159,11 +159,6 @@ pub fn find_pointers(
         }
     }
     Ok(pointers)
-}
-
-/// The word that HL is known to be before an address, if it is known.
-pub fn pointer_at(pointers: &[Option<u16>], at: u16) -> Option<u16> {
-    pointers.get(usize::from(at)).copied().flatten()
 }
 
 /// The word that HL is known to be behind an instruction, given the one before it; `None` if it isn't known, or the instruction doesn't go

@@ -1,6 +1,6 @@
 -- What becomes of a state at each instruction. (The registers and flags that each instruction writes are those of the Intel 8080
 -- Microcomputer Systems User's Manual, chapter 4; that spans are followed is this project's own.)
-use Rattle.std.specs.Prelude.{◌&&◌, ℕ, Bool, true, false, not, List, Option, None, Some, nat_le, slice_get, unwrap_or, if◌then◌else◌}
+use Rattle.std.specs.Prelude.{◌&&◌, ℕ, Bool, true, false, not, List, Option, None, Some, nat_le, unwrap_or, if◌then◌else◌}
 use Rattle.decode80.specs.{declared.register.Register.Register, declared.pair.Pair.Pair, declared.pair.StackPair.StackPair, declared.pair.IndexPair.IndexPair, declared.pair.IndexPair.TheVariants.Bc as IndexBc, declared.pair.IndexPair.TheVariants.De as IndexDe, declared.instr.Instr.Instr, declared.operation.Operation.Operation, declared.operation.Operand.Operand, declared.operation.Operand.TheVariants.Register as InRegister, declared.operation.Operand.TheVariants.Memory, declared.operation.Operand.TheVariants.Immediate, Fetch.ahead}
 use Rattle.decode80.specs.declared.register.Register.TheVariants.{A, D, E, H, L}
 use Rattle.decode80.specs.declared.pair.Pair.TheVariants.{Bc, De, Hl, Sp}
@@ -8,18 +8,9 @@ use Rattle.decode80.specs.declared.pair.StackPair.TheVariants.{Bc as StackBc, De
 use Rattle.decode80.specs.declared.instr.Instr.TheVariants.{Mov, Load, Mvi, Lxi, Dad, Inx, Dcx, Inr, InrMemory, Dcr, DcrMemory, Operate, Store, MviMemory, Call, CallIf, Ret, ReturnIf, Rst, Push, Pop, Stax, Ldax, Shld, Lhld, Sta, Lda, Rotate, Daa, Cma, Stc, Cmc, Xthl, Xchg, Sphl, In}
 use Rattle.decode80.specs.declared.operation.Operation.TheVariants.{Subtract, And, ExclusiveOr, Or, Compare}
 use Rattle.verify80_spans.specs.{declared.span.Span.Span, declared.byte_span.ByteSpan.ByteSpan, declared.byte_span.Outcome.Outcome}
-use Rattle.verify80_states.specs.{declared.states.cells.Cells.Cells, declared.states.pairs.PairSpan.PairSpan, declared.states.words.Words.Words, declared.states.state.State.State, declared.states.memory_after.StoredByte.StoredByte, declared.states.variables.Variable.Variable, Variables.takes, Cells.bytes_at, Cells.cells_after}
+use Rattle.verify80_states.specs.{declared.states.cells.Cells.Cells, declared.states.pairs.PairSpan.PairSpan, declared.states.words.Words.Words, declared.states.state.State.State, declared.states.memory_after.StoredByte.StoredByte, declared.states.variables.Variable.Variable, Marks.entry_at, Variables.takes, Cells.bytes_at, Cells.cells_after}
 use Rattle.verify80_spans.specs.Span.{any_byte, word_alone, byte_alone, is_alone, next_byte, previous_byte, sum_carries, high_of, operated, rotated, complemented, uncarried}
 use Rattle.verify80_states.specs.State.{any_pair, pair_of_words, pair_of_halves, next_pair, previous_pair, sum_pair, byte_of, span_of, with_byte, with_span, with_outcome, with_carry, with_any_flags, compared_with, no_words, pushed, popped}
-
--- what stands in a table at an address, if anything does
-abbrev pub entry_in : {A : Type 0} → Option (Option A) → Option A
-entry_in None = None
-entry_in (Some entry) = entry
-
--- the byte of code at an address, if code is there, in a table of these by address
-abbrev pub byte_at : List (Option ℕ) → ℕ → Option ℕ
-byte_at code at = entry_in (slice_get code at)
 
 -- a byte of code, if code is there, or what is known otherwise; and what is known of a word
 abbrev pub code_or : Option ℕ → (otherwise : ByteSpan) → ByteSpan
@@ -31,7 +22,7 @@ known_pair word = unwrap_or word any_pair
 
 -- a byte that is read at an address: only code and cells are known; and one where a pair points to
 abbrev pub loaded_at : List (Option ℕ) → Cells → ℕ → ByteSpan
-loaded_at code cells at = code_or (byte_at code at) (bytes_at cells at)
+loaded_at code cells at = code_or (entry_at code at) (bytes_at cells at)
 
 abbrev pub loaded : List (Option ℕ) → Cells → Span → ByteSpan
 loaded code cells at = if is_alone at then loaded_at code cells at.first else any_byte

@@ -1,11 +1,11 @@
 pub mod Bytes
+pub mod Marks
 pub mod Variables
 pub mod Cells
 pub mod State
 pub mod Following
 pub mod Given
 pub mod Steps
-pub mod Marks
 pub mod Fitting
 pub mod Calls
 pub mod FittingTable

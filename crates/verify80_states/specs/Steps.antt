@@ -4,7 +4,7 @@ use Rattle.decode80.specs.declared.flow.Flow.{Flow}
 use Rattle.decode80.specs.declared.flow.Flow.TheVariants.{JumpsIf, Calls, CallsIf, Returns, ReturnsIf}
 use Rattle.image80.specs.{Regions.Areas, Regions.in_code, Image.Located, Image.memory_of}
 use Rattle.machine80.specs.{declared.flags.Flags.Flags, Flags.holds}
-use Rattle.verify80_states.specs.Following.{byte_at}
+use Rattle.verify80_states.specs.Marks.{entry_at}
 
 -- whether a jump, a call or a return that has a condition is taken; a call without one always is
 abbrev pub is_taken : Flow → Flags → Bool
@@ -17,7 +17,7 @@ is_taken w flags = false
 
 -- a memory has the bytes of code
 abbrev pub ReadsCode : (code : List (Option ℕ)) → (memory : List ℕ) → Type 0
-ReadsCode code memory = (at byte : ℕ) → byte_at code at ≡ Some byte → slice_index memory at ≡ byte
+ReadsCode code memory = (at byte : ℕ) → entry_at code at ≡ Some byte → slice_index memory at ≡ byte
 
 -- the byte of a memory at an address, if code is there
 abbrev pub code_in : Areas → (memory : List ℕ) → ℕ → Option ℕ
@@ -25,7 +25,7 @@ code_in regions memory at = if in_code regions at then Some (slice_index memory 
 
 -- the bytes are those of an image's code, by address
 abbrev pub AreCodeBytes : Located → (code : List (Option ℕ)) → Type 0
-AreCodeBytes image code = (at byte : ℕ) → byte_at code at ≡ Some byte →
+AreCodeBytes image code = (at byte : ℕ) → entry_at code at ≡ Some byte →
     (in_code image.regions at ≡ true) × (slice_index (memory_of image.chunks) at ≡ byte)
 
 -- a memory has the image's bytes wherever there is code

@@ -11,5 +11,5 @@ pub use calls::CallReturns;
 pub use empty_table::anything;
 pub use fitting::{APART, Placed, fits};
 pub use laws::fitting_states_hold;
-pub use marks::is_marked;
-pub use reached::{reached_at, targets_at};
+pub use marks::{entry_at, is_marked};
+pub use reached::targets_at;

@@ -25,7 +25,7 @@ mod states;
 
 pub use bytes::bytes_stay_bytes;
 pub use fitting::{
-    APART, CallReturns, Placed, anything, fits, fitting_states_hold, is_marked, reached_at,
+    APART, CallReturns, Placed, anything, entry_at, fits, fitting_states_hold, is_marked,
     targets_at,
 };
 pub use states::{

@@ -1,4 +1,5 @@
 mod ListLemmas
+mod AddressLemmas
 mod ReachedLemmas
 mod TallyLemmas
 mod ShownLemmas

@@ -1,5 +1,5 @@
 -- Lists that grow by address.
-use Rattle.verify80_stores.proofs.Names.{◌≡◌, ◌⊎◌, ℕ, ◌+◌, ◌<◌, Bool, true, false, List, [], ◌∷◌, ◌++◌, Any, Contains, Option, Some, slice_get, subst, sym, ap, ◌∙◌, inl, inr, arith, get_or, Contains-get_or, Contains-append_left, Contains-push, Contains-push_cases, All-push, All-weaker, Any-push, all_pairs_push, Fetched, Span, OpenStore, entry_in, stores_by_pair, AreAllBelow, AreOpenBelow, IsListed, is_marked_at, below_more, All, true≢false}
+use Rattle.verify80_stores.proofs.Names.{◌≡◌, ◌⊎◌, ℕ, ◌+◌, ◌<◌, Bool, true, false, List, [], ◌∷◌, ◌++◌, Any, Contains, Option, Some, subst, sym, ap, ◌∙◌, inl, inr, arith, get_or, Contains-get_or, Contains-append_left, Contains-push, Contains-push_cases, All-push, All-weaker, Any-push, all_pairs_push, Fetched, Span, OpenStore, entry_at, stores_by_pair, AreAllBelow, AreOpenBelow, IsListed, is_marked_at, below_more, All, true≢false}
 
 pub all_pushed : (is : ℕ → Bool) (n : ℕ) (xs : List ℕ) → AreAllBelow is n xs → is n ≡ true → AreAllBelow is (n + 1) (xs ++ n ∷ [])
 all_pushed is n xs below here = record {
@@ -21,7 +21,7 @@ all_kept is n xs below is_not = record {
 module _ (reached : List (Option Fetched)) (marks : List Bool) (spans : List (Option Span)) where
   -- a marked store that has a span is in a list
   abbrev IsIn : List OpenStore → (at : ℕ) → Type 0
-  IsIn xs at = (span : Span) → is_marked_at stores_by_pair reached marks at ≡ true → entry_in (slice_get spans at) ≡ Some span → Any (λ store. store.at ≡ at) xs
+  IsIn xs at = (span : Span) → is_marked_at stores_by_pair reached marks at ≡ true → entry_at spans at ≡ Some span → Any (λ store. store.at ≡ at) xs
 
   more_below : (n : ℕ) (xs : List OpenStore) → All (λ store. store.at < n) xs → All (λ store. store.at < n + 1) xs
   more_below n xs below = All-weaker (λ (store : OpenStore). store.at < n) (λ (store : OpenStore). store.at < n + 1) (λ store less. omega arith) xs below
@@ -40,7 +40,7 @@ module _ (reached : List (Option Fetched)) (marks : List Bool) (spans : List (Op
   }
 
   pub open_kept : (n : ℕ) (xs : List OpenStore) → AreOpenBelow reached marks spans n xs →
-      ((span : Span) → is_marked_at stores_by_pair reached marks n ≡ true → entry_in (slice_get spans n) ≡ Some span → ⊥) → AreOpenBelow reached marks spans (n + 1) xs
+      ((span : Span) → is_marked_at stores_by_pair reached marks n ≡ true → entry_at spans n ≡ Some span → ⊥) → AreOpenBelow reached marks spans (n + 1) xs
   open_kept n xs below none = record {
     ascending = below.ascending;
     below = more_below n xs below.below;

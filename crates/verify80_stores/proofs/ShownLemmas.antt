@@ -1,6 +1,6 @@
 -- What is shown by one table, and by another one too.
-use Rattle.verify80_stores.proofs.Names.{◌≡◌, ◌⊎◌, ◌<◌, ℕ, Bool, false, List, Option, Some, length, subst, sym, inl, inr, arith, Fetched, Located, declared_targets, found_at, Span, Placed, is_marked, IsKept, StaysIn, AreOpenMarks, AreSpans, AreShown, BothBelow, IsShut, IsShutAt}
-use Rattle.verify80_stores.proofs.{ReachedLemmas.entry_within}
+use Rattle.verify80_stores.proofs.Names.{◌≡◌, ◌⊎◌, ◌<◌, ℕ, Bool, false, List, Option, Some, length, subst, sym, inl, inr, arith, Fetched, Located, declared_targets, found_at, Span, Placed, is_marked, IsKept, StaysIn, AreOpenMarks, AreSpans, AreShown, are_both, IsShut, ◌∙◌, ◌≤◌, ◌&&◌, true, refl, ap, map, range_with_len, cases_lt, and_parts, IsShutAt}
+use Rattle.verify80_stores.proofs.{AddressLemmas.read_at, AddressLemmas.marked_by, ReachedLemmas.entry_within}
 
 module _ (image : Located) (quiet : ℕ → Bool) (reached : List (Option Fetched)) where
   shut_by : (table : List Placed) (marks : List Bool) → AreOpenMarks image.regions reached table marks → (at : ℕ) → is_marked marks at ≡ false → IsShutAt image.regions reached table at
@@ -20,22 +20,21 @@ module _ (image : Located) (quiet : ℕ → Bool) (reached : List (Option Fetche
 
   -- and with another one
   pub shown_more : (table : List Placed) (marks before both : List Bool) (spans : List (Option Span)) → length reached ≡ 65536 → IsKept image quiet table → AreOpenMarks image.regions reached table marks →
-      AreShown image quiet reached before spans → BothBelow before marks 65536 both → AreShown image quiet reached both spans
-  shown_more table marks before both spans whole kept are shown below = record {
+      AreShown image quiet reached before spans → both ≡ map (are_both before marks) (range_with_len 0 65536) → AreShown image quiet reached both spans
+  shown_more table marks before both spans whole kept are shown is = record {
     first = shown.first;
-    stays = λ at unmarked. stay at unmarked (in_memory at);
-    leaves = λ at marked. shown.leaves at (below.marked at marked);
+    stays = λ at unmarked. stay at unmarked (cases_lt at 65536) (is_marked before at) refl;
+    leaves = λ at marked. shown.leaves at (and_parts (is_marked before at) (is_marked marks at) (marked_by (are_both before marks) at (subst (λ (m : List Bool). is_marked m at ≡ true) is marked))).0;
     are_spans = shown.are_spans;
   } where
-    in_memory : (at : ℕ) → (at < 65536) ⊎ ((at < 65536) → ⊥)
-    in_memory at = grind arith
-
-    stay : (at : ℕ) → is_marked both at ≡ false → (at < 65536) ⊎ ((at < 65536) → ⊥) → IsShut image quiet reached at
-    stay at unmarked (inr beyond) = record {
+    stay : (at : ℕ) → is_marked both at ≡ false → (at < 65536) ⊎ (65536 ≤ at) → (b : Bool) → is_marked before at ≡ b → IsShut image quiet reached at
+    stay at unmarked small false none = shown.stays at none
+    stay at unmarked (inr beyond) true marked = record {
       by = shown.first;
-      shut = λ place placed found there here instr. absurd (beyond (let within = entry_within reached at found instr in omega (arith, within, whole)));
+      shut = λ place placed found there here instr. absurd (let within = entry_within reached at found instr in omega (arith, within, whole, beyond));
     }
-    stay at unmarked (inl small) = by (below.unmarked at small unmarked) where
-      by : (is_marked before at ≡ false) ⊎ (is_marked marks at ≡ false) → IsShut image quiet reached at
-      by (inl none) = shown.stays at none
-      by (inr none) = record { by = record { table = table; kept = kept }; shut = shut_by table marks are at none }
+    stay at unmarked (inl small) true marked = record {
+      by = record { table = table; kept = kept };
+      shut = shut_by table marks are at
+          (let it : are_both before marks at ≡ false = sym (read_at (are_both before marks) at false small) ∙ subst (λ (m : List Bool). is_marked m at ≡ false) is unmarked in sym (ap (λ t. t && is_marked marks at) marked) ∙ it);
+    }

@@ -1,5 +1,5 @@
 -- The stores of runs, by what is listed.
-use Rattle.verify80_stores.proofs.Names.{◌≡◌, ◌≢◌, ◌⊎◌, ℕ, zero, suc, ◌<◌, ◌==◌, Bool, true, false, not, List, [], ◌∷◌, All, Any, Contains, Option, None, Some, Ok, length, slice_get, refl, if◌then◌else◌, list_any, list_any_at, option_map_or, nat_tests, subst, sym, ap, ◌∙◌, inl, inr, arith, get_or, Contains-get_or, All-nil, All-cons, Instr, Bc, De, Fetched, In, Out, Pchl, Hlt, direct_bytes, in_range, Areas, in_data, targets_at, Located, End, Registers, InputEnd, OutputRefused, StoreOutside, JumpOutside, Fetch, Stack, Direct, hl_of, index_pair_of, next_input, pointed_bytes, stack_bytes, Machine, Stop, first_outside, ends_at, guard, guarded, execute, turn_of, leads_outside, proceeded, with_input, step_on, World, turn_at, fetched_by, refuses, IsProperEnd, code_of, declared_targets, is_pchl, IsStart, IsWorldFrom, NeverGoesWrongFromPowerOn, StandsOnWalk, StaysOnWalks, AreReached, found_at, Span, State, HoldsBytes, HoldsRegisters, entry_in, is_marked, KeepsTo, RunsKeepTo, Within, AreShown, KeptTable, stores_by_pair, pointer_span, IsLeftOpen, OpenStore, IsReachedAs, AreReachedAs, IsOpen, GoesAsListed, EndsAsListed, StoresGoAsListed, AreStoresOf, AreAllBelow, AreOpenBelow, IsSpanned, IsLeftAt, IsListed, is_kind, is_at, and_parts, cases_eq, and_from, is_listed, storing, Storing, Through, ThroughHl, pointed_by, is_through_pair, span_through, IsInside, true≢false}
+use Rattle.verify80_stores.proofs.Names.{◌≡◌, ◌≢◌, ◌⊎◌, ℕ, zero, suc, ◌<◌, ◌==◌, Bool, true, false, not, List, [], ◌∷◌, All, Any, Contains, Option, None, Some, Ok, length, refl, if◌then◌else◌, list_any, list_any_at, option_map_or, nat_tests, subst, sym, ap, ◌∙◌, inl, inr, arith, get_or, Contains-get_or, All-nil, All-cons, Instr, Bc, De, Fetched, In, Out, Pchl, Hlt, direct_bytes, in_range, Areas, in_data, targets_at, Located, End, Registers, InputEnd, OutputRefused, StoreOutside, JumpOutside, Fetch, Stack, Direct, hl_of, index_pair_of, next_input, pointed_bytes, stack_bytes, Machine, Stop, first_outside, ends_at, guard, guarded, execute, turn_of, leads_outside, proceeded, with_input, step_on, World, turn_at, fetched_by, refuses, IsProperEnd, code_of, declared_targets, is_pchl, IsStart, IsWorldFrom, NeverGoesWrongFromPowerOn, StandsOnWalk, StaysOnWalks, AreReached, found_at, Span, State, HoldsBytes, HoldsRegisters, entry_at, is_marked, KeepsTo, RunsKeepTo, Within, AreShown, KeptTable, stores_by_pair, pointer_span, IsLeftOpen, OpenStore, IsReachedAs, AreReachedAs, IsOpen, GoesAsListed, EndsAsListed, StoresGoAsListed, AreStoresOf, AreAllBelow, AreOpenBelow, IsSpanned, IsLeftAt, IsListed, is_kind, is_at, and_parts, cases_eq, and_from, is_listed, storing, Storing, Through, ThroughHl, pointed_by, is_through_pair, span_through, IsInside, true≢false}
 use Rattle.verify80_stores.proofs.ReachedLemmas.{kind_there, there_if_reached}
 
 -- an instruction that stores by a pair is such a store
@@ -185,12 +185,12 @@ module _ (image : Located) (bytes : ℕ) (quiet : ℕ → Bool) (reached : List 
       record {
         listed = λ k d inside same.
             let store = get_or stores k d in
-            let other : entry_in (slice_get spans w.machine.cpu.pc) ≡ Some store.span = subst (λ n. entry_in (slice_get spans n) ≡ Some store.span) same (open_below.each k d inside).span in
-            let mine : entry_in (slice_get spans w.machine.cpu.pc) ≡ Some whole_span.whole = whole_span.there in
+            let other : entry_at spans w.machine.cpu.pc ≡ Some store.span = subst (λ n. entry_at spans n ≡ Some store.span) same (open_below.each k d inside).span in
+            let mine : entry_at spans w.machine.cpu.pc ≡ Some whole_span.whole = whole_span.there in
             subst (λ (s : Span). Within s address) (let e : whole_span.whole ≡ store.span = cc in e) within;
         unlisted = λ none. go here points.span points.is whole_span.whole whole_span.there none (is_marked marks w.machine.cpu.pc) refl;
       } where
-        go : Here w found → (span : Span) → pointer_span found.instr (keep shown.first).placed.state ≡ Some span → (whole_one : Span) → entry_in (slice_get spans w.machine.cpu.pc) ≡ Some whole_one →
+        go : Here w found → (span : Span) → pointer_span found.instr (keep shown.first).placed.state ≡ Some span → (whole_one : Span) → entry_at spans w.machine.cpu.pc ≡ Some whole_one →
             All (λ store. store.at ≢ w.machine.cpu.pc) stores → (b : Bool) → is_marked marks w.machine.cpu.pc ≡ b → in_data image.regions address ≡ true
         go here span is whole_one there_one none true marked =
             let store = kind_at stores_by_pair w.machine.cpu.pc found here.there (by_any_pair (storing found.instr) (keep shown.first).placed.state span is) in
@@ -272,8 +272,8 @@ module _ (image : Located) (bytes : ℕ) (quiet : ℕ → Bool) (reached : List 
     go (inl may) =
         let at : left.placed.at ≡ store.at = left.here in
         let whole_span = shown.are_spans left.place left.placed left.found may.span left.there (subst (λ n. found_at reached n ≡ Some left.found) (sym at) left.instr) may.is in
-        let mine : entry_in (slice_get spans store.at) ≡ Some whole_span.whole = subst (λ n. entry_in (slice_get spans n) ≡ Some whole_span.whole) at whole_span.there in
-        let its : whole_span.whole ≡ store.span = (let e : entry_in (slice_get spans store.at) ≡ Some store.span = l.span in cc) in
+        let mine : entry_at spans store.at ≡ Some whole_span.whole = subst (λ n. entry_at spans n ≡ Some whole_span.whole) at whole_span.there in
+        let its : whole_span.whole ≡ store.span = (let e : entry_at spans store.at ≡ Some store.span = l.span in cc) in
         let walk = are.found store.at l.found l.there in
         record {
           reached = walk.0;

@@ -9,7 +9,7 @@ use Rattle.verify80_spans.specs.declared.span.Span.{Span}
 use Rattle.verify80_states.specs.declared.fitting.fitting.Placed.{Placed}
 use Rattle.verify80_stores.specs.declared.stores.OpenStore.{OpenStore}
 use Rattle.verify80_spans.specs.Span.{IsInside}
-use Rattle.verify80_states.specs.{Following.entry_in, Marks.is_marked}
+use Rattle.verify80_states.specs.{Marks.entry_at, Marks.is_marked}
 use Rattle.verify80_stores.specs.{Pointers.stores_by_pair, Opening.pointer_span, Opening.StaysIn, Opening.IsLeftOpen}
 
 -- no run of the image goes wrong, and each stays on walks; and so it is on boards
@@ -69,7 +69,7 @@ pub record AreOpenMarks (regions : Areas) (reached : List (Option Fetched)) (tab
 -- the span at an address has the words of another
 pub record IsSpanned (spans : List (Option Span)) (at : ℕ) (span : Span) : Type 0 where
   pub whole : Span
-  pub there : entry_in (slice_get spans at) ≡ Some whole
+  pub there : entry_at spans at ≡ Some whole
   pub inside : IsInside span whole
 
 -- spans by address, that have the words of all that states of the table say of the stores there
@@ -84,7 +84,7 @@ pub record IsListed (reached : List (Option Fetched)) (marks : List Bool) (spans
   pub instr : found.instr ≡ store.instr
   pub stores : stores_by_pair store.instr ≡ true
   pub marked : is_marked marks store.at ≡ true
-  pub span : entry_in (slice_get spans store.at) ≡ Some store.span
+  pub span : entry_at spans store.at ≡ Some store.span
 
 -- the open stores below a bound, ascending: each marked store that has a span is there
 pub record AreOpenBelow (reached : List (Option Fetched)) (marks : List Bool) (spans : List (Option Span)) (bound : ℕ) (stores : List OpenStore) : Type 0 where
@@ -92,4 +92,4 @@ pub record AreOpenBelow (reached : List (Option Fetched)) (marks : List Bool) (s
   pub below : All (λ store. store.at < bound) stores
   pub each : All (IsListed reached marks spans) stores
   pub all : (at : ℕ) → at < bound → (span : Span) → is_marked_at stores_by_pair reached marks at ≡ true →
-      entry_in (slice_get spans at) ≡ Some span → Any (λ store. store.at ≡ at) stores
+      entry_at spans at ≡ Some span → Any (λ store. store.at ≡ at) stores

@@ -42,7 +42,8 @@ abbrev pub span_in : Option Fetched → State → Option Span
 span_in None s = None
 span_in (Some found) s = pointer_span found.instr s
 
--- a span with the words of another, if there is one
-abbrev pub joined_span : Option Span → Span → Span
-joined_span None span = span
-joined_span (Some old) span = hull old span
+-- the words of two spans, as far as there are such
+abbrev pub joined : (old new : Option Span) → Option Span
+joined None new = new
+joined (Some old) None = Some old
+joined (Some old) (Some new) = Some (hull old new)

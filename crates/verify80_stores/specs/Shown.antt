@@ -1,5 +1,5 @@
 -- What tables of states that fit leave open of a program. (This project's own.)
-use Rattle.std.specs.Prelude.{◌≡◌, ◌⊎◌, ◌<◌, ℕ, Bool, true, false, List, Option, Some, length, slice_get}
+use Rattle.std.specs.Prelude.{◌≡◌, ◌&&◌, ℕ, Bool, true, false, List, Option, Some, slice_get}
 use Rattle.decode80.specs.declared.fetching.Fetched.{Fetched}
 use Rattle.image80.specs.{Image.Located, Regions.Areas}
 use Rattle.verify80.specs.{Looking.declared_targets, Reached.found_at}
@@ -8,11 +8,9 @@ use Rattle.verify80_states.specs.declared.fitting.fitting.Placed.{Placed}
 use Rattle.verify80_states.specs.{Marks.is_marked, Runs.IsKept}
 use Rattle.verify80_stores.specs.{Opening.StaysIn, Listing.AreSpans, Listing.IsLeftAt}
 
--- marks that others have too, below an address
-pub record BothBelow (one other : List Bool) (n : ℕ) (marks : List Bool) : Type 0 where
-  pub whole : length marks ≡ 65536
-  pub marked : (at : ℕ) → is_marked marks at ≡ true → is_marked one at ≡ true
-  pub unmarked : (at : ℕ) → at < n → is_marked marks at ≡ false → (is_marked one at ≡ false) ⊎ (is_marked other at ≡ false)
+-- whether both of two lists mark an address
+abbrev pub are_both : (one other : List Bool) → ℕ → Bool
+are_both one other at = is_marked one at && is_marked other at
 
 -- a table to which all runs keep
 pub record KeptTable (image : Located) (quiet : ℕ → Bool) : Type 0 where

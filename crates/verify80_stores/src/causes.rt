@@ -16,7 +16,7 @@ use std::alloc::{AllocError, Global};
 use std::fmt;
 use verify80::{Vouched, find_reached};
 use verify80_proposals::{Groups, ReachedProgram};
-use verify80_states::reached_at;
+use verify80_states::entry_at;
 
 /// What sets a pair.
 #[derive(Clone, Copy, Debug, PartialEq, Eq)]
@@ -151,7 +151,7 @@ fn setter_of(reached: &[Option<Fetched>], pair: Pair, at: Option<u16>) -> Setter
     let Some(at) = at else {
         return Setter::Nothing;
     };
-    match reached_at(reached, at) {
+    match entry_at(reached, at) {
         Some(found) if found.instr.writes().includes(pair) => match found.instr {
             Instr::Inx(_) | Instr::Dcx(_) => Setter::Count(at),
             _ => Setter::Instruction(at),
@@ -169,7 +169,7 @@ fn is_so(image: &Image, quiet: &[Range], reached: &[Option<Fetched>], reason: Re
     match reason {
         Reason::NotQuiet(at) => regions.in_data(at) && !is_quiet(regions, quiet, at),
         Reason::NotCode(at) => !regions.in_code(at) && !regions.in_data(at),
-        Reason::TooManyStates(at) => reached_at(reached, at).is_some(),
+        Reason::TooManyStates(at) => entry_at(reached, at).is_some(),
         Reason::TooManyWays => true,
     }
 }

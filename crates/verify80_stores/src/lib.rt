@@ -21,7 +21,6 @@ mod finding;
 mod laws;
 mod lines;
 mod listing;
-mod marks;
 mod pointer;
 mod quiet;
 mod quiet_ranges;

@@ -1,22 +1,21 @@
 //! What is listed of the instructions that are reached.
 
-ghost use Rattle.std.specs.Prelude.{◌≡◌, ◌+◌, ◌<◌, ℕ, true, false, Some, Contains, IfOk, IfSome, IfNone, length, slice_get};
+ghost use Rattle.std.specs.Prelude.{◌≡◌, ◌⊎◌, ◌+◌, ◌<◌, ℕ, true, false, Some, Contains, IfOk, IfSome, IfNone, length};
 ghost use Rattle.verify80.specs.{Looking.declared_targets, Reached.found_at};
 ghost use Rattle.verify80_spans.specs.declared.span.Span.{Span};
 ghost use Rattle.verify80_spans.specs.Span.{Within};
-ghost use Rattle.verify80_states.specs.{Following.entry_in, Marks.is_marked};
+ghost use Rattle.verify80_states.specs.Marks.{entry_at, is_marked};
 ghost use Rattle.verify80_stores.specs.{DataReach.AreDataEnds, Pointers.stores_by_pair, Kinds.is_of};
-ghost use Rattle.verify80_stores.specs.Opening.{joined_span, span_in, StaysIn, IsLeftOpen};
+ghost use Rattle.verify80_stores.specs.Opening.{joined, span_in, StaysIn, IsLeftOpen};
 ghost use Rattle.verify80_stores.specs.Listing.{AreAllBelow, AreOpenBelow, AreOpenMarks, AreSpans, IsListed, is_at, is_listed, is_marked_at};
 
 use crate::data_ends::{data_ends, is_all_data};
-use crate::marks::unmarked;
 use crate::pointer::pointer_span;
 use crate::stores::OpenStore;
 use decode80::{Fetched, Instr, Storing};
 use image80::Regions;
 use std::alloc::{AllocError, Global};
-use verify80_states::{Placed, Span, State, is_marked, reached_at, targets_at};
+use verify80_states::{Placed, Span, State, entry_at, is_marked, targets_at};
 
 /// The kinds of instructions that are listed.
 #[derive(Clone, Copy)]
@@ -66,7 +65,7 @@ pub(crate) fn addresses_of(
 fn is_at(kind: Kind, reached: &[Option<Fetched>], at: u16) -> bool
     ensures { result ≡ is_at (is_of kind) reached.now at }
 {
-    match reached_at(reached, at) {
+    match entry_at(reached, at) {
         Some(found) => kind.has(found.instr),
         None => false,
     }
@@ -122,27 +121,38 @@ pub(crate) fn open_marks(
     let ends = data_ends(alloc, regions)?;
     let mut marks = unmarked(alloc, 65_536)?;
     for placed in table {
-        if is_left_open(regions, &ends, reached, *placed) {
-            marks[usize::from(placed.at)] = true;
-        }
+        marks[usize::from(placed.at)] = is_open(&marks, regions, &ends, reached, *placed);
     }
     Ok(marks)
 }
 
-/// Whether a state leaves the instruction at its address open.
-fn is_left_open(
+/// `count` marks, none of them set.
+fn unmarked(alloc: Global, count: usize) -> Result<Vec<bool>, AllocError>
+    ensures count { IfOk result (λ marks. length marks.items ≡ count) }
+    ensures none { IfOk result (λ marks. (at : ℕ) → is_marked marks.items at ≡ false) }
+{
+    Ok(vec![in alloc; false; count]?)
+}
+
+/// Whether the address of a state is marked, or the state leaves the instruction there open.
+fn is_open(
+    marks: &[bool],
     regions: &Regions,
     ends: &[u32],
     reached: &[Option<Fetched>],
     placed: Placed,
 ) -> bool
     requires { AreDataEnds regions.now ends.now }
-    ensures stays { result ≡ false → (found : Fetched) → found_at reached.now placed.at ≡ Some found →
-        StaysIn regions.now (declared_targets regions.now placed.at) found.instr placed.state }
-    ensures leaves { result ≡ true → (found : Fetched) × ((found_at reached.now placed.at ≡ Some found) × IsLeftOpen regions.now found.instr placed.state) }
+    ensures stays { result ≡ false → (is_marked marks.now placed.at ≡ false) × ((found : Fetched) → found_at reached.now placed.at ≡ Some found →
+        StaysIn regions.now (declared_targets regions.now placed.at) found.instr placed.state) }
+    ensures leaves { result ≡ true → (is_marked marks.now placed.at ≡ true)
+        ⊎ ((found : Fetched) × ((found_at reached.now placed.at ≡ Some found) × IsLeftOpen regions.now found.instr placed.state)) }
     ensures address { placed.at < 65536 }
 {
-    match reached_at(reached, placed.at) {
+    if is_marked(marks, placed.at) {
+        return true;
+    }
+    match entry_at(reached, placed.at) {
         Some(found) => !stays_in(
             regions,
             ends,
@@ -167,9 +177,8 @@ pub(crate) fn spans_of(
 {
     let mut spans = no_spans(alloc, 65_536)?;
     for placed in table {
-        if let Some(span) = span_of(reached, *placed) {
-            spans[usize::from(placed.at)] = joined_at(&spans, placed.at, span);
-        }
+        let span = span_of(reached, *placed);
+        spans[usize::from(placed.at)] = joined_at(&spans, placed.at, span);
     }
     Ok(spans)
 }
@@ -186,17 +195,18 @@ fn span_of(reached: &[Option<Fetched>], placed: Placed) -> Option<Span>
     ensures span { result ≡ span_in (found_at reached.now placed.at) placed.state }
     ensures address { placed.at < 65536 }
 {
-    let found = reached_at(reached, placed.at)?;
+    let found = entry_at(reached, placed.at)?;
     pointer_span(found.instr, placed.state)
 }
 
-/// The span at an address with these words too.
-fn joined_at(spans: &[Option<Span>], at: u16, span: Span) -> Option<Span>
-    ensures { result ≡ Some (joined_span (entry_in (slice_get spans.now at)) span) }
+/// The span at an address with the words of another too, if there is one.
+fn joined_at(spans: &[Option<Span>], at: u16, new: Option<Span>) -> Option<Span>
+    ensures { result ≡ joined (entry_at spans.now at) new }
 {
-    match span_at(spans, at) {
-        Some(old) => Some(old.hull(span)),
-        None => Some(span),
+    match (entry_at(spans, at), new) {
+        (Some(old), Some(new)) => Some(old.hull(new)),
+        (Some(old), None) => Some(old),
+        (None, new) => new,
     }
 }
 
@@ -230,22 +240,12 @@ fn open_store(
 ) -> Option<OpenStore>
     ensures some { IfSome result (λ store. (store.at ≡ at) × IsListed reached.now marks.now spans.now store) }
     ensures none { IfNone result ((span : Span) → is_marked_at stores_by_pair reached.now marks.now at ≡ true →
-        entry_in (slice_get spans.now at) ≡ Some span → ⊥) }
+        entry_at spans.now at ≡ Some span → ⊥) }
 {
-    let Fetched { instr, next: _ } = reached_at(reached, at)?;
+    let Fetched { instr, next: _ } = entry_at(reached, at)?;
     if !Kind::Store.has(instr) || !is_marked(marks, at) {
         return None;
     }
-    let span = span_at(spans, at)?;
+    let span = entry_at(spans, at)?;
     Some(OpenStore { at, instr, span })
-}
-
-/// The span at an address, if one is there.
-fn span_at(spans: &[Option<Span>], at: u16) -> Option<Span>
-    ensures { result ≡ entry_in (slice_get spans.now at) }
-{
-    match spans.get(usize::from(at)) {
-        Some(span) => *span,
-        None => None,
-    }
 }

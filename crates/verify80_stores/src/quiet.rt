@@ -1,11 +1,11 @@
 //! Which addresses are quiet.
 
-ghost use Rattle.std.specs.Prelude.{◌≡◌, ℕ, IfOk, true};
+ghost use Rattle.std.specs.Prelude.{◌≡◌, ℕ, IfOk, map, true};
+ghost use Rattle.std.specs.List.{range_with_len};
 ghost use Rattle.image80.specs.Range.{in_ranges};
 ghost use Rattle.verify80_stores.specs.Boards.{is_quiet};
 ghost use Rattle.verify80_states.specs.Marks.{is_marked};
 
-use crate::marks::unmarked;
 use image80::{Range, Regions};
 use std::alloc::{AllocError, Global};
 
@@ -20,11 +20,17 @@ pub(crate) fn mark_quiet(
 ) -> Result<Vec<bool>, AllocError>
     ensures { IfOk result (λ marks. (at : ℕ) → is_marked marks.items at ≡ true → is_quiet regions.now ranges.now at ≡ true) }
 {
-    let mut marks = unmarked(alloc, 65_536)?;
-    for at in 0..65_536_usize {
-        marks[at] = is_quiet(regions, ranges, at as u16);
-    }
+    let marks = quiet_marks(alloc, regions, ranges)?;
     Ok(marks)
+}
+
+/// By address whether it is one of data and of one of the ranges.
+fn quiet_marks(alloc: Global, regions: &Regions, ranges: &[Range]) -> Result<Vec<bool>, AllocError>
+    ensures { IfOk result (λ marks. marks.items ≡ map (is_quiet regions.now ranges.now) (range_with_len 0 65536)) }
+{
+    (0..65_536_u32)
+        .map(|at| is_quiet(regions, ranges, at as u16))
+        .collect(alloc)
 }
 
 /// Whether an address is one of data and of one of the ranges.

@@ -2,11 +2,12 @@
 
 use crate::quiet::is_quiet;
 use crate::setters::{Place, Setters};
-use crate::ways::{find_marked, found_at};
+use crate::ways::find_marked;
 use decode80::{IndexPair, Instr, Operand, Pair};
 use image80::{Image, Range};
 use std::alloc::{AllocError, Global};
 use verify80_proposals::{Groups, ReachedProgram, crowded_states};
+use verify80_states::entry_at;
 
 /// Why nothing is known of a pair.
 #[derive(Clone, Copy, Debug, PartialEq, Eq)]
@@ -94,7 +95,7 @@ impl<'a> Reasons<'a> {
             };
         }
         match &self.joined {
-            Some(joined) => Some(Reason::TooManyStates(found_at(joined, at)?)),
+            Some(joined) => Some(Reason::TooManyStates(entry_at(joined, at)?)),
             None => Some(Reason::TooManyWays),
         }
     }

@@ -1,9 +1,10 @@
 //! The nearest instructions that set a register or a pair, by ways of the program. This is a search, of which nothing is promised.
 
-use crate::ways::{Nearest, Ways, found_at};
+use crate::ways::{Nearest, Ways};
 use decode80::{Instr, Pair, Register, Writes};
 use std::alloc::{AllocError, Global};
 use verify80_proposals::{Groups, ReachedProgram};
+use verify80_states::entry_at;
 
 /// A pair, or A.
 #[derive(Clone, Copy)]
@@ -97,13 +98,13 @@ impl<'a> Setters<'a> {
 
     /// The instruction that sets a place before an address, and its own address; `None` if nothing does since the program begins.
     pub fn setter(&self, at: u16, place: Place) -> Option<(u16, Instr)> {
-        let by = found_at(&self.of(place).set, at)?;
+        let by = entry_at(&self.of(place).set, at)?;
         Some((by, self.program.instr(by)?))
     }
 
     /// The word that an LXI loads, from which a pair comes before an address by INX, DCX and DAD; `None` if there is no such LXI.
     pub fn loaded(&self, at: u16, pair: Pair) -> Option<u16> {
-        let by = found_at(&self.of(Place::Pair(pair)).loaded, at)?;
+        let by = entry_at(&self.of(Place::Pair(pair)).loaded, at)?;
         match self.program.instr(by)? {
             Instr::Lxi(_, word) => Some(word),
             _ => None,

@@ -1,14 +1,14 @@
 //! What is shown of a program's register-indirect stores and jumps, by one table of states after the other.
 
-ghost use Rattle.std.specs.Prelude.{◌≡◌, ℕ, true, IfOk, IfSome, length};
+ghost use Rattle.std.specs.Prelude.{◌≡◌, ℕ, true, IfOk, IfSome, length, map};
+ghost use Rattle.std.specs.List.{range_with_len};
 ghost use Rattle.image80.specs.Regions.{AreRegions};
 ghost use Rattle.verify80.specs.{Looking.code_of, Reached.AreReached};
-ghost use Rattle.verify80_stores.specs.{Boards.is_quiet, Shown.AreShown, Shown.BothBelow};
+ghost use Rattle.verify80_stores.specs.{Boards.is_quiet, Shown.AreShown, Shown.are_both};
 ghost use Rattle.verify80_states.specs.{Marks.is_marked, Steps.AreCodeBytes, Runs.IsKept};
 
 use crate::code_bytes::code_bytes;
 use crate::listing::{open_marks, spans_of};
-use crate::marks::unmarked;
 use crate::quiet::mark_quiet;
 use decode80::Fetched;
 use image80::{Image, Range};
@@ -154,13 +154,11 @@ fn show_with(
 /// # Errors
 /// `AllocError` if memory runs out.
 fn both(alloc: Global, one: &[bool], other: &[bool]) -> Result<Vec<bool>, AllocError>
-    ensures { IfOk result (λ marks. BothBelow one.now other.now 65536 marks.items) }
+    ensures { IfOk result (λ marks. marks.items ≡ map (are_both one.now other.now) (range_with_len 0 65536)) }
 {
-    let mut marks = unmarked(alloc, 65_536)?;
-    for at in 0..65_536_usize {
-        marks[at] = is_marked(one, at as u16) && is_marked(other, at as u16);
-    }
-    Ok(marks)
+    (0..65_536_u32)
+        .map(|at| is_marked(one, at as u16) && is_marked(other, at as u16))
+        .collect(alloc)
 }
 
 /// What is shown by a table that says nothing.

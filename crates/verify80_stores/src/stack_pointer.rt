@@ -11,14 +11,13 @@ ghost use Rattle.verify80.specs.Boards.{SetsStack, sets_sp, uses_sp};
 ghost use Rattle.verify80_states.specs.Marks.{is_marked};
 ghost use Rattle.verify80_stores.specs.StackPointer.{AreClosed, IsClosedAt, LeadsToMarked};
 
-use crate::marks::unmarked;
-use crate::ways::{Ways, found_at};
+use crate::ways::Ways;
 use decode80::{Fetched, Flow, Instr, Pair, fetch};
 use image80::{Image, Regions};
 use std::alloc::{AllocError, Global};
 use verify80::{ImageCode, ProcRow};
 use verify80_proposals::{Groups, ReachedProgram};
-use verify80_states::is_marked;
+use verify80_states::{entry_at, is_marked};
 
 /// Whether the main program of an image sets SP, on each way, before an instruction uses it. If it does, SP may be anything where a
 /// run begins.
@@ -154,9 +153,7 @@ fn find_unset(
         |at, instr| at == image.start && !sets_sp(instr),
         |instr| !sets_sp(instr),
     )?;
-    let mut marks = unmarked(alloc, 65_536)?;
-    for at in 0..65_536_usize {
-        marks[at] = at == usize::from(image.start) || found_at(&ways.found, at as u16).is_some();
-    }
-    Ok(marks)
+    (0..65_536_u32)
+        .map(|at| at as u16 == image.start || entry_at(&ways.found, at as u16).is_some())
+        .collect(alloc)
 }

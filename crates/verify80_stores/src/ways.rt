@@ -3,15 +3,10 @@
 use decode80::{Fetched, Flow, Instr};
 use std::alloc::{AllocError, Global};
 use verify80_proposals::{Groups, ReachedProgram, mark};
-use verify80_states::is_marked;
+use verify80_states::{entry_at, is_marked};
 
 /// By address the nearest instruction of some kind before it, if there is one: 65,536 places.
 pub(crate) type Nearest = Vec<Option<u16>>;
-
-/// The instruction that is found for an address.
-pub(crate) fn found_at(nearest: &[Option<u16>], at: u16) -> Option<u16> {
-    nearest.get(usize::from(at)).copied().flatten()
-}
 
 /// By address the nearest marked address from which a way leads there.
 ///
@@ -84,7 +79,7 @@ impl<'a> Ways<'a> {
             let Some(at) = self.reached.get(place).copied() else {
                 break;
             };
-            if let (Some(found), Some(by)) = (self.program.at(at), found_at(&self.found, at)) {
+            if let (Some(found), Some(by)) = (self.program.at(at), entry_at(&self.found, at)) {
                 if passes(found.instr) {
                     self.follow(at, found, by)?;
                 }

@@ -12,8 +12,8 @@ ghost use Rattle.verify80_states.specs.Calls.{AccountsFor, KnowsReturn, KnowsRet
 
 use crate::fitting::calls::CallReturns;
 use crate::fitting::laws::fitting_states_hold;
-use crate::fitting::marks::is_marked;
-use crate::fitting::reached::{reached_at, targets_at};
+use crate::fitting::marks::{entry_at, is_marked};
+use crate::fitting::reached::targets_at;
 use crate::states::{State, Variable, given, is_steady, state_after};
 use decode80::{Fetched, Flow};
 use image80::{Image, Regions};
@@ -179,7 +179,7 @@ impl Fit<'_> {
         ensures { result ≡ true → (found : Fetched) → found_at self.now.reached.now at ≡ Some found →
             AccountsFor (returns_of self.now.returns.now) (declared_targets self.now.regions.now at) at found.next (flow found.instr) }
     {
-        match reached_at(self.reached, at) {
+        match entry_at(self.reached, at) {
             Some(found) => self
                 .returns
                 .accounts_for(targets_at(self.regions, at), at, found),
@@ -198,7 +198,7 @@ impl Fit<'_> {
     fn placed_fits(&self, placed: Placed) -> bool
         ensures { result ≡ true → FitsWhereReached self.now.regions.now self.now.code.now (returns_of self.now.returns.now) self.now.reached.now self.now.variables.now self.now.table.now placed }
     {
-        match reached_at(self.reached, placed.at) {
+        match entry_at(self.reached, placed.at) {
             Some(found) => {
                 if !self.state_fits(targets_at(self.regions, placed.at), placed, found) {
                     return false;

@@ -1,7 +1,7 @@
-//! Marks by address.
+//! Marks and entries by address.
 
 ghost use Rattle.std.specs.Prelude.{◌≡◌};
-ghost use Rattle.verify80_states.specs.Marks.{is_marked};
+ghost use Rattle.verify80_states.specs.Marks.{entry_at, is_marked};
 
 /// Whether an address is marked.
 pub fn is_marked(marks: &[bool], address: u16) -> bool
@@ -10,5 +10,15 @@ pub fn is_marked(marks: &[bool], address: u16) -> bool
     match marks.get(usize::from(address)) {
         Some(mark) => *mark,
         None => false,
+    }
+}
+
+/// What stands in a table at an address; `None` if nothing does.
+pub fn entry_at<T: Copy>(table: &[Option<T>], at: u16) -> Option<T>
+    ensures { result ≡ entry_at table.now at }
+{
+    match table.get(usize::from(at)) {
+        Some(entry) => *entry,
+        None => None,
     }
 }

@@ -1,10 +1,11 @@
 //! What becomes of a state at an instruction.
 
 ghost use Rattle.std.specs.Prelude.{◌≡◌};
-ghost use Rattle.verify80_states.specs.Following.{byte_at, loaded_at, loaded, moved, counted, resulted, tested, operand_bytes, after_operation, added_carry, turned, exchanged_pairs, index_words, popped_to, registers_after, pushed_pair, called, returned, words_after, state_after};
+ghost use Rattle.verify80_states.specs.Following.{loaded_at, loaded, moved, counted, resulted, tested, operand_bytes, after_operation, added_carry, turned, exchanged_pairs, index_words, popped_to, registers_after, pushed_pair, called, returned, words_after, state_after};
 ghost use Rattle.verify80_spans.specs.Span.{uncarried};
 ghost use Rattle.verify80_states.specs.State.{compared_with, with_outcome};
 
+use crate::fitting::entry_at;
 use crate::states::cells::Cells;
 use crate::states::memory_after::{source_after, stored_bytes};
 use crate::states::pairs::PairSpan;
@@ -13,21 +14,11 @@ use crate::states::words::Words;
 use decode80::{IndexPair, Instr, Operand, Operation, Pair, Register, StackPair, ahead};
 use verify80_spans::{ByteSpan, Outcome, Span, operated, rotated};
 
-/// The byte of code at an address; `None` if no code is there.
-fn byte_at(code: &[Option<u8>], at: u16) -> Option<u8>
-    ensures { result ≡ byte_at code.now at }
-{
-    match code.get(usize::from(at)) {
-        Some(byte) => *byte,
-        None => None,
-    }
-}
-
 /// What a byte that is read at an address may be: the byte of code there, or what a cell says.
 fn loaded_at(code: &[Option<u8>], cells: Cells, at: u16) -> ByteSpan
     ensures { result ≡ loaded_at code.now cells at }
 {
-    match byte_at(code, at) {
+    match entry_at(code, at) {
         Some(byte) => ByteSpan::alone(byte),
         None => cells.bytes_at(at),
     }
