@@ -23,7 +23,7 @@ pub use Rattle.plm80_programs.specs.Cases.{AnswersCases, AreFoundBelow, FindsCas
 pub use Rattle.plm80_programs.specs.Explanations.{PrintsExplanation, ShowsAll, ShowsRefused, ShowsRest, ShowsWith, count_line, limit_line}
 pub use Rattle.plm80_programs.specs.Explanations.{needed_stack, shown_lines}
 pub use Rattle.plm80_programs.specs.InputWords.{AnswersWords, IsFirstBadWord, IsGoodWord, IsInputsFile, inputs_named}
-pub use Rattle.plm80_programs.specs.Printed.{AnswersStores, CountsRun, ListsCode, ListsStores, PrintsCalls, PrintsListing, PrintsReport}
+pub use Rattle.plm80_programs.specs.Printed.{AnswersStores, CountsRun, ListsStores, PrintsCalls, PrintsListing, PrintsReport, PrintsText}
 pub use Rattle.plm80_programs.specs.Printed.{PrintsStores, stores_lines}
 pub use Rattle.plm80_programs.specs.Running.{AnswersRun, AnswersSession, AnswersTexts, AreLimitsOf, CoversFiles, EndsRun, IsRunRead}
 pub use Rattle.plm80_programs.specs.Running.{IsTraceOf, RunsFiles, TracesFiles, TracesRun, WatchesRun, WritesCount, ending, is_session}

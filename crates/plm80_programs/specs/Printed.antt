@@ -16,26 +16,32 @@ use Rattle.plm80_console.specs.{Answer.AnswerValue, Answer.prints, Journal.FileV
 use Rattle.plm80_names.specs.{Printed.named_report, Verdict.AnswersProgram, Verdict.AnswersVerdict, Arguments.asks_names}
 use Rattle.plm80_programs.specs.{declared.stores.StoresArguments.StoresArguments, Status.stores_status}
 
+-- a text that says something is printed, with status 0
+pub record PrintsText (Says : List ℕ → Type 0) (answer : AnswerValue) : Type 0 where
+  pub text : List ℕ
+  pub says : Says text
+  pub answer_is : answer ≡ prints text 0
+
 -- ---- check
 
 -- the report, with the names of procedures
-abbrev pub Reports : List Public → Voucher → AnswerValue → Type 0
-Reports publics program answer = answer ≡ prints (named_report program publics) 0
+abbrev pub Reports : List Public → Voucher → (text : List ℕ) → Type 0
+Reports publics program text = text ≡ named_report program publics
 
 abbrev pub PrintsReport : Located → List Public → AnswerValue → Type 0
-PrintsReport image publics answer = AnswersVerdict (Reports publics) image publics answer
+PrintsReport image publics answer = AnswersVerdict (λ program. PrintsText (Reports publics program)) image publics answer
 
 -- ---- list
 
 -- the instructions to which the program may come, each with the line of its name
-pub record ListsCode (publics : List Public) (program : Voucher) (answer : AnswerValue) : Type 0 where
+pub record ListsCode (publics : List Public) (program : Voucher) (text : List ℕ) : Type 0 where
   pub listed : List ℕ
   pub reached : ListsReached program.image listed
-  pub answer_is : answer ≡ prints (labelled_text publics false listed) 0
+  pub text_is : text ≡ labelled_text publics false listed
 
 -- these, or all instructions of the code, whether the verifier accepts them or not
 abbrev pub PrintsListing : (reached : Bool) → Located → List Public → AnswerValue → Type 0
-PrintsListing true image publics answer = AnswersVerdict (ListsCode publics) image publics answer
+PrintsListing true image publics answer = AnswersVerdict (λ program. PrintsText (ListsCode publics program)) image publics answer
 PrintsListing false image publics answer = answer ≡ prints (labelled_text publics false (listing_of image)) 0
 
 -- ---- calls
@@ -52,13 +58,8 @@ pub record IsCallsText (dot : Bool) (publics : List Public) (program : Voucher) 
   pub calls : All (HasItsCalls (code_of program.image)) nodes
   pub text_is : text ≡ calls_text dot program.image publics nodes
 
-pub record ShowsCalls (dot : Bool) (publics : List Public) (program : Voucher) (answer : AnswerValue) : Type 0 where
-  pub text : List ℕ
-  pub is : IsCallsText dot publics program text
-  pub answer_is : answer ≡ prints text 0
-
 abbrev pub PrintsCalls : (dot : Bool) → Located → List Public → AnswerValue → Type 0
-PrintsCalls dot image publics answer = AnswersVerdict (ShowsCalls dot publics) image publics answer
+PrintsCalls dot image publics answer = AnswersVerdict (λ program. PrintsText (IsCallsText dot publics program)) image publics answer
 
 -- ---- stores
 
@@ -92,14 +93,11 @@ pub record AnswersStores (arguments : StoresArguments) (files : List FileValue) 
 -- ---- cover
 
 -- the instructions to which the program may come, with how often its run on these inputs began each
-pub record CountsRun (inputs : List (ℕ × ℕ)) (limits : Limits) (publics : List Public) (program : Voucher) (answer : AnswerValue) : Type 0 where
+pub record CountsRun (inputs : List (ℕ × ℕ)) (limits : Limits) (publics : List Public) (program : Voucher) (text : List ℕ) : Type 0 where
   pub ended : Ended
   pub run : EndsSo program.image.regions (Some limits.outputs) (world_at_start program.image (lists_of inputs) []) limits.steps ended
   pub counts : List ℕ
   pub counted : CountsSteps program.image.regions (Some limits.outputs) (world_at_start program.image (lists_of inputs) []) ended.steps counts
   pub listed : List ℕ
   pub covers : CoversReached program.image counts listed
-  pub answer_is : answer ≡ prints (labelled_text publics false listed) 0
-
-abbrev pub PrintsCover : (inputs : List (ℕ × ℕ)) → Limits → Located → List Public → AnswerValue → Type 0
-PrintsCover inputs limits image publics answer = AnswersVerdict (CountsRun inputs limits publics) image publics answer
+  pub text_is : text ≡ labelled_text publics false listed

@@ -22,7 +22,7 @@ use Rattle.plm80_console.specs.declared.read_file.ReadFile.{ReadFile}
 use Rattle.plm80_programs.specs.{declared.cover.CoverArguments.CoverArguments, declared.helpers.run_arguments.LimitTexts.LimitTexts}
 use Rattle.plm80_programs.specs.{declared.helpers.run_arguments.RunFiles.RunFiles, declared.run.RunArguments.RunArguments}
 use Rattle.plm80_programs.specs.{declared.trace.TraceArguments.TraceArguments, declared.helpers.run_arguments.RunTexts.RunTexts}
-use Rattle.plm80_programs.specs.{Arguments.dump_of, Printed.CountsRun, Status.end_status}
+use Rattle.plm80_programs.specs.{Arguments.dump_of, Printed.CountsRun, Printed.PrintsText, Status.end_status}
 
 -- where a program's run on some inputs begins
 abbrev pub start_of : Voucher → List (ℕ × ℕ) → World
@@ -62,8 +62,9 @@ IsTraceOf inputs limits span program ended =
 pub record TracesRun (inputs : List (ℕ × ℕ)) (limits : Limits) (span : Span) (publics : List Public) (program : Voucher) (answer : AnswerValue) : Type 0 where
   pub ended : Option Ended
   pub traced : IsTraceOf inputs limits span program ended
-  pub answer_is : answer ≡ prints (trace_lines inputs limits span true publics program ++ (trace_ending program publics ended).lines)
-      (trace_ending program publics ended).status
+  pub answer_is : answer ≡ record (trace_ending program publics ended) {
+    lines = trace_lines inputs limits span true publics program ++ (trace_ending program publics ended).lines;
+  }
 
 -- ---- run
 
@@ -102,10 +103,11 @@ pub record EndsRun (inputs : List (ℕ × ℕ)) (limits : Limits) (last : ℕ) (
 -- ---- three files
 
 -- three files were read: an image, its regions, and the text of the inputs of its run
-pub record IsRunRead (paths : RunFiles) (asked : Bool) (old new : Journal) (image : Located) (publics : List Public) (spelling : List ℕ)
+pub record IsRunRead (paths : RunFiles) (asked : Bool) (old new : Journal) (image : Located) (publics : List Public)
     (inputs : List (ℕ × ℕ)) : Type 0 where
   pub file : List ℕ
   pub text : List ℕ
+  pub spelling : List ℕ
   pub are_read : AreOfFiles asked file text image publics
   pub journal : new ≡ and_read (and_read (and_read old paths.image.now file) paths.regions.now text) paths.inputs.now spelling
   pub good : bad_line spelling ≡ None
@@ -180,7 +182,7 @@ pub record IsSpanOf (arguments : TraceArguments) (span : Span) : Type 0 where
 pub record CoversFiles (arguments : CoverArguments) (files : List FileValue) (answer : AnswerValue) : Type 0 where
   pub limits : Limits
   pub are_limits : AreLimitsOf arguments.limits limits
-  pub answers : AnswersRun (λ inputs. CountsRun inputs limits) arguments.names files answer
+  pub answers : AnswersRun (λ inputs publics program. PrintsText (CountsRun inputs limits publics program)) arguments.names files answer
 
 pub record TracesFiles (arguments : TraceArguments) (files : List FileValue) (answer : AnswerValue) : Type 0 where
   pub limits : Limits

@@ -1,17 +1,17 @@
 //! `plm80 calls`: the calls of a located program, or its refusal.
 
-ghost use Rattle.std.specs.Prelude.{◌≡◌, [], IfErr, IfOk};
+ghost use Rattle.std.specs.Prelude.{IfErr, IfOk};
 ghost use Rattle.plm80_console.specs.{Answer.Gives, Journal.OnlyReports};
 ghost use Rattle.plm80_names.specs.{Arguments.asks_names, Arguments.program_paths, Verdict.AnswersProgram};
 ghost use Rattle.plm80_programs.specs.{Arguments.AreCallsArguments, Printed.IsCallsText, Printed.PrintsCalls};
 
+use crate::helpers::printing::{Printing, answer_of};
 use clap::ArgMatches;
-use image80::Image;
 use loader80::Vouched;
 use plm80_console::laws::reading_leaves_files_alone;
-use plm80_console::{Answer, Argument, Console, Kind, Reported, Syntax};
+use plm80_console::{Argument, Console, Kind, Reported, Syntax};
 use plm80_files::{IMAGE, REGIONS};
-use plm80_names::{NAMES, NamedFiles, Names, Verdict, explain_given, judge};
+use plm80_names::{NAMES, NamedFiles, Names, explain_given};
 use std::alloc::{AllocError, Global};
 use verify80_calls::{CallGraph, graph_text, list_text};
 
@@ -77,48 +77,36 @@ pub fn show_calls<C: Console>(
     ensures fault { IfErr result (λ _. OnlyReports (C.journal console.old) (C.journal console.new)) }
 {
     reading_leaves_files_alone();
-    let (image, names) = arguments.files.read(console)?;
-    let answer = shown(console.alloc(), image, arguments.dot, &names);
+    let CallsArguments { files, dot } = arguments;
+    let (image, names) = files.read(console)?;
+    let answer = answer_of(console.alloc(), image, &names, Calls { dot });
     let given = console.give_if_made(answer);
-    let files = arguments.files;
-    let (path, regions) = (files.image, files.regions);
-    explain_given(console, &given, files.names, path, Some(regions));
+    explain_given(
+        console,
+        &given,
+        files.names,
+        files.image,
+        Some(files.regions),
+    );
     given
 }
 
-/// What `calls` answers: the calls of `image` as lines, or with `dot` as a graph; the line of its refusal if the verifier refuses it.
-fn shown(
-    alloc: Global,
-    image: Image,
+/// The calls of a program, as lines or as a graph.
+#[derive(Clone, Copy)]
+struct Calls {
     dot: bool,
-    names: &Names,
-) -> Result<Answer<'static>, AllocError>
-    ensures calls { IfOk result (PrintsCalls dot image names.now) }
-    ensures no_file { IfOk result (λ answer. answer.files ≡ []) }
-{
-    match judge(alloc, image, names)? {
-        Verdict::Accepted(vouched) => {
-            let text = calls_text(alloc, &vouched, dot, names)?;
-            Ok(Answer::prints(text, 0))
-        }
-        Verdict::Refused(line) => Ok(Answer::prints(line, 1)),
-    }
 }
 
-/// The calls of a program as lines, or with `dot` as a graph.
-fn calls_text(
-    alloc: Global,
-    vouched: &Vouched,
-    dot: bool,
-    names: &Names,
-) -> Result<Vec<u8>, AllocError>
-    ensures { IfOk result (λ text. IsCallsText dot names.now vouched.now text.items) }
-{
-    let graph = CallGraph::of(alloc, vouched)?;
-    let (image, publics) = (vouched.image(), names.publics());
-    if dot {
-        graph_text(alloc, image, publics, &graph)
-    } else {
-        list_text(alloc, image, publics, &graph)
+impl Printing for Calls {
+    ghost says = { λ calls. IsCallsText calls.dot };
+
+    fn text(self, alloc: Global, vouched: &Vouched, names: &Names) -> Result<Vec<u8>, AllocError> {
+        let graph = CallGraph::of(alloc, vouched)?;
+        let (image, publics) = (vouched.image(), names.publics());
+        if self.dot {
+            graph_text(alloc, image, publics, &graph)
+        } else {
+            list_text(alloc, image, publics, &graph)
+        }
     }
 }

@@ -1,14 +1,15 @@
 //! `plm80 check`: the verifier's report on a located program, or its refusal.
 
-ghost use Rattle.std.specs.Prelude.{◌≡◌, [], IfErr, IfOk};
+ghost use Rattle.std.specs.Prelude.{IfErr, IfOk};
 ghost use Rattle.plm80_console.specs.{Answer.Gives, Journal.OnlyReports};
 ghost use Rattle.plm80_names.specs.{Arguments.asks_names, Arguments.program_paths, Verdict.AnswersProgram};
-ghost use Rattle.plm80_programs.specs.Printed.{PrintsReport};
+ghost use Rattle.plm80_programs.specs.Printed.{PrintsReport, Reports};
 
-use image80::Image;
+use crate::helpers::printing::{Printing, answer_of};
+use loader80::Vouched;
 use plm80_console::laws::reading_leaves_files_alone;
-use plm80_console::{Answer, Console, Reported, Syntax};
-use plm80_names::{NAMED_FILES, NamedFiles, Names, Verdict, explain_given, judge, named_report};
+use plm80_console::{Console, Reported, Syntax};
+use plm80_names::{NAMED_FILES, NamedFiles, Names, explain_given, named_report};
 use std::alloc::{AllocError, Global};
 
 const ABOUT: &str = "Verifies an image: prints a report, or the refusal";
@@ -44,23 +45,26 @@ pub fn check_files<C: Console>(console: &mut C, files: NamedFiles<'_>) -> Result
 {
     reading_leaves_files_alone();
     let (image, names) = files.read(console)?;
-    let answer = checked(console.alloc(), image, &names);
+    let answer = answer_of(console.alloc(), image, &names, Report);
     let given = console.give_if_made(answer);
-    let (path, regions) = (files.image, files.regions);
-    explain_given(console, &given, files.names, path, Some(regions));
+    explain_given(
+        console,
+        &given,
+        files.names,
+        files.image,
+        Some(files.regions),
+    );
     given
 }
 
-/// What `check` answers: the report on `image`; the line of its refusal if the verifier refuses it.
-fn checked(alloc: Global, image: Image, names: &Names) -> Result<Answer<'static>, AllocError>
-    ensures report { IfOk result (PrintsReport image names.now) }
-    ensures no_file { IfOk result (λ answer. answer.files ≡ []) }
-{
-    match judge(alloc, image, names)? {
-        Verdict::Accepted(vouched) => {
-            let text = named_report(alloc, &vouched, names)?;
-            Ok(Answer::prints(text, 0))
-        }
-        Verdict::Refused(line) => Ok(Answer::prints(line, 1)),
+/// The report on a program.
+#[derive(Clone, Copy)]
+struct Report;
+
+impl Printing for Report {
+    ghost says = { λ _. Reports };
+
+    fn text(self, alloc: Global, vouched: &Vouched, names: &Names) -> Result<Vec<u8>, AllocError> {
+        named_report(alloc, vouched, names)
     }
 }

@@ -1,20 +1,20 @@
 //! `plm80 cover`: the code of a located program, with how often a run began each instruction.
 
-ghost use Rattle.std.specs.Prelude.{◌≡◌, [], IfErr, IfOk};
+ghost use Rattle.std.specs.Prelude.{IfErr, IfOk};
 ghost use Rattle.plm80_console.specs.{Answer.Gives, Journal.OnlyReports};
 ghost use Rattle.plm80_programs.specs.Arguments.{AreCoverArguments, run_paths};
-ghost use Rattle.plm80_programs.specs.{Printed.CountsRun, Printed.PrintsCover, Running.CoversFiles};
+ghost use Rattle.plm80_programs.specs.{Printed.CountsRun, Running.CoversFiles};
 
+use crate::helpers::printing::{Printing, answer_of};
 use crate::helpers::run_arguments::{INPUTS, LimitTexts, OUTPUTS, RunFiles, STEPS};
 use clap::ArgMatches;
-use image80::Image;
 use loader80::Vouched;
 use loader80_trace::{Limits, count_steps, cover};
 use machine80::Inputs;
 use plm80_console::laws::reading_leaves_files_alone;
-use plm80_console::{Answer, Console, Reported, Syntax};
+use plm80_console::{Console, Reported, Syntax};
 use plm80_files::{IMAGE, REGIONS};
-use plm80_names::{NAMES, Names, Verdict, explain_given, judge};
+use plm80_names::{NAMES, Names, explain_given};
 use std::alloc::{AllocError, Global};
 
 /// The arguments of the command `cover`.
@@ -72,45 +72,29 @@ pub fn cover_files<C: Console>(
     reading_leaves_files_alone();
     let limits = arguments.limits.numbers(console)?;
     let program = arguments.files.read(console, arguments.names)?;
-    let alloc = console.alloc();
     let inputs = program.inputs;
-    let answer = covered(alloc, program.image, &program.names, inputs, limits);
+    let counts = RunCounts { inputs, limits };
+    let answer = answer_of(console.alloc(), program.image, &program.names, counts);
     let given = console.give_if_made(answer);
     let (image, regions) = (arguments.files.image, arguments.files.regions);
     explain_given(console, &given, arguments.names, image, Some(regions));
     given
 }
 
-/// What `cover` answers: the code of `image` with the counts of its run; the line of its refusal if the verifier refuses it.
-fn covered(
-    alloc: Global,
-    image: Image,
-    names: &Names,
+/// The code of a program, with how often its run on these inputs begins each instruction.
+#[derive(Drop)]
+struct RunCounts {
     inputs: Inputs,
     limits: Limits,
-) -> Result<Answer<'static>, AllocError>
-    ensures cover { IfOk result (PrintsCover inputs.pairs.items limits image names.now) }
-    ensures no_file { IfOk result (λ answer. answer.files ≡ []) }
-{
-    match judge(alloc, image, names)? {
-        Verdict::Accepted(vouched) => counted(alloc, &vouched, names, inputs, limits),
-        Verdict::Refused(line) => Ok(Answer::prints(line, 1)),
-    }
 }
 
-/// The code of a program, each instruction with how often its run on these inputs comes to it.
-fn counted(
-    alloc: Global,
-    vouched: &Vouched,
-    names: &Names,
-    inputs: Inputs,
-    limits: Limits,
-) -> Result<Answer<'static>, AllocError>
-    ensures counts { IfOk result (CountsRun inputs.pairs.items limits names.now vouched.now) }
-    ensures no_file { IfOk result (λ answer. answer.files ≡ []) }
-{
-    let counts = count_steps(alloc, vouched, inputs, limits)?;
-    let text = cover(alloc, vouched, &counts.steps)?;
-    let text = names.label(alloc, false, text)?;
-    Ok(Answer::prints(text, 0))
+impl Printing for RunCounts {
+    ghost says = { λ run. CountsRun run.inputs.pairs.items run.limits };
+
+    fn text(self, alloc: Global, vouched: &Vouched, names: &Names) -> Result<Vec<u8>, AllocError> {
+        let counts = count_steps(alloc, vouched, self.inputs, self.limits)?;
+        let text = cover(alloc, vouched, &counts.steps)?;
+        let text = names.label(alloc, false, text)?;
+        Ok(text)
+    }
 }

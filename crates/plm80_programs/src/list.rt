@@ -1,10 +1,11 @@
 //! `plm80 list`: the instructions of a located program.
 
-ghost use Rattle.std.specs.Prelude.{◌≡◌, [], IfErr, IfOk, true};
+ghost use Rattle.std.specs.Prelude.{◌≡◌, [], IfErr, IfOk};
 ghost use Rattle.plm80_console.specs.{Answer.Gives, Journal.OnlyReports};
 ghost use Rattle.plm80_names.specs.{Arguments.asks_names, Arguments.program_paths, Verdict.AnswersProgram};
 ghost use Rattle.plm80_programs.specs.{Arguments.AreListArguments, Printed.ListsCode, Printed.PrintsListing};
 
+use crate::helpers::printing::{Printing, answer_of};
 use clap::ArgMatches;
 use image80::Image;
 use image80_text::listing;
@@ -13,7 +14,7 @@ use loader80_trace::list_reached;
 use plm80_console::laws::reading_leaves_files_alone;
 use plm80_console::{Answer, Argument, Console, Kind, Reported, Syntax};
 use plm80_files::{IMAGE, REGIONS};
-use plm80_names::{NAMES, NamedFiles, Names, Verdict, explain_given, judge};
+use plm80_names::{NAMES, NamedFiles, Names, explain_given};
 use std::alloc::{AllocError, Global};
 
 /// The arguments of the command `list`.
@@ -79,12 +80,17 @@ pub fn list_files<C: Console>(console: &mut C, arguments: ListArguments<'_>) -> 
     ensures fault { IfErr result (λ _. OnlyReports (C.journal console.old) (C.journal console.new)) }
 {
     reading_leaves_files_alone();
-    let (image, names) = arguments.files.read(console)?;
-    let answer = listed(console.alloc(), image, arguments.reached, &names);
+    let ListArguments { files, reached } = arguments;
+    let (image, names) = files.read(console)?;
+    let answer = listed(console.alloc(), image, reached, &names);
     let given = console.give_if_made(answer);
-    let files = arguments.files;
-    let (path, regions) = (files.image, files.regions);
-    explain_given(console, &given, files.names, path, Some(regions));
+    explain_given(
+        console,
+        &given,
+        files.names,
+        files.image,
+        Some(files.regions),
+    );
     given
 }
 
@@ -99,38 +105,23 @@ fn listed(
     ensures no_file { IfOk result (λ answer. answer.files ≡ []) }
 {
     if reached {
-        return listed_as_reached(alloc, image, names);
+        return answer_of(alloc, image, names, ReachedCode);
     }
     let text = listing(alloc, &image)?;
     let text = names.label(alloc, false, text)?;
     Ok(Answer::prints(text, 0))
 }
 
-/// The code that the program of `image` may reach; the line of its refusal if the verifier refuses it.
-fn listed_as_reached(
-    alloc: Global,
-    image: Image,
-    names: &Names,
-) -> Result<Answer<'static>, AllocError>
-    ensures listing { IfOk result (PrintsListing true image names.now) }
-    ensures no_file { IfOk result (λ answer. answer.files ≡ []) }
-{
-    match judge(alloc, image, names)? {
-        Verdict::Accepted(vouched) => named_reached(alloc, &vouched, names),
-        Verdict::Refused(line) => Ok(Answer::prints(line, 1)),
-    }
-}
-
 /// The code that a program may reach, with names.
-fn named_reached(
-    alloc: Global,
-    vouched: &Vouched,
-    names: &Names,
-) -> Result<Answer<'static>, AllocError>
-    ensures listing { IfOk result (ListsCode names.now vouched.now) }
-    ensures no_file { IfOk result (λ answer. answer.files ≡ []) }
-{
-    let text = list_reached(alloc, vouched)?;
-    let text = names.label(alloc, false, text)?;
-    Ok(Answer::prints(text, 0))
+#[derive(Clone, Copy)]
+struct ReachedCode;
+
+impl Printing for ReachedCode {
+    ghost says = { λ _. ListsCode };
+
+    fn text(self, alloc: Global, vouched: &Vouched, names: &Names) -> Result<Vec<u8>, AllocError> {
+        let text = list_reached(alloc, vouched)?;
+        let text = names.label(alloc, false, text)?;
+        Ok(text)
+    }
 }

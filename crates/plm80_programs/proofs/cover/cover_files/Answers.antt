@@ -1,5 +1,5 @@
 use Rattle.plm80_programs.proofs.GivenLemmas.{gives_more, reports_same, run_given, run_reports}
-use Rattle.plm80_programs.proofs.Names.{run_paths, CountsRun, AnswersRun, CoversFiles}
+use Rattle.plm80_programs.proofs.Names.{ℕ, List, Public, Voucher, run_paths, CountsRun, AnswersRun, CoversFiles, PrintsText}
 use Rattle.plm80_programs.proofs.cover.cover_files.Goals as goal
 
 pub returns-clause-done : goal.returns-clause-done
@@ -7,12 +7,13 @@ returns-clause-done g c =
     let asked = c.args.arguments in
     let limits = c.in_ok-limits.limits in
     let new = g.C.Console.journal c.give_if_made-given.new.self in
-    gives_more (AnswersRun (λ inputs. CountsRun inputs limits) asked.names) (CoversFiles asked) (run_paths asked.files)
+    let Counts = λ (inputs : List (ℕ × ℕ)) (publics : List Public) (program : Voucher). PrintsText (CountsRun inputs limits publics program) in
+    gives_more (AnswersRun Counts asked.names) (CoversFiles asked) (run_paths asked.files)
     (g.C.Console.journal c.args.console.now) (g.C.Console.journal c.numbers.new.console) new
     (λ files answer answers. record { limits = limits; are_limits = c.in_ok-limits.ensures.limits; answers = answers })
     c.in_ok-limits.ensures.unchanged c.give_if_made-given.result
-    (run_given c.in_ok-program.ensures.read new (λ inputs. CountsRun inputs limits) c.covered-answer.result c.give_if_made-given.result
-    c.covered-answer.ensures.cover c.give_if_made-given.ensures.given)
+    (run_given c.in_ok-program.ensures.read new Counts c.answer_of-answer.result c.give_if_made-given.result
+    c.answer_of-answer.ensures.verdict c.give_if_made-given.ensures.given)
 
 pub returns-clause-fault : goal.returns-clause-fault
 returns-clause-fault g c =
@@ -20,4 +21,4 @@ returns-clause-fault g c =
     reports_same (g.C.Console.journal c.args.console.now) (g.C.Console.journal c.numbers.new.console) new c.give_if_made-given.result
     c.in_ok-limits.ensures.unchanged
     (run_reports c.in_ok-program.ensures.read new c.give_if_made-given.result c.reading_leaves_files_alone.ensures.faults
-    (c.give_if_made-given.ensures.no_file c.covered-answer.ensures.no_file))
+    (c.give_if_made-given.ensures.no_file c.answer_of-answer.ensures.no_file))
