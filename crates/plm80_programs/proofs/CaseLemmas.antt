@@ -1,9 +1,9 @@
 -- The cases and the notes of the addresses below one.
-use Rattle.plm80_programs.proofs.Names.{◌≡◌, ℕ, zero, suc, ◌+◌, ◌<◌, Bool, true, false, if◌then◌else◌, List, [], ◌∷◌, ◌++◌, IfNone, IfSome}
-use Rattle.plm80_programs.proofs.Names.{Option, None, Some, filter, filter_map, length, codes, refl, cons_option, range_with_len, ◌∙◌, ap}
+use Rattle.plm80_programs.proofs.Names.{◌≡◌, ℕ, zero, suc, ◌+◌, ◌<◌, Bool, true, false, if◌then◌else◌, List, [], ◌∷◌, ◌++◌}
+use Rattle.plm80_programs.proofs.Names.{Option, filter, filter_map, length, codes, refl, cons_option, range_with_len, ◌∙◌, ap}
 use Rattle.plm80_programs.proofs.Names.{append-nil, arith, subst, sym, Appends, Appends-nil, Appends-trans, flat_map-append, map-append}
 use Rattle.plm80_programs.proofs.Names.{All-nil, All-push, filter-append, filter_map-append, DeclaredCase, Located, case_text, cases_text}
-use Rattle.plm80_programs.proofs.Names.{Note, Finding, IsFinding, IsSearched, Searched, case_of, is_open, FoundCase, text_limit}
+use Rattle.plm80_programs.proofs.Names.{Note, Finding, IsFinding, IsSearched, case_of, is_open, FoundCase, text_limit}
 use Rattle.plm80_programs.proofs.Names.{AreFoundBelow, FindsCases, HasLongCases, IsFoundAt}
 
 range_more : (a n j : ℕ) → a + n ≡ j → range_with_len a (suc n) ≡ range_with_len a n ++ j ∷ []
@@ -18,13 +18,9 @@ at_of finding = finding.at
 
 module _ (image : Located) (reached taken : List Bool) where
   -- no address
-  nothing : AreFoundBelow image reached taken 0 [] []
-  nothing = record { findings = []; each = All-nil (IsFinding image reached taken); of_all = refl; cases_are = refl; notes_are = refl }
-
   pub found_nothing : (cases : List DeclaredCase) (notes : List Note) → cases ≡ [] → notes ≡ [] → AreFoundBelow image reached taken 0 cases notes
   found_nothing cases notes no_cases no_notes =
-      subst (λ (cs : List DeclaredCase). AreFoundBelow image reached taken 0 cs notes) (sym no_cases)
-      (subst (λ (ns : List Note). AreFoundBelow image reached taken 0 [] ns) (sym no_notes) nothing)
+      record { findings = []; each = All-nil (IsFinding image reached taken); of_all = refl; cases_are = no_cases; notes_are = no_notes }
 
   filtered : (at : ℕ) (b : Bool) → is_open image reached at ≡ b
       → filter (is_open image reached) (range_with_len 0 (at + 1)) ≡ filter (is_open image reached) (range_with_len 0 at) ++ (if b then at ∷ [] else [])
@@ -70,26 +66,6 @@ pub lines_more : (cases one after : List DeclaredCase) (lines new : List ℕ) �
     → after ≡ cases ++ one → new ≡ cases_text after
 lines_more cases one after lines new so_far added after_is =
     added ∙ ap (λ (l : List ℕ). l ++ cases_text one) so_far ∙ sym (cases_more cases one) ∙ ap cases_text (sym after_is)
-
--- ---- what a search says, of the lists that it has inside
-
-module _ (image : Located) {inside search : Searched} (same : inside ≡ search) where
-  pub is_searched : (code : Located) → code ≡ image → IsSearched code search.reached search.taken → IsSearched image inside.reached inside.taken
-  is_searched code is searched =
-      subst (λ (s : Searched). IsSearched image s.reached s.taken) (sym same)
-      (subst (λ (i : Located). IsSearched i search.reached search.taken) is searched)
-
-  pub found_inside : (at : ℕ) (o : Option FoundCase) (found : FoundCase) → o ≡ Some found
-      → IfSome o (IsFoundAt image search.reached search.taken at) → IsFoundAt image inside.reached inside.taken at found
-  found_inside at o found is some =
-      subst (λ (s : Searched). IsFoundAt image s.reached s.taken at found) (sym same)
-      (subst (λ (p : Option FoundCase). IfSome p (IsFoundAt image search.reached search.taken at)) is some)
-
-  pub closed_inside : (at : ℕ) (o : Option FoundCase) → o ≡ None → IfNone o (is_open image search.reached at ≡ false)
-      → is_open image inside.reached at ≡ false
-  closed_inside at o is none =
-      subst (λ (s : Searched). is_open image s.reached at ≡ false) (sym same)
-      (subst (λ (p : Option FoundCase). IfNone p (is_open image search.reached at ≡ false)) is none)
 
 -- what is found of the PCHLs below 65536
 pub finds_cases : (image : Located) (reached taken : List Bool) (limit : ℕ) (cases : List DeclaredCase) (notes : List Note)

@@ -5,7 +5,7 @@ ghost use Rattle.std.specs.Prelude.{IsErrOf, OnOk};
 ghost use Rattle.std.specs.{Io.KnownBytes.Appends, List.cons_option, List.list_any};
 ghost use Rattle.image80.specs.{Case.DeclaredCase, RegionsText.cases_text};
 ghost use Rattle.stream80.specs.WholeText.{text_limit};
-ghost use Rattle.verify80_cases.specs.Suggested.{case_of, is_open};
+ghost use Rattle.verify80_cases.specs.Suggested.{IsSearched, case_of, is_open};
 ghost use Rattle.plm80_console.specs.Journal.{OnlyReports, and_reported};
 ghost use Rattle.plm80_console.specs.Answer.{Gives, GivesUp, IsAnswered, IsGivenUp};
 ghost use Rattle.plm80_programs.specs.Cases.{AnswersCases, FindsCases, HasLongCases, IsFoundAt, PrintsCases};
@@ -15,6 +15,7 @@ use crate::helpers::endings::report_lines;
 use clap::ArgMatches;
 use image80::{Case, Image, RegionsFault, case_lines};
 use loader80::TEXT_LIMIT;
+use loader80_text::LengthFault;
 use loader80_trace::TraceFault;
 use plm80_console::laws::reading_leaves_files_alone;
 use plm80_console::{Answer, Argument, Console, Kind, Reported, Syntax, argument_text};
@@ -142,9 +143,26 @@ fn write_cases<K: Sink>(alloc: Global, image: &Image, out: &mut K) -> Result<Vec
 {
     let code = ImageCode::new(alloc, image)?;
     let search = Search::of(alloc, &code)?;
+    write_searched(alloc, image, &code, &search, out)
+}
+
+/// Writes the line of each case that a search of `image` finds, and returns what there is to say of its PCHLs.
+fn write_searched<K: Sink>(
+    alloc: Global,
+    image: &Image,
+    code: &ImageCode<'_>,
+    search: &Search,
+    out: &mut K,
+) -> Result<Vec<Note>, TraceFault>
+    requires code { code.now ≡ image.now }
+    requires searched { IsSearched image.now search.now.reached search.now.taken }
+    requires countable { K.failed out.old < u64.MAX }
+    ensures { IfOk result (λ notes. (cases : List DeclaredCase) × FindsCases image.now cases notes.items
+        × Appends (K.written out.old) (K.written out.new) (cases_text cases)) }
+{
     let mut notes = Vec::new(alloc);
     for address in 0..65_536_u32 {
-        if let Some(found) = found_at(alloc, image, &code, &search, address as u16)? {
+        if let Some(found) = found_at(alloc, image, code, search, address as u16)? {
             write_found(alloc, found, &mut notes, out)?;
         }
     }
@@ -163,12 +181,20 @@ fn write_found<K: Sink>(
     ensures notes { OnOk result (notes.new.items ≡ notes.old.items ++ cons_option found.note []) }
     ensures failures { OnOk result (K.failed out.new ≡ K.failed out.old) }
 {
+    let line = line_of(alloc, &found.case)?;
+    write_all(out, &line)?;
     push_given(notes, found.note)?;
-    if let Some(case) = found.case {
-        let line = case_lines(alloc, std::slice::from_ref(&case))?;
-        write_all(out, &line)?;
-    }
     Ok(())
+}
+
+/// The line of a case; no bytes if there is none.
+fn line_of(alloc: Global, case: &Option<Case>) -> Result<Vec<u8>, AllocError>
+    ensures { IfOk result (λ line. line.items ≡ cases_text (cons_option case.now [])) }
+{
+    match case {
+        Some(case) => case_lines(alloc, std::slice::from_ref(case)),
+        None => Ok(Vec::new(alloc)),
+    }
 }
 
 /// Writes the regions of `image` with its cases to the file `path`, prints the line of each case, and returns the exit status.
@@ -178,9 +204,11 @@ fn add_cases<C: Console>(console: &mut C, path: &str, image: &Image) -> Result<u
 {
     match added_cases(console.alloc(), path, image) {
         Ok(AddedCases { answer, notes }) => {
-            let status = console.give(answer)?;
-            remark_notes(console, &notes);
-            Ok(status)
+            let given = console.give(answer);
+            if given.is_ok() {
+                remark_notes(console, &notes);
+            }
+            given
         }
         Err(fault) => Err(report_regions_fault(console, path, fault)),
     }
@@ -216,7 +244,7 @@ fn added_cases<'a>(
 
 /// Why cases can't be added to regions.
 #[derive(Clone, Copy)]
-pub(crate) enum AddingFault {
+enum AddingFault {
     /// The text with the cases has more bytes than a text of regions may have.
     TooLong,
     /// The text with the cases is no text of regions, or memory ran out.
@@ -235,16 +263,12 @@ impl From<RegionsFault> for AddingFault {
     }
 }
 
-impl From<AllocError> for AddingFault {
-    ghost use Rattle.image80.specs.declared.fault.RegionsFault.TheVariants.{Memory};
-    ghost use Rattle.plm80_programs.specs.declared.cases.AddingFault.TheVariants.{Regions};
-
-    ghost from_gives = { λ _ fault. fault ≡ Regions Memory };
-
-    fn from(_: AllocError) -> AddingFault
-        ensures { result ≡ Regions Memory }
-    {
-        AddingFault::Regions(RegionsFault::Memory)
+impl From<LengthFault> for AddingFault {
+    fn from(fault: LengthFault) -> AddingFault {
+        match fault {
+            LengthFault::TooLong => AddingFault::TooLong,
+            LengthFault::Memory => AddingFault::Regions(RegionsFault::Memory),
+        }
     }
 }
 
@@ -268,20 +292,36 @@ pub(crate) struct KeptCases {
 }
 
 /// All cases that the tables of `image` suggest, with their lines. `TooLong` if the lines have more bytes than a text of regions may have.
-pub(crate) fn kept_cases(alloc: Global, image: &Image) -> Result<KeptCases, AddingFault>
+pub(crate) fn kept_cases(alloc: Global, image: &Image) -> Result<KeptCases, LengthFault>
     ensures found { IfOk result (λ kept. FindsCases image.now kept.cases.items kept.notes.items) }
     ensures lines { IfOk result (λ kept. kept.lines.items ≡ cases_text kept.cases.items) }
-    ensures too_long { IsErrOf result AddingFault.TooLong → HasLongCases image.now }
+    ensures too_long { IsErrOf result LengthFault.TooLong → HasLongCases image.now }
 {
     let code = ImageCode::new(alloc, image)?;
     let search = Search::of(alloc, &code)?;
+    keep_searched(alloc, image, &code, &search)
+}
+
+/// All cases that a search of `image` finds, with their lines. `TooLong` if the lines have more bytes than a text of regions may have.
+fn keep_searched(
+    alloc: Global,
+    image: &Image,
+    code: &ImageCode<'_>,
+    search: &Search,
+) -> Result<KeptCases, LengthFault>
+    requires code { code.now ≡ image.now }
+    requires searched { IsSearched image.now search.now.reached search.now.taken }
+    ensures found { IfOk result (λ kept. FindsCases image.now kept.cases.items kept.notes.items) }
+    ensures lines { IfOk result (λ kept. kept.lines.items ≡ cases_text kept.cases.items) }
+    ensures too_long { IsErrOf result LengthFault.TooLong → HasLongCases image.now }
+{
     let mut kept = KeptCases {
         cases: Vec::new(alloc),
         lines: Vec::new(alloc),
         notes: Vec::new(alloc),
     };
     for address in 0..65_536_u32 {
-        if let Some(found) = found_at(alloc, image, &code, &search, address as u16)? {
+        if let Some(found) = found_at(alloc, image, code, search, address as u16)? {
             kept.add(alloc, found)?;
         }
     }
@@ -291,26 +331,31 @@ pub(crate) fn kept_cases(alloc: Global, image: &Image) -> Result<KeptCases, Addi
 impl KeptCases {
     /// Appends the case that is found of a PCHL, its line, and what there is to say of the PCHL. `TooLong` if the lines would then have
     /// more bytes than a text of regions may have.
-    fn add(&mut self, alloc: Global, found: FoundCase) -> Result<(), AddingFault>
+    fn add(&mut self, alloc: Global, found: FoundCase) -> Result<(), LengthFault>
         ensures cases { OnOk result (self.new.cases.items ≡ self.old.cases.items ++ cons_option found.case []) }
         ensures lines { OnOk result (self.new.lines.items ≡ self.old.lines.items ++ cases_text (cons_option found.case [])) }
         ensures notes { OnOk result (self.new.notes.items ≡ self.old.notes.items ++ cons_option found.note []) }
-        ensures too_long { IsErrOf result AddingFault.TooLong
+        ensures too_long { IsErrOf result LengthFault.TooLong
             → text_limit < length (self.old.lines.items ++ cases_text (cons_option found.case [])) }
     {
+        add_line(alloc, &mut self.lines, &found.case)?;
         push_given(&mut self.notes, found.note)?;
-        if let Some(case) = found.case {
-            let line = case_lines(alloc, std::slice::from_ref(&case))?;
-            if line.len() > TEXT_LIMIT.saturating_sub(self.lines.len()) {
-                return Err(AddingFault::TooLong);
-            }
-            self.lines.extend_from_slice(&line)?;
-            if self.cases.push(case).is_err() {
-                return Err(AddingFault::from(AllocError));
-            }
-        }
+        push_given(&mut self.cases, found.case)?;
         Ok(())
     }
+}
+
+/// Appends the line of a case, if there is one. `TooLong` if the lines would then have more bytes than a text of regions may have.
+fn add_line(alloc: Global, lines: &mut Vec<u8>, case: &Option<Case>) -> Result<(), LengthFault>
+    ensures added { OnOk result (lines.new.items ≡ lines.old.items ++ cases_text (cons_option case.now [])) }
+    ensures too_long { IsErrOf result LengthFault.TooLong → text_limit < length (lines.old.items ++ cases_text (cons_option case.now [])) }
+{
+    let line = line_of(alloc, case)?;
+    if line.len() > TEXT_LIMIT.saturating_sub(lines.len()) {
+        return Err(LengthFault::TooLong);
+    }
+    lines.extend_from_slice(&line)?;
+    Ok(())
 }
 
 /// What is found of a PCHL that is reached and has no declared targets: its case, if a table is seen for it, and what there is to say of
@@ -354,12 +399,12 @@ fn case_of(found: Option<SuggestedCase>) -> Option<Case>
     }
 }
 
-/// Appends `note` to `notes` if there is one.
-fn push_given(notes: &mut Vec<Note>, note: Option<Note>) -> Result<(), AllocError>
-    ensures { OnOk result (notes.new.items ≡ notes.old.items ++ cons_option note []) }
+/// Appends `item` to `items` if there is one.
+fn push_given<T: Drop>(items: &mut Vec<T>, item: Option<T>) -> Result<(), AllocError>
+    ensures { OnOk result (items.new.items ≡ items.old.items ++ cons_option item []) }
 {
-    if let Some(note) = note {
-        notes.push(note)?;
+    if let Some(item) = item {
+        items.push(item)?;
     }
     Ok(())
 }

@@ -1,23 +1,25 @@
 //! `plm80 suggest`: the regions that an image's bytes suggest.
 
-ghost use Rattle.std.specs.Prelude.{◌≡◌, ◌∷◌, [], IfErr, IfOk, IsErrOf};
+ghost use Rattle.std.specs.Prelude.{◌≡◌, ◌≤◌, ◌∷◌, [], length, IfErr, IfOk, List, OnOk, ℕ};
+ghost use Rattle.stream80.specs.WholeText.{text_limit};
+ghost use Rattle.image80.specs.RegionsText.{regions_text};
 ghost use Rattle.image80_file.specs.ImageFile.{SpellsImage, without_regions};
-ghost use Rattle.plm80_console.specs.{Answer.Gives, Journal.OnlyReports};
+ghost use Rattle.plm80_console.specs.{Answer.Gives, Answer.IsGiven, Answer.prints, Journal.OnlyReports, Journal.and_read};
 ghost use Rattle.plm80_programs.specs.Suggest.{AdvisesRegions, AnswersAdvice, AreSuggestArguments, stack_words};
-ghost use Rattle.plm80_programs.specs.Cases.{HasLongCases};
+ghost use Rattle.plm80_programs.specs.Status.{notes_status};
 
-use crate::cases::{AddingFault, kept_cases, notes_status, remark_notes};
+use crate::cases::{kept_cases, notes_status, remark_notes};
 use clap::ArgMatches;
-use image80::{Image, Range, write_regions};
+use image80::{Image, Range, Regions, write_regions};
 use loader80::TEXT_LIMIT;
 use loader80_text::LengthFault;
 use plm80_console::{
-    Answer, Argument, Console, Kind, ReadFile, Reported, Syntax, argument_text, argument_values,
-    ranges_of,
+    Answer, Argument, Console, Kind, Reported, Syntax, argument_text, argument_values, ranges_of,
 };
 use plm80_files::{IMAGE, image_of, regions_of};
 use std::alloc::{AllocError, Global};
 use thiserror::Error;
+use verify80_cases::Note;
 use verify80_suggest::{Advice, Setter, base_regions, suggest_regions};
 
 /// The arguments of the command `suggest`.
@@ -101,17 +103,9 @@ pub fn advise_file<C: Console>(
 {
     let rom = ranges_of(console, ROM, &arguments.rom)?;
     let ram = ranges_of(console, RAM, &arguments.ram)?;
-    let file = console.read_file(arguments.image)?;
-    let image = bare_image(console, &file)?;
+    let image = bare_image(console, arguments.image)?;
     match advised(console.alloc(), image, &rom, &ram) {
-        Ok(printed) => {
-            let status = console.give(printed.answer)?;
-            if let Some(words) = StackWords::of(printed.advice.first, printed.advice.second) {
-                console.remark(words);
-            }
-            remark_notes(console, &printed.advice.notes);
-            Ok(status)
-        }
+        Ok(printed) => print_advice(console, printed),
         Err(LengthFault::TooLong) => Err(console.report(LengthFault::TooLong)),
         Err(LengthFault::Memory) => Err(console.report_memory()),
     }
@@ -124,14 +118,31 @@ struct PrintedAdvice {
     answer: Answer<'static>,
 }
 
-/// The image that a file's bytes spell, without regions. Reports the fault of the bytes.
-fn bare_image<C: Console>(console: &mut C, file: &ReadFile<'_>) -> Result<Image, Reported>
-    ensures image { IfOk result (λ image. SpellsImage file.now.bytes.items (without_regions image)) }
-    ensures unchanged { IfOk result (λ _. C.journal console.new ≡ C.journal console.old) }
+/// Reads the image in the file of this path, without regions. A fault is reported.
+fn bare_image<C: Console>(console: &mut C, path: &str) -> Result<Image, Reported>
+    ensures image { IfOk result (λ image. (bytes : List ℕ) × SpellsImage bytes (without_regions image)
+        × (C.journal console.new ≡ and_read (C.journal console.old) path.now bytes)) }
     ensures fault { IfErr result (λ _. OnlyReports (C.journal console.old) (C.journal console.new)) }
 {
-    let none = regions_of(console, file.path, b"REGIONS 1\nSTACK 0000 0000\n")?;
-    image_of(console, file.path, &file.bytes, none)
+    let file = console.read_file(path)?;
+    let none = regions_of(console, path, b"REGIONS 1\nSTACK 0000 0000\n")?;
+    let image = image_of(console, path, &file.bytes, none)?;
+    Ok(image)
+}
+
+/// Prints the suggested regions, says what is uncertain of them, and returns the exit status.
+fn print_advice<C: Console>(console: &mut C, printed: PrintedAdvice) -> Result<u8, Reported>
+    requires { printed.answer.files ≡ [] }
+    ensures given { IfOk result (IsGiven printed.answer (C.journal console.old) (C.journal console.new)) }
+    ensures fault { IfErr result (λ _. OnlyReports (C.journal console.old) (C.journal console.new)) }
+{
+    let PrintedAdvice { advice, answer } = printed;
+    let status = console.give(answer)?;
+    if let Some(words) = StackWords::of(advice.first, advice.second) {
+        console.remark(words);
+    }
+    remark_notes(console, &advice.notes);
+    Ok(status)
 }
 
 /// What `suggest` answers to an image and to ranges of ROM and RAM. `TooLong` if the text of the regions has more bytes than a text of
@@ -146,31 +157,42 @@ fn advised(
     ensures no_file { IfOk result (λ advised. advised.answer.files ≡ []) }
 {
     let mut image = image;
-    image.regions = base_regions(alloc, &image, rom)?;
+    advise(alloc, &mut image, rom, ram)
+}
+
+/// What `suggest` answers, as in `advised`, to an image that is lent and gets the regions.
+fn advise(
+    alloc: Global,
+    image: &mut Image,
+    rom: &[Range],
+    ram: &[Range],
+) -> Result<PrintedAdvice, LengthFault>
+    ensures advice { IfOk result (λ advised. AdvisesRegions image.old rom.now ram.now advised.advice advised.answer) }
+    ensures no_file { IfOk result (λ advised. advised.answer.files ≡ []) }
+{
+    image.regions = base_regions(alloc, image, rom)?;
     // Together its cases may have thousands of times as many targets as it has bytes.
-    refuse_long_cases(alloc, &image)?;
-    let advice = suggest_regions(alloc, &mut image, rom, ram)?;
+    kept_cases(alloc, image)?;
+    let advice = suggest_regions(alloc, image, rom, ram)?;
+    let answer = print_regions(alloc, &image.regions, &advice.notes)?;
+    Ok(PrintedAdvice { advice, answer })
+}
+
+/// Prints the text of regions, with the status of `notes`. `TooLong` if it has more bytes than a text of regions may have.
+fn print_regions(
+    alloc: Global,
+    regions: &Regions,
+    notes: &[Note],
+) -> Result<Answer<'static>, LengthFault>
+    ensures answer { IfOk result (λ answer. answer ≡ prints (regions_text regions.now) (notes_status notes.now)) }
+    ensures within { OnOk result (length (regions_text regions.now) ≤ text_limit) }
+{
     let mut text = Vec::new(alloc);
-    write_regions(alloc, &image.regions, &mut text)?;
+    write_regions(alloc, regions, &mut text)?;
     if text.len() > TEXT_LIMIT {
         return Err(LengthFault::TooLong);
     }
-    let status = notes_status(&advice.notes);
-    Ok(PrintedAdvice {
-        advice,
-        answer: Answer::prints(text, status),
-    })
-}
-
-/// `TooLong` if the tables of `image` suggest cases whose lines have more bytes than a text of regions may have.
-fn refuse_long_cases(alloc: Global, image: &Image) -> Result<(), LengthFault>
-    ensures { IsErrOf result LengthFault.TooLong → HasLongCases image.now }
-{
-    match kept_cases(alloc, image) {
-        Ok(_) => Ok(()),
-        Err(AddingFault::TooLong) => Err(LengthFault::TooLong),
-        Err(AddingFault::Regions(_)) => Err(LengthFault::Memory),
-    }
+    Ok(Answer::prints(text, notes_status(notes)))
 }
 
 /// Words on the suggested stack of an image that doesn't reach exactly one LXI SP.

@@ -1,0 +1,21 @@
+use Rattle.plm80_programs.proofs.Names.{◌≤◌, List, length, ◌∙◌, ap, subst, Located, Note, IsSuggestion, regions_text, text_limit, with_regions, prints}
+use Rattle.plm80_programs.proofs.{Names.notes_status, SuggestLemmas.of_any_regions}
+use Rattle.plm80_programs.proofs.suggest.advise.Goals as goal
+
+pub returns-clause-advice : goal.returns-clause-advice
+returns-clause-advice c =
+    let rom = c.args.rom.now in
+    let ram = c.args.ram.now in
+    let areas = c.in_ok-image-inside.field-0 in
+    let advice = c.in_ok-advice.advice in
+    let new = c.suggest_regions.new.image in
+    record {
+      new = new;
+      suggested = of_any_regions c.args.image.now areas rom ram advice.first advice.second advice.tableless.items advice.notes.items new
+          (subst (λ (i : Located). IsSuggestion (with_regions i areas) rom ram advice.first advice.second advice.tableless.items advice.notes.items new)
+          c.image.view_is c.in_ok-advice.ensures);
+      within = subst (λ (i : Located). length (regions_text i.regions) ≤ text_limit) c.image-2.view_is c.in_ok-answer.ensures.within;
+      answer_is = c.in_ok-answer.ensures.answer
+          ∙ ap (λ (i : Located). prints (regions_text i.regions) (notes_status c.deref.result.now)) c.image-2.view_is
+          ∙ ap (λ (notes : List Note). prints (regions_text new.regions) (notes_status notes)) c.deref.ensures.value;
+    }
