@@ -2,14 +2,15 @@
 
 ghost use Rattle.std.specs.Prelude.{◌≡◌, false, [], IfErr, IfOk, IfSome};
 ghost use Rattle.image80.specs.Regions.{in_data};
-ghost use Rattle.plm80_console.specs.{Answer.Gives, Journal.OnlyReports};
+ghost use Rattle.plm80_console.specs.{Answer.Gives, Answer.IsAnswered, Answer.prints, Journal.OnlyReports};
 ghost use Rattle.plm80_names.specs.Arguments.{program_paths};
-ghost use Rattle.plm80_programs.specs.Printed.{AnswersStores, ListsStores, PrintsStores};
+ghost use Rattle.plm80_programs.specs.Printed.{AnswersStores, ListsStores, PrintsStores, stores_lines};
 ghost use Rattle.plm80_programs.specs.{Arguments.AreStoresArguments, Status.stores_status};
 
 use clap::ArgMatches;
 use image80::{Image, Range, Regions};
 use loader80::Vouched;
+use plm80_console::laws::reading_leaves_files_alone;
 use plm80_console::{
     Answer, Argument, Console, Kind, Reported, Syntax, argument_values, ranges_of,
 };
@@ -96,18 +97,39 @@ pub fn list_stores<C: Console>(
         (C.journal console.old) (C.journal console.new)) }
     ensures fault { IfErr result (λ _. OnlyReports (C.journal console.old) (C.journal console.new)) }
 {
+    reading_leaves_files_alone();
     let quiet = ranges_of(console, QUIET, &arguments.quiet)?;
-    let (image, names) = arguments.files.read(console)?;
-    require_data(console, &image.regions, &arguments.quiet, &quiet)?;
-    match judged(console.alloc(), image, &names, &quiet, console.explains()) {
+    let files = arguments.files;
+    let (image, names) = files.read(console)?;
+    let given = print_stores(console, image, &names, &arguments.quiet, &quiet);
+    explain_given(
+        console,
+        &given,
+        files.names,
+        files.image,
+        Some(files.regions),
+    );
+    given
+}
+
+/// Prints what is known of the stores and jumps of `image`, or its refusal, and returns the exit status. `quiet` are the ranges that
+/// `texts` write.
+fn print_stores<C: Console>(
+    console: &mut C,
+    image: Image,
+    names: &Names,
+    texts: &[&str],
+    quiet: &[Range],
+) -> Result<u8, Reported>
+    ensures done { IfOk result (IsAnswered (PrintsStores quiet.now image names.now) (C.journal console.old) (C.journal console.new)) }
+    ensures fault { IfErr result (λ _. OnlyReports (C.journal console.old) (C.journal console.new)) }
+{
+    require_data(console, &image.regions, texts, quiet)?;
+    match judged(console.alloc(), image, names, quiet, console.explains()) {
         Ok(ListedStores { answer, causes }) => {
             let status = console.give(answer)?;
             explain_causes(console, &causes);
-            let given = Ok(status);
-            let files = arguments.files;
-            let (path, regions) = (files.image, files.regions);
-            explain_given(console, &given, files.names, path, Some(regions));
-            given
+            Ok(status)
         }
         Err(_) => Err(console.report_memory()),
     }
@@ -196,18 +218,33 @@ fn stores_of(
     ensures stores { IfOk result (λ listed. ListsStores quiet.now names.now vouched.now listed.answer) }
     ensures no_file { IfOk result (λ listed. listed.answer.files ≡ []) }
 {
-    let code = vouched.image().regions.code();
     let stores = find_stores(alloc, vouched, quiet)?;
-    let text = stores_text(alloc, &stores, quiet, start_of(vouched))?;
+    listed(alloc, vouched, names, quiet, explains, &stores)
+}
+
+/// The lines of these stores and jumps of a program, with names, their exit status, and the causes if `explains`.
+fn listed(
+    alloc: Global,
+    vouched: &Vouched,
+    names: &Names,
+    quiet: &[Range],
+    explains: bool,
+    stores: &Stores,
+) -> Result<ListedStores, AllocError>
+    ensures { IfOk result (λ listed.
+        listed.answer ≡ prints (stores_lines quiet.now vouched.now.image names.now stores.now) (stores_status stores.now)) }
+{
+    let code = vouched.image().regions.code();
+    let text = stores_text(alloc, stores, quiet, start_of(vouched))?;
     let text = names.name(alloc, code, b"STORE ", text)?;
     let text = names.name(alloc, code, b"JUMP ", text)?;
     let causes = if explains {
-        find_causes(alloc, vouched, quiet, &stores)?
+        find_causes(alloc, vouched, quiet, stores)?
     } else {
         Vec::new(alloc)
     };
     Ok(ListedStores {
-        answer: Answer::prints(text, stores_status(&stores)),
+        answer: Answer::prints(text, stores_status(stores)),
         causes,
     })
 }

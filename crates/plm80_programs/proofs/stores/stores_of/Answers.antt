@@ -1,19 +1,20 @@
-use Rattle.plm80_programs.proofs.{Names.◌∙◌, Names.ap, Names.Located, StoresLemmas.stores_answered}
+use Rattle.plm80_programs.proofs.Names.{◌≡◌, IfOk-weaker, prints, ListedStores, ListsStores, stores_lines, stores_status}
 use Rattle.plm80_programs.proofs.stores.stores_of.Goals as goal
 
 pub returns-clause-stores : goal.returns-clause-stores
 returns-clause-stores c =
+    let quiet = c.args.quiet.now in
+    let names = c.args.names.now in
     let program = c.args.vouched.now in
     let stores = c.in_ok-stores.stores in
-    record {
+    IfOk-weaker c.listed.result
+    (λ (listed : ListedStores). listed.answer ≡ prints (stores_lines quiet program.image names stores) (stores_status stores))
+    (λ (listed : ListedStores). ListsStores quiet names program listed.answer)
+    (λ listed is. record {
       stores = stores;
       listed = c.in_ok-stores.ensures.listed;
       boards = c.in_ok-stores.ensures.boards;
       quiet_boards = c.in_ok-stores.ensures.quiet_boards;
       stack = c.in_ok-stores.ensures.stack;
-      answer_is = stores_answered c.args.quiet.now c.start_of.result program.image c.args.names.now stores c.code-code.result.now c.in_ok-text.text.items c.in_ok-text-2.text.items
-          c.in_ok-text-3.text.items c.stores_status.result c.prints.result
-          (c.code-code.ensures.ranges ∙ ap (λ (i : Located). i.regions.code) (c.behind-vouched.view_is ∙ c.image.ensures.image))
-          c.start_of.ensures
-          c.in_ok-text.ensures c.in_ok-text-2.ensures.named c.in_ok-text-3.ensures.named c.stores_status.ensures c.prints.ensures;
-    }
+      answer_is = is;
+    }) c.listed.ensures
