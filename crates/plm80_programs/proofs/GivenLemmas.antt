@@ -40,11 +40,33 @@ answered_if_made Part old new (Ok answer) r part gave =
 answered_if_made Part old new (Err f) (Ok status) part gave = absurd gave
 answered_if_made Part old new (Err f) (Err e) part gave = tt
 
+-- an answer of these was given, or given up
+pub given_or_given_up : {E : Type 0} (Part : AnswerValue → Type 0) (answer : AnswerValue) (old new : Journal) (r : Result ℕ E) → Part answer
+    → IfOk r (IsGiven answer old new) → IfErr r (λ _. GaveUp answer.files old new) → IsAnsweredOrGivenUp Part old new r
+given_or_given_up Part answer old new r part gave up = (
+  IfOk-weaker r (IsGiven answer old new) (IsAnswered Part old new)
+      (λ status given. record { answer = answer; answers = part; given = given }) gave,
+  IfErr-weaker r (λ _. GaveUp answer.files old new) (λ _. IsGivenUp Part old new) (λ _ was. within_it answer part was) up,
+)
+
+-- what is one of these is one of others
+pub answered_of : {E : Type 0} (Part Whole : AnswerValue → Type 0) (whole : (answer : AnswerValue) → Part answer → Whole answer)
+    (old new : Journal) (r : Result ℕ E) → IsAnsweredOrGivenUp Part old new r → IsAnsweredOrGivenUp Whole old new r
+answered_of Part Whole whole old new r is = (
+  IfOk-weaker r (IsAnswered Part old new) (IsAnswered Whole old new)
+      (λ status a. record { answer = a.answer; answers = whole a.answer a.answers; given = a.given }) is.0,
+  IfErr-weaker r (λ _. IsGivenUp Part old new) (λ _. IsGivenUp Whole old new) (λ _ up. of_part up) is.1,
+)
+  where
+    of_part : IsGivenUp Part old new → IsGivenUp Whole old new
+    of_part (before_it only) = before_it only
+    of_part (within_it answer part up) = within_it answer (whole answer part) up
+
 -- ---- an answer to files that were read
 
 module _ (Answers : List FileValue → AnswerValue → Type 0) (paths : List (List ℕ)) (old between new : Journal) (files : List FileValue)
     (named : paths_of files ≡ paths) (read : between ≡ and_read_files old files) where
-  pub gives_status : (answer : AnswerValue) (status : ℕ) → Answers files answer → IsGiven answer between new status → Gives Answers paths old new status
+  gives_status : (answer : AnswerValue) (status : ℕ) → Answers files answer → IsGiven answer between new status → Gives Answers paths old new status
   gives_status answer status answers gave = record {
     files = files;
     paths_are = named;
@@ -117,12 +139,6 @@ module _ (Answers More : List FileValue → AnswerValue → Type 0) (paths : Lis
 
 -- ---- an image and its regions
 
--- nothing came behind the reading of an image and its regions
-pub program_read_on : {image_path regions_path : List ℕ} {asked : Bool} {old between after : Journal} {image : Located} {publics : List Public}
-    → IsProgramRead image_path regions_path asked old between image publics → after ≡ between
-    → IsProgramRead image_path regions_path asked old after image publics
-program_read_on read unchanged = record { file = read.file; text = read.text; are_read = read.are_read; journal = unchanged ∙ read.journal }
-
 module _ {image_path regions_path : List ℕ} {asked : Bool} {old between : Journal} {image : Located} {publics : List Public}
     (read : IsProgramRead image_path regions_path asked old between image publics) (new : Journal) where
   abbrev program_files : List FileValue
@@ -144,18 +160,17 @@ module _ {image_path regions_path : List ℕ} {asked : Bool} {old between : Jour
       answers = answers;
     }
 
-    pub program_gives : (answer : AnswerValue) (status : ℕ) → Answers image publics answer → IsGiven answer between new status
-        → Gives (AnswersProgram Answers asked) (image_path ∷ regions_path ∷ []) old new status
-    program_gives answer status answers given =
-        gives_status (AnswersProgram Answers asked) (image_path ∷ regions_path ∷ []) old between new program_files refl read.journal answer status
-        (answers_program answer answers) given
+    pub program_answered : {E : Type 0} (r : Result ℕ E) → IfOk r (IsAnswered (Answers image publics) between new)
+        → IfOk r (Gives (AnswersProgram Answers asked) (image_path ∷ regions_path ∷ []) old new)
+    program_answered r gave =
+        part_given (AnswersProgram Answers asked) (image_path ∷ regions_path ∷ []) old between new program_files refl read.journal
+        (Answers image publics) answers_program r gave
 
     pub program_given : {E F : Type 0} (made : Result AnswerValue F) (r : Result ℕ E) → IfOk made (Answers image publics)
         → IfOk r (λ status. IsOkAnd made (λ answer. IsGiven answer between new status))
         → IfOk r (Gives (AnswersProgram Answers asked) (image_path ∷ regions_path ∷ []) old new)
     program_given made r answers gave =
-        part_given (AnswersProgram Answers asked) (image_path ∷ regions_path ∷ []) old between new program_files refl read.journal
-        (Answers image publics) answers_program r (answered_if_made (Answers image publics) between new made r answers gave)
+        program_answered r (answered_if_made (Answers image publics) between new made r answers gave)
 
 -- ---- cases
 
@@ -169,23 +184,10 @@ module _ {image_path regions_path : List ℕ} {old between : Journal} {image : L
 
 -- ---- the inputs of a run, too
 
--- nothing came behind the reading of an image, its regions and its inputs
-pub run_read_on : {paths : RunFiles} {asked : Bool} {old between after : Journal} {image : Located} {publics : List Public}
-    {spelling : List ℕ} {inputs : List (ℕ × ℕ)} → IsRunRead paths asked old between image publics spelling inputs → after ≡ between
-    → IsRunRead paths asked old after image publics spelling inputs
-run_read_on read unchanged = record {
-  file = read.file;
-  text = read.text;
-  are_read = read.are_read;
-  journal = unchanged ∙ read.journal;
-  good = read.good;
-  spelled = read.spelled;
-}
-
-module _ {paths : RunFiles} {asked : Bool} {old between : Journal} {image : Located} {publics : List Public} {spelling : List ℕ}
-    {inputs : List (ℕ × ℕ)} (read : IsRunRead paths asked old between image publics spelling inputs) (new : Journal) where
+module _ {paths : RunFiles} {asked : Bool} {old between : Journal} {image : Located} {publics : List Public} {inputs : List (ℕ × ℕ)}
+    (read : IsRunRead paths asked old between image publics inputs) (new : Journal) where
   abbrev files_read : List FileValue
-  files_read = file_value paths.image.now read.file ∷ file_value paths.regions.now read.text ∷ file_value paths.inputs.now spelling ∷ []
+  files_read = file_value paths.image.now read.file ∷ file_value paths.regions.now read.text ∷ file_value paths.inputs.now read.spelling ∷ []
 
   pub run_reports : {A E : Type 0} (r : Result A E) → FaultsFollowReading → IfErr r (λ _. OnlyReports between new)
       → IfErr r (λ _. OnlyReports old new)
@@ -197,7 +199,7 @@ module _ {paths : RunFiles} {asked : Bool} {old between : Journal} {image : Loca
     answers_run answer answers = record {
       image_file = file_value paths.image.now read.file;
       regions_file = file_value paths.regions.now read.text;
-      inputs_file = file_value paths.inputs.now spelling;
+      inputs_file = file_value paths.inputs.now read.spelling;
       files_are = refl;
       image = image;
       publics = publics;
@@ -221,19 +223,20 @@ module _ {paths : RunFiles} {asked : Bool} {old between : Journal} {image : Loca
         gives (AnswersRun Answers asked) (run_paths paths) old between new files_read refl read.journal answer r
         (answers_run answer (refused line is answer_is)) gave
 
-    -- of one that is accepted, what is answered of its run, or given up
-    module _ (program : Voucher) (is : IsAccepted image program) where
-      pub run_accepted : {E : Type 0} (r : Result ℕ E) → IfOk r (IsAnswered (Answers inputs publics program) between new)
-          → IfOk r (Gives (AnswersRun Answers asked) (run_paths paths) old new)
-      run_accepted r gave =
-          part_given (AnswersRun Answers asked) (run_paths paths) old between new files_read refl read.journal
-          (Answers inputs publics program) (λ answer answers. answers_run answer (accepted program is answers)) r gave
+    -- of one that is accepted, what is answered of its run
+    pub run_accepted : {E : Type 0} (program : Voucher) → IsAccepted image program → (r : Result ℕ E)
+        → IfOk r (IsAnswered (Answers inputs publics program) between new) → IfOk r (Gives (AnswersRun Answers asked) (run_paths paths) old new)
+    run_accepted program is r gave =
+        part_given (AnswersRun Answers asked) (run_paths paths) old between new files_read refl read.journal
+        (Answers inputs publics program) (λ answer answers. answers_run answer (accepted program is answers)) r gave
 
-      pub run_or_gives_up : {E : Type 0} (r : Result ℕ E) → FaultsFollowReading
-          → IsAnsweredOrGivenUp (Answers inputs publics program) between new r → GivesOrGivesUp (AnswersRun Answers asked) (run_paths paths) old new r
-      run_or_gives_up r follow gave =
-          part_gives_or_gives_up (AnswersRun Answers asked) (run_paths paths) old between new files_read refl read.journal
-          (Answers inputs publics program) (λ answer answers. answers_run answer (accepted program is answers)) r follow gave
+    -- of any, or given up
+    pub run_or_gives_up : {E : Type 0} (r : Result ℕ E) → FaultsFollowReading
+        → IsAnsweredOrGivenUp (AnswersVerdict (Answers inputs publics) image publics) between new r
+        → GivesOrGivesUp (AnswersRun Answers asked) (run_paths paths) old new r
+    run_or_gives_up r follow gave =
+        part_gives_or_gives_up (AnswersRun Answers asked) (run_paths paths) old between new files_read refl read.journal
+        (AnswersVerdict (Answers inputs publics) image publics) answers_run r follow gave
 
 -- ---- run
 

@@ -1,8 +1,6 @@
 pub mod CaseLemmas
-pub mod ExplainLemmas
 pub mod GivenLemmas
 pub mod PrintLemmas
-pub mod ResultLemmas
 pub mod RunLemmas
 pub mod StoresLemmas
 pub mod SuggestLemmas

@@ -1,12 +1,11 @@
 -- Runs that are watched, and their exit statuses.
-use Rattle.plm80_programs.proofs.Names.{◌≡◌, ℕ, ◌+◌, ◌-◌, ◌≤◌, min, true, false, List, [], ◌∷◌, ◌++◌, Option, None, Some, Result, Ok, Err}
-use Rattle.plm80_programs.proofs.Names.{IfErr, IfOk, refl, Appends, flat_map, ◌∙◌, ap, append_assoc, arith, subst, sym, min-eq_left}
-use Rattle.plm80_programs.proofs.Names.{Appends-nil, Appends-trans, IfErr-weaker, IfOk-weaker, Public, Areas, End, IsRun, PortLists}
-use Rattle.plm80_programs.proofs.Names.{Machine, with_ports, World, Ended, output_line, stack_line, Voucher, Limits, Span, last_number}
-use Rattle.plm80_programs.proofs.Names.{AnswerValue, GaveUp, IsAnswered, IsGiven, IsGivenUp, and_files, and_given, prints, FileValue}
-use Rattle.plm80_programs.proofs.Names.{Journal, and_printed, and_written, EndsRun, TracesRun, IsTraceOf, WatchesRun, ending, last_lines}
-use Rattle.plm80_programs.proofs.Names.{start_of, trace_ending, trace_lines, with_memory}
-use Rattle.plm80_programs.proofs.GivenLemmas.{IsAnsweredOrGivenUp}
+use Rattle.plm80_programs.proofs.Names.{◌≡◌, ℕ, ◌+◌, ◌-◌, ◌≤◌, min, false, List, [], ◌∷◌, ◌++◌, Option, None, Some, Result}
+use Rattle.plm80_programs.proofs.Names.{IfErr, IfOk, refl, ◌∙◌, ap, append_assoc, arith, subst, min-eq_left}
+use Rattle.plm80_programs.proofs.Names.{IfErr-weaker, IfOk-weaker, Public, Areas, End, IsRun}
+use Rattle.plm80_programs.proofs.Names.{Machine, World, Ended, Voucher, Limits, Span, last_number}
+use Rattle.plm80_programs.proofs.Names.{AnswerValue, GaveUp, IsAnswered, IsGiven, IsGivenUp, and_files, and_given, FileValue}
+use Rattle.plm80_programs.proofs.Names.{Journal, and_printed, and_written, last_lines}
+use Rattle.plm80_programs.proofs.Names.{start_of, trace_lines}
 use Rattle.loader80_trace.specs.Traces.{run_lines}
 use Rattle.plm80_console.specs.Answer.IsGivenUp.{within as unfinished}
 
@@ -44,43 +43,6 @@ last_span inputs limits last publics program ended span within counted reaches =
     ∙ ap (λ (n : ℕ). run_lines program.image.regions (Some limits.outputs) (start_of program inputs) publics false n (min last (number + 1)))
     (begins ∙ ap (λ (n : ℕ). number + 1 - n) counted)
 
-module _ (inputs : List (ℕ × ℕ)) (limits : Limits) (last : ℕ) (publics : List Public) (program : Voucher) (ended : Ended) where
-  -- no instruction is written
-  pub writes_none : (old : Option (List ℕ)) → last ≡ 0 → Appends old old (last_lines inputs limits last publics program ended)
-  writes_none old none =
-      subst (λ (l : List ℕ). Appends old old l) (sym (no_lines inputs limits last publics program ended none)) (Appends-nil old)
-
-  -- the instructions of the last span are written
-  pub writes_span : (span : Span) (old new : Option (List ℕ)) → ended.steps ≤ limits.steps
-      → span.count ≡ min last (last_number ended.end ended.steps + 1)
-      → span.from + span.count ≡ last_number ended.end ended.steps + 1
-      → Appends old new (trace_lines inputs limits span false publics program)
-      → Appends old new (last_lines inputs limits last publics program ended)
-  writes_span span old new within counted reaches written =
-      subst (λ (l : List ℕ). Appends old new l) (last_span inputs limits last publics program ended span within counted reaches) written
-
-  -- they are written behind a front part; the run is made once more for them, on the same inputs
-  pub writes_both : (again : List (ℕ × ℕ)) (front : List ℕ) (old mid new : Option (List ℕ)) → again ≡ inputs → Appends old mid front
-      → Appends mid new (last_lines again limits last publics program ended)
-      → Appends old new (front ++ last_lines inputs limits last publics program ended)
-  writes_both again front old mid new same first second =
-      Appends-trans old mid new front (last_lines inputs limits last publics program ended) first
-      (subst (λ (pairs : List (ℕ × ℕ)). Appends mid new (last_lines pairs limits last publics program ended)) same second)
-
--- the transcript of a run that was finished is a front part and its last line
-pub watches : (inputs : List (ℕ × ℕ)) (limits : Limits) (last : ℕ) (dump : Option (List ℕ)) (publics : List Public) (program : Voucher)
-    (ended : Ended) (memory : List ℕ) (ports : PortLists) (line answer : AnswerValue)
-    → IsRun program.image.regions (Some limits.outputs) (start_of program inputs) limits.steps ended.steps (with_ports ended.cpu memory ports) ended.end
-    → line ≡ ending program publics ended → answer ≡ with_memory dump memory line
-    → WatchesRun inputs limits last dump publics program
-    ((stack_line program.stack_bytes ++ flat_map output_line ports.outputs) ++ last_lines inputs limits last publics program ended) ended answer
-watches inputs limits last dump publics program ended memory ports line answer run line_is answer_is = record {
-  front = stack_line program.stack_bytes ++ flat_map output_line ports.outputs;
-  transcript = record { last = with_ports ended.cpu memory ports; run = run; at = refl; spells = refl };
-  text_is = refl;
-  answer_is = answer_is ∙ ap (with_memory dump memory) line_is;
-}
-
 -- ---- journals
 
 -- lines behind lines
@@ -103,50 +65,25 @@ given_behind answer old between new lines status printed given = record {
   status_is = given.status_is;
 }
 
--- ---- answers that were given
+-- an answer that is one of these behind lines
+module _ (Part : AnswerValue → Type 0) (answer : AnswerValue) (old between new : Journal) (lines : List ℕ) (printed : between ≡ and_printed old lines)
+    (part : Part (record answer { lines = lines ++ answer.lines })) where
+  pub answered_behind : {E : Type 0} (r : Result ℕ E) → IfOk r (IsGiven answer between new) → IfOk r (IsAnswered Part old new)
+  answered_behind r gave =
+      IfOk-weaker r (IsGiven answer between new) (IsAnswered Part old new)
+      (λ status given. record {
+        answer = record answer { lines = lines ++ answer.lines };
+        answers = part;
+        given = given_behind answer old between new lines status printed given;
+      })
+      gave
 
--- the lines of a run were printed, and behind them how it ended
-pub trace_answered : {E : Type 0} (inputs : List (ℕ × ℕ)) (limits : Limits) (span : Span) (publics : List Public) (program : Voucher)
-    (ended : Option Ended) (old between new : Journal) (r : Result ℕ E) → IsTraceOf inputs limits span program ended
-    → between ≡ and_printed old (trace_lines inputs limits span true publics program)
-    → IfOk r (IsGiven (trace_ending program publics ended) between new)
-    → IfOk r (IsAnswered (TracesRun inputs limits span publics program) old new)
-trace_answered inputs limits span publics program ended old between new (Ok status) traced printed gave =
-    let lines = trace_lines inputs limits span true publics program in
-    record {
-      answer = prints (lines ++ (trace_ending program publics ended).lines) (trace_ending program publics ended).status;
-      answers = record { ended = ended; traced = traced; answer_is = refl };
-      given = of_ending ended lines gave printed;
-    }
-  where
-    of_ending : (e : Option Ended) (lines : List ℕ) → IsGiven (trace_ending program publics e) between new status → between ≡ and_printed old lines
-        → IsGiven (prints (lines ++ (trace_ending program publics e).lines) (trace_ending program publics e).status) old new status
-    of_ending None lines gave printed = given_behind (trace_ending program publics None) old between new lines status printed gave
-    of_ending (Some e) lines gave printed = given_behind (trace_ending program publics (Some e)) old between new lines status printed gave
-trace_answered inputs limits span publics program ended old between new (Err e) traced printed gave = tt
-
-module _ (inputs : List (ℕ × ℕ)) (limits : Limits) (last : ℕ) (dump : Option (List ℕ)) (publics : List Public) (program : Voucher)
-    (text : List ℕ) (ended : Ended) (answer : AnswerValue) (old between new : Journal)
-    (watched : WatchesRun inputs limits last dump publics program text ended answer) (printed : between ≡ and_printed old text) where
-  ends : EndsRun inputs limits last dump publics program (record answer { lines = text ++ answer.lines })
-  ends = record { text = text; ended = ended; behind = answer; watched = watched; answer_is = refl }
-
-  gave_up : GaveUp answer.files (and_printed old text) new → IsGivenUp (EndsRun inputs limits last dump publics program) old new
-  gave_up up =
-      unfinished (record answer { lines = text ++ answer.lines }) ends
-      (record { reported = up.reported; read = up.read; written = up.written; spoiled = up.spoiled; copies = up.copies })
-
-  -- a run that was watched: its text was printed, its memory written, and its last line printed; or that was given up
-  pub run_or_given_up : {E : Type 0} (r : Result ℕ E) → IfOk r (IsGiven answer between new) → IfErr r (λ _. GaveUp answer.files between new)
-      → IsAnsweredOrGivenUp (EndsRun inputs limits last dump publics program) old new r
-  run_or_given_up r gave up = (
-    IfOk-weaker r (IsGiven answer between new) (IsAnswered (EndsRun inputs limits last dump publics program) old new)
-        (λ status given. record {
-          answer = record answer { lines = text ++ answer.lines };
-          answers = ends;
-          given = given_behind answer old between new text status printed given;
-        })
-        gave,
-    IfErr-weaker r (λ _. GaveUp answer.files between new) (λ _. IsGivenUp (EndsRun inputs limits last dump publics program) old new)
-        (λ _ was. gave_up (subst (λ (j : Journal). GaveUp answer.files j new) printed was)) up,
-  )
+  pub given_up_behind : {A E : Type 0} (r : Result A E) → IfErr r (λ _. GaveUp answer.files between new) → IfErr r (λ _. IsGivenUp Part old new)
+  given_up_behind r gave =
+      IfErr-weaker r (λ _. GaveUp answer.files between new) (λ _. IsGivenUp Part old new)
+      (λ _ up. of_up (subst (λ (j : Journal). GaveUp answer.files j new) printed up)) gave
+    where
+      of_up : GaveUp answer.files (and_printed old lines) new → IsGivenUp Part old new
+      of_up up =
+          unfinished (record answer { lines = lines ++ answer.lines }) part
+          (record { reported = up.reported; read = up.read; written = up.written; spoiled = up.spoiled; copies = up.copies })

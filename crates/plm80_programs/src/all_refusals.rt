@@ -1,8 +1,10 @@
 //! All refusals of an image, for `explain --all`.
 
-ghost use Rattle.std.specs.Prelude.{◌≡◌, ◌≢◌, ◌↔◌, ◌+◌, ◌++◌, true, IfOk, OnOk};
+ghost use Rattle.std.specs.Prelude.{◌≡◌, ◌≢◌, ◌+◌, ◌++◌, All, IfOk, OnOk};
 ghost use Rattle.std.specs.List.{flat_map, list_any};
 ghost use Rattle.verify80_flow.specs.declared.refusal.Refusal.TheVariants.{Memory};
+ghost use Rattle.verify80.specs.Looking.{code_of};
+ghost use Rattle.verify80_explain.specs.Shows.{IsShown};
 ghost use Rattle.plm80_programs.specs.Explanations.{ShowsAll, ShowsRest, count_line, is_of, limit_line, shown_lines};
 
 use crate::explain::{LIMIT, refused};
@@ -10,7 +12,7 @@ use image80::Image;
 use loader80::Refusal;
 use plm80_names::{Names, named_refusal};
 use std::alloc::{AllocError, Global};
-use verify80_explain::{ShownRefusal, explain_all};
+use verify80_explain::{ShownRefusal, ShownRefusals, explain_all};
 use verify80_explain_text::explanation_text;
 
 /// The text of all refusals of points that are found of `image`, each with what shows it; behind them the verifier's own, `refusal`, if it
@@ -24,22 +26,30 @@ pub(crate) fn all_refused(
     ensures shows { IfOk result (λ text. ShowsAll image.now names.now refusal text.items) }
     ensures no_memory { OnOk result (refusal ≢ Memory) }
 {
-    if is_memory(refusal) {
+    if let Refusal::Memory = refusal {
         return Err(AllocError);
     }
     let all = explain_all(alloc, image, LIMIT)?;
+    text_of_all(alloc, image, refusal, names, &all)
+}
+
+/// The text of refusals of points, each with what shows it; behind them the verifier's own, `refusal`, if it is none of these; and how many
+/// there are.
+fn text_of_all(
+    alloc: Global,
+    image: &Image,
+    refusal: Refusal,
+    names: &Names,
+    all: &ShownRefusals,
+) -> Result<Vec<u8>, AllocError>
+    requires { All (IsShown (code_of image.now)) all.now.shown.items }
+    ensures { IfOk result (λ text. ShowsAll image.now names.now refusal text.items) }
+{
     let mut text = shown_text(alloc, image, &all.shown, names)?;
     append_limit(&mut text, all.are_all)?;
     let further = append_rest(alloc, &mut text, image, refusal, names, &all.shown)?;
     append_count(alloc, &mut text, all.shown.len(), further)?;
     Ok(text)
-}
-
-/// Whether a refusal is that memory ran out.
-fn is_memory(refusal: Refusal) -> bool
-    ensures { (result ≡ true) ↔ (refusal ≡ Memory) }
-{
-    matches!(refusal, Refusal::Memory)
 }
 
 /// The lines of these refusals, in order, each followed by what shows it.

@@ -6,11 +6,11 @@ ghost use Rattle.plm80_programs.specs.Running.{AnswersRun, IsSpanOf, TracesFiles
 ghost use Rattle.plm80_programs.specs.Arguments.{AreTraceArguments, run_paths};
 
 use crate::EndWords;
-use crate::helpers::endings::{Traced, report_lines, trace_ending_of, write_traced};
+use crate::helpers::endings::{report_lines, trace_ending_of};
 use crate::helpers::run_arguments::{INPUTS, LimitTexts, OUTPUTS, RunFiles, STEPS};
 use clap::ArgMatches;
 use loader80::{Ended, Vouched};
-use loader80_trace::{Limits, Span};
+use loader80_trace::{Limits, LineForm, Span, write_lines};
 use machine80::Inputs;
 use plm80_console::laws::reading_leaves_files_alone;
 use plm80_console::{Answer, Argument, Console, Kind, OptionText, Reported, Syntax};
@@ -150,15 +150,20 @@ fn print_trace<C: Console>(
         (C.journal console.old) (C.journal console.new)) }
     ensures fault { IfErr result (λ _. OnlyReports (C.journal console.old) (C.journal console.new)) }
 {
-    let traced = Traced {
-        vouched,
-        names,
-        limits,
-        span,
+    let form = LineForm {
         numbered: true,
+        publics: names.publics(),
     };
     let mut output = console.output();
-    let written = write_traced(console.alloc(), traced, inputs, &mut output);
+    let written = write_lines(
+        console.alloc(),
+        vouched,
+        inputs,
+        limits,
+        span,
+        form,
+        &mut output,
+    );
     let failure = console.take_back(output);
     match written {
         Ok(ended) => end_trace(console, vouched, &ended, names),

@@ -51,13 +51,12 @@ pub struct RunTexts<'a> {
     pub inputs: ReadFile<'a>,
 }
 
-/// An image that was read, its names if they are asked for, and the inputs of its run with the text that spells them.
+/// An image that was read, its names if they are asked for, and the inputs of its run.
 #[derive(Drop)]
 pub struct RunProgram {
     pub image: Image,
     pub names: Names,
     pub inputs: Inputs,
-    pub text: Vec<u8>,
 }
 
 impl<'a> RunFiles<'a> {
@@ -76,7 +75,7 @@ impl<'a> RunFiles<'a> {
     /// checked, and they are checked in the order of `run`; the first fault is reported.
     pub fn read<C: Console>(self, console: &mut C, asked: bool) -> Result<RunProgram, Reported>
         ensures read { IfOk result (λ read. IsRunRead self.entry asked (C.journal console.old) (C.journal console.new)
-            read.image read.names read.text.items read.inputs.pairs.items) }
+            read.image read.names read.inputs.pairs.items) }
         ensures fault { IfErr result (λ _. OnlyReports (C.journal console.old) (C.journal console.new)) }
     {
         let texts = self.texts(console)?;
@@ -86,7 +85,6 @@ impl<'a> RunFiles<'a> {
             image,
             names,
             inputs,
-            text: texts.inputs.bytes,
         })
     }
 

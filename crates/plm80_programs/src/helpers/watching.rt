@@ -1,17 +1,22 @@
 //! `plm80 run` with `--last` or `--dump`: a run, its last instructions, and the memory that it leaves.
 
-ghost use Rattle.std.specs.Prelude.{◌≡◌, ◌<◌, ◌≤◌, ◌++◌, ℕ, List, IfErr, IfOk, OnOk};
+ghost use Rattle.std.specs.Prelude.{◌≡◌, ◌<◌, ◌≤◌, ◌++◌, ℕ, List, Some, IfErr, IfOk, OnOk};
 ghost use Rattle.std.specs.{Io.KnownBytes.Appends, List.flat_map};
+ghost use Rattle.machine80.specs.{Run.IsRun, Step.with_ports};
 ghost use Rattle.loader80.specs.TranscriptText.{output_line, stack_line};
 ghost use Rattle.plm80_console.specs.Answer.{GaveUp, Gives, GivesUp, IsAnswered, IsGiven, IsGivenUp};
-ghost use Rattle.plm80_programs.specs.Running.{AnswersRun, EndsRun, WatchesRun, last_lines, with_memory};
+ghost use Rattle.plm80_names.specs.Verdict.{AnswersVerdict};
+ghost use Rattle.plm80_programs.specs.Running.{AnswersRun, EndsRun, WatchesRun, last_lines, start_of, with_memory};
 ghost use Rattle.plm80_programs.specs.Arguments.{dump_path, run_paths};
 
 use crate::EndWords;
-use crate::helpers::endings::{Traced, ending_of, report_lines, write_traced};
+use crate::helpers::endings::{ending_of, report_lines};
 use crate::helpers::run_arguments::RunFiles;
+use image80::Image;
 use loader80::{Ended, Vouched, front_text};
-use loader80_trace::{Finished, Limits, Span, TraceFault, finish, memory_bytes};
+use loader80_trace::{
+    Finished, Limits, LineForm, Span, TraceFault, finish, memory_bytes, write_lines,
+};
 use machine80::{Inputs, PagedBus};
 use plm80_console::laws::reading_leaves_files_alone;
 use plm80_console::{Answer, Console, Reported};
@@ -27,13 +32,6 @@ pub struct Watch<'a> {
     pub last: u64,
     /// The path of the file that gets the memory at the end of the run, if one is given.
     pub dump: Option<&'a str>,
-}
-
-/// The inputs of a run, twice, since an image runs once more if its last instructions are shown.
-#[derive(Drop)]
-struct InputsTwice {
-    first: Inputs,
-    second: Inputs,
 }
 
 /// What is left to do of a run whose transcript was written but for its last line.
@@ -59,13 +57,30 @@ pub fn watch_run<C: Console>(
 {
     reading_leaves_files_alone();
     let program = files.read(console, names)?;
-    let second = files.inputs_of(console, &program.text)?;
-    let first = program.inputs;
-    let inputs = InputsTwice { first, second };
-    match judge(console.alloc(), program.image, &program.names) {
-        Ok(Verdict::Accepted(vouched)) => {
-            print_run(console, &vouched, inputs, watch, &program.names)
-        }
+    watch_program(
+        console,
+        program.image,
+        &program.inputs,
+        watch,
+        &program.names,
+    )
+}
+
+/// Runs the program of `image` as `print_run` does; prints the refusal of an image that the verifier refuses.
+fn watch_program<C: Console>(
+    console: &mut C,
+    image: Image,
+    inputs: &Inputs,
+    watch: Watch<'_>,
+    names: &Names,
+) -> Result<u8, Reported>
+    ensures done { let w = watch.entry in IfOk result (IsAnswered (AnswersVerdict (EndsRun inputs.now.pairs.items w.limits w.last
+        (dump_path w.dump) names.now) image names.now) (C.journal console.old) (C.journal console.new)) }
+    ensures fault { let w = watch.entry in IfErr result (λ _. IsGivenUp (AnswersVerdict (EndsRun inputs.now.pairs.items w.limits w.last
+        (dump_path w.dump) names.now) image names.now) (C.journal console.old) (C.journal console.new)) }
+{
+    match judge(console.alloc(), image, names) {
+        Ok(Verdict::Accepted(vouched)) => print_run(console, &vouched, inputs, watch, names),
         Ok(Verdict::Refused(line)) => console.give(Answer::prints(line, 1)),
         Err(AllocError) => Err(console.report_memory()),
     }
@@ -76,14 +91,13 @@ pub fn watch_run<C: Console>(
 fn print_run<C: Console>(
     console: &mut C,
     vouched: &Vouched,
-    inputs: InputsTwice,
+    inputs: &Inputs,
     watch: Watch<'_>,
     names: &Names,
 ) -> Result<u8, Reported>
-    requires { inputs.second.pairs.items ≡ inputs.first.pairs.items }
-    ensures done { let w = watch.entry in IfOk result (IsAnswered (EndsRun inputs.first.pairs.items w.limits w.last (dump_path w.dump)
+    ensures done { let w = watch.entry in IfOk result (IsAnswered (EndsRun inputs.now.pairs.items w.limits w.last (dump_path w.dump)
         names.now vouched.now) (C.journal console.old) (C.journal console.new)) }
-    ensures fault { let w = watch.entry in IfErr result (λ _. IsGivenUp (EndsRun inputs.first.pairs.items w.limits w.last (dump_path w.dump)
+    ensures fault { let w = watch.entry in IfErr result (λ _. IsGivenUp (EndsRun inputs.now.pairs.items w.limits w.last (dump_path w.dump)
         names.now vouched.now) (C.journal console.old) (C.journal console.new)) }
 {
     let mut output = console.output();
@@ -110,34 +124,55 @@ fn end_run<C: Console>(console: &mut C, watched: Watched<'_>) -> Result<u8, Repo
 fn write_run<'a, K: Sink>(
     alloc: Global,
     vouched: &Vouched,
-    inputs: InputsTwice,
+    inputs: &Inputs,
+    watch: Watch<'a>,
+    names: &Names,
+    out: &mut K,
+) -> Result<Watched<'a>, TraceFault>
+    requires { K.failed out.old < u64.MAX }
+    ensures { let w = watch.entry in IfOk result (λ watched. (text : List ℕ) × Appends (K.written out.old) (K.written out.new) text
+        × WatchesRun inputs.now.pairs.items w.limits w.last (dump_path w.dump) names.now vouched.now text
+        watched.ended watched.answer) }
+{
+    let first = copy_of(alloc, inputs)?;
+    let finished = finish(alloc, vouched, first, watch.limits)?;
+    write_finished(alloc, vouched, &finished, inputs, watch, names, out)
+}
+
+/// Writes the transcript of a finished run but for the last line, and its last instructions behind that. Returns what is left to do.
+fn write_finished<'a, K: Sink>(
+    alloc: Global,
+    vouched: &Vouched,
+    finished: &Finished,
+    inputs: &Inputs,
     watch: Watch<'a>,
     names: &Names,
     out: &mut K,
 ) -> Result<Watched<'a>, TraceFault>
     requires countable { K.failed out.old < u64.MAX }
-    requires twice { inputs.second.pairs.items ≡ inputs.first.pairs.items }
+    requires finished { let program = vouched.now in let at = finished.now in
+        IsRun program.image.regions (Some watch.limits.outputs) (start_of program inputs.now.pairs.items) watch.limits.steps at.ended.steps
+        (with_ports at.ended.cpu at.bus at.ports) at.ended.end }
     ensures { let w = watch.entry in IfOk result (λ watched. (text : List ℕ) × Appends (K.written out.old) (K.written out.new) text
-        × WatchesRun inputs.first.pairs.items w.limits w.last (dump_path w.dump) names.now vouched.now text
+        × WatchesRun inputs.now.pairs.items w.limits w.last (dump_path w.dump) names.now vouched.now text
         watched.ended watched.answer) }
 {
-    let finished = finish(alloc, vouched, inputs.first, watch.limits)?;
-    write_front(alloc, vouched, &finished, out)?;
-    write_last(
-        alloc,
-        vouched,
-        &finished.ended,
-        inputs.second,
-        watch,
-        names,
-        out,
-    )?;
+    write_front(alloc, vouched, finished, out)?;
+    write_last(alloc, vouched, &finished.ended, inputs, watch, names, out)?;
     let ending = ending_of(alloc, vouched, &finished.ended, names)?;
     let answer = with_memory(alloc, &finished.bus, watch.dump, ending)?;
     Ok(Watched {
         ended: finished.ended,
         answer,
     })
+}
+
+/// The same inputs once more, since an image runs twice if its last instructions are shown.
+fn copy_of(alloc: Global, inputs: &Inputs) -> Result<Inputs, AllocError>
+    ensures { IfOk result (λ copy. copy.pairs.items ≡ inputs.now.pairs.items) }
+{
+    let pairs = inputs.pairs.to_vec(alloc)?;
+    Ok(Inputs { pairs })
 }
 
 /// Writes the transcript of a finished run, but for its last line.
@@ -162,7 +197,7 @@ fn write_last<K: Sink>(
     alloc: Global,
     vouched: &Vouched,
     ended: &Ended,
-    inputs: Inputs,
+    inputs: &Inputs,
     watch: Watch<'_>,
     names: &Names,
     out: &mut K,
@@ -170,19 +205,18 @@ fn write_last<K: Sink>(
     requires countable { K.failed out.old < u64.MAX }
     requires within { ended.now.steps ≤ watch.limits.steps }
     ensures { OnOk result (Appends (K.written out.old) (K.written out.new)
-        (last_lines inputs.pairs.items watch.entry.limits watch.entry.last names.now vouched.now ended.now)) }
+        (last_lines inputs.now.pairs.items watch.entry.limits watch.entry.last names.now vouched.now ended.now)) }
 {
     if watch.last == 0 {
         return Ok(());
     }
-    let traced = Traced {
-        vouched,
-        names,
-        limits: watch.limits,
-        span: Span::last_of(ended, watch.last),
+    let span = Span::last_of(ended, watch.last);
+    let form = LineForm {
         numbered: false,
+        publics: names.publics(),
     };
-    write_traced(alloc, traced, inputs, out)?;
+    let again = copy_of(alloc, inputs)?;
+    write_lines(alloc, vouched, again, watch.limits, span, form, out)?;
     Ok(())
 }
 

@@ -1,6 +1,15 @@
-use Rattle.plm80_programs.proofs.Names.{ℕ, Option, IfOk, ◌∙◌, subst, sym, ShowsWith}
-use Rattle.plm80_programs.proofs.{ExplainLemmas.no_memory, ResultLemmas.on_ok}
+use Rattle.plm80_programs.proofs.Names.{◌≡◌, ◌≢◌, ℕ, Option, Some, Result, Ok, Err, IfOk, OnOk, ◌∙◌, subst, sym, Refusal, ShowsWith, needed_stack}
+use Rattle.verify80_flow.specs.declared.refusal.Refusal.TheVariants.{Memory}
 use Rattle.plm80_programs.proofs.explain.refused.Goals as goal
+
+-- a refusal that compares bytes of stack isn't out of memory
+no_memory : (refusal : Refusal) (need : ℕ) → Some need ≡ needed_stack refusal → refusal ≢ Memory
+no_memory refusal need e is =
+    let none : Some need ≡ needed_stack Memory = subst (λ (r : Refusal). Some need ≡ needed_stack r) is e in cc
+
+on_ok : {A E P : Type 0} (r : Result A E) → P → OnOk r P
+on_ok (Ok x) p = p
+on_ok (Err e) p = tt
 
 pub returns-in-Some-clause-shows : goal.returns-in-Some-clause-shows
 returns-in-Some-clause-shows c =

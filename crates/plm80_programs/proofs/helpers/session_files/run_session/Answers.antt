@@ -1,7 +1,18 @@
-use Rattle.plm80_programs.proofs.PrintLemmas.{session_gives}
+use Rattle.plm80_programs.proofs.Names.{refl, run_paths, AnswersSession, AnswersTexts, run_files, texts_of}
+use Rattle.plm80_programs.proofs.GivenLemmas.{part_given}
 use Rattle.plm80_programs.proofs.helpers.session_files.run_session.Goals as goal
 
 pub returns-clause-done : goal.returns-clause-done
 returns-clause-done g c =
-    session_gives c.args.files c.in_ok-texts.texts c.args.limits (g.C.Console.journal c.args.console.now) (g.C.Console.journal c.texts.new.console) (g.C.Console.journal c.print_session-given.new.console)
-    c.print_session-given.result c.in_ok-texts.ensures.read c.print_session-given.ensures.done
+    let paths = c.args.files in
+    let texts = c.in_ok-texts.texts in
+    part_given (AnswersSession c.args.limits) (run_paths paths) (g.C.Console.journal c.args.console.now) (g.C.Console.journal c.texts.new.console)
+    (g.C.Console.journal c.print_session-given.new.console) (run_files paths texts) refl c.in_ok-texts.ensures.read
+    (AnswersTexts c.args.limits (texts_of texts))
+    (λ answer answers. record {
+      image = record { path = paths.image.now; bytes = texts.program.image.bytes.items };
+      regions = record { path = paths.regions.now; bytes = texts.program.regions.bytes.items };
+      inputs = record { path = paths.inputs.now; bytes = texts.inputs.bytes.items };
+      files_are = refl;
+      answers = answers;
+    }) c.print_session-given.result c.print_session-given.ensures.done
