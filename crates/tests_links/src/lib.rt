@@ -5,7 +5,7 @@
 //! | `records` | `omf_core`: records and names |
 //! | `bodies` | `omf_body`: the bodies of records, written |
 //! | `modules` | `omf_module`: a module that is read, and parts that are refused |
-//! | `libraries` | `omf_library`: libraries, read and written |
+//! | `libraries` | `omf_library`: libraries, read and written, and the first providers of names |
 //! | `feeds` | `omf_core`: the records of files that come in pieces |
 //! | `file_feeds` | `omf_module`: object files that come in pieces |
 //! | `library_feeds` | `omf_library`: libraries that come in pieces |
