@@ -6,7 +6,7 @@ ghost use Rattle.plm80_console.specs.{Answer.Gives, Answer.GivesUp, Answer.write
 ghost use Rattle.plm80_objects.specs.{Arguments.AreExtractArguments, Arguments.IsExtentOf, Arguments.fill_text, Absolute.ExtractsFile};
 
 use crate::helpers::byte_words::explain_bytes;
-use crate::helpers::decimal_words::explain_decimal;
+use crate::helpers::decimal_words::DecimalWords;
 use clap::ArgMatches;
 use image80::Image;
 use plm80_console::{Answer, Argument, Console, Kind, OptionText, Reported, Syntax, argument_text};
@@ -134,7 +134,7 @@ pub fn extract_file<C: Console>(
             if given.is_ok() {
                 let first = arguments.first.text();
                 explain_bytes(console, arguments.image, arguments.out, first, "");
-                explain_decimal(console, arguments.length);
+                console.explain_any(DecimalWords::of(arguments.length));
             }
             given
         }

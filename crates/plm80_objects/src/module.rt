@@ -85,21 +85,16 @@ fn explain_library<C: Console>(console: &C, path: &str) {
     if let Some(bytes) = console.text_to_explain(path)
         && let Ok(library) = read_library(console.alloc(), &bytes)
     {
-        explain_members(console, &bytes, &library.modules);
-    }
-}
-
-/// Says which modules these are, and the places of their first records in the bytes of their library.
-fn explain_members<C: Console>(console: &C, bytes: &[u8], modules: &[Module]) {
-    let mut rest = 0;
-    for member in modules {
-        let Some((at, after)) = header_from(bytes, rest) else {
-            return;
-        };
-        if let Ok(name) = str::from_utf8(member.name().bytes()) {
-            console.explain(format_args!("it has the module {name} at {at}"));
+        let mut rest = 0;
+        for member in &library.modules {
+            let Some((at, after)) = header_from(&bytes, rest) else {
+                break;
+            };
+            if let Ok(name) = str::from_utf8(member.name().bytes()) {
+                console.explain(format_args!("it has the module {name} at {at}"));
+            }
+            rest = after;
         }
-        rest = after;
     }
 }
 

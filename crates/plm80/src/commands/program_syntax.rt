@@ -70,28 +70,19 @@ const VERSION: &str = "1.2";
 
 /// The program with its commands, for clap; the text `after` follows the list of its options. `AllocError` only if memory runs out.
 pub(crate) fn program<'a>(alloc: Global, after: &'a str) -> Result<Command<'a>, AllocError> {
-    let program = Command::new(alloc, "plm80")
+    let mut program = Command::new(alloc, "plm80")
         .version(VERSION)
         .about(ABOUT)
         .override_usage("plm80 <COMMAND>")
         .after_help(after)
         .subcommand_required(true)
         .bin_name("plm80")?;
-    let program = with_commands(alloc, program, &object_commands())?;
-    let program = with_commands(alloc, program, &verifier_commands())?;
-    let program = with_commands(alloc, program, &run_commands())?;
-    with_commands(alloc, program, &prom_commands())
-}
-
-/// The program with these commands too, which its own list of commands leaves out. `AllocError` only if memory runs out.
-fn with_commands<'a>(
-    alloc: Global,
-    program: Command<'a>,
-    commands: &[Syntax<'static>],
-) -> Result<Command<'a>, AllocError> {
-    let mut program = program;
-    for command in commands {
-        program = program.subcommand(command.command(alloc)?.hide(true))?;
+    let (objects, verifier) = (object_commands(), verifier_commands());
+    let (runs, proms) = (run_commands(), prom_commands());
+    for group in [&objects[..], &verifier, &runs, &proms] {
+        for command in group {
+            program = program.subcommand(command.command(alloc)?.hide(true))?;
+        }
     }
     Ok(program)
 }

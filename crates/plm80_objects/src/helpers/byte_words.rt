@@ -1,6 +1,8 @@
 //! Where an image has bytes, in words: if it has none at the addresses of others, or if few of them are the same.
 
-use image80::Image;
+ghost use Rattle.std.specs.Prelude.{◌≡◌, IfSome};
+ghost use Rattle.plm80_console.specs.NumberText.{IsWordText};
+
 use image80_file::read_image;
 use plm80_console::{Console, word_of_digits};
 use rom80::{bytes_over, no_regions};
@@ -20,9 +22,26 @@ pub(crate) fn explain_bytes<C: Console>(
         console.text_to_explain(path),
         console.text_to_explain(other),
     )
-        && let Some(counts) = counts_of(console.alloc(), &file, first, &others)
+        && let Some(Counts { begin, held, same }) = counts_of(
+            console.alloc(),
+            &file,
+            first,
+            &others,
+        )
     {
-        explain_counts(console, counts, others.len(), fill);
+        if held == 0 {
+            console.explain(format_args!(
+                "no byte is in that range; the image's bytes begin at {begin:04X}"
+            ));
+        } else if same < held.saturating_sub(same) {
+            console.explain(format_args!(
+                "few bytes are the same: --first may be wrong; the image's bytes begin at {begin:04X}"
+            ));
+        } else if held < others.len() && fill == "00" {
+            console.explain(
+                "where the image has no byte, 00 was compared; --fill FF compares what an erased PROM has",
+            );
+        }
     }
 }
 
@@ -39,23 +58,22 @@ struct Counts {
 
 /// The counts for the image that a file's bytes spell and for others, from the address `first` on. `None` if there is no such image, if it
 /// has no byte, if `first` is no address, or if memory runs out.
-fn counts_of(alloc: Global, file: &[u8], first: &str, others: &[u8]) -> Option<Counts> {
+fn counts_of(alloc: Global, file: &[u8], first: &str, others: &[u8]) -> Option<Counts>
+    ensures { IfSome result (λ _. IsWordText first.now) }
+{
+    let (first, count) = (word_of_digits(first)?, u32::try_from(others.len()).ok()?);
     let image = read_image(alloc, file, no_regions(alloc)).ok()?;
-    counts_for(alloc, &image, word_of_digits(first), others)
-}
-
-/// The counts for an image and for others, from the address `first` on; `None` as for [`counts_of`].
-fn counts_for(alloc: Global, image: &Image, first: Option<u16>, others: &[u8]) -> Option<Counts> {
     let begin = image.chunks.iter().map(|chunk| chunk.address).min()?;
-    let (first, count) = (first?, u32::try_from(others.len()).ok()?);
     // Where the image has a byte, the fill makes no difference.
-    let low = bytes_over(alloc, image, first, count, 0x00).ok()?;
-    let high = bytes_over(alloc, image, first, count, 0xFF).ok()?;
+    let low = bytes_over(alloc, &image, first, count, 0x00).ok()?;
+    let high = bytes_over(alloc, &image, first, count, 0xFF).ok()?;
     Some(counts_over(begin, &low, &high, others))
 }
 
 /// The counts for an image whose lowest byte has the address `begin`, and which has the byte of `low` where `high` has the same.
-fn counts_over(begin: u16, low: &[u8], high: &[u8], others: &[u8]) -> Counts {
+fn counts_over(begin: u16, low: &[u8], high: &[u8], others: &[u8]) -> Counts
+    ensures { result.begin ≡ begin }
+{
     let held = low
         .iter()
         .zip(high)
@@ -68,22 +86,4 @@ fn counts_over(begin: u16, low: &[u8], high: &[u8], others: &[u8]) -> Counts {
         .filter(|((low, high), other)| low == other && high == other)
         .count();
     Counts { begin, held, same }
-}
-
-/// Says what these counts mean for `count` other bytes.
-fn explain_counts<C: Console>(console: &C, counts: Counts, count: usize, fill: &str) {
-    let Counts { begin, held, same } = counts;
-    if held == 0 {
-        console.explain(format_args!(
-            "no byte is in that range; the image's bytes begin at {begin:04X}"
-        ));
-    } else if same < held.saturating_sub(same) {
-        console.explain(format_args!(
-            "few bytes are the same: --first may be wrong; the image's bytes begin at {begin:04X}"
-        ));
-    } else if held < count && fill == "00" {
-        console.explain(
-            "where the image has no byte, 00 was compared; --fill FF compares what an erased PROM has",
-        );
-    }
 }

@@ -3,15 +3,36 @@
 ghost use Rattle.std.specs.Prelude.{◌≡◌, IfSome};
 ghost use Rattle.plm80_console.specs.NumberText.{IsCountText, count_value};
 
-use plm80_console::{Console, OptionText, count_of_digits};
+use plm80_console::{OptionText, count_of_digits};
+use std::fmt;
+use std::fmt::{Display, Formatter, Write};
 
-/// Says that the number of an option is hexadecimal, if it writes a size of a memory in decimal, and if words are asked for.
-pub(crate) fn explain_decimal<C: Console>(console: &C, option: OptionText<'_>) {
-    let (name, text) = (option.name(), option.text());
-    if let Some(number) = decimal_size(text) {
-        console.explain(format_args!(
+/// What may be said of an option whose number is hexadecimal, and writes a size of a memory in decimal.
+#[derive(Clone, Copy)]
+pub(crate) struct DecimalWords<'a> {
+    /// The option.
+    option: OptionText<'a>,
+    /// The number that its text writes in decimal.
+    number: u64,
+}
+
+impl<'a> DecimalWords<'a> {
+    /// The words on an option; `None` if it writes no size of a memory in decimal.
+    pub(crate) fn of(option: OptionText<'a>) -> Option<DecimalWords<'a>>
+        ensures { IfSome result (λ words. (words.option ≡ option.entry) × (words.number ≡ count_value option.entry.text.now)) }
+    {
+        let number = decimal_size(option.text())?;
+        Some(DecimalWords { option, number })
+    }
+}
+
+impl Display for DecimalWords<'_> {
+    fn fmt<W: Write>(&self, formatter: &mut Formatter<W>) -> fmt::Result {
+        let (name, text, number) = (self.option.name(), self.option.text(), self.number);
+        write!(
+            formatter,
             "--{name} {text} is hexadecimal: {text} in decimal is {number:X}"
-        ));
+        )
     }
 }
 

@@ -4,7 +4,7 @@ ghost use Rattle.std.specs.Prelude.{◌≡◌, ◌⊎◌, ◌==◌, ◌||◌, no
 ghost use Rattle.std.specs.List.{list_all};
 ghost use Rattle.omf_core.specs.SegmentId.{segment_word};
 
-use crate::helpers::decimal_words::explain_decimal;
+use crate::helpers::decimal_words::DecimalWords;
 use crate::helpers::locate_options::LocateTexts;
 use omf_core::segment_id::word_of;
 use omf_module::Module;
@@ -29,17 +29,10 @@ pub(crate) fn explain_empty_segments<C: Console>(
 /// others are.
 fn explain_texts<C: Console>(console: &C, segments: &[Placed], texts: LocateTexts<'_>) {
     for (_, option) in texts.all() {
-        if let Some(option) = option {
-            explain_decimal(console, option);
+        if let Some(words) = option.and_then(DecimalWords::of) {
+            console.explain(words);
         }
     }
-    if explain_bases(console, segments, texts) {
-        explain_places(console, segments);
-    }
-}
-
-/// Says which of these bases are those of segments that are empty. Returns whether there is one.
-fn explain_bases<C: Console>(console: &C, segments: &[Placed], texts: LocateTexts<'_>) -> bool {
     let mut has_empty = false;
     for base in texts.all() {
         if let (Some(id), Some(option)) = base
@@ -50,13 +43,8 @@ fn explain_bases<C: Console>(console: &C, segments: &[Placed], texts: LocateText
             has_empty = true;
         }
     }
-    has_empty
-}
-
-/// Says where those of these segments are that aren't empty.
-fn explain_places<C: Console>(console: &C, segments: &[Placed]) {
     for placed in segments {
-        if placed.length > 0 {
+        if has_empty && placed.length > 0 {
             let (word, base, length) = (segment_word(placed.id), placed.base, placed.length);
             console.explain(format_args!("{word} {base:04X} {length:04X}"));
         }
