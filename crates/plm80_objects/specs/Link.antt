@@ -11,12 +11,20 @@ use Rattle.plm80_console.specs.{Answer.AnswerValue, Answer.writes, Journal.FileV
 use Rattle.plm80_files.specs.declared.link_feed.LinkFile.TheVariants.{Modules, Library}
 use Rattle.plm80_files.specs.{LinkFiles.SpellsEither, declared.link_feed.LinkFile.LinkFile}
 use Rattle.plm80_objects.specs.{declared.link.LinkArguments.LinkArguments, declared.link.LinkFiles.LinkFiles}
-use Rattle.plm80_objects.specs.{declared.helpers.link_lines.LinkLines.LinkLines, Read.AreRead}
+use Rattle.plm80_objects.specs.{declared.link.RootFile.RootFile, declared.helpers.link_lines.LinkLines.LinkLines, Read.AreRead}
+
+-- the path of each module of a file
+abbrev pub paths_of : RootFile → List (List ℕ)
+paths_of file = repeat file.modules (file.path.now ∷ [])
+
+-- the path of each module's file
+abbrev pub root_paths : List RootFile → List (List ℕ)
+root_paths files = flat_map paths_of files
 
 -- the modules of an object file come behind the others, each with its path
 pub record AddsModules (modules : List ModuleValue) (path : List ℕ) (before after : LinkFiles) : Type 0 where
   pub roots : after.roots.items ≡ before.roots.items ++ modules
-  pub paths_of_roots : map (λ p. p.now) after.root_files.items ≡ map (λ p. p.now) before.root_files.items ++ repeat (length modules) (path ∷ [])
+  pub paths_of_roots : root_paths after.root_files.items ≡ root_paths before.root_files.items ++ repeat (length modules) (path ∷ [])
   pub libraries : after.libraries ≡ before.libraries
   pub paths : after.paths ≡ before.paths
 

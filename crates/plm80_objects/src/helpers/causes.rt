@@ -1,12 +1,14 @@
 //! Words below a fault of `link`, `locate` and `map`: where its cause is. If memory runs out for them, the fault stands alone.
 
-ghost use Rattle.std.specs.Prelude.{◌≡◌, [], map, IfOk};
+ghost use Rattle.std.specs.Prelude.{◌≡◌, ◌++◌, ◌∷◌, [], map, IfOk, OnOk};
+ghost use Rattle.std.specs.List.{repeat};
 ghost use Rattle.link80_text.specs.Causes.{PrintsCause};
 ghost use Rattle.plm80_console.specs.Journal.{and_reported};
 ghost use Rattle.place80.specs.{Causes.cause_text, Layout.layout_of};
 ghost use Rattle.place80_text.specs.Board.{unmapped_text};
+ghost use Rattle.plm80_objects.specs.Link.{root_paths};
 
-use crate::link::LinkFiles;
+use crate::link::{LinkFiles, RootFile};
 use link80::LinkFault;
 use link80_text::LinkSources;
 use omf_core::segment_id::ABSOLUTE;
@@ -21,15 +23,22 @@ use std::str;
 pub(crate) fn report_link_fault<C: Console>(
     console: &mut C,
     files: &LinkFiles<'_>,
-    fault: &LinkFault,
+    fault: LinkFault,
 ) -> Reported
     ensures { C.journal console.new ≡ and_reported (C.journal console.old) }
 {
+    let lines = if console.explains() {
+        link_lines(console.alloc(), files, &fault).ok()
+    } else {
+        None
+    };
+    let has_too_many = matches!(
+        &fault,
+        LinkFault::TooManyCommons | LinkFault::TooManyExternals
+    );
     let reported = console.report(fault);
-    if console.explains() {
-        explain_lines(console, link_lines(console.alloc(), files, fault));
-    }
-    if let LinkFault::TooManyCommons | LinkFault::TooManyExternals = fault {
+    explain_lines(console, lines);
+    if has_too_many {
         console.explain(
             "link fewer modules, or name the libraries that are missing (docs/FAULTS.md, 'link')",
         );
@@ -43,12 +52,13 @@ fn link_lines(
     files: &LinkFiles<'_>,
     fault: &LinkFault,
 ) -> Result<Vec<u8>, AllocError>
-    ensures { IfOk result (λ lines. PrintsCause files.now.roots.items (map (λ p. p.now) files.now.root_files.items)
+    ensures { IfOk result (λ lines. PrintsCause files.now.roots.items (root_paths files.now.root_files.items)
         files.now.libraries.items (map (λ p. p.now) files.now.paths.items) fault.now [] lines.items) }
 {
+    let paths = root_paths(alloc, &files.root_files)?;
     let sources = LinkSources {
         roots: &files.roots,
-        root_files: &files.root_files,
+        root_files: &paths,
         libraries: &files.libraries,
         library_files: &files.paths,
     };
@@ -57,28 +67,54 @@ fn link_lines(
     Ok(lines)
 }
 
+/// The path of the file of each module, in order: that of a file as often as it has modules.
+fn root_paths<'a>(alloc: Global, files: &[RootFile<'a>]) -> Result<Vec<&'a [u8]>, AllocError>
+    ensures { IfOk result (λ paths. map (λ p. p.now) paths.items ≡ root_paths files.now) }
+{
+    let mut paths = Vec::new(alloc);
+    for file in files {
+        push_paths(&mut paths, file.modules, file.path)?;
+    }
+    Ok(paths)
+}
+
+/// Appends `path` to `paths`, `count` times.
+fn push_paths<'a>(paths: &mut Vec<&'a [u8]>, count: usize, path: &'a [u8]) -> Result<(), AllocError>
+    ensures { OnOk result (map (λ p. p.now) paths.new.items ≡ map (λ p. p.now) paths.old.items ++ repeat count (path.now ∷ [])) }
+{
+    for _ in 0..count {
+        paths.push(path)?;
+    }
+    Ok(())
+}
+
 /// Reports why LOCATE can't place `program` by these options, and shows where the cause is, if words are asked for.
 pub(crate) fn report_place_fault<C: Console>(
     console: &mut C,
     program: &Module,
     options: &Options,
-    fault: &PlaceFault,
+    fault: PlaceFault,
 ) -> Reported
     ensures { C.journal console.new ≡ and_reported (C.journal console.old) }
 {
-    let reported = console.report(fault);
-    if console.explains() {
-        let lines = place_lines(console.alloc(), program, options, fault);
-        explain_lines(console, lines);
-    }
-    match (fault, program.start()) {
-        (PlaceFault::NoStart, _) => console.explain(
-            "it isn't the main program, which ends with END and a label: link it with that one",
-        ),
-        (PlaceFault::StartNotCode, Some((ABSOLUTE, _))) => {
-            console.explain("an image is located already: check, list and run take it");
+    let lines = if console.explains() {
+        place_lines(console.alloc(), program, options, &fault).ok()
+    } else {
+        None
+    };
+    let more = match (&fault, program.start()) {
+        (PlaceFault::NoStart, _) => {
+            "it isn't the main program, which ends with END and a label: link it with that one"
         }
-        _ => {}
+        (PlaceFault::StartNotCode, Some((ABSOLUTE, _))) => {
+            "an image is located already: check, list and run take it"
+        }
+        _ => "",
+    };
+    let reported = console.report(fault);
+    explain_lines(console, lines);
+    if !more.is_empty() {
+        console.explain(more);
     }
     reported
 }
@@ -108,8 +144,10 @@ pub(crate) fn report_unmapped<C: Console>(
 {
     let reported = console.report(found);
     if console.explains() {
-        let lines = unmapped_lines(console.alloc(), program, options, found);
-        explain_lines(console, lines);
+        explain_lines(
+            console,
+            unmapped_lines(console.alloc(), program, options, found).ok(),
+        );
     }
     reported
 }
@@ -131,9 +169,9 @@ fn unmapped_lines(
     Ok(lines)
 }
 
-/// Prints these lines, each of which begins as words below a fault do. Nothing is printed if memory ran out for them.
-fn explain_lines<C: Console>(console: &C, lines: Result<Vec<u8>, AllocError>) {
-    let Ok(lines) = lines else { return };
+/// Prints these lines, each of which begins as words below a fault do. Nothing is printed if there are none.
+fn explain_lines<C: Console>(console: &C, lines: Option<Vec<u8>>) {
+    let Some(lines) = lines else { return };
     if let Ok(text) = str::from_utf8(&lines) {
         for line in text.lines() {
             console.explain(line.strip_prefix("  ").unwrap_or(line));
