@@ -1,9 +1,8 @@
-//! Files that are opened when they are first read, readers that keep why they failed, and why.
+//! Readers that keep why they failed, and why the system fails.
 
 ghost use Rattle.std.specs.Prelude.{◌≡◌, ◌≢◌, None, Some, pos};
-ghost use Rattle.std.specs.{Io.ReadsAtMost, IoError.error_kind, IoError.raw_os_error};
+ghost use Rattle.std.specs.IoError.{error_kind, raw_os_error};
 
-use std::fs::File;
 use std::io;
 use std::io::{ErrorKind, Read};
 use std::marker::Model;
@@ -20,74 +19,6 @@ pub(crate) fn kind_of(error: &io::Error) -> ErrorKind
         ErrorKind::NotConnected
     } else {
         error.kind()
-    }
-}
-
-/// A file that is opened when it is first read, so that a missing file is reported when its turn comes.
-#[derive(Drop)]
-pub(crate) struct LateFile<'a> {
-    rt: &'a HostRuntime,
-    path: &'a str,
-    file: Option<File>,
-    failure: Option<ErrorKind>,
-}
-
-/// A contract sees why opening or reading the file failed last.
-impl<'a> Model for LateFile<'a> {
-    ghost use Rattle.std.specs.Prelude.{Option};
-    ghost use Rattle.std.specs.declared.io.ErrorKind.{ErrorKind};
-
-    ghost Value = { Option ErrorKind };
-
-    ghost view = { λ file. file.failure };
-}
-
-impl<'a> LateFile<'a> {
-    /// The file of this path, which isn't opened yet.
-    pub(crate) fn new(rt: &'a HostRuntime, path: &'a str) -> LateFile<'a>
-        ensures { result ≡ None }
-    {
-        LateFile {
-            rt,
-            path,
-            file: None,
-            failure: None,
-        }
-    }
-
-    /// Why opening or reading the file failed last; `None` if neither did.
-    pub(crate) fn failure(&self) -> Option<ErrorKind>
-        ensures { result ≡ self.now }
-    {
-        self.failure
-    }
-
-    /// Reads the next bytes of the file, which is opened if it isn't yet. `failure` is left as it was.
-    fn open_and_read(&mut self, buffer: &mut [u8]) -> io::Result<usize>
-        ensures count { ReadsAtMost result buffer.new }
-        ensures failure { self.new ≡ self.old }
-    {
-        match &mut self.file {
-            Some(file) => file.read(buffer),
-            None => {
-                let mut file = File::open(self.rt, self.path)?;
-                let count = file.read(buffer)?;
-                self.file = Some(file);
-                Ok(count)
-            }
-        }
-    }
-}
-
-impl<'a> Read for LateFile<'a> {
-    fn read(&mut self, buffer: &mut [u8]) -> io::Result<usize> {
-        match self.open_and_read(buffer) {
-            Ok(count) => Ok(count),
-            Err(error) => {
-                self.failure = Some(kind_of(&error));
-                Err(error)
-            }
-        }
     }
 }
 

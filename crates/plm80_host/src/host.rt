@@ -1,15 +1,18 @@
 //! The console of the program, over its host.
 
-ghost use Rattle.std.specs.Prelude.{◌≡◌, [], IfOk};
+ghost use Rattle.std.specs.Prelude.{◌≡◌, [], IfErr, IfOk};
 ghost use Rattle.plm80_console.specs.Journal.{and_reported, nothing_done};
 ghost use Rattle.plm80_host.specs.Noted.{noted};
 
-use crate::files::{LateFile, NotedReader, kind_of};
+use crate::files::{NotedReader, kind_of};
 use crate::notes::{Note, Notes};
+use crate::replacing::in_order;
+use crate::same_file::place_of;
 use plm80_console::{Console, FailureWords, NewFile, OneLine, Reported, TakePieces};
 use std::alloc::Global;
 use std::fmt::Display;
 use std::fs;
+use std::fs::File;
 use std::io::{ErrorKind, IsTerminal, Read, Write};
 use stream80::{Failed, ReadAllFault, Reading, Sink, TEXT_LIMIT, read_all};
 
@@ -56,10 +59,7 @@ impl<'a> Console for HostConsole<'a> {
     }
 
     fn read(&mut self, path: &str) -> Result<Vec<u8>, Reported> {
-        if path == DASH {
-            return Err(self.report_dash("Read"));
-        }
-        let mut file = LateFile::new(self.rt, path);
+        let mut file = self.open(path)?;
         let mut source = Reading::new(&mut file);
         match read_all(self.rt.alloc(), &mut source, TEXT_LIMIT) {
             Ok(bytes) => {
@@ -86,10 +86,7 @@ impl<'a> Console for HostConsole<'a> {
     }
 
     fn read_in_pieces<F: TakePieces>(&mut self, path: &str, feed: &mut F) -> Result<(), Reported> {
-        if path == DASH {
-            return Err(self.report_dash("Read"));
-        }
-        let mut file = LateFile::new(self.rt, path);
+        let mut file = self.open(path)?;
         match hand_pieces(&mut file, feed) {
             Ok(pieces) => {
                 self.note(&Note::ReadPieces(path, &pieces));
@@ -100,24 +97,45 @@ impl<'a> Console for HostConsole<'a> {
     }
 
     fn replace(&mut self, path: &str, bytes: &[u8]) -> Result<(), Reported> {
-        if path == DASH {
-            return Err(self.report_dash("Write"));
-        }
-        self.replace_file(NewFile { path, bytes })
+        let draft = self.draft(NewFile { path, bytes })?;
+        self.settle(draft)?;
+        self.note(&Note::Written(path, bytes));
+        Ok(())
     }
 
     fn replace_both(&mut self, first: NewFile<'_>, second: NewFile<'_>) -> Result<(), Reported> {
-        if first.path == DASH || second.path == DASH {
+        if second.path == DASH {
             return Err(self.report_dash("Write"));
         }
-        self.replace_two(first, second)
+        let first_draft = self.draft(first)?;
+        match self.draft(second) {
+            Ok(second_draft) => {
+                let (earlier, later) = in_order(first_draft, second_draft);
+                self.settle_both(earlier, later)?;
+                self.note(&Note::Written(first.path, first.bytes));
+                self.note(&Note::Written(second.path, second.bytes));
+                Ok(())
+            }
+            Err(reported) => {
+                self.drop_draft(first_draft);
+                Err(reported)
+            }
+        }
     }
 
     fn replace_keeping_objects(&mut self, path: &str, bytes: &[u8]) -> Result<(), Reported> {
-        if path == DASH {
-            return Err(self.report_dash("Write"));
+        let draft = self.draft(NewFile { path, bytes })?;
+        match self.keep_object(path) {
+            Ok(()) => {
+                self.settle(draft)?;
+                self.note(&Note::Written(path, bytes));
+                Ok(())
+            }
+            Err(reported) => {
+                self.drop_draft(draft);
+                Err(reported)
+            }
         }
-        self.replace_keeping(NewFile { path, bytes })
     }
 
     fn output(&mut self) -> HostOutput<'a> {
@@ -177,21 +195,38 @@ impl<'a> Console for HostConsole<'a> {
             Ok(metadata) if metadata.is_file() => {}
             _ => return None,
         }
-        let mut source = Reading::new(LateFile::new(self.rt, path));
+        let mut source = Reading::new(File::open(self.rt, path).ok()?);
         read_all(self.rt.alloc(), &mut source, TEXT_LIMIT).ok()
     }
 
     fn is_one_file(&self, first: &str, second: &str) -> bool {
-        self.is_one_place(first, second)
+        match (place_of(self.rt, first), place_of(self.rt, second)) {
+            (Some(first), Some(second)) => first == second,
+            _ => false,
+        }
     }
 }
 
 /// The path by which other programs name standard input or output.
-const DASH: &str = "-";
+pub(crate) const DASH: &str = "-";
 
 impl<'a> HostConsole<'a> {
+    /// Opens the file of this path. A fault is reported.
+    fn open(&mut self, path: &str) -> Result<NotedReader<File>, Reported>
+        ensures unchanged { IfOk result (λ _. self.new.notes.journal ≡ self.old.notes.journal) }
+        ensures fault { IfErr result (λ _. self.new.notes.journal ≡ and_reported self.old.notes.journal) }
+    {
+        if path == DASH {
+            return Err(self.report_dash("Read"));
+        }
+        match File::open(self.rt, path) {
+            Ok(file) => Ok(NotedReader::new(file)),
+            Err(error) => Err(self.report_system(path, "Read", Some(kind_of(&error)))),
+        }
+    }
+
     /// Reports the fault of a path that is a hyphen alone, which names no file, and says below it how standard streams are named.
-    fn report_dash(&mut self, fault: &str) -> Reported
+    pub(crate) fn report_dash(&mut self, fault: &str) -> Reported
         ensures { self.new.notes.journal ≡ and_reported self.old.notes.journal }
     {
         let reported = self.report_file(DASH, fault);
@@ -234,9 +269,7 @@ impl<'a> HostConsole<'a> {
             ReadAllFault::Memory => self.report_memory(),
         }
     }
-}
 
-impl<'a> HostConsole<'a> {
     /// Reports why standard input, the only text of a bundle, wasn't read whole; `failure` is why the system failed, if it did.
     fn report_no_input(&mut self, fault: ReadAllFault, failure: Option<ErrorKind>) -> Reported
         ensures { self.new.notes.journal ≡ and_reported self.old.notes.journal }

@@ -2,14 +2,14 @@
 
 ghost use Rattle.std.specs.Prelude.{◌≡◌, ℕ, IfErr, IfOk, string_bytes};
 ghost use Rattle.plm80_console.specs.Journal.{and_copied, and_reported};
-ghost use Rattle.plm80_console.specs.Replaced.{GaveUpKeeping, IsKept, IsReplacedKeeping, kept_text};
+ghost use Rattle.plm80_console.specs.Replaced.{IsKept, kept_text};
 
 use crate::host::HostConsole;
 use crate::notes::Note;
 use crate::path_parts::folder_and_name;
-use crate::replacing::create_private;
+use crate::replacing::{PRIVATE, create_new};
 use crate::size_limit::is_past_limit;
-use plm80_console::{Console, NewFile, Reported};
+use plm80_console::{Console, Reported};
 use std::alloc::AllocError;
 use std::fs::{File, Permissions};
 use std::io::{ErrorKind, Read, Seek, SeekFrom};
@@ -20,31 +20,9 @@ use std::{fs, io};
 const MODULE_HEADER: u8 = 0x02;
 
 impl<'a> HostConsole<'a> {
-    /// Replaces a file as [`Console::replace`] does. If the path names an object file now, by a symbolic link too, a copy of it
-    /// is kept beside the path: under the path with a tilde, and with a number behind it if there is such a file. Nothing is
-    /// replaced before the copy is whole.
-    pub(crate) fn replace_keeping(&mut self, file: NewFile<'_>) -> Result<(), Reported>
-        ensures written { IfOk result (λ _. IsReplacedKeeping file.entry.path.now file.entry.bytes.now
-            self.old.notes.journal self.new.notes.journal) }
-        ensures fault { IfErr result (λ _. GaveUpKeeping file.entry.path.now self.old.notes.journal self.new.notes.journal) }
-    {
-        let draft = self.draft(file)?;
-        match self.keep_object(file.path) {
-            Ok(()) => {
-                self.settle(draft)?;
-                self.note(&Note::Written(file.path, file.bytes));
-                Ok(())
-            }
-            Err(reported) => {
-                self.drop_draft(draft);
-                Err(reported)
-            }
-        }
-    }
-
     /// Keeps a copy of the regular file that the path names, if it is an object file. A file that can't be read may be one: that is
     /// reported.
-    fn keep_object(&mut self, path: &str) -> Result<(), Reported>
+    pub(crate) fn keep_object(&mut self, path: &str) -> Result<(), Reported>
         ensures kept { IfOk result (λ _. IsKept path.now self.old.notes.journal self.new.notes.journal) }
         ensures fault { IfErr result (λ _. self.new.notes.journal ≡ and_reported self.old.notes.journal) }
     {
@@ -92,7 +70,7 @@ impl<'a> HostConsole<'a> {
     {
         for number in 0..u32::MAX {
             let kept = self.kept_path(path, number)?;
-            match create_private(self.rt, &kept) {
+            match create_new(self.rt, &kept, PRIVATE) {
                 Ok(copy) => return Ok((kept, copy)),
                 Err(error) if error.kind() == ErrorKind::AlreadyExists => {}
                 Err(error) => return Err(CopyFault::At(kept, error.kind())),

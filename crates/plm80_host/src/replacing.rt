@@ -4,13 +4,12 @@
 //! place that is no regular file with one link, or beside which no file of the same owner can be made, is written in place. What
 //! replaces a file can be opened by its owner alone until it has the old file's permissions.
 
-ghost use Rattle.std.specs.Prelude.{◌≡◌, ◌∷◌, [], IfErr, IfOk, string_bytes};
+ghost use Rattle.std.specs.Prelude.{◌≡◌, IfErr, IfOk, string_bytes};
 ghost use Rattle.std.specs.IoError.{error_kind};
-ghost use Rattle.plm80_console.specs.{Answer.GaveUp, Replaced.NotSettled, Replaced.new_file_value};
-ghost use Rattle.plm80_console.specs.Journal.{and_reported, and_written};
+ghost use Rattle.plm80_console.specs.{Journal.and_reported, Replaced.NotSettled};
 ghost use Rattle.plm80_host.specs.Drafts.{IsBeginning, IsDraftIn, IsDraftOf, NotBothSettled, in_order, is_in_place};
 
-use crate::host::HostConsole;
+use crate::host::{DASH, HostConsole};
 use crate::notes::Note;
 use crate::path_parts::folder_and_name;
 use crate::size_limit::is_past_limit;
@@ -24,6 +23,12 @@ use std::{fs, io};
 /// How many bytes of a file's name the name of its draft begins with, at most. With `.new` and a number that has at most 254: a file
 /// system takes 255.
 const NAME_LENGTH: usize = 240;
+
+/// The permissions of a new file that its owner alone may open.
+pub(crate) const PRIVATE: u32 = 0o600;
+
+/// The permissions of a new file that all may open, as far as the system grants them.
+const SHARED: u32 = 0o666;
 
 /// A new file before it is in its place. A draft is settled or dropped, by a call.
 pub(crate) struct Draft<'a> {
@@ -42,7 +47,7 @@ impl<'a> Draft<'a> {
 }
 
 /// Both drafts, with the one first that is written in place, if only one is, since that may fail as it is written; else in the order given.
-fn in_order<'a>(first: Draft<'a>, second: Draft<'a>) -> (Draft<'a>, Draft<'a>)
+pub(crate) fn in_order<'a>(first: Draft<'a>, second: Draft<'a>) -> (Draft<'a>, Draft<'a>)
     ensures { result ≡ in_order first.entry second.entry }
 {
     if second.is_in_place() && !first.is_in_place() {
@@ -76,48 +81,12 @@ impl From<io::Error> for DraftFault {
 }
 
 impl<'a> HostConsole<'a> {
-    /// Replaces a file, or makes it. After a fault, which is reported, it is as it was, unless it is written in place.
-    pub(crate) fn replace_file(&mut self, file: NewFile<'_>) -> Result<(), Reported>
-        ensures written { IfOk result (λ _. self.new.notes.journal
-            ≡ and_written self.old.notes.journal file.entry.path.now file.entry.bytes.now) }
-        ensures fault { IfErr result (λ _. GaveUp (new_file_value file.entry ∷ []) self.old.notes.journal self.new.notes.journal) }
-    {
-        let draft = self.draft(file)?;
-        self.settle(draft)?;
-        self.note(&Note::Written(file.path, file.bytes));
-        Ok(())
-    }
-
-    /// Replaces two files, or makes them. Neither is changed before the other's bytes are written, unless both are written in place.
-    /// After a fault, which is reported, one of them may have been replaced, and one that is written in place may have lost its bytes.
-    pub(crate) fn replace_two(
-        &mut self,
-        first: NewFile<'_>,
-        second: NewFile<'_>,
-    ) -> Result<(), Reported>
-        ensures written { IfOk result (λ _. self.new.notes.journal ≡ and_written (and_written self.old.notes.journal
-            first.entry.path.now first.entry.bytes.now) second.entry.path.now second.entry.bytes.now) }
-        ensures fault { IfErr result (λ _. GaveUp (new_file_value first.entry ∷ new_file_value second.entry ∷ [])
-            self.old.notes.journal self.new.notes.journal) }
-    {
-        let first_draft = self.draft(first)?;
-        match self.draft(second) {
-            Ok(second_draft) => {
-                let (earlier, later) = in_order(first_draft, second_draft);
-                self.settle_both(earlier, later)?;
-                self.note(&Note::Written(first.path, first.bytes));
-                self.note(&Note::Written(second.path, second.bytes));
-                Ok(())
-            }
-            Err(reported) => {
-                self.drop_draft(first_draft);
-                Err(reported)
-            }
-        }
-    }
-
     /// Moves both drafts to their places, in this order. If the first one isn't moved, which is reported, the second one is removed.
-    fn settle_both(&mut self, first: Draft<'_>, second: Draft<'_>) -> Result<(), Reported>
+    pub(crate) fn settle_both(
+        &mut self,
+        first: Draft<'_>,
+        second: Draft<'_>,
+    ) -> Result<(), Reported>
         ensures unchanged { IfOk result (λ _. self.new.notes.journal ≡ self.old.notes.journal) }
         ensures fault { IfErr result (λ _. NotBothSettled first.entry.file second.entry.file self.old.notes.journal self.new.notes.journal) }
     {
@@ -152,6 +121,9 @@ impl<'a> HostConsole<'a> {
         ensures unchanged { IfOk result (λ _. self.new.notes.journal ≡ self.old.notes.journal) }
         ensures fault { IfErr result (λ _. self.new.notes.journal ≡ and_reported self.old.notes.journal) }
     {
+        if file.path == DASH {
+            return Err(self.report_dash("Write"));
+        }
         match self.try_draft(file) {
             Ok(draft) => Ok(draft),
             Err(DraftFault::Memory) => Err(self.report_memory()),
@@ -217,9 +189,10 @@ impl<'a> HostConsole<'a> {
             Replaced::Other => return Ok(Draft { file, beside: None }),
         };
         let beginning = with_short_name(file.path);
+        let mode = if old.is_some() { PRIVATE } else { SHARED };
         for number in 0..u32::MAX {
             let beside = format!(in self.rt.alloc(); "{beginning}.new{number}")?;
-            match self.create_beside(&beside, old.is_some()) {
+            match create_new(self.rt, &beside, mode) {
                 Ok(target) => return self.fill(target, beside, file, old),
                 Err(error) if error.kind() == ErrorKind::AlreadyExists => self.explain(format_args!(
                     "{beside} is there: if a run that was killed left it, remove it"
@@ -228,15 +201,6 @@ impl<'a> HostConsole<'a> {
             }
         }
         Err(DraftFault::System(ErrorKind::AlreadyExists))
-    }
-
-    /// Makes a new file of this name; if it `replaces` another, only its owner may open it. An error if there is such a file.
-    fn create_beside(&self, beside: &str, replaces: bool) -> io::Result<File> {
-        if replaces {
-            create_private(self.rt, beside)
-        } else {
-            File::create_new(self.rt, beside)
-        }
     }
 
     /// Writes the file's bytes to `target`, whose name is `beside`, with the permissions of the file `old` that it replaces. If it can't
@@ -308,12 +272,12 @@ fn with_short_name(path: &str) -> &str
     path
 }
 
-/// Makes a new file of this name, which its owner alone can open. An error if there is such a file.
-pub(crate) fn create_private(rt: &HostRuntime, path: &str) -> io::Result<File> {
+/// Makes a new file of this name with these permissions, as far as the system grants them. An error if there is such a file.
+pub(crate) fn create_new(rt: &HostRuntime, path: &str, mode: u32) -> io::Result<File> {
     OpenOptions::new()
         .write(true)
         .create_new(true)
-        .mode(0o600)
+        .mode(mode)
         .open(rt, path)
 }
 

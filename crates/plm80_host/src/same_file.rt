@@ -1,10 +1,8 @@
 //! Whether two paths name one file.
 
-ghost use Rattle.std.specs.Prelude.{◌≡◌, ◌==◌, ◌&&◌, IfOk, IfSome, string_bytes};
-ghost use Rattle.std.specs.Str.{bytes_eq};
-ghost use Rattle.plm80_host.specs.{PathParts.joined_path, Places.IsNewFile, Places.is_one_place};
+ghost use Rattle.std.specs.Prelude.{◌≡◌, IfOk, IfSome, string_bytes};
+ghost use Rattle.plm80_host.specs.{PathParts.joined_path, Places.IsNewFile};
 
-use crate::host::HostConsole;
 use crate::path_parts::folder_and_name;
 use std::alloc::{AllocError, Global};
 use std::fs;
@@ -15,19 +13,9 @@ use std::os::unix::fs::MetadataExt;
 /// How many symbolic links a path is followed through, as Linux does.
 const LINKS: usize = 40;
 
-impl<'a> HostConsole<'a> {
-    /// Whether two paths name one file, or one that would be made. `false` if that isn't known of one of them.
-    pub(crate) fn is_one_place(&self, first: &str, second: &str) -> bool {
-        match (place_of(self.rt, first), place_of(self.rt, second)) {
-            (Some(first), Some(second)) => first.is_same(&second),
-            _ => false,
-        }
-    }
-}
-
 /// A file or a folder of the system, by the numbers that it has there.
-#[derive(Clone, Copy)]
-struct Node {
+#[derive(Clone, Copy, PartialEq, Eq)]
+pub(crate) struct Node {
     device: u64,
     number: u64,
 }
@@ -40,41 +28,19 @@ impl Node {
             number: metadata.ino(),
         }
     }
-
-    /// Whether two nodes are one file or folder.
-    fn is_same(self, other: Node) -> bool
-        ensures { result ≡ (self.device == other.device && self.number == other.number) }
-    {
-        self.device == other.device && self.number == other.number
-    }
 }
 
 /// What a path names: a file, or where one would be made.
-#[derive(Drop)]
-enum Place {
+#[derive(Drop, PartialEq, Eq)]
+pub(crate) enum Place {
     /// A regular file that is there, whatever links lead to it.
     File(Node),
     /// A file of this name that would be made in this folder.
     NewFile(Node, String),
 }
 
-impl Place {
-    /// Whether two places are one file.
-    fn is_same(&self, other: &Place) -> bool
-        ensures { result ≡ is_one_place self.now other.now }
-    {
-        match (self, other) {
-            (Place::File(node), Place::File(other)) => node.is_same(*other),
-            (Place::NewFile(folder, name), Place::NewFile(other, other_name)) => {
-                folder.is_same(*other) && name.as_str() == other_name.as_str()
-            }
-            (Place::File(_), Place::NewFile(..)) | (Place::NewFile(..), Place::File(_)) => false,
-        }
-    }
-}
-
 /// What the path names; `None` if it can't be read or written, and for a pipe or a device, which may be read and written at once.
-fn place_of(rt: &HostRuntime, path: &str) -> Option<Place> {
+pub(crate) fn place_of(rt: &HostRuntime, path: &str) -> Option<Place> {
     match fs::metadata(rt, path) {
         Ok(metadata) if metadata.is_file() => Some(Place::File(Node::of(&metadata))),
         Err(error) if error.kind() == ErrorKind::NotFound => new_file(rt, path),
