@@ -5,6 +5,7 @@ ghost use Rattle.std.specs.{Char.is_ascii_hexdigit, List.list_all};
 ghost use Rattle.plm80_console.specs.NumberText.{IsByteText, IsCountText, IsLengthText, IsWordText, count_value, word_value};
 
 /// The word that one to four hexadecimal digits write, in either case; `None` exactly for every other text.
+#[tactic(auto, using(crate::proofs::NumberLemmas::word_fits))]
 pub fn word_of_digits(text: &str) -> Option<u16>
     ensures word { IfSome result (λ word. IsWordText text.now × (word ≡ word_value text.now)) }
     ensures none { IfNone result (IsWordText text.now → ⊥) }
@@ -17,6 +18,7 @@ pub fn word_of_digits(text: &str) -> Option<u16>
 
 /// The number that one to five hexadecimal digits write, in either case, so that 10000 is all of memory; `None` exactly for every
 /// other text.
+#[tactic(auto, using(crate::proofs::NumberLemmas::length_fits))]
 pub fn length_of_digits(text: &str) -> Option<u32>
     ensures length { IfSome result (λ number. IsLengthText text.now × (number ≡ word_value text.now)) }
     ensures none { IfNone result (IsLengthText text.now → ⊥) }
@@ -28,6 +30,7 @@ pub fn length_of_digits(text: &str) -> Option<u32>
 }
 
 /// The byte that two hexadecimal digits write, in either case; `None` exactly for every other text.
+#[tactic(auto, using(crate::proofs::NumberLemmas::byte_fits))]
 pub fn byte_of_digits(text: &str) -> Option<u8>
     ensures byte { IfSome result (λ byte. IsByteText text.now × (byte ≡ word_value text.now)) }
     ensures none { IfNone result (IsByteText text.now → ⊥) }

@@ -119,14 +119,7 @@ impl<'a> Argument<'a> {
             | Kind::WrittenOption(_)
             | Kind::WrittenIfGiven(_)
             | Kind::Replaced { .. } => matches.get_str(self.name),
-            Kind::Path
-            | Kind::Paths
-            | Kind::Words
-            | Kind::Required(_)
-            | Kind::Number(_)
-            | Kind::Count(_)
-            | Kind::Flag
-            | Kind::PathsAt(_) => None,
+            _ => None,
         }
     }
 
@@ -136,17 +129,7 @@ impl<'a> Argument<'a> {
     {
         match self.kind {
             Kind::Replaced { old, .. } => other.name == old,
-            Kind::Path
-            | Kind::Paths
-            | Kind::Words
-            | Kind::Written
-            | Kind::WrittenOption(_)
-            | Kind::WrittenIfGiven(_)
-            | Kind::Required(_)
-            | Kind::Number(_)
-            | Kind::Count(_)
-            | Kind::Flag
-            | Kind::PathsAt(_) => false,
+            _ => false,
         }
     }
 
