@@ -1,3 +1,2 @@
 mod PieceLemmas
-mod RangeLemmas
 mod UnreadLemmas

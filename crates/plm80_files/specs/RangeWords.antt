@@ -5,21 +5,17 @@ use Rattle.image80.specs.{declared.range.Range.Range, Range.in_range}
 use Rattle.plm80_console.specs.NumberText.{IsWordText, word_value}
 use Rattle.plm80_files.specs.{Lines.line_at, declared.regions_words.RangeLine.RangeLine}
 
--- the words of lines that have a range, each with its blank
+-- the words that begin lines which have a range
 abbrev pub IsKeyword : List ℕ → Type 0
-IsKeyword word = (word ≡ codes "CODE ") ⊎ ((word ≡ codes "STACK ") ⊎ (word ≡ codes "DATA "))
+IsKeyword word = (word ≡ codes "CODE") ⊎ ((word ≡ codes "STACK") ⊎ (word ≡ codes "DATA"))
 
--- what stands behind such a word
-pub record IsBehindKeyword (line rest : List ℕ) : Type 0 where
-  pub keyword : List ℕ
-  pub is_keyword : IsKeyword keyword
-  pub line_is : line ≡ keyword ++ rest
-
--- the first address and the length of a range are the two words behind it, in hexadecimal digits
+-- behind such a word stand the first address and the length of a range, in hexadecimal digits, with a blank before each
 pub record IsInWords (line : List ℕ) (range : Range) : Type 0 where
+  pub keyword : List ℕ
   pub first : List ℕ
   pub length : List ℕ
-  pub behind : IsBehindKeyword line (first ++ 32 ∷ length)
+  pub is_keyword : IsKeyword keyword
+  pub line_is : line ≡ keyword ++ 32 ∷ (first ++ 32 ∷ length)
   pub is_first : IsWordText first
   pub first_is : range.first ≡ word_value first
   pub is_length : IsWordText length

@@ -120,12 +120,7 @@ impl FileKind {
         match self {
             FileKind::Regions => Some("this is a regions text, not an inputs text"),
             FileKind::ObjectFile => Some("this is an object file, not an inputs text"),
-            FileKind::Empty
-            | FileKind::Library
-            | FileKind::Inputs
-            | FileKind::IntelHex
-            | FileKind::Elf
-            | FileKind::Unknown => None,
+            _ => None,
         }
     }
 
@@ -138,11 +133,7 @@ impl FileKind {
             FileKind::Unknown => Some(
                 "IMAGE is the first path; of a PROM's bytes plm80 absolute makes one",
             ),
-            FileKind::Empty
-            | FileKind::ObjectFile
-            | FileKind::Library
-            | FileKind::IntelHex
-            | FileKind::Elf => None,
+            _ => None,
         }
     }
 
@@ -152,12 +143,7 @@ impl FileKind {
     {
         match self {
             FileKind::ObjectFile | FileKind::Regions => Some("INPUTS is the third path"),
-            FileKind::Empty
-            | FileKind::Library
-            | FileKind::Inputs
-            | FileKind::IntelHex
-            | FileKind::Elf
-            | FileKind::Unknown => None,
+            _ => None,
         }
     }
 }

@@ -2,7 +2,7 @@
 
 ghost use Rattle.std.specs.Prelude.{◌≡◌, ◌≢◌, IfOk, IfSome};
 ghost use Rattle.plm80_files.specs.Lines.{needs_version_2};
-ghost use Rattle.plm80_files.specs.RangeWords.{IsBehindKeyword, IsInWords, IsRangeLine, ShareAddress};
+ghost use Rattle.plm80_files.specs.RangeWords.{IsInWords, IsRangeLine, ShareAddress};
 
 use crate::file_kinds::{FileRole, explain_file};
 use crate::line_words::{UPPER_FLAWS, VERSION_FLAWS, explain_flaws, line_of};
@@ -149,25 +149,13 @@ fn take_range(owners: &mut Vec<usize>, range: Range, number: usize) -> Option<us
 fn range_of(line: &[u8]) -> Option<Range>
     ensures { IfSome result (IsInWords line.now) }
 {
-    let Ok(words) = str::from_utf8(extent_of(line)?) else {
-        return None;
-    };
-    let (first, length) = words.split_once(' ')?;
-    Some(Range {
-        first: word_of_digits(first)?,
-        length: word_of_digits(length)?,
-    })
-}
-
-/// What stands behind the word CODE, STACK or DATA and a blank, with which a line begins; `None` if it begins otherwise.
-fn extent_of(line: &[u8]) -> Option<&[u8]>
-    ensures { IfSome result (λ extent. IsBehindKeyword line.now extent.now) }
-{
-    if let Some(rest) = line.strip_prefix(b"CODE ") {
-        return Some(rest);
+    let (keyword, extent) = str::from_utf8(line).ok()?.split_once(' ')?;
+    let (first, length) = extent.split_once(' ')?;
+    match keyword {
+        "CODE" | "STACK" | "DATA" => Some(Range {
+            first: word_of_digits(first)?,
+            length: word_of_digits(length)?,
+        }),
+        _ => None,
     }
-    if let Some(rest) = line.strip_prefix(b"STACK ") {
-        return Some(rest);
-    }
-    line.strip_prefix(b"DATA ")
 }
