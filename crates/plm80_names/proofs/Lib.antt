@@ -1,2 +1,1 @@
-pub mod PrintedLemmas
 pub mod VerdictLemmas

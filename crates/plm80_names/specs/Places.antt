@@ -13,26 +13,20 @@ instr_at image at = option_map (λ found. found.0)
 abbrev has : (address : ℕ) → List Range → Range → Type 0
 has address ranges range = find (λ r. in_range r address) ranges ≡ Some range
 
--- the range of the stack, of data, or of code that has the address, with the word that begins its line
-abbrev pub IsPlaceInStack : Areas → (address : ℕ) → Place → Type 0
-IsPlaceInStack areas address place = (place.word.now ≡ codes "STACK") × (place.range ≡ areas.stack) × (in_range areas.stack address ≡ true)
-
-abbrev pub IsPlaceInRam : Areas → (address : ℕ) → Place → Type 0
-IsPlaceInRam areas address place =
-    ((place.word.now ≡ codes "DATA") × has address areas.data_ranges place.range) ⊎ IsPlaceInStack areas address place
-
+-- the range of code or of data that has the address, or the stack, with the word that begins its line
 abbrev pub IsPlaceOf : Areas → (address : ℕ) → Place → Type 0
-IsPlaceOf areas address place = ((place.word.now ≡ codes "CODE") × has address areas.code place.range) ⊎ IsPlaceInRam areas address place
+IsPlaceOf areas address place =
+    ((place.word.now ≡ codes "CODE") × has address areas.code place.range)
+    ⊎ (((place.word.now ≡ codes "DATA") × has address areas.data_ranges place.range)
+    ⊎ ((place.word.now ≡ codes "STACK") × (place.range ≡ areas.stack) × (in_range areas.stack address ≡ true)))
 
 -- no range has it
 abbrev pub HasNone : (address : ℕ) → List Range → Type 0
 HasNone address ranges = find (λ r. in_range r address) ranges ≡ None
 
-abbrev pub IsOutsideRam : Areas → (address : ℕ) → Type 0
-IsOutsideRam areas address = HasNone address areas.data_ranges × (in_range areas.stack address ≡ false)
-
 abbrev pub IsInNoRange : Areas → (address : ℕ) → Type 0
-IsInNoRange areas address = HasNone address areas.code × IsOutsideRam areas address
+IsInNoRange areas address =
+    HasNone address areas.code × (HasNone address areas.data_ranges × (in_range areas.stack address ≡ false))
 
 -- the address with its range, or without one that has it
 abbrev pub ArePlaceWords : Areas → (address : ℕ) → PlaceWords → Type 0

@@ -7,6 +7,7 @@ ghost use Rattle.plm80_names.specs.{Printed.AreNamesOf, Arguments.AreNamedFiles,
 ghost use Rattle.plm80_console.specs.Journal.{OnlyReports, and_read};
 
 use crate::names::Names;
+use crate::refusal_words::explain_given;
 use clap::ArgMatches;
 use image80::Image;
 use plm80_console::{Argument, Console, Kind, ReadFile, Reported, argument_text};
@@ -58,6 +59,11 @@ impl<'a> NamedFiles<'a> {
     {
         let texts = ProgramTexts::read(console, self.image, self.regions)?;
         texts.program(console, self.names)
+    }
+
+    /// Prints words on what a command has `given` of the program in these files, as `explain_given` does.
+    pub fn explain<C: Console>(self, console: &C, given: &Result<u8, Reported>) {
+        explain_given(console, given, self.names, self.image, Some(self.regions));
     }
 }
 

@@ -101,19 +101,18 @@ impl Names {
         name_lines(alloc, &self.publics, code, word, &text)
     }
 
-    /// The text of one line, with the name of an address behind it, if it has one. Without names it is the text as it was.
+    /// The text of one line, with the name of an address behind it, if it has one.
     ///
     /// # Errors
     /// `AllocError` only if memory runs out.
-    pub fn name_end(
+    pub(crate) fn name_end(
         &self,
         alloc: Global,
         code: &[Range],
         address: u16,
         text: Vec<u8>,
     ) -> Result<Vec<u8>, AllocError>
-        ensures named { IfOk result (λ named. named.items ≡ named_end code.now self.now address text.items) }
-        ensures without { IfOk result (λ named. self.now ≡ [] → named.items ≡ text.items) }
+        ensures { IfOk result (λ named. named.items ≡ named_end code.now self.now address text.items) }
     {
         match text.strip_suffix(b"\n") {
             Some(line) => name_line(alloc, &self.publics, code, address, line),

@@ -6,7 +6,7 @@ ghost use Rattle.decode80.specs.{Fetch.direct_bytes, Text.text as text_of};
 ghost use Rattle.image80.specs.{Range.in_range, Regions.in_data};
 ghost use Rattle.verify80.specs.Looking.{code_of};
 ghost use Rattle.verify80_flow.specs.Faults.{Holds};
-ghost use Rattle.plm80_names.specs.Places.{IsInNoRange, IsOutsideRam, IsPlaceInRam, IsPlaceInStack, IsPlaceOf, ArePlaceWords, instr_at};
+ghost use Rattle.plm80_names.specs.Places.{IsInNoRange, IsPlaceOf, ArePlaceWords, instr_at};
 
 use decode80::{Instr, Pair, decode, direct_bytes, write_text};
 use image80::{Image, Range, read_regions};
@@ -215,34 +215,18 @@ fn place_of(image: &Image, address: u16) -> Option<Place>
     ensures some { IfSome result (IsPlaceOf image.now.regions address) }
     ensures none { IfNone result (IsInNoRange image.now.regions address) }
 {
-    match range_of(image.regions.code(), address) {
-        Some(range) => Some(Place {
+    if let Some(range) = range_of(image.regions.code(), address) {
+        return Some(Place {
             word: "CODE",
             range: *range,
-        }),
-        None => place_in_ram(image, address),
+        });
     }
-}
-
-/// The range of data that has an address, or the stack, with its word; `None` if neither has it.
-fn place_in_ram(image: &Image, address: u16) -> Option<Place>
-    ensures some { IfSome result (IsPlaceInRam image.now.regions address) }
-    ensures none { IfNone result (IsOutsideRam image.now.regions address) }
-{
-    match range_of(image.regions.data_ranges(), address) {
-        Some(range) => Some(Place {
+    if let Some(range) = range_of(image.regions.data_ranges(), address) {
+        return Some(Place {
             word: "DATA",
             range: *range,
-        }),
-        None => place_in_stack(image, address),
+        });
     }
-}
-
-/// The range of the stack with its word, if it has the address; else `None`.
-fn place_in_stack(image: &Image, address: u16) -> Option<Place>
-    ensures some { IfSome result (IsPlaceInStack image.now.regions address) }
-    ensures none { IfNone result (in_range image.now.regions.stack address ≡ false) }
-{
     let range = image.regions.stack();
     if range.contains(address) {
         Some(Place {
