@@ -5,6 +5,7 @@ use Rattle.plm80_programs.proofs.Names.{append-nil, arith, subst, sym, Appends, 
 use Rattle.plm80_programs.proofs.Names.{All-nil, All-push, filter-append, filter_map-append, DeclaredCase, Located, case_text, cases_text}
 use Rattle.plm80_programs.proofs.Names.{Note, Finding, IsFinding, IsSearched, case_of, is_open, FoundCase, text_limit}
 use Rattle.plm80_programs.proofs.Names.{AreFoundBelow, FindsCases, HasLongCases, IsFoundAt}
+use Rattle.plm80_programs.specs.Cases.IsFoundAt.{here, nothing}
 
 range_more : (a n j : ℕ) → a + n ≡ j → range_with_len a (suc n) ≡ range_with_len a n ++ j ∷ []
 range_more a zero j e = ap (λ (k : ℕ). k ∷ []) (let is : a ≡ j = omega (arith, e) in is)
@@ -30,28 +31,25 @@ module _ (image : Located) (reached taken : List Bool) where
       ∙ ap (λ (c : Bool). filter (is_open image reached) (range_with_len 0 at) ++ (if c then at ∷ [] else [])) e
 
   module _ (at : ℕ) (cases : List DeclaredCase) (notes : List Note) (so_far : AreFoundBelow image reached taken at cases notes) where
-    -- nothing is found at an address
-    pub passed : is_open image reached at ≡ false → AreFoundBelow image reached taken (at + 1) cases notes
-    passed closed = record {
-      findings = so_far.findings;
-      each = so_far.each;
-      of_all = so_far.of_all ∙ sym (append-nil (filter (is_open image reached) (range_with_len 0 at))) ∙ sym (filtered at false closed);
-      cases_are = so_far.cases_are;
-      notes_are = so_far.notes_are;
-    }
-
-    -- something is
+    -- what is found at an address, or nothing
     pub one_more : (found : FoundCase) (after_cases : List DeclaredCase) (after_notes : List Note) → IsFoundAt image reached taken at found
         → after_cases ≡ cases ++ cons_option found.case [] → after_notes ≡ notes ++ cons_option found.note []
         → AreFoundBelow image reached taken (at + 1) after_cases after_notes
-    one_more found after_cases after_notes here cases_are notes_are =
-        let finding : Finding = record { at = at; found = here.suggested; note = found.note } in
+    one_more found after_cases after_notes (nothing closed no_case no_note) cases_are notes_are = record {
+      findings = so_far.findings;
+      each = so_far.each;
+      of_all = so_far.of_all ∙ sym (append-nil (filter (is_open image reached) (range_with_len 0 at))) ∙ sym (filtered at false closed);
+      cases_are = cases_are ∙ ap (λ (o : Option DeclaredCase). cases ++ cons_option o []) no_case ∙ append-nil cases ∙ so_far.cases_are;
+      notes_are = notes_are ∙ ap (λ (o : Option Note). notes ++ cons_option o []) no_note ∙ append-nil notes ∙ so_far.notes_are;
+    }
+    one_more found after_cases after_notes (here is_here suggested found_so case_is) cases_are notes_are =
+        let finding : Finding = record { at = at; found = suggested; note = found.note } in
         record {
           findings = so_far.findings ++ finding ∷ [];
-          each = All-push (IsFinding image reached taken) so_far.findings finding so_far.each here.finding;
-          of_all = map-append at_of so_far.findings (finding ∷ []) ∙ ap (λ (l : List ℕ). l ++ at ∷ []) so_far.of_all ∙ sym (filtered at true here.here);
+          each = All-push (IsFinding image reached taken) so_far.findings finding so_far.each found_so;
+          of_all = map-append at_of so_far.findings (finding ∷ []) ∙ ap (λ (l : List ℕ). l ++ at ∷ []) so_far.of_all ∙ sym (filtered at true is_here);
           cases_are = cases_are ∙ ap (λ (cs : List DeclaredCase). cs ++ cons_option found.case []) so_far.cases_are
-              ∙ ap (λ (o : Option DeclaredCase). filter_map (λ (f : Finding). case_of f.found) so_far.findings ++ cons_option o []) here.case_is
+              ∙ ap (λ (o : Option DeclaredCase). filter_map (λ (f : Finding). case_of f.found) so_far.findings ++ cons_option o []) case_is
               ∙ sym (filter_map-append (λ (f : Finding). case_of f.found) so_far.findings (finding ∷ []));
           notes_are = notes_are ∙ ap (λ (ns : List Note). ns ++ cons_option found.note []) so_far.notes_are
               ∙ sym (filter_map-append (λ (f : Finding). f.note) so_far.findings (finding ∷ []));
@@ -82,7 +80,7 @@ finds_cases image reached taken limit cases notes searched all found = record {
 pub long_cases : (image : Located) (reached taken : List Bool) (at : ℕ) (cases : List DeclaredCase) (notes : List Note) (lines : List ℕ)
     → AreFoundBelow image reached taken at cases notes → lines ≡ cases_text cases → IsSearched image reached taken → (found : FoundCase)
     → IsFoundAt image reached taken at found → text_limit < length (lines ++ cases_text (cons_option found.case [])) → HasLongCases image
-long_cases image reached taken at cases notes lines so_far lines_are searched found here long = record {
+long_cases image reached taken at cases notes lines so_far lines_are searched found at_it long = record {
   reached = reached;
   taken = taken;
   searched = searched;
@@ -90,7 +88,7 @@ long_cases image reached taken at cases notes lines so_far lines_are searched fo
   cases = cases ++ cons_option found.case [];
   notes = notes ++ cons_option found.note [];
   found = one_more image reached taken at cases notes so_far found (cases ++ cons_option found.case []) (notes ++ cons_option found.note [])
-      here refl refl;
+      at_it refl refl;
   too_long = subst (λ (l : List ℕ). text_limit < length l)
       (ap (λ (l : List ℕ). l ++ cases_text (cons_option found.case [])) lines_are ∙ sym (cases_more cases (cons_option found.case []))) long;
 }
@@ -111,15 +109,12 @@ module _ (image : Located) (reached taken : List Bool) where
   }
 
   module _ (at : ℕ) (notes : List Note) (old now : Option (List ℕ)) (shown : Shown image reached taken at notes old now) where
-    pub shown_passed : is_open image reached at ≡ false → Shown image reached taken (at + 1) notes old now
-    shown_passed closed = record { cases = shown.cases; found = passed image reached taken at shown.cases notes shown.found closed; written = shown.written }
-
     pub shown_more : (found : FoundCase) (after : List Note) (new : Option (List ℕ)) → IsFoundAt image reached taken at found
         → Appends now new (cases_text (cons_option found.case [])) → after ≡ notes ++ cons_option found.note []
         → Shown image reached taken (at + 1) after old new
-    shown_more found after new here written noted = record {
+    shown_more found after new at_it written noted = record {
       cases = shown.cases ++ cons_option found.case [];
-      found = one_more image reached taken at shown.cases notes shown.found found (shown.cases ++ cons_option found.case []) after here refl noted;
+      found = one_more image reached taken at shown.cases notes shown.found found (shown.cases ++ cons_option found.case []) after at_it refl noted;
       written = subst (λ (l : List ℕ). Appends old new l)
           (sym (cases_more shown.cases (cons_option found.case [])))
           (Appends-trans old now new (cases_text shown.cases) (cases_text (cons_option found.case [])) shown.written written);

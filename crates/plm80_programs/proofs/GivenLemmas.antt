@@ -1,11 +1,9 @@
 -- Answers that are given to files that were read.
-use Rattle.plm80_programs.proofs.Names.{◌≡◌, ℕ, ◌==◌, ◌&&◌, not, is_none, Bool, false, List, [], ◌∷◌, Option, None, Some, Result, Ok, Err}
-use Rattle.plm80_programs.proofs.Names.{IfOk, IfErr, IsOkAnd, option_map, refl, MatchBool, ◌∙◌, ap, subst, sym, IfErr-weaker, IfOk-weaker}
-use Rattle.plm80_programs.proofs.Names.{Public, Located, Voucher, AnswerValue, GaveUp, Gives, GivesUp, IsAnswered}
-use Rattle.plm80_programs.proofs.Names.{IsGiven, IsGivenUp, paths_of, prints, FileValue, Journal, OnlyReports, and_read_files, file_value}
-use Rattle.plm80_programs.proofs.Names.{FaultsFollowReading, count_value, Limits, AnswersProgram, AnswersVerdict, IsAccepted, IsProgramRead}
-use Rattle.plm80_programs.proofs.Names.{IsRefusal, RunFiles, RunArguments, dump_of, run_paths, AnswersCases, PrintsCases, AnswersRun}
-use Rattle.plm80_programs.proofs.Names.{AnswersSession, AreLimitsOf, EndsRun, IsRunRead, RunsFiles, WritesCount, is_session}
+use Rattle.plm80_programs.proofs.Names.{◌≡◌, ℕ, List, [], ◌∷◌, Option, Result, Ok, Err, IfOk, IfErr, IsOkAnd, refl, subst, IfErr-weaker}
+use Rattle.plm80_programs.proofs.Names.{IfOk-weaker, Public, Located, Voucher, AnswerValue, GaveUp, Gives, GivesUp, IsAnswered, IsGiven}
+use Rattle.plm80_programs.proofs.Names.{IsGivenUp, paths_of, prints, FileValue, Journal, OnlyReports, and_read_files, file_value}
+use Rattle.plm80_programs.proofs.Names.{FaultsFollowReading, AnswersProgram, AnswersVerdict, IsAccepted, IsProgramRead, IsRefusal}
+use Rattle.plm80_programs.proofs.Names.{Bool, false, RunFiles, run_paths, AnswersCases, PrintsCases, AnswersRun, IsRunRead}
 use Rattle.plm80_console.specs.Answer.IsGivenUp.{before as before_it, within as within_it}
 use Rattle.plm80_console.specs.Answer.GivesUp.{before, within}
 use Rattle.plm80_names.specs.Verdict.AnswersVerdict.{accepted, refused}
@@ -13,8 +11,7 @@ use Rattle.plm80_names.specs.Verdict.AnswersVerdict.{accepted, refused}
 -- a fault behind files that were read
 reports_after : {A E : Type 0} (old between new : Journal) (files : List FileValue) (r : Result A E) → FaultsFollowReading
     → between ≡ and_read_files old files → IfErr r (λ _. OnlyReports between new) → IfErr r (λ _. OnlyReports old new)
-reports_after old between new files r follow read is =
-    IfErr-weaker r (λ _. OnlyReports between new) (λ _. OnlyReports old new) (λ _ only. follow old between new files read only) is
+reports_after old between new files r follow read is = IfErr-weaker r _ _ (λ _ only. follow old between new files read only) is
 
 -- nothing at all came before
 pub reports_same : {A E : Type 0} (old between new : Journal) (r : Result A E) → between ≡ old → IfErr r (λ _. OnlyReports between new)
@@ -35,8 +32,7 @@ GivesOrGivesUp Answers paths old new r = IfOk r (Gives Answers paths old new) ×
 pub answered_if_made : {E F : Type 0} (Part : AnswerValue → Type 0) (old new : Journal) (made : Result AnswerValue F) (r : Result ℕ E)
     → IfOk made Part → IfOk r (λ status. IsOkAnd made (λ answer. IsGiven answer old new status)) → IfOk r (IsAnswered Part old new)
 answered_if_made Part old new (Ok answer) r part gave =
-    IfOk-weaker r (IsGiven answer old new) (IsAnswered Part old new)
-    (λ status given. record { answer = answer; answers = part; given = given }) gave
+    IfOk-weaker r _ _ (λ status given. record { answer = answer; answers = part; given = given }) gave
 answered_if_made Part old new (Err f) (Ok status) part gave = absurd gave
 answered_if_made Part old new (Err f) (Err e) part gave = tt
 
@@ -44,18 +40,16 @@ answered_if_made Part old new (Err f) (Err e) part gave = tt
 pub given_or_given_up : {E : Type 0} (Part : AnswerValue → Type 0) (answer : AnswerValue) (old new : Journal) (r : Result ℕ E) → Part answer
     → IfOk r (IsGiven answer old new) → IfErr r (λ _. GaveUp answer.files old new) → IsAnsweredOrGivenUp Part old new r
 given_or_given_up Part answer old new r part gave up = (
-  IfOk-weaker r (IsGiven answer old new) (IsAnswered Part old new)
-      (λ status given. record { answer = answer; answers = part; given = given }) gave,
-  IfErr-weaker r (λ _. GaveUp answer.files old new) (λ _. IsGivenUp Part old new) (λ _ was. within_it answer part was) up,
+  IfOk-weaker r _ _ (λ status given. record { answer = answer; answers = part; given = given }) gave,
+  IfErr-weaker r _ _ (λ _. within_it answer part) up,
 )
 
 -- what is one of these is one of others
 pub answered_of : {E : Type 0} (Part Whole : AnswerValue → Type 0) (whole : (answer : AnswerValue) → Part answer → Whole answer)
     (old new : Journal) (r : Result ℕ E) → IsAnsweredOrGivenUp Part old new r → IsAnsweredOrGivenUp Whole old new r
 answered_of Part Whole whole old new r is = (
-  IfOk-weaker r (IsAnswered Part old new) (IsAnswered Whole old new)
-      (λ status a. record { answer = a.answer; answers = whole a.answer a.answers; given = a.given }) is.0,
-  IfErr-weaker r (λ _. IsGivenUp Part old new) (λ _. IsGivenUp Whole old new) (λ _ up. of_part up) is.1,
+  IfOk-weaker r _ _ (λ status a. record { answer = a.answer; answers = whole a.answer a.answers; given = a.given }) is.0,
+  IfErr-weaker r _ _ (λ _. of_part) is.1,
 )
   where
     of_part : IsGivenUp Part old new → IsGivenUp Whole old new
@@ -80,35 +74,27 @@ module _ (Answers : List FileValue → AnswerValue → Type 0) (paths : List (Li
 
   pub gives : {E : Type 0} (answer : AnswerValue) (r : Result ℕ E) → Answers files answer → IfOk r (IsGiven answer between new)
       → IfOk r (Gives Answers paths old new)
-  gives answer r answers gave =
-      IfOk-weaker r (IsGiven answer between new) (Gives Answers paths old new) (λ status. gives_status answer status answers) gave
+  gives answer r answers gave = IfOk-weaker r _ _ (λ status. gives_status answer status answers) gave
 
   pub gives_or_gives_up : {E : Type 0} (answer : AnswerValue) (r : Result ℕ E) → Answers files answer → IfOk r (IsGiven answer between new)
       → IfErr r (λ _. GaveUp answer.files between new) → GivesOrGivesUp Answers paths old new r
   gives_or_gives_up answer r answers gave up = (
     gives answer r answers gave,
-    IfErr-weaker r (λ _. GaveUp answer.files between new) (λ _. GivesUp Answers paths old new) (λ _. gives_up_within answer answers) up,
+    IfErr-weaker r _ _ (λ _. gives_up_within answer answers) up,
   )
 
   -- an answer that is one to these files by what is known of it
   module _ (Part : AnswerValue → Type 0) (whole : (answer : AnswerValue) → Part answer → Answers files answer) where
     pub part_given : {E : Type 0} (r : Result ℕ E) → IfOk r (IsAnswered Part between new) → IfOk r (Gives Answers paths old new)
-    part_given r gave =
-        IfOk-weaker r (IsAnswered Part between new) (Gives Answers paths old new)
-        (λ status is. gives_status is.answer status (whole is.answer is.answers) is.given) gave
+    part_given r gave = IfOk-weaker r _ _ (λ status is. gives_status is.answer status (whole is.answer is.answers) is.given) gave
 
-    pub part_given_up : {A E : Type 0} (r : Result A E) → FaultsFollowReading → IfErr r (λ _. IsGivenUp Part between new)
-        → IfErr r (λ _. GivesUp Answers paths old new)
-    part_given_up r follow gave =
-        IfErr-weaker r (λ _. IsGivenUp Part between new) (λ _. GivesUp Answers paths old new) (λ _ up. of_part up) gave
+    pub part_gives_or_gives_up : {E : Type 0} (r : Result ℕ E) → FaultsFollowReading → IsAnsweredOrGivenUp Part between new r
+        → GivesOrGivesUp Answers paths old new r
+    part_gives_or_gives_up r follow is = (part_given r is.0, IfErr-weaker r _ _ (λ _. of_part) is.1)
       where
         of_part : IsGivenUp Part between new → GivesUp Answers paths old new
         of_part (before_it only) = before (follow old between new files read only)
         of_part (within_it answer part up) = gives_up_within answer (whole answer part) up
-
-    pub part_gives_or_gives_up : {E : Type 0} (r : Result ℕ E) → FaultsFollowReading → IsAnsweredOrGivenUp Part between new r
-        → GivesOrGivesUp Answers paths old new r
-    part_gives_or_gives_up r follow is = (part_given r is.0, part_given_up r follow is.1)
 
 -- ---- an answer of one kind that is one of another, if nothing came before
 
@@ -116,7 +102,7 @@ module _ (Answers More : List FileValue → AnswerValue → Type 0) (paths : Lis
     (more : (files : List FileValue) (answer : AnswerValue) → Answers files answer → More files answer) (same : between ≡ old) where
   pub gives_more : {E : Type 0} (r : Result ℕ E) → IfOk r (Gives Answers paths between new) → IfOk r (Gives More paths old new)
   gives_more r gave =
-      IfOk-weaker r (Gives Answers paths between new) (Gives More paths old new)
+      IfOk-weaker r _ _
       (λ status is. record {
         files = is.files;
         paths_are = is.paths_are;
@@ -129,8 +115,7 @@ module _ (Answers More : List FileValue → AnswerValue → Type 0) (paths : Lis
   pub more_or_gives_up : {E : Type 0} (r : Result ℕ E) → GivesOrGivesUp Answers paths between new r → GivesOrGivesUp More paths old new r
   more_or_gives_up r is = (
     gives_more r is.0,
-    IfErr-weaker r (λ _. GivesUp Answers paths between new) (λ _. GivesUp More paths old new)
-        (λ _ up. of_up (subst (λ (j : Journal). GivesUp Answers paths j new) same up)) is.1,
+    IfErr-weaker r _ _ (λ _ up. of_up (subst (λ (j : Journal). GivesUp Answers paths j new) same up)) is.1,
   )
     where
       of_up : GivesUp Answers paths old new → GivesUp More paths old new
@@ -184,10 +169,10 @@ module _ {image_path regions_path : List ℕ} {old between : Journal} {image : L
 
 -- ---- the inputs of a run, too
 
-module _ {paths : RunFiles} {asked : Bool} {old between : Journal} {image : Located} {publics : List Public} {inputs : List (ℕ × ℕ)}
-    (read : IsRunRead paths asked old between image publics inputs) (new : Journal) where
+module _ {paths : RunFiles} {old between : Journal} {image : Located} {publics : List Public} {inputs : List (ℕ × ℕ)}
+    (read : IsRunRead paths old between image publics inputs) (new : Journal) where
   abbrev files_read : List FileValue
-  files_read = file_value paths.image.now read.file ∷ file_value paths.regions.now read.text ∷ file_value paths.inputs.now read.spelling ∷ []
+  files_read = file_value paths.program.image.now read.file ∷ file_value paths.program.regions.now read.text ∷ file_value paths.inputs.now read.spelling ∷ []
 
   pub run_reports : {A E : Type 0} (r : Result A E) → FaultsFollowReading → IfErr r (λ _. OnlyReports between new)
       → IfErr r (λ _. OnlyReports old new)
@@ -195,10 +180,10 @@ module _ {paths : RunFiles} {asked : Bool} {old between : Journal} {image : Loca
 
   module _ (Answers : List (ℕ × ℕ) → List Public → Voucher → AnswerValue → Type 0) where
     answers_run : (answer : AnswerValue) → AnswersVerdict (Answers inputs publics) image publics answer
-        → AnswersRun Answers asked files_read answer
+        → AnswersRun Answers paths.program.names files_read answer
     answers_run answer answers = record {
-      image_file = file_value paths.image.now read.file;
-      regions_file = file_value paths.regions.now read.text;
+      image_file = file_value paths.program.image.now read.file;
+      regions_file = file_value paths.program.regions.now read.text;
       inputs_file = file_value paths.inputs.now read.spelling;
       files_are = refl;
       image = image;
@@ -210,56 +195,30 @@ module _ {paths : RunFiles} {asked : Bool} {old between : Journal} {image : Loca
 
     pub run_given : {E F : Type 0} (made : Result AnswerValue F) (r : Result ℕ E)
         → IfOk made (AnswersVerdict (Answers inputs publics) image publics) → IfOk r (λ status. IsOkAnd made (λ answer. IsGiven answer between new status))
-        → IfOk r (Gives (AnswersRun Answers asked) (run_paths paths) old new)
+        → IfOk r (Gives (AnswersRun Answers paths.program.names) (run_paths paths) old new)
     run_given made r answers gave =
-        part_given (AnswersRun Answers asked) (run_paths paths) old between new files_read refl read.journal
+        part_given (AnswersRun Answers paths.program.names) (run_paths paths) old between new files_read refl read.journal
         (AnswersVerdict (Answers inputs publics) image publics) answers_run r
         (answered_if_made (AnswersVerdict (Answers inputs publics) image publics) between new made r answers gave)
 
     -- of another one, its refusal
     pub run_refused : {E : Type 0} (line : List ℕ) (answer : AnswerValue) (r : Result ℕ E) → IsRefusal image publics line → answer ≡ prints line 1
-        → IfOk r (IsGiven answer between new) → IfOk r (Gives (AnswersRun Answers asked) (run_paths paths) old new)
+        → IfOk r (IsGiven answer between new) → IfOk r (Gives (AnswersRun Answers paths.program.names) (run_paths paths) old new)
     run_refused line answer r is answer_is gave =
-        gives (AnswersRun Answers asked) (run_paths paths) old between new files_read refl read.journal answer r
+        gives (AnswersRun Answers paths.program.names) (run_paths paths) old between new files_read refl read.journal answer r
         (answers_run answer (refused line is answer_is)) gave
 
     -- of one that is accepted, what is answered of its run
     pub run_accepted : {E : Type 0} (program : Voucher) → IsAccepted image program → (r : Result ℕ E)
-        → IfOk r (IsAnswered (Answers inputs publics program) between new) → IfOk r (Gives (AnswersRun Answers asked) (run_paths paths) old new)
+        → IfOk r (IsAnswered (Answers inputs publics program) between new) → IfOk r (Gives (AnswersRun Answers paths.program.names) (run_paths paths) old new)
     run_accepted program is r gave =
-        part_given (AnswersRun Answers asked) (run_paths paths) old between new files_read refl read.journal
+        part_given (AnswersRun Answers paths.program.names) (run_paths paths) old between new files_read refl read.journal
         (Answers inputs publics program) (λ answer answers. answers_run answer (accepted program is answers)) r gave
 
     -- of any, or given up
     pub run_or_gives_up : {E : Type 0} (r : Result ℕ E) → FaultsFollowReading
         → IsAnsweredOrGivenUp (AnswersVerdict (Answers inputs publics) image publics) between new r
-        → GivesOrGivesUp (AnswersRun Answers asked) (run_paths paths) old new r
+        → GivesOrGivesUp (AnswersRun Answers paths.program.names) (run_paths paths) old new r
     run_or_gives_up r follow gave =
-        part_gives_or_gives_up (AnswersRun Answers asked) (run_paths paths) old between new files_read refl read.journal
+        part_gives_or_gives_up (AnswersRun Answers paths.program.names) (run_paths paths) old between new files_read refl read.journal
         (AnswersVerdict (Answers inputs publics) image publics) answers_run r follow gave
-
--- ---- run
-
-none_mapped : {A B : Type 0} (f : A → B) (o : Option A) → is_none (option_map f o) ≡ is_none o
-none_mapped f None = refl
-none_mapped f (Some x) = refl
-
--- a run that is watched, if `last` is the number that its text writes
-pub watched_runs : (arguments : RunArguments) (limits : Limits) (last : ℕ) (tested : Bool) → AreLimitsOf arguments.limits limits
-    → WritesCount arguments.last last → tested ≡ ((last == 0 && is_none arguments.dump) && not arguments.names) → tested ≡ false
-    → (files : List FileValue) (answer : AnswerValue)
-    → AnswersRun (λ inputs. EndsRun inputs limits last (dump_of arguments)) arguments.names files answer → RunsFiles arguments files answer
-watched_runs arguments limits last tested are counted is untrue files answer answers = record {
-  limits = limits;
-  are_limits = are;
-  last = counted.0;
-  answers =
-      subst (λ (b : Bool). MatchBool b (AnswersSession limits files answer)
-      (AnswersRun (λ inputs. EndsRun inputs limits (count_value arguments.last.text.now) (dump_of arguments)) arguments.names files answer)) (sym watched)
-      (subst (λ (n : ℕ). AnswersRun (λ inputs. EndsRun inputs limits n (dump_of arguments)) arguments.names files answer) counted.1 answers);
-}
-  where
-    watched : is_session arguments ≡ false
-    watched =
-        ap (λ (n : ℕ). (n == 0 && is_none (dump_of arguments)) && not arguments.names) (sym counted.1)
-        ∙ ap (λ (none : Bool). (last == 0 && none) && not arguments.names) (none_mapped (λ path. path.now) arguments.dump) ∙ sym is ∙ untrue

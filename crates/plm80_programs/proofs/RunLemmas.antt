@@ -70,7 +70,7 @@ module _ (Part : AnswerValue → Type 0) (answer : AnswerValue) (old between new
     (part : Part (record answer { lines = lines ++ answer.lines })) where
   pub answered_behind : {E : Type 0} (r : Result ℕ E) → IfOk r (IsGiven answer between new) → IfOk r (IsAnswered Part old new)
   answered_behind r gave =
-      IfOk-weaker r (IsGiven answer between new) (IsAnswered Part old new)
+      IfOk-weaker r _ _
       (λ status given. record {
         answer = record answer { lines = lines ++ answer.lines };
         answers = part;
@@ -80,8 +80,7 @@ module _ (Part : AnswerValue → Type 0) (answer : AnswerValue) (old between new
 
   pub given_up_behind : {A E : Type 0} (r : Result A E) → IfErr r (λ _. GaveUp answer.files between new) → IfErr r (λ _. IsGivenUp Part old new)
   given_up_behind r gave =
-      IfErr-weaker r (λ _. GaveUp answer.files between new) (λ _. IsGivenUp Part old new)
-      (λ _ up. of_up (subst (λ (j : Journal). GaveUp answer.files j new) printed up)) gave
+      IfErr-weaker r _ _ (λ _ up. of_up (subst (λ (j : Journal). GaveUp answer.files j new) printed up)) gave
     where
       of_up : GaveUp answer.files (and_printed old lines) new → IsGivenUp Part old new
       of_up up =

@@ -31,10 +31,9 @@ pub record AreRegionsArguments (matches : ArgMatches) (arguments : RegionsArgume
   pub old : arguments.old.now ≡ argument_text matches (codes "OLD")
   pub new : arguments.new.now ≡ argument_text matches (codes "NEW")
 
--- the paths of an image, of its regions and of the inputs of its run
+-- the paths of an image, of its regions and of the inputs of its run, and whether names are asked for
 pub record AreRunFiles (matches : ArgMatches) (files : RunFiles) : Type 0 where
-  pub image : files.image.now ≡ argument_text matches (codes "IMAGE")
-  pub regions : files.regions.now ≡ argument_text matches (codes "REGIONS")
+  pub program : AreNamedFiles matches files.program
   pub inputs : files.inputs.now ≡ argument_text matches (codes "INPUTS")
 
 -- the options that say how far an image runs
@@ -45,18 +44,16 @@ pub record AreLimitTexts (matches : ArgMatches) (texts : LimitTexts) : Type 0 wh
 pub record AreCoverArguments (matches : ArgMatches) (arguments : CoverArguments) : Type 0 where
   pub files : AreRunFiles matches arguments.files
   pub limits : AreLimitTexts matches arguments.limits
-  pub names : IsFlag matches (codes "names") arguments.names
 
 pub record AreTraceArguments (matches : ArgMatches) (arguments : TraceArguments) : Type 0 where
   pub files : AreRunFiles matches arguments.files
   pub limits : AreLimitTexts matches arguments.limits
   pub from : arguments.from.text.now ≡ argument_text matches (codes "from")
   pub count : arguments.count.text.now ≡ argument_text matches (codes "count")
-  pub names : IsFlag matches (codes "names") arguments.names
 
 -- they are read in this order
 abbrev pub run_paths : RunFiles → List (List ℕ)
-run_paths files = files.image.now ∷ files.regions.now ∷ files.inputs.now ∷ []
+run_paths files = files.program.image.now ∷ files.program.regions.now ∷ files.inputs.now ∷ []
 
 -- the path of the memory's file, if one is asked for
 abbrev pub dump_path : Option (Bor (List ℕ)) → Option (List ℕ)
@@ -70,7 +67,6 @@ pub record AreRunArguments (matches : ArgMatches) (arguments : RunArguments) : T
   pub limits : AreLimitTexts matches arguments.limits
   pub last : arguments.last.text.now ≡ argument_text matches (codes "last")
   pub dump : dump_of arguments ≡ first_value (found_of matches) (codes "dump")
-  pub names : IsFlag matches (codes "names") arguments.names
 
 pub record AreCasesArguments (matches : ArgMatches) (arguments : CasesArguments) : Type 0 where
   pub image : arguments.image.now ≡ argument_text matches (codes "IMAGE")

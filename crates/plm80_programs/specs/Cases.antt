@@ -10,12 +10,13 @@ use Rattle.plm80_console.specs.{Answer.AnswerValue, Journal.FileValue}
 use Rattle.plm80_names.specs.Verdict.{AnswersProgram}
 use Rattle.plm80_programs.specs.{declared.cases.FoundCase.FoundCase, Status.notes_status}
 
--- what is found of the PCHL at an address, which is reached and not declared: its case, if a table is seen for it, and its note
-pub record IsFoundAt (image : Located) (reached taken : List Bool) (at : ℕ) (found : FoundCase) : Type 0 where
-  pub here : is_open image reached at ≡ true
-  pub suggested : Option SuggestedCase
-  pub finding : IsFinding image reached taken (record { at = at; found = suggested; note = found.note })
-  pub case_is : found.case ≡ case_of suggested
+-- what is found of a PCHL at an address that is reached and not declared: its case, if a table is seen for it, and its note; elsewhere
+-- nothing is
+pub data IsFoundAt (image : Located) (reached taken : List Bool) (at : ℕ) (found : FoundCase) : Type 0 where
+  here : is_open image reached at ≡ true → (suggested : Option SuggestedCase)
+      → IsFinding image reached taken (record { at = at; found = suggested; note = found.note }) → found.case ≡ case_of suggested
+      → IsFoundAt image reached taken at found
+  nothing : is_open image reached at ≡ false → found.case ≡ None → found.note ≡ None → IsFoundAt image reached taken at found
 
 -- the cases and the notes of the PCHLs below an address: of exactly those that are reached and not declared, by address
 pub record AreFoundBelow (image : Located) (reached taken : List Bool) (limit : ℕ) (cases : List DeclaredCase) (notes : List Note) : Type 0 where

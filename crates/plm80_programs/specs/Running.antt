@@ -103,13 +103,12 @@ pub record EndsRun (inputs : List (ℕ × ℕ)) (limits : Limits) (last : ℕ) (
 -- ---- three files
 
 -- three files were read: an image, its regions, and the text of the inputs of its run
-pub record IsRunRead (paths : RunFiles) (asked : Bool) (old new : Journal) (image : Located) (publics : List Public)
-    (inputs : List (ℕ × ℕ)) : Type 0 where
+pub record IsRunRead (paths : RunFiles) (old new : Journal) (image : Located) (publics : List Public) (inputs : List (ℕ × ℕ)) : Type 0 where
   pub file : List ℕ
   pub text : List ℕ
   pub spelling : List ℕ
-  pub are_read : AreOfFiles asked file text image publics
-  pub journal : new ≡ and_read (and_read (and_read old paths.image.now file) paths.regions.now text) paths.inputs.now spelling
+  pub are_read : AreOfFiles paths.program.names file text image publics
+  pub journal : new ≡ and_read (and_read (and_read old paths.program.image.now file) paths.program.regions.now text) paths.inputs.now spelling
   pub good : bad_line spelling ≡ None
   pub spelled : inputs ≡ inputs_of spelling
 
@@ -137,8 +136,8 @@ texts_of texts = record {
 }
 
 abbrev pub run_files : RunFiles → RunTexts → List FileValue
-run_files paths texts = record { path = paths.image.now; bytes = texts.program.image.bytes.items }
-    ∷ record { path = paths.regions.now; bytes = texts.program.regions.bytes.items }
+run_files paths texts = record { path = paths.program.image.now; bytes = texts.program.image.bytes.items }
+    ∷ record { path = paths.program.regions.now; bytes = texts.program.regions.bytes.items }
     ∷ record { path = paths.inputs.now; bytes = texts.inputs.bytes.items } ∷ []
 
 -- its exit status: that of the run's end, or 1 of a refusal; every other fault has none
@@ -182,26 +181,27 @@ pub record IsSpanOf (arguments : TraceArguments) (span : Span) : Type 0 where
 pub record CoversFiles (arguments : CoverArguments) (files : List FileValue) (answer : AnswerValue) : Type 0 where
   pub limits : Limits
   pub are_limits : AreLimitsOf arguments.limits limits
-  pub answers : AnswersRun (λ inputs publics program. PrintsText (CountsRun inputs limits publics program)) arguments.names files answer
+  pub answers : AnswersRun (λ inputs publics program. PrintsText (CountsRun inputs limits publics program)) arguments.files.program.names files answer
 
 pub record TracesFiles (arguments : TraceArguments) (files : List FileValue) (answer : AnswerValue) : Type 0 where
   pub limits : Limits
   pub are_limits : AreLimitsOf arguments.limits limits
   pub span : Span
   pub is_span : IsSpanOf arguments span
-  pub answers : AnswersRun (λ inputs. TracesRun inputs limits span) arguments.names files answer
+  pub answers : AnswersRun (λ inputs. TracesRun inputs limits span) arguments.files.program.names files answer
 
--- nothing but the transcript is asked for
-abbrev pub is_session : RunArguments → Bool
-is_session arguments = (count_value arguments.last.text.now == 0 && is_none (dump_of arguments)) && not arguments.names
+-- nothing but the transcript is asked for: no instructions, no memory and no names
+abbrev pub is_session : RunArguments → (last : ℕ) → Bool
+is_session arguments last = (last == 0 && is_none arguments.dump) && not arguments.files.program.names
 
 -- a run is watched if its last instructions, its memory or names are asked for
 pub record RunsFiles (arguments : RunArguments) (files : List FileValue) (answer : AnswerValue) : Type 0 where
   pub limits : Limits
   pub are_limits : AreLimitsOf arguments.limits limits
-  pub last : IsCountText arguments.last.text.now
-  pub answers : MatchBool (is_session arguments) (AnswersSession limits files answer)
-      (AnswersRun (λ inputs. EndsRun inputs limits (count_value arguments.last.text.now) (dump_of arguments)) arguments.names files answer)
+  pub last : ℕ
+  pub is_last : WritesCount arguments.last last
+  pub answers : MatchBool (is_session arguments last) (AnswersSession limits files answer)
+      (AnswersRun (λ inputs. EndsRun inputs limits last (dump_of arguments)) arguments.files.program.names files answer)
 
 -- ---- faults
 

@@ -114,7 +114,7 @@ fn append_rest(
     Ok(1)
 }
 
-/// Whether one of `shown` has the number and the address of `refusal`.
+/// Whether a refusal in `shown` has the number and the address of `refusal`.
 fn is_among(shown: &[ShownRefusal], refusal: Refusal) -> bool
     ensures { result ≡ list_any (is_of refusal) shown.now }
 {

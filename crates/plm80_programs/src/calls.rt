@@ -11,7 +11,7 @@ use loader80::Vouched;
 use plm80_console::laws::reading_leaves_files_alone;
 use plm80_console::{Argument, Console, Kind, Reported, Syntax};
 use plm80_files::{IMAGE, REGIONS};
-use plm80_names::{NAMES, NamedFiles, Names, explain_given};
+use plm80_names::{NAMES, NamedFiles, Names};
 use std::alloc::{AllocError, Global};
 use verify80_calls::{CallGraph, graph_text, list_text};
 
@@ -21,8 +21,6 @@ pub struct CallsArguments<'a> {
     files: NamedFiles<'a>,
     dot: bool,
 }
-
-const ABOUT: &str = "Verifies an image, and prints which procedure calls which, at what depth";
 
 const AFTER_HELP: &str = "\
 Main and each procedure have a line with the bytes of stack that they need below
@@ -41,7 +39,7 @@ Faults and what to do: docs/FAULTS.md (installed: share/doc/plm80), man plm80.";
 /// The command `calls`: its name, its help and its arguments.
 pub const CALLS: Syntax<'static> = Syntax {
     name: "calls",
-    about: ABOUT,
+    about: "Verifies an image, and prints which procedure calls which, at what depth",
     after_help: AFTER_HELP,
     arguments: &[
         IMAGE,
@@ -81,13 +79,7 @@ pub fn show_calls<C: Console>(
     let (image, names) = files.read(console)?;
     let answer = answer_of(console.alloc(), image, &names, Calls { dot });
     let given = console.give_if_made(answer);
-    explain_given(
-        console,
-        &given,
-        files.names,
-        files.image,
-        Some(files.regions),
-    );
+    files.explain(console, &given);
     given
 }
 

@@ -1,11 +1,11 @@
 //! `plm80 cases`: the CASE lines that the tables of an image suggest.
 
-ghost use Rattle.std.specs.Prelude.{◌≡◌, ◌<◌, ◌++◌, ◌∷◌, [], List, false, None, Some, length, option_map, IfErr, IfNone, IfOk, IfSome};
+ghost use Rattle.std.specs.Prelude.{◌≡◌, ◌<◌, ◌++◌, ◌∷◌, [], List, None, Some, length, option_map, IfErr, IfOk};
 ghost use Rattle.std.specs.Prelude.{IsErrOf, OnOk};
 ghost use Rattle.std.specs.{Io.KnownBytes.Appends, List.cons_option, List.list_any};
 ghost use Rattle.image80.specs.{Case.DeclaredCase, RegionsText.cases_text};
 ghost use Rattle.stream80.specs.WholeText.{text_limit};
-ghost use Rattle.verify80_cases.specs.Suggested.{IsSearched, case_of, is_open};
+ghost use Rattle.verify80_cases.specs.Suggested.{IsSearched, case_of};
 ghost use Rattle.plm80_console.specs.Journal.{OnlyReports, and_reported};
 ghost use Rattle.plm80_console.specs.Answer.{Gives, GivesUp, IsAnswered, IsGivenUp};
 ghost use Rattle.plm80_programs.specs.Cases.{AnswersCases, FindsCases, HasLongCases, IsFoundAt, PrintsCases};
@@ -34,8 +34,6 @@ pub struct CasesArguments<'a> {
     out: Option<&'a str>,
 }
 
-const ABOUT: &str = "Prints the CASE lines that an image's jump tables suggest";
-
 const AFTER_HELP: &str = "\
 Each PCHL that the program may reach and that no CASE line names has a line CASE
 aaaa tttt ..: its address, and its targets. They are the addresses in the table
@@ -53,7 +51,7 @@ Faults and what to do: docs/FAULTS.md (installed: share/doc/plm80), man plm80.";
 /// The command `cases`: its name, its help and its arguments.
 pub const CASES: Syntax<'static> = Syntax {
     name: "cases",
-    about: ABOUT,
+    about: "Prints the CASE lines that an image's jump tables suggest",
     after_help: AFTER_HELP,
     arguments: &[
         IMAGE,
@@ -162,9 +160,8 @@ fn write_searched<K: Sink>(
 {
     let mut notes = Vec::new(alloc);
     for address in 0..65_536_u32 {
-        if let Some(found) = found_at(alloc, image, code, search, address as u16)? {
-            write_found(alloc, found, &mut notes, out)?;
-        }
+        let found = found_at(alloc, image, code, search, address as u16)?;
+        write_found(alloc, found, &mut notes, out)?;
     }
     Ok(notes)
 }
@@ -321,9 +318,8 @@ fn keep_searched(
         notes: Vec::new(alloc),
     };
     for address in 0..65_536_u32 {
-        if let Some(found) = found_at(alloc, image, code, search, address as u16)? {
-            kept.add(alloc, found)?;
-        }
+        let found = found_at(alloc, image, code, search, address as u16)?;
+        kept.add(alloc, found)?;
     }
     Ok(kept)
 }
@@ -358,35 +354,37 @@ fn add_line(alloc: Global, lines: &mut Vec<u8>, case: &Option<Case>) -> Result<(
     Ok(())
 }
 
-/// What is found of a PCHL that is reached and has no declared targets: its case, if a table is seen for it, and what there is to say of
-/// it.
+/// What is found at an address: of a PCHL that is reached and has no declared targets its case, if a table is seen for it, and what there is
+/// to say of it; else nothing.
 #[derive(Drop)]
 struct FoundCase {
     case: Option<Case>,
     note: Option<Note>,
 }
 
-/// What is found of the PCHL at the address `at`. `None` if no PCHL is there, if it isn't reached, or if its targets are declared.
+/// What is found of the PCHL at the address `at`; nothing if no PCHL is there, if it isn't reached, or if its targets are declared.
 fn found_at(
     alloc: Global,
     image: &Image,
     code: &ImageCode<'_>,
     search: &Search,
     at: u16,
-) -> Result<Option<FoundCase>, AllocError>
+) -> Result<FoundCase, AllocError>
     requires { code.now ≡ image.now }
-    ensures none { IfOk result (λ found. IfNone found (is_open image.now search.now.reached at ≡ false)) }
-    ensures some { IfOk result (λ found. IfSome found (IsFoundAt image.now search.now.reached search.now.taken at)) }
+    ensures { IfOk result (IsFoundAt image.now search.now.reached search.now.taken at) }
 {
     if !search.is_open(image, code, at) {
-        return Ok(None);
+        return Ok(FoundCase {
+            case: None,
+            note: None,
+        });
     }
     let found = search.suggest(alloc, image, code, at)?;
     let note = search.note(code, at, &found);
-    Ok(Some(FoundCase {
+    Ok(FoundCase {
         case: case_of(found),
         note,
-    }))
+    })
 }
 
 /// The case that a search suggests for a PCHL; `None` if it suggests none.
@@ -416,7 +414,7 @@ pub(crate) fn notes_status(notes: &[Note]) -> u8
     if some_lacks_table(notes) { 1 } else { 0 }
 }
 
-/// Whether one of `notes` is of a PCHL for which no table is seen.
+/// Whether a note in `notes` is of a PCHL for which no table is seen.
 fn some_lacks_table(notes: &[Note]) -> bool
     ensures { result ≡ list_any lacks_table notes.now }
 {

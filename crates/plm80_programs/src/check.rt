@@ -9,10 +9,8 @@ use crate::helpers::printing::{Printing, answer_of};
 use loader80::Vouched;
 use plm80_console::laws::reading_leaves_files_alone;
 use plm80_console::{Console, Reported, Syntax};
-use plm80_names::{NAMED_FILES, NamedFiles, Names, explain_given, named_report};
+use plm80_names::{NAMED_FILES, NamedFiles, Names, named_report};
 use std::alloc::{AllocError, Global};
-
-const ABOUT: &str = "Verifies an image: prints a report, or the refusal";
 
 const AFTER_HELP: &str = "\
 The report is a line for the bytes of stack that the program needs and has, and
@@ -32,7 +30,7 @@ Faults and what to do: docs/FAULTS.md (installed: share/doc/plm80), man plm80.";
 /// The command `check`: its name, its help and its arguments.
 pub const CHECK: Syntax<'static> = Syntax {
     name: "check",
-    about: ABOUT,
+    about: "Verifies an image: prints a report, or the refusal",
     after_help: AFTER_HELP,
     arguments: NAMED_FILES,
 };
@@ -47,13 +45,7 @@ pub fn check_files<C: Console>(console: &mut C, files: NamedFiles<'_>) -> Result
     let (image, names) = files.read(console)?;
     let answer = answer_of(console.alloc(), image, &names, Report);
     let given = console.give_if_made(answer);
-    explain_given(
-        console,
-        &given,
-        files.names,
-        files.image,
-        Some(files.regions),
-    );
+    files.explain(console, &given);
     given
 }
 

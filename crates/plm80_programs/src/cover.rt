@@ -14,7 +14,7 @@ use machine80::Inputs;
 use plm80_console::laws::reading_leaves_files_alone;
 use plm80_console::{Console, Reported, Syntax};
 use plm80_files::{IMAGE, REGIONS};
-use plm80_names::{NAMES, Names, explain_given};
+use plm80_names::{NAMES, Names};
 use std::alloc::{AllocError, Global};
 
 /// The arguments of the command `cover`.
@@ -22,10 +22,7 @@ use std::alloc::{AllocError, Global};
 pub struct CoverArguments<'a> {
     files: RunFiles<'a>,
     limits: LimitTexts<'a>,
-    names: bool,
 }
-
-const ABOUT: &str = "Verifies an image and runs it: prints how often it began each instruction";
 
 const AFTER_HELP: &str = "\
 Each instruction that the program may reach has a line, as list prints it, with
@@ -41,7 +38,7 @@ Faults and what to do: docs/FAULTS.md (installed: share/doc/plm80), man plm80.";
 /// The command `cover`: its name, its help and its arguments.
 pub const COVER: Syntax<'static> = Syntax {
     name: "cover",
-    about: ABOUT,
+    about: "Verifies an image and runs it: prints how often it began each instruction",
     after_help: AFTER_HELP,
     arguments: &[IMAGE, REGIONS, INPUTS, STEPS, OUTPUTS, NAMES],
 };
@@ -54,7 +51,6 @@ impl<'a> CoverArguments<'a> {
         CoverArguments {
             files: RunFiles::of(matches),
             limits: LimitTexts::of(matches),
-            names: matches.get_flag("names"),
         }
     }
 }
@@ -71,13 +67,12 @@ pub fn cover_files<C: Console>(
 {
     reading_leaves_files_alone();
     let limits = arguments.limits.numbers(console)?;
-    let program = arguments.files.read(console, arguments.names)?;
+    let program = arguments.files.read(console)?;
     let inputs = program.inputs;
     let counts = RunCounts { inputs, limits };
     let answer = answer_of(console.alloc(), program.image, &program.names, counts);
     let given = console.give_if_made(answer);
-    let (image, regions) = (arguments.files.image, arguments.files.regions);
-    explain_given(console, &given, arguments.names, image, Some(regions));
+    arguments.files.program.explain(console, &given);
     given
 }
 

@@ -2,10 +2,10 @@
 
 ghost use Rattle.std.specs.Prelude.{◌≡◌, ◌≢◌, [], IfErr, IfOk, OnOk};
 ghost use Rattle.verify80_flow.specs.declared.refusal.Refusal.TheVariants.{Memory};
-ghost use Rattle.verify80_explain_text.specs.Printed.{GoesOnWithChain, GoesOnWithWays};
+ghost use Rattle.verify80_explain_text.specs.Printed.{GoesOnWithChain};
 ghost use Rattle.plm80_console.specs.{Answer.Gives, Journal.OnlyReports};
 ghost use Rattle.plm80_names.specs.Arguments.{asks_names, program_paths};
-ghost use Rattle.plm80_names.specs.{Printed.named_refusal_line, Printed.named_report, Verdict.AnswersProgram};
+ghost use Rattle.plm80_names.specs.{Printed.named_report, Verdict.AnswersProgram};
 ghost use Rattle.plm80_programs.specs.Explanations.{PrintsExplanation, ShowsOverrun, ShowsRefusal, ShowsRefused, needed_stack};
 ghost use Rattle.plm80_programs.specs.Arguments.{AreExplainArguments};
 
@@ -33,8 +33,6 @@ pub struct ExplainArguments<'a> {
     files: NamedFiles<'a>,
     all: bool,
 }
-
-const ABOUT: &str = "Verifies an image as check does, and shows why it is refused";
 
 const AFTER_HELP: &str = "\
 The first line and the exit status are those of check. Then come the calls that
@@ -64,7 +62,7 @@ Faults and what to do: docs/FAULTS.md (installed: share/doc/plm80), man plm80.";
 /// The command `explain`: its name, its help and its arguments.
 pub const EXPLAIN: Syntax<'static> = Syntax {
     name: "explain",
-    about: ABOUT,
+    about: "Verifies an image as check does, and shows why it is refused",
     after_help: AFTER_HELP,
     arguments: &[
         IMAGE,
@@ -174,7 +172,11 @@ pub(crate) fn refused(
 {
     match needed_stack(refusal) {
         Some(need) => overrun(alloc, image, refusal, need, names),
-        None => with_ways(alloc, image, refusal, names),
+        None => {
+            let mut text = named_refusal(alloc, image, refusal, names)?;
+            append_explanation(alloc, &mut text, image, names.publics(), refusal, LIMIT)?;
+            Ok(text)
+        }
     }
 }
 
@@ -186,22 +188,6 @@ fn needed_stack(refusal: Refusal) -> Option<u64>
         Refusal::StackTooSmall(need, _) => Some(need),
         _ => None,
     }
-}
-
-/// The line of a refusal of `image`, and the ways that show it.
-fn with_ways(
-    alloc: Global,
-    image: &Image,
-    refusal: Refusal,
-    names: &Names,
-) -> Result<Vec<u8>, AllocError>
-    ensures shows { IfOk result (λ text.
-        GoesOnWithWays image.now names.now refusal (named_refusal_line image.now.regions.code names.now refusal) text.items) }
-    ensures no_memory { OnOk result (refusal ≢ Memory) }
-{
-    let mut text = named_refusal(alloc, image, refusal, names)?;
-    append_explanation(alloc, &mut text, image, names.publics(), refusal, LIMIT)?;
-    Ok(text)
 }
 
 /// The line of the refusal of an image whose stack is smaller than `need` bytes, its procedures, and the chain of calls that needs most

@@ -20,8 +20,6 @@ pub struct InputsArguments<'a> {
     words: Vec<&'a str>,
 }
 
-const ABOUT: &str = "Writes an inputs text from words, with repetitions";
-
 const AFTER_HELP: &str = "\
 A WORD is a port, an equals sign and items separated by commas: 02=3*2A,00.
 Ports and bytes are two hexadecimal digits. An item is a byte, or a decimal
@@ -35,7 +33,7 @@ Faults and what to do: docs/FAULTS.md (installed: share/doc/plm80), man plm80.";
 /// The command `inputs`: its name, its help and its arguments.
 pub const INPUTS: Syntax<'static> = Syntax {
     name: "inputs",
-    about: ABOUT,
+    about: "Writes an inputs text from words, with repetitions",
     after_help: AFTER_HELP,
     arguments: &[
         Argument {
@@ -128,23 +126,20 @@ fn inputs_of<'a>(alloc: Global, words: &[&'a str]) -> Result<WordInputs, InputsF
     Ok(inputs)
 }
 
-/// Reports why words give no file of inputs: the word that names none, or the path of the file that would be too long.
+/// Reports why words give no file of inputs: the word that names none, with what such a word is like, if words are asked for; or the path
+/// of the file that would be too long.
 fn report_inputs<C: Console>(console: &mut C, path: &str, fault: InputsFileFault<'_>) -> Reported
     ensures { C.journal console.new ≡ and_reported (C.journal console.old) }
 {
     match fault {
-        InputsFileFault::BadInput(word) => report_bad_input(console, word),
+        InputsFileFault::BadInput(word) => {
+            let reported = console.report(format_args!("{} {word}", WordFault::BadInput));
+            console.explain(
+                "a word is a port, an equals sign and bytes, without blanks, as in 02=3*2A,00",
+            );
+            reported
+        }
         InputsFileFault::TooLong => console.report_file(path, LengthFault::TooLong),
         InputsFileFault::Memory => console.report_memory(),
     }
-}
-
-/// Reports a word that names no inputs, and says what such a word is like, if words are asked for.
-fn report_bad_input<C: Console>(console: &mut C, word: &str) -> Reported
-    ensures { C.journal console.new ≡ and_reported (C.journal console.old) }
-{
-    let fault = WordFault::BadInput;
-    let reported = console.report(format_args!("{fault} {word}"));
-    console.explain("a word is a port, an equals sign and bytes, without blanks, as in 02=3*2A,00");
-    reported
 }

@@ -14,7 +14,7 @@ use loader80_trace::list_reached;
 use plm80_console::laws::reading_leaves_files_alone;
 use plm80_console::{Answer, Argument, Console, Kind, Reported, Syntax};
 use plm80_files::{IMAGE, REGIONS};
-use plm80_names::{NAMES, NamedFiles, Names, explain_given};
+use plm80_names::{NAMES, NamedFiles, Names};
 use std::alloc::{AllocError, Global};
 
 /// The arguments of the command `list`.
@@ -23,8 +23,6 @@ pub struct ListArguments<'a> {
     files: NamedFiles<'a>,
     reached: bool,
 }
-
-const ABOUT: &str = "Prints the instructions of an image's code";
 
 const AFTER_HELP: &str = "\
 Each range of code is listed from its first byte on: the address, the bytes and
@@ -46,7 +44,7 @@ Faults and what to do: docs/FAULTS.md (installed: share/doc/plm80), man plm80.";
 /// The command `list`: its name, its help and its arguments.
 pub const LIST: Syntax<'static> = Syntax {
     name: "list",
-    about: ABOUT,
+    about: "Prints the instructions of an image's code",
     after_help: AFTER_HELP,
     arguments: &[
         IMAGE,
@@ -84,13 +82,7 @@ pub fn list_files<C: Console>(console: &mut C, arguments: ListArguments<'_>) -> 
     let (image, names) = files.read(console)?;
     let answer = listed(console.alloc(), image, reached, &names);
     let given = console.give_if_made(answer);
-    explain_given(
-        console,
-        &given,
-        files.names,
-        files.image,
-        Some(files.regions),
-    );
+    files.explain(console, &given);
     given
 }
 

@@ -20,8 +20,6 @@ pub struct RegionsArguments<'a> {
     new: &'a str,
 }
 
-const ABOUT: &str = "Converts a regions text to version 2, which may have CASE lines";
-
 const AFTER_HELP: &str = "\
 NEW gets the regions of OLD, a text of version 1 or 2, as version 2. Lines CASE
 aaaa tttt .. can be added to it: the targets of the PCHL at aaaa, the jump of a
@@ -34,7 +32,7 @@ Faults and what to do: docs/FAULTS.md (installed: share/doc/plm80), man plm80.";
 /// The command `regions`: its name, its help and its arguments.
 pub const REGIONS: Syntax<'static> = Syntax {
     name: "regions",
-    about: ABOUT,
+    about: "Converts a regions text to version 2, which may have CASE lines",
     after_help: AFTER_HELP,
     arguments: &[
         Argument {

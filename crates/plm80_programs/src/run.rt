@@ -1,8 +1,8 @@
 //! `plm80 run`: the transcript of a located program's run.
 
-ghost use Rattle.std.specs.Prelude.{◌≡◌, ◌==◌, ◌&&◌, not, is_none, IfErr, IfOk};
+ghost use Rattle.std.specs.Prelude.{◌≡◌, IfErr, IfOk};
 ghost use Rattle.plm80_console.specs.Answer.{Gives, GivesUp};
-ghost use Rattle.plm80_programs.specs.{Arguments.AreRunArguments, Arguments.run_paths, Running.RunsFiles};
+ghost use Rattle.plm80_programs.specs.{Arguments.AreRunArguments, Arguments.run_paths, Running.RunsFiles, Running.is_session};
 
 use crate::helpers::run_arguments::{INPUTS, LimitTexts, OUTPUTS, RunFiles, STEPS};
 use crate::helpers::session_files::run_session;
@@ -10,7 +10,7 @@ use crate::helpers::watching::{Watch, watch_run};
 use clap::ArgMatches;
 use plm80_console::{Argument, Console, Kind, OptionText, Reported, Syntax};
 use plm80_files::{IMAGE, REGIONS};
-use plm80_names::{NAMES, explain_given};
+use plm80_names::NAMES;
 
 /// The arguments of the command `run`.
 #[derive(Clone, Copy)]
@@ -19,10 +19,7 @@ pub struct RunArguments<'a> {
     limits: LimitTexts<'a>,
     last: OptionText<'a>,
     dump: Option<&'a str>,
-    names: bool,
 }
-
-const ABOUT: &str = "Verifies an image and runs it: prints the transcript, or the refusal";
 
 const AFTER_HELP: &str = "\
 N is a decimal number, at most 18446744073709551615. A line of INPUTS is a port,
@@ -44,7 +41,7 @@ Faults and what to do: docs/FAULTS.md (installed: share/doc/plm80), man plm80.";
 /// The command `run`: its name, its help and its arguments.
 pub const RUN: Syntax<'static> = Syntax {
     name: "run",
-    about: ABOUT,
+    about: "Verifies an image and runs it: prints the transcript, or the refusal",
     after_help: AFTER_HELP,
     arguments: &[
         IMAGE,
@@ -76,15 +73,14 @@ impl<'a> RunArguments<'a> {
             limits: LimitTexts::of(matches),
             last: OptionText::of(matches, "last"),
             dump: matches.get_str("dump"),
-            names: matches.get_flag("names"),
         }
     }
 
     /// Whether nothing but the transcript is asked for: none of the last instructions, of which `last` are wanted, no memory and no names.
     fn is_session(self, last: u64) -> bool
-        ensures { let asked = self.entry in result ≡ ((last == 0 && is_none asked.dump) && not asked.names) }
+        ensures { result ≡ is_session self.entry last }
     {
-        last == 0 && self.dump.is_none() && !self.names
+        last == 0 && self.dump.is_none() && !self.files.program.names
     }
 }
 
@@ -106,8 +102,7 @@ pub fn run_files<C: Console>(console: &mut C, arguments: RunArguments<'_>) -> Re
         last,
         dump: arguments.dump,
     };
-    let given = watch_run(console, arguments.files, arguments.names, watch);
-    let (image, regions) = (arguments.files.image, arguments.files.regions);
-    explain_given(console, &given, arguments.names, image, Some(regions));
+    let given = watch_run(console, arguments.files, watch);
+    arguments.files.program.explain(console, &given);
     given
 }

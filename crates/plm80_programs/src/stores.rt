@@ -15,11 +15,9 @@ use plm80_console::{
     Answer, Argument, Console, Kind, Reported, Syntax, argument_values, ranges_of,
 };
 use plm80_files::{IMAGE, REGIONS};
-use plm80_names::{NAMES, NamedFiles, Names, Verdict, explain_given, judge};
+use plm80_names::{NAMES, NamedFiles, Names, Verdict, judge};
 use std::alloc::{AllocError, Global};
 use verify80_stores::{Cause, Stores, find_causes, find_stores, first_outside_data, stores_text};
-
-const ABOUT: &str = "Verifies an image, and prints its stores that may leave data";
 
 const AFTER_HELP: &str = "\
 On a board nothing stops a store through BC, DE or HL that leaves data. The
@@ -51,7 +49,7 @@ Faults and what to do: docs/FAULTS.md (installed: share/doc/plm80), man plm80.";
 /// The command `stores`: its name, its help and its arguments.
 pub const STORES: Syntax<'static> = Syntax {
     name: "stores",
-    about: ABOUT,
+    about: "Verifies an image, and prints its stores that may leave data",
     after_help: AFTER_HELP,
     arguments: &[
         IMAGE,
@@ -102,13 +100,7 @@ pub fn list_stores<C: Console>(
     let files = arguments.files;
     let (image, names) = files.read(console)?;
     let given = print_stores(console, image, &names, &arguments.quiet, &quiet);
-    explain_given(
-        console,
-        &given,
-        files.names,
-        files.image,
-        Some(files.regions),
-    );
+    files.explain(console, &given);
     given
 }
 

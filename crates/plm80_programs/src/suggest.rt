@@ -32,8 +32,6 @@ pub struct SuggestArguments<'a> {
     ram: Vec<&'a str>,
 }
 
-const ABOUT: &str = "Prints the regions that an image's bytes suggest";
-
 const AFTER_HELP: &str = "\
 It prints a regions text to begin with. CODE has the instructions that the
 program may reach from its start, also after each call and through the jump
@@ -61,7 +59,7 @@ const RAM: &str = "ram-range";
 /// The command `suggest`: its name, its help and its arguments.
 pub const SUGGEST: Syntax<'static> = Syntax {
     name: "suggest",
-    about: ABOUT,
+    about: "Prints the regions that an image's bytes suggest",
     after_help: AFTER_HELP,
     arguments: &[
         IMAGE,

@@ -15,7 +15,7 @@ use machine80::Inputs;
 use plm80_console::laws::reading_leaves_files_alone;
 use plm80_console::{Answer, Argument, Console, Kind, OptionText, Reported, Syntax};
 use plm80_files::{IMAGE, REGIONS};
-use plm80_names::{NAMES, Names, Verdict, explain_given, judge};
+use plm80_names::{NAMES, Names, Verdict, judge};
 use std::alloc::AllocError;
 
 /// The arguments of the command `trace`.
@@ -25,10 +25,7 @@ pub struct TraceArguments<'a> {
     limits: LimitTexts<'a>,
     from: OptionText<'a>,
     count: OptionText<'a>,
-    names: bool,
 }
-
-const ABOUT: &str = "Verifies an image and runs it: prints its instructions, with the registers";
 
 const AFTER_HELP: &str = "\
 Each instruction has a line: the number of the steps before it, the instruction
@@ -47,7 +44,7 @@ Faults and what to do: docs/FAULTS.md (installed: share/doc/plm80), man plm80.";
 /// The command `trace`: its name, its help and its arguments.
 pub const TRACE: Syntax<'static> = Syntax {
     name: "trace",
-    about: ABOUT,
+    about: "Verifies an image and runs it: prints its instructions, with the registers",
     after_help: AFTER_HELP,
     arguments: &[
         IMAGE,
@@ -79,7 +76,6 @@ impl<'a> TraceArguments<'a> {
             limits: LimitTexts::of(matches),
             from: OptionText::of(matches, "from"),
             count: OptionText::of(matches, "count"),
-            names: matches.get_flag("names"),
         }
     }
 
@@ -106,9 +102,8 @@ pub fn trace_files<C: Console>(
 {
     let limits = arguments.limits.numbers(console)?;
     let span = arguments.span(console)?;
-    let given = trace_within(console, arguments.files, limits, span, arguments.names);
-    let (image, regions) = (arguments.files.image, arguments.files.regions);
-    explain_given(console, &given, arguments.names, image, Some(regions));
+    let given = trace_within(console, arguments.files, limits, span);
+    arguments.files.program.explain(console, &given);
     given
 }
 
@@ -119,14 +114,13 @@ fn trace_within<C: Console>(
     files: RunFiles<'_>,
     limits: Limits,
     span: Span,
-    names: bool,
 ) -> Result<u8, Reported>
-    ensures done { IfOk result (Gives (AnswersRun (λ inputs. TracesRun inputs limits span) names) (run_paths files.entry)
+    ensures done { IfOk result (Gives (AnswersRun (λ inputs. TracesRun inputs limits span) files.entry.program.names) (run_paths files.entry)
         (C.journal console.old) (C.journal console.new)) }
     ensures fault { IfErr result (λ _. OnlyReports (C.journal console.old) (C.journal console.new)) }
 {
     reading_leaves_files_alone();
-    let program = files.read(console, names)?;
+    let program = files.read(console)?;
     let inputs = program.inputs;
     match judge(console.alloc(), program.image, &program.names) {
         Ok(Verdict::Accepted(vouched)) => {

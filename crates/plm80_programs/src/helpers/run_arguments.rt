@@ -13,13 +13,12 @@ use loader80_trace::Limits;
 use machine80::Inputs;
 use plm80_console::{Argument, Console, Kind, OptionText, ReadFile, Reported, argument_text};
 use plm80_files::explain_inputs;
-use plm80_names::{Names, ProgramTexts};
+use plm80_names::{NamedFiles, Names, ProgramTexts};
 
-/// The paths of an image, of its regions and of the inputs of its run.
+/// The paths of an image, of its regions and of the inputs of its run, and whether names are printed.
 #[derive(Clone, Copy)]
 pub struct RunFiles<'a> {
-    pub image: &'a str,
-    pub regions: &'a str,
+    pub program: NamedFiles<'a>,
     inputs: &'a str,
 }
 
@@ -60,26 +59,25 @@ pub struct RunProgram {
 }
 
 impl<'a> RunFiles<'a> {
-    /// Takes the paths of the files of a run from what clap has matched.
+    /// Takes the paths of the files of a run, and whether names are asked for, from what clap has matched.
     pub fn of(matches: &ArgMatches<'a>) -> RunFiles<'a>
         ensures { AreRunFiles matches.now result }
     {
         RunFiles {
-            image: argument_text(matches, "IMAGE"),
-            regions: argument_text(matches, "REGIONS"),
+            program: NamedFiles::of(matches),
             inputs: argument_text(matches, "INPUTS"),
         }
     }
 
     /// Reads an image with its regions, its names if they are asked for, and the inputs of its run. All three files are read before one is
     /// checked, and they are checked in the order of `run`; the first fault is reported.
-    pub fn read<C: Console>(self, console: &mut C, asked: bool) -> Result<RunProgram, Reported>
-        ensures read { IfOk result (λ read. IsRunRead self.entry asked (C.journal console.old) (C.journal console.new)
+    pub fn read<C: Console>(self, console: &mut C) -> Result<RunProgram, Reported>
+        ensures read { IfOk result (λ read. IsRunRead self.entry (C.journal console.old) (C.journal console.new)
             read.image read.names read.inputs.pairs.items) }
         ensures fault { IfErr result (λ _. OnlyReports (C.journal console.old) (C.journal console.new)) }
     {
         let texts = self.texts(console)?;
-        let (image, names) = texts.program.program(console, asked)?;
+        let (image, names) = texts.program.program(console, self.program.names)?;
         let inputs = self.inputs_of(console, &texts.inputs.bytes)?;
         Ok(RunProgram {
             image,
@@ -90,13 +88,13 @@ impl<'a> RunFiles<'a> {
 
     /// Reads the three files of a run whole: the image, its regions, then its inputs.
     pub fn texts<C: Console>(self, console: &mut C) -> Result<RunTexts<'a>, Reported>
-        ensures image { IfOk result (λ texts. texts.program.image.path.now ≡ self.entry.image.now) }
-        ensures regions { IfOk result (λ texts. texts.program.regions.path.now ≡ self.entry.regions.now) }
+        ensures image { IfOk result (λ texts. texts.program.image.path.now ≡ self.entry.program.image.now) }
+        ensures regions { IfOk result (λ texts. texts.program.regions.path.now ≡ self.entry.program.regions.now) }
         ensures inputs { IfOk result (λ texts. texts.inputs.path.now ≡ self.entry.inputs.now) }
         ensures read { IfOk result (λ texts. C.journal console.new ≡ and_read_files (C.journal console.old) (run_files self.entry texts)) }
         ensures fault { IfErr result (λ _. OnlyReports (C.journal console.old) (C.journal console.new)) }
     {
-        let program = ProgramTexts::read(console, self.image, self.regions)?;
+        let program = ProgramTexts::read(console, self.program.image, self.program.regions)?;
         let inputs = console.read_file(self.inputs)?;
         Ok(RunTexts { program, inputs })
     }

@@ -14,7 +14,6 @@ use plm80_console::{Console, ReadFile, Reported};
 use plm80_files::{
     FileRole, UnreadBytes, explain_file, explain_inputs, explain_regions, place_of_regions,
 };
-use plm80_names::explain_given;
 use std::alloc::Global;
 use std::io::ErrorKind;
 use stream80::{Reading, Sink};
@@ -30,7 +29,7 @@ pub fn run_session<C: Console>(
 {
     let texts = files.texts(console)?;
     let given = print_session(console, &texts, limits);
-    explain_given(console, &given, false, files.image, Some(files.regions));
+    files.program.explain(console, &given);
     given
 }
 

@@ -47,16 +47,17 @@ struct Watched<'a> {
 pub fn watch_run<C: Console>(
     console: &mut C,
     files: RunFiles<'_>,
-    names: bool,
     watch: Watch<'_>,
 ) -> Result<u8, Reported>
-    ensures done { let w = watch.entry in IfOk result (Gives (AnswersRun (λ inputs. EndsRun inputs w.limits w.last (dump_path w.dump)) names)
+    ensures done { let w = watch.entry in IfOk result (Gives (AnswersRun (λ inputs. EndsRun inputs w.limits w.last (dump_path w.dump))
+        files.entry.program.names)
         (run_paths files.entry) (C.journal console.old) (C.journal console.new)) }
-    ensures fault { let w = watch.entry in IfErr result (λ _. GivesUp (AnswersRun (λ inputs. EndsRun inputs w.limits w.last (dump_path w.dump)) names)
+    ensures fault { let w = watch.entry in IfErr result (λ _. GivesUp (AnswersRun (λ inputs. EndsRun inputs w.limits w.last (dump_path w.dump))
+        files.entry.program.names)
         (run_paths files.entry) (C.journal console.old) (C.journal console.new)) }
 {
     reading_leaves_files_alone();
-    let program = files.read(console, names)?;
+    let program = files.read(console)?;
     watch_program(
         console,
         program.image,
@@ -167,7 +168,7 @@ fn write_finished<'a, K: Sink>(
     })
 }
 
-/// The same inputs once more, since an image runs twice if its last instructions are shown.
+/// A copy of the inputs, since an image runs twice if its last instructions are shown.
 fn copy_of(alloc: Global, inputs: &Inputs) -> Result<Inputs, AllocError>
     ensures { IfOk result (λ copy. copy.pairs.items ≡ inputs.now.pairs.items) }
 {

@@ -8,7 +8,7 @@ returns-clause-done g c =
     let limits = c.in_ok-limits.limits in
     let new = g.C.Console.journal c.give_if_made-given.new.self in
     let Counts = λ (inputs : List (ℕ × ℕ)) (publics : List Public) (program : Voucher). PrintsText (CountsRun inputs limits publics program) in
-    gives_more (AnswersRun Counts asked.names) (CoversFiles asked) (run_paths asked.files)
+    gives_more (AnswersRun Counts asked.files.program.names) (CoversFiles asked) (run_paths asked.files)
     (g.C.Console.journal c.args.console.now) (g.C.Console.journal c.numbers.new.console) new
     (λ files answer answers. record { limits = limits; are_limits = c.in_ok-limits.ensures.limits; answers = answers })
     c.in_ok-limits.ensures.unchanged c.give_if_made-given.result

@@ -1,4 +1,5 @@
-use Rattle.plm80_programs.proofs.Names.{◌≡◌, ◌≢◌, ℕ, Option, Some, Result, Ok, Err, IfOk, OnOk, ◌∙◌, subst, sym, Refusal, ShowsWith, needed_stack}
+use Rattle.plm80_programs.proofs.Names.{◌≡◌, ◌≢◌, ℕ, Option, Some, Result, Ok, Err, IfOk, OnOk, ◌∙◌, subst, sym, Refusal, ShowsWith}
+use Rattle.plm80_programs.proofs.Names.{GoesOnWithWays, named_refusal_line, needed_stack}
 use Rattle.verify80_flow.specs.declared.refusal.Refusal.TheVariants.{Memory}
 use Rattle.plm80_programs.proofs.explain.refused.Goals as goal
 
@@ -20,7 +21,10 @@ pub returns-in-Some-clause-no_memory : goal.returns-in-Some-clause-no_memory
 returns-in-Some-clause-no_memory c =
     on_ok c.overrun.result (no_memory c.args.refusal c.in-Some.need (sym c.in-Some.is ∙ c.needed_stack.ensures))
 
-pub returns-in-None-clause-shows : goal.returns-in-None-clause-shows
-returns-in-None-clause-shows c =
-    subst (λ (o : Option ℕ). IfOk c.with_ways.result (λ text. ShowsWith c.args.image.now c.args.names.now c.args.refusal o text.items))
-    (sym c.in-None.is ∙ c.needed_stack.ensures) c.with_ways.ensures.shows
+pub returns-in_ok-append_explanation-in-None-clause-shows : goal.returns-in_ok-append_explanation-in-None-clause-shows
+returns-in_ok-append_explanation-in-None-clause-shows c =
+    let image = c.args.image.now in
+    let text = c.append_explanation.new.text.items in
+    let ways : GoesOnWithWays image c.args.names.now c.args.refusal (named_refusal_line image.regions.code c.args.names.now c.args.refusal) text =
+    simp (c.publics.ensures, c.in_ok-text-in-None.ensures.line) at c.in_ok-append_explanation-in-None.ensures in
+    subst (λ (o : Option ℕ). ShowsWith image c.args.names.now c.args.refusal o text) (sym c.in-None.is ∙ c.needed_stack.ensures) ways

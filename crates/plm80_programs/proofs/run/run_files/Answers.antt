@@ -1,5 +1,5 @@
-use Rattle.plm80_programs.proofs.Names.{◌∙◌, dump_path, run_paths, AnswersRun, EndsRun, RunsFiles}
-use Rattle.plm80_programs.proofs.GivenLemmas.{more_or_gives_up, watched_runs}
+use Rattle.plm80_programs.proofs.Names.{◌∙◌, sym, run_paths, dump_path, AnswersRun, EndsRun, RunsFiles}
+use Rattle.plm80_programs.proofs.GivenLemmas.{more_or_gives_up}
 use Rattle.plm80_programs.proofs.run.run_files.Goals as goal
 
 pub returns : goal.returns
@@ -7,10 +7,16 @@ returns g c =
     let asked = c.args.arguments in
     let limits = c.in_ok-limits.limits in
     let last = c.in_ok-last.last in
-    let both = more_or_gives_up (AnswersRun (λ inputs. EndsRun inputs limits last (dump_path asked.dump)) asked.names) (RunsFiles asked)
-    (run_paths asked.files) (g.C.Console.journal c.args.console.now) (g.C.Console.journal c.count.new.console)
+    let both = more_or_gives_up (AnswersRun (λ inputs. EndsRun inputs limits last (dump_path asked.dump)) asked.files.program.names)
+    (RunsFiles asked) (run_paths asked.files) (g.C.Console.journal c.args.console.now) (g.C.Console.journal c.count.new.console)
     (g.C.Console.journal c.watch_run-given.new.console)
-    (watched_runs asked limits last c.is_session.result c.in_ok-limits.ensures.limits c.in_ok-last.ensures.count c.is_session.ensures c.if-is_session.false)
+    (λ files answer answers. record {
+      limits = limits;
+      are_limits = c.in_ok-limits.ensures.limits;
+      last = last;
+      is_last = c.in_ok-last.ensures.count;
+      answers = rw (sym c.is_session.ensures ∙ c.if-is_session.false) answers;
+    })
     (c.in_ok-last.ensures.unchanged ∙ c.in_ok-limits.ensures.unchanged) c.watch_run-given.result
     (c.watch_run-given.ensures.done, c.watch_run-given.ensures.fault) in
     record { done = both.0; fault = both.1 }

@@ -1,11 +1,14 @@
-use Rattle.plm80_programs.proofs.{Names.subst, Names.IsVerdict, Names.ListedStores, Names.ListsStores, VerdictLemmas.of_accepted}
-use Rattle.plm80_names.specs.Verdict.AnswersVerdict.{refused}
+use Rattle.plm80_programs.proofs.Names.{subst, AnswersVerdict, IfOk-weaker, IsVerdict, ListedStores, ListsStores}
+use Rattle.plm80_names.specs.Verdict.AnswersVerdict.{accepted, refused}
 use Rattle.plm80_programs.proofs.stores.judged.Goals as goal
 
 pub returns-in-Accepted-clause-stores : goal.returns-in-Accepted-clause-stores
 returns-in-Accepted-clause-stores c =
-    of_accepted (λ (listed : ListedStores). listed.answer) (ListsStores c.args.quiet.now c.args.names.now) c.args.image c.args.names.now c.in-Accepted.vouched c.stores_of.result
-    (subst (IsVerdict c.args.image c.args.names.now) c.in-Accepted.is c.in_ok-vouched.ensures) c.stores_of.ensures.stores
+    let Lists = ListsStores c.args.quiet.now c.args.names.now in
+    let is = subst (IsVerdict c.args.image c.args.names.now) c.in-Accepted.is c.in_ok-vouched.ensures in
+    IfOk-weaker c.stores_of.result (λ (listed : ListedStores). Lists c.in-Accepted.vouched listed.answer)
+    (λ (listed : ListedStores). AnswersVerdict Lists c.args.image c.args.names.now listed.answer)
+    (λ _ lists. accepted c.in-Accepted.vouched is lists) c.stores_of.ensures.stores
 
 pub returns-in-Refused-clause-stores : goal.returns-in-Refused-clause-stores
 returns-in-Refused-clause-stores c =

@@ -1,6 +1,27 @@
 use Rattle.plm80_programs.proofs.Names.{◌≤◌, List, length, ◌∙◌, ap, subst, Located, Note, IsSuggestion, regions_text, text_limit, with_regions, prints}
-use Rattle.plm80_programs.proofs.{Names.notes_status, SuggestLemmas.of_any_regions}
+use Rattle.plm80_programs.proofs.Names.{ℕ, Option, Range, Areas, Setter, notes_status}
 use Rattle.plm80_programs.proofs.suggest.advise.Goals as goal
+
+-- what is suggested of an image doesn't depend on the regions that it has
+of_any_regions : (image : Located) (areas : Areas) (rom ram : List Range) (first second : Option Setter) (tableless : List ℕ)
+    (notes : List Note) (new : Located) → IsSuggestion (with_regions image areas) rom ram first second tableless notes new
+    → IsSuggestion image rom ram first second tableless notes new
+of_any_regions image areas rom ram first second tableless notes new s = record {
+  base = s.base;
+  is_base = s.is_base;
+  cases = s.cases;
+  suggested = s.suggested;
+  found = s.found;
+  is_found = s.is_found;
+  is_first = s.is_first;
+  is_second = s.is_second;
+  least = s.least;
+  is_least = s.is_least;
+  wanted = s.wanted;
+  is_wanted = s.is_wanted;
+  arranged = s.arranged;
+  same = s.same;
+}
 
 pub returns-clause-advice : goal.returns-clause-advice
 returns-clause-advice c =

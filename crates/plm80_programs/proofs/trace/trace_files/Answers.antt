@@ -6,7 +6,7 @@ pub returns-clause-done : goal.returns-clause-done
 returns-clause-done g c =
     let limits = c.in_ok-limits.limits in
     let span = c.in_ok-span.span in
-    gives_more (AnswersRun (λ inputs. TracesRun inputs limits span) c.args.arguments.names) (TracesFiles c.args.arguments)
+    gives_more (AnswersRun (λ inputs. TracesRun inputs limits span) c.args.arguments.files.program.names) (TracesFiles c.args.arguments)
     (run_paths c.args.arguments.files) (g.C.Console.journal c.args.console.now) (g.C.Console.journal c.span.new.console) (g.C.Console.journal c.trace_within-given.new.console)
     (λ files answer answers. record {
       limits = limits;

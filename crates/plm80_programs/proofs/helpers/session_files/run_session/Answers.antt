@@ -10,8 +10,8 @@ returns-clause-done g c =
     (g.C.Console.journal c.print_session-given.new.console) (run_files paths texts) refl c.in_ok-texts.ensures.read
     (AnswersTexts c.args.limits (texts_of texts))
     (λ answer answers. record {
-      image = record { path = paths.image.now; bytes = texts.program.image.bytes.items };
-      regions = record { path = paths.regions.now; bytes = texts.program.regions.bytes.items };
+      image = record { path = paths.program.image.now; bytes = texts.program.image.bytes.items };
+      regions = record { path = paths.program.regions.now; bytes = texts.program.regions.bytes.items };
       inputs = record { path = paths.inputs.now; bytes = texts.inputs.bytes.items };
       files_are = refl;
       answers = answers;
