@@ -81,7 +81,8 @@ impl From<io::Error> for DraftFault {
 }
 
 impl<'a> HostConsole<'a> {
-    /// Moves both drafts to their places, in this order. If the first one isn't moved, which is reported, the second one is removed.
+    /// Moves both drafts to their places, in this order. If the first one isn't moved, which is reported, the second one is removed; if the
+    /// second one isn't, the journal says that the first file was written.
     pub(crate) fn settle_both(
         &mut self,
         first: Draft<'_>,
@@ -91,25 +92,14 @@ impl<'a> HostConsole<'a> {
         ensures fault { IfErr result (λ _. NotBothSettled first.entry.file second.entry.file self.old.notes.journal self.new.notes.journal) }
     {
         let settled = first.file;
-        match self.settle(first) {
-            Ok(()) => self.settle_second(settled, second),
-            Err(reported) => {
-                self.drop_draft(second);
-                Err(reported)
-            }
+        if let Err(reported) = self.settle(first) {
+            self.drop_draft(second);
+            return Err(reported);
         }
-    }
-
-    /// Moves the draft of a second file to its place, when the first file is in its own. If it isn't moved, which is reported, the journal
-    /// says that the first file was written.
-    fn settle_second(&mut self, first: NewFile<'_>, second: Draft<'_>) -> Result<(), Reported>
-        ensures unchanged { IfOk result (λ _. self.new.notes.journal ≡ self.old.notes.journal) }
-        ensures fault { IfErr result (λ _. NotBothSettled first.entry second.entry.file self.old.notes.journal self.new.notes.journal) }
-    {
         match self.settle(second) {
             Ok(()) => Ok(()),
             Err(reported) => {
-                self.note(&Note::Written(first.path, first.bytes));
+                self.note(&Note::Written(settled.path, settled.bytes));
                 Err(reported)
             }
         }
