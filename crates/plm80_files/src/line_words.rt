@@ -42,18 +42,6 @@ pub const FLAWS: &[LineFlaw] = &[
     LineFlaw::OddDigits,
 ];
 
-/// The flaws of a line whose words and digits are of upper case, in the order in which they are said.
-pub(crate) const UPPER_FLAWS: &[LineFlaw] = &[
-    LineFlaw::NotAscii,
-    LineFlaw::CarriageReturn,
-    LineFlaw::ControlZ,
-    LineFlaw::NoLineFeed,
-    LineFlaw::Blank,
-    LineFlaw::Comment,
-    LineFlaw::OddDigits,
-    LineFlaw::LowerCase,
-];
-
 /// The flaws of the first line of a text of regions, whose digit stands alone.
 pub(crate) const VERSION_FLAWS: &[LineFlaw] = &[
     LineFlaw::NotAscii,

@@ -5,7 +5,7 @@ ghost use Rattle.plm80_files.specs.Lines.{needs_version_2};
 ghost use Rattle.plm80_files.specs.RangeWords.{IsInWords, IsRangeLine, ShareAddress};
 
 use crate::file_kinds::{FileRole, explain_file};
-use crate::line_words::{UPPER_FLAWS, VERSION_FLAWS, explain_flaws, line_of};
+use crate::line_words::{FLAWS, LineFlaw, VERSION_FLAWS, explain_flaws, line_of};
 use image80::{Range, RegionsFault};
 use plm80_console::{Console, word_of_digits};
 use std::alloc::{AllocError, Global};
@@ -36,8 +36,12 @@ pub fn explain_regions<C: Console>(console: &C, text: &[u8], fault: RegionsFault
         RegionsFault::BadLine(number) => {
             if needs_version_2(text, number) {
                 console.explain("a CASE line needs REGIONS 2 as the first line");
-            } else if !explain_flaws(console, text, number, UPPER_FLAWS) {
-                console.explain(RANGE_LINE);
+            } else {
+                let is_flawed = explain_flaws(console, text, number, FLAWS);
+                let is_lower = explain_flaws(console, text, number, &[LineFlaw::LowerCase]);
+                if !is_flawed && !is_lower {
+                    console.explain(RANGE_LINE);
+                }
             }
         }
         RegionsFault::RegionsOverlap if console.explains() => {
