@@ -2,5 +2,4 @@ pub mod CaseLemmas
 pub mod GivenLemmas
 pub mod PrintLemmas
 pub mod RunLemmas
-pub mod WordLemmas
 mod Names

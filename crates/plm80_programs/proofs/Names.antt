@@ -13,7 +13,7 @@ pub use Rattle.plm80_console.specs.Answer.{AnswerValue, GaveUp, Gives, GivesUp, 
 pub use Rattle.plm80_console.specs.Answer.{behind_file, paths_of, prints}
 pub use Rattle.plm80_console.specs.Journal.{FileValue, IsTakenBack, Journal, OnlyReports, and_printed, and_read, and_read_files}
 pub use Rattle.plm80_console.specs.Journal.{and_written, file_value}
-pub use Rattle.plm80_console.specs.{JournalLaws.FaultsFollowReading, Ranges.AreRangesOf}
+pub use Rattle.plm80_console.specs.{JournalLaws.FaultsFollowReading}
 pub use Rattle.plm80_names.specs.Printed.{named_refusal_line, named_report}
 pub use Rattle.plm80_names.specs.Verdict.{AnswersProgram, AnswersVerdict, IsAccepted, IsProgramRead, IsRefusal, IsVerdict}
 pub use Rattle.plm80_names.specs.Arguments.{asks_names, program_paths}
@@ -26,9 +26,9 @@ pub use Rattle.plm80_programs.specs.Printed.{PrintsStores, stores_lines}
 pub use Rattle.plm80_programs.specs.Running.{AnswersRun, AnswersSession, AnswersTexts, CoversFiles, EndsRun, IsRunRead, RunsFiles}
 pub use Rattle.plm80_programs.specs.Running.{TracesFiles, TracesRun, last_lines, run_files, session_status, start_of, texts_of}
 pub use Rattle.plm80_programs.specs.Running.{trace_ending, trace_lines, with_memory}
-pub use Rattle.plm80_programs.specs.{Explanations.ShowsRest.behind, Status.notes_status, Status.stores_status, Suggest.AdvisesRegions}
-pub use Rattle.plm80_programs.specs.{Suggest.AnswersAdvice, Written.AnswersRegions, declared.cases.FoundCase.FoundCase}
-pub use Rattle.plm80_programs.specs.{declared.helpers.run_arguments.RunFiles.RunFiles, declared.stores.ListedStores.ListedStores}
+pub use Rattle.plm80_programs.specs.{Status.notes_status, Status.stores_status, Suggest.AnswersAdvice, Written.AnswersRegions}
+pub use Rattle.plm80_programs.specs.{declared.cases.FoundCase.FoundCase, declared.helpers.run_arguments.RunFiles.RunFiles}
+pub use Rattle.plm80_programs.specs.{declared.stores.ListedStores.ListedStores}
 pub use Rattle.std.proofs.Common.{ap, append-nil, append_assoc, arith, get_or, refl, rules, subst, sym, ◌∙◌}
 pub use Rattle.std.proofs.lemmas.List.{drop_more, map-append, map_more, take-append-drop}
 pub use Rattle.std.proofs.lemmas.List.Elements.{All-nil, All-push, filter-append, filter_map-append}

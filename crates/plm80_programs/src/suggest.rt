@@ -101,8 +101,8 @@ pub fn advise_file<C: Console>(
 {
     let rom = ranges_of(console, ROM, &arguments.rom)?;
     let ram = ranges_of(console, RAM, &arguments.ram)?;
-    let image = bare_image(console, arguments.image)?;
-    match advised(console.alloc(), image, &rom, &ram) {
+    let mut image = bare_image(console, arguments.image)?;
+    match advise(console.alloc(), &mut image, &rom, &ram) {
         Ok(printed) => print_advice(console, printed),
         Err(LengthFault::TooLong) => Err(console.report(LengthFault::TooLong)),
         Err(LengthFault::Memory) => Err(console.report_memory()),
@@ -143,22 +143,8 @@ fn print_advice<C: Console>(console: &mut C, printed: PrintedAdvice) -> Result<u
     Ok(status)
 }
 
-/// What `suggest` answers to an image and to ranges of ROM and RAM. `TooLong` if the text of the regions has more bytes than a text of
-/// regions may have.
-fn advised(
-    alloc: Global,
-    image: Image,
-    rom: &[Range],
-    ram: &[Range],
-) -> Result<PrintedAdvice, LengthFault>
-    ensures advice { IfOk result (λ advised. AdvisesRegions image rom.now ram.now advised.advice advised.answer) }
-    ensures no_file { IfOk result (λ advised. advised.answer.files ≡ []) }
-{
-    let mut image = image;
-    advise(alloc, &mut image, rom, ram)
-}
-
-/// What `suggest` answers, as in `advised`, to an image that is lent and gets the regions.
+/// What `suggest` answers to an image, which gets the regions, and to ranges of ROM and RAM. `TooLong` if the text of the regions has more
+/// bytes than a text of regions may have.
 fn advise(
     alloc: Global,
     image: &mut Image,

@@ -5,14 +5,12 @@ ghost use Rattle.std.specs.{Io.KnownBytes.Appends, List.flat_map};
 ghost use Rattle.machine80.specs.{Run.IsRun, Step.with_ports};
 ghost use Rattle.loader80.specs.TranscriptText.{output_line, stack_line};
 ghost use Rattle.plm80_console.specs.Answer.{GaveUp, Gives, GivesUp, IsAnswered, IsGiven, IsGivenUp};
-ghost use Rattle.plm80_names.specs.Verdict.{AnswersVerdict};
 ghost use Rattle.plm80_programs.specs.Running.{AnswersRun, EndsRun, WatchesRun, last_lines, start_of, with_memory};
 ghost use Rattle.plm80_programs.specs.Arguments.{dump_path, run_paths};
 
 use crate::EndWords;
 use crate::helpers::endings::{ending_of, report_lines};
 use crate::helpers::run_arguments::RunFiles;
-use image80::Image;
 use loader80::{Ended, Vouched, front_text};
 use loader80_trace::{
     Finished, Limits, LineForm, Span, TraceFault, finish, memory_bytes, write_lines,
@@ -58,30 +56,10 @@ pub fn watch_run<C: Console>(
 {
     reading_leaves_files_alone();
     let program = files.read(console)?;
-    watch_program(
-        console,
-        program.image,
-        &program.inputs,
-        watch,
-        &program.names,
-    )
-}
-
-/// Runs the program of `image` as `print_run` does; prints the refusal of an image that the verifier refuses.
-fn watch_program<C: Console>(
-    console: &mut C,
-    image: Image,
-    inputs: &Inputs,
-    watch: Watch<'_>,
-    names: &Names,
-) -> Result<u8, Reported>
-    ensures done { let w = watch.entry in IfOk result (IsAnswered (AnswersVerdict (EndsRun inputs.now.pairs.items w.limits w.last
-        (dump_path w.dump) names.now) image names.now) (C.journal console.old) (C.journal console.new)) }
-    ensures fault { let w = watch.entry in IfErr result (λ _. IsGivenUp (AnswersVerdict (EndsRun inputs.now.pairs.items w.limits w.last
-        (dump_path w.dump) names.now) image names.now) (C.journal console.old) (C.journal console.new)) }
-{
-    match judge(console.alloc(), image, names) {
-        Ok(Verdict::Accepted(vouched)) => print_run(console, &vouched, inputs, watch, names),
+    match judge(console.alloc(), program.image, &program.names) {
+        Ok(Verdict::Accepted(vouched)) => {
+            print_run(console, &vouched, &program.inputs, watch, &program.names)
+        }
         Ok(Verdict::Refused(line)) => console.give(Answer::prints(line, 1)),
         Err(AllocError) => Err(console.report_memory()),
     }

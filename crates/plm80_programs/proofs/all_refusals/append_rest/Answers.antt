@@ -1,4 +1,5 @@
-use Rattle.plm80_programs.proofs.Names.{ℕ, List, ◌++◌, refl, ◌∙◌, ap, sym, behind}
+use Rattle.plm80_programs.proofs.Names.{ℕ, List, ◌++◌, refl, ◌∙◌, ap, sym}
+use Rattle.plm80_programs.specs.Explanations.ShowsRest.{behind}
 use Rattle.plm80_programs.proofs.all_refusals.append_rest.Goals as goal
 
 pub returns : goal.returns

@@ -1,5 +1,4 @@
-use Rattle.plm80_programs.proofs.Names.{Bor, ℕ, List, map, subst, Range, AreRangesOf, asks_names, program_paths, AnswersProgram}
-use Rattle.plm80_programs.proofs.Names.{AnswersStores, IfOk, IsAnswered, PrintsStores}
+use Rattle.plm80_programs.proofs.Names.{asks_names, program_paths, AnswersProgram, AnswersStores, PrintsStores}
 use Rattle.plm80_programs.proofs.GivenLemmas.{gives_more, program_answered, program_reports, reports_same}
 use Rattle.plm80_programs.proofs.stores.list_stores.Goals as goal
 
@@ -8,14 +7,11 @@ returns-clause-done g c =
     let asked = c.args.arguments.now in
     let quiet = c.in_ok-quiet.quiet.items in
     let new = g.C.Console.journal c.print_stores-given.new.console in
-    let written = subst (λ (texts : List (Bor (List ℕ))). AreRangesOf (map (λ text. text.now) texts) quiet) c.deref.ensures.value
-    c.in_ok-quiet.ensures.ranges in
     gives_more (AnswersProgram (PrintsStores quiet) (asks_names asked.files)) (AnswersStores asked) (program_paths asked.files)
     (g.C.Console.journal c.args.console.now) (g.C.Console.journal c.ranges_of.new.console) new
-    (λ files given is. record { quiet = quiet; written = written; is = is }) c.in_ok-quiet.ensures.unchanged c.print_stores-given.result
+    (λ files given is. record { quiet = quiet; written = simp (c.deref.ensures.value) at c.in_ok-quiet.ensures.ranges; is = is }) c.in_ok-quiet.ensures.unchanged c.print_stores-given.result
     (program_answered c.in_ok-image.ensures.read new (PrintsStores quiet) c.print_stores-given.result
-    (subst (λ (l : List Range). IfOk c.print_stores-given.result (IsAnswered (PrintsStores l c.in_ok-image.image c.in_ok-image.names)
-    (g.C.Console.journal c.read.new.console) new)) c.deref-3.ensures.value c.print_stores-given.ensures.done))
+    (simp (c.deref-3.ensures.value) at c.print_stores-given.ensures.done))
 
 pub returns-clause-fault : goal.returns-clause-fault
 returns-clause-fault g c =

@@ -1,5 +1,4 @@
-use Rattle.plm80_programs.proofs.Names.{Bor, ℕ, List, [], ◌∷◌, map, refl, ◌∙◌, ap, subst, Range, Journal, and_read, file_value, AreRangesOf}
-use Rattle.plm80_programs.proofs.Names.{AdvisesRegions, AnswersAdvice}
+use Rattle.plm80_programs.proofs.Names.{[], ◌∷◌, refl, ◌∙◌, ap, Journal, and_read, file_value, AnswersAdvice}
 use Rattle.plm80_programs.proofs.GivenLemmas.{gives}
 use Rattle.plm80_programs.proofs.suggest.advise_file.Goals as goal
 
@@ -18,12 +17,11 @@ returns-in-Ok-clause-done g c =
       image = image;
       contents = c.in_ok-image.ensures.image.1;
       rom = rom;
-      is_rom = subst (λ (texts : List (Bor (List ℕ))). AreRangesOf (map (λ text. text.now) texts) rom) c.deref.ensures.value c.in_ok-rom.ensures.ranges;
+      is_rom = simp (c.deref.ensures.value) at c.in_ok-rom.ensures.ranges;
       ram = ram;
-      is_ram = subst (λ (texts : List (Bor (List ℕ))). AreRangesOf (map (λ text. text.now) texts) ram) c.deref-2.ensures.value c.in_ok-ram.ensures.ranges;
+      is_ram = simp (c.deref-2.ensures.value) at c.in_ok-ram.ensures.ranges;
       advice = printed.advice;
-      advises = subst (λ (l : List Range). AdvisesRegions image l ram printed.advice printed.answer) c.deref-3.ensures.value
-          (subst (λ (l : List Range). AdvisesRegions image c.deref-3.result.now l printed.advice printed.answer) c.deref-4.ensures.value c.in-Ok.ensures.advice);
+      advises = simp (c.deref-3.ensures.value, c.deref-4.ensures.value) at c.in-Ok.ensures.advice;
     } in
     gives (AnswersAdvice asked) (asked.image.now ∷ []) (g.C.Console.journal c.args.console.now) (g.C.Console.journal c.bare_image.new.console)
     (g.C.Console.journal c.print_advice.new.console) (file ∷ []) refl
