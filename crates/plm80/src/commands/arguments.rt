@@ -154,20 +154,7 @@ fn refuse_shared_paths<C: Console>(
         Request::Cases(_) => CASES.refuse_shared_paths(console, arguments),
         Request::Extract(_) => EXTRACT.refuse_shared_paths(console, arguments),
         Request::Absolute(_) => ABSOLUTE.refuse_shared_paths(console, arguments),
-        Request::List(_)
-        | Request::Check(_)
-        | Request::Explain(_)
-        | Request::Regions(_)
-        | Request::Map(_)
-        | Request::Stores(_)
-        | Request::Compare(_)
-        | Request::Inputs(_)
-        | Request::Calls(_)
-        | Request::Trace(_)
-        | Request::Cover(_)
-        | Request::Module(_)
-        | Request::Find(_)
-        | Request::Suggest(_) => Ok(()),
+        _ => Ok(()),
     }
 }
 

@@ -10,8 +10,6 @@ use plm80_programs::{
 };
 use std::alloc::{AllocError, Global};
 
-const ABOUT: &str = "Links, locates, verifies and runs 8080 programs from OMF-80 object files";
-
 const AFTER_HELP: &str = "\
 plm80 help COMMAND, or plm80 COMMAND --help, prints the help of a command.
 
@@ -72,7 +70,7 @@ const VERSION: &str = "1.2";
 pub(crate) fn program<'a>(alloc: Global, after: &'a str) -> Result<Command<'a>, AllocError> {
     let mut program = Command::new(alloc, "plm80")
         .version(VERSION)
-        .about(ABOUT)
+        .about("Links, locates, verifies and runs 8080 programs from OMF-80 object files")
         .override_usage("plm80 <COMMAND>")
         .after_help(after)
         .subcommand_required(true)
