@@ -1,7 +1,3 @@
-mod GivenLemmas
-mod JournalLemmas
 mod NumberLemmas
 mod PieceLemmas
-mod RangeLemmas
 mod SharedLemmas
-mod SyntaxLemmas
