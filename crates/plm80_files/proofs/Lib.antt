@@ -1,2 +1,1 @@
 mod PieceLemmas
-mod UnreadLemmas

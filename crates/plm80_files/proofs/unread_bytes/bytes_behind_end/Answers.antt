@@ -1,7 +1,20 @@
-use Rattle.std.proofs.Common.{[]}
-use Rattle.plm80_files.proofs.UnreadLemmas.{ends_here, goes_on}
-use Rattle.plm80_files.specs.UnreadBytes.{none}
+use Rattle.std.proofs.Common.{◌≡◌, ◌≢◌, ◌∙◌, ℕ, ◌≤◌, List, [], length, slice_get, Some, ap, sym, subst}
+use Rattle.std.proofs.lemmas.Option.{same_Some}
+use Rattle.omf_core.specs.Record.{record_size}
+use Rattle.plm80_files.specs.UnreadBytes.{IsBehindEnd, after_record, here, later, none}
 use Rattle.plm80_files.proofs.unread_bytes.bytes_behind_end.Goals as goal
+
+-- the end record comes first
+ends_here : (bytes after : List ℕ) (kind : ℕ) → record_size bytes ≤ length bytes → slice_get bytes 0 ≡ Some kind → kind ≡ 0x0E
+    → after ≡ after_record bytes → IsBehindEnd bytes after
+ends_here bytes after kind whole first last is =
+    subst (λ (t : List ℕ). IsBehindEnd bytes t) (sym is) (here bytes whole (first ∙ ap (λ (k : ℕ). Some k) last))
+
+-- another record comes first
+goes_on : (bytes rest after : List ℕ) (kind : ℕ) → record_size bytes ≤ length bytes → slice_get bytes 0 ≡ Some kind → kind ≢ 0x0E
+    → rest ≡ after_record bytes → IsBehindEnd rest after → IsBehindEnd bytes after
+goes_on bytes rest after kind whole first other is behind =
+    later bytes after whole (λ last. other (same_Some kind 0x0E (sym first ∙ last))) (subst (λ (t : List ℕ). IsBehindEnd t after) is behind)
 
 pub returns-then-kind-eq-END_OF_FILE : goal.returns-then-kind-eq-END_OF_FILE
 returns-then-kind-eq-END_OF_FILE c =
