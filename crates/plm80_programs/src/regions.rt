@@ -7,9 +7,7 @@ ghost use Rattle.plm80_programs.specs.{Arguments.AreRegionsArguments, Written.An
 
 use clap::ArgMatches;
 use image80::{RegionsFault, migrate_regions};
-use plm80_console::{
-    Answer, Argument, Console, FaultOf, Kind, ReadFile, Reported, Syntax, argument_text,
-};
+use plm80_console::{Answer, Argument, Console, Kind, ReadFile, Reported, Syntax, argument_text};
 use plm80_files::report_regions;
 use std::alloc::Global;
 
@@ -75,24 +73,16 @@ pub fn migrate_file<C: Console>(
     let old = console.read_file(arguments.old)?;
     match migrated(console.alloc(), &old, arguments.new) {
         Ok(answer) => console.give(answer),
-        Err(fault) => Err(report_regions(console, fault.path, &old.bytes, fault.fault)),
+        Err(fault) => Err(report_regions(console, old.path, &old.bytes, fault)),
     }
 }
 
-/// What `regions` answers: the regions that the text of `old` spells go to the file `new`, as a text of version 2. The fault of the text
-/// has the path of `old`.
-fn migrated<'a, 'b>(
-    alloc: Global,
-    old: &ReadFile<'a>,
-    new: &'b str,
-) -> Result<Answer<'b>, FaultOf<'a, RegionsFault>>
+/// What `regions` answers: the regions that the text of `old` spells go to the file `new`, as a text of version 2.
+fn migrated<'a>(alloc: Global, old: &ReadFile<'_>, new: &'a str) -> Result<Answer<'a>, RegionsFault>
     ensures text { IfOk result (WritesMigrated old.now.bytes.items new.now) }
-    ensures path { IfErr result (λ fault. fault.path.now ≡ old.now.path.now) }
-    ensures fault { IfErr result (λ fault. Refuses old.now.bytes.items fault.fault) }
+    ensures fault { IfErr result (Refuses old.now.bytes.items) }
 {
     let mut text = Vec::new(alloc);
-    match migrate_regions(alloc, &old.bytes, &mut text) {
-        Ok(()) => Ok(Answer::writes(new, text, Vec::new(alloc))),
-        Err(fault) => Err(old.fault(fault)),
-    }
+    migrate_regions(alloc, &old.bytes, &mut text)?;
+    Ok(Answer::writes(new, text, Vec::new(alloc)))
 }
