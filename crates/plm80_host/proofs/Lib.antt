@@ -1,2 +1,1 @@
-mod DraftLemmas
 pub mod Walks
