@@ -239,11 +239,7 @@ impl ByteSpan {
     pub fn only(self, byte: u8) -> Option<ByteSpan>
         ensures { result ≡ only byte self }
     {
-        if self.first <= byte && byte <= self.last {
-            Some(ByteSpan::alone(byte))
-        } else {
-            None
-        }
+        (self.first <= byte && byte <= self.last).then_some(ByteSpan::alone(byte))
     }
 
     /// This span without `byte`, if that is its first or last one, and else as it is; `None` if no byte is left.
@@ -251,17 +247,9 @@ impl ByteSpan {
         ensures { result ≡ without byte self }
     {
         if self.first == byte {
-            if byte < self.last {
-                Some(ByteSpan::new(byte + 1, self.last))
-            } else {
-                None
-            }
+            (byte < self.last).then(|| ByteSpan::new(byte.saturating_add(1), self.last))
         } else if self.last == byte {
-            if self.first < byte {
-                Some(ByteSpan::new(self.first, byte - 1))
-            } else {
-                None
-            }
+            (self.first < byte).then(|| ByteSpan::new(self.first, byte.saturating_sub(1)))
         } else {
             Some(self)
         }
@@ -271,22 +259,17 @@ impl ByteSpan {
     pub fn below(self, byte: u8) -> Option<ByteSpan>
         ensures { result ≡ below byte self }
     {
-        if self.first < byte {
-            Some(ByteSpan::new(self.first, self.last.min(byte - 1)))
-        } else {
-            None
-        }
+        (self.first < byte).then(|| ByteSpan::new(
+            self.first,
+            self.last.min(byte.saturating_sub(1)),
+        ))
     }
 
     /// The bytes of this span from `byte` on; `None` if there are none.
     pub fn from(self, byte: u8) -> Option<ByteSpan>
         ensures { result ≡ from byte self }
     {
-        if byte <= self.last {
-            Some(ByteSpan::new(self.first.max(byte), self.last))
-        } else {
-            None
-        }
+        (byte <= self.last).then_some(ByteSpan::new(self.first.max(byte), self.last))
     }
 }
 
