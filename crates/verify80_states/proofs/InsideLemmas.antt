@@ -53,7 +53,7 @@ state_around regions variables s t m bytes inside named holds =
 
 -- variables that it names have their bytes
 pub set_around : (regions : Areas) (variables : List Variable) (s t : State) (m : Machine) → HasBytes m.memory → IsStateInside variables s t → HoldsSet variables s.set m.memory → Holds regions s m → HoldsSet variables t.set m.memory
-set_around regions variables s t m bytes inside named holds v of = by (inside.set of.number v of.there of.named) where
+set_around regions variables s t m bytes inside named holds v of = by ((inside.set of.number v of.there).either of.named) where
   by : (is_bit s.set of.number ≡ true) ⊎ IsByteInside (bytes_at s.cells v.at) v.bytes → ByteWithin v.bytes (byte_in m.memory v.at)
   by (inl so) = named v (record { number = of.number; there = of.there; named = so })
   by (inr said) = byte_inside_within (bytes_at s.cells v.at) v.bytes (byte_in m.memory v.at) said (cells_within s.cells m.memory v.at holds.cells bytes)

@@ -21,7 +21,7 @@ pub use Rattle.verify80_spans.specs.{declared.byte_span.ByteSpan.ByteSpan, decla
 pub use Rattle.verify80_states.specs.Bytes.{AreBytes, BytesStayBytes, FetchedOperandsAreBounded, HasBytes, HoldsBytes, IsBounded, IsByte, IsWord, MemoryKeepsItsLength}
 pub use Rattle.verify80_states.specs.Calls.{AccountsFor, AccountsForCall, IsBehind, IsWithin, KeepsCalls, KnowsReturn, KnowsReturnIf, KnowsReturnsOf, Owes, ReturnFacts, no_returns, returns_of}
 pub use Rattle.verify80_states.specs.Cells.{AreCellsInside, AreQuietCells, HoldsCell, HoldsCells, IsCellInside, IsQuietCell, any_cell, bytes_at, bytes_of, cells_after, cut_cell, cut_cells, no_cells, stored_cell}
-pub use Rattle.verify80_states.specs.{Fitting.CallsEntry, Fitting.Covers, Fitting.CoversAfter, Fitting.FitsAt, Fitting.FitsBy, Fitting.Has, Fitting.KnowsQuiet, FittingTable.AllFit, FittingTable.EntryFits, FittingTable.Fits, FittingTable.FitsWhereReached, FittingTable.nothing_at, Marks.entry_at, Marks.is_marked, Runs.IsKept, Runs.KeepsTo, Runs.KeepsToCalls, Steps.AreCodeBytes, Steps.HasCode, Steps.ReadsCode, Steps.is_taken, Variables.HoldsSet, Variables.IsSaid, Variables.is_bit, Variables.takes, declared.fitting.fitting.Placed.Placed, declared.states.cells.Cell.Cell, declared.states.cells.Cells.Cells, declared.states.memory_after.StoredByte.StoredByte, declared.states.pairs.PairSpan.PairSpan, declared.states.state.State.State, declared.states.variables.Variable.Variable, declared.states.words.Words.Words}
+pub use Rattle.verify80_states.specs.{Fitting.CallsEntry, Fitting.Covers, Fitting.CoversAfter, Fitting.FitsAt, Fitting.FitsBy, Fitting.Has, Fitting.KnowsQuiet, FittingTable.AccountsAt, FittingTable.AllFit, FittingTable.EntryFits, FittingTable.Fits, FittingTable.FitsWhereReached, FittingTable.nothing_at, Marks.entry_at, Marks.is_marked, Runs.IsKept, Runs.KeepsTo, Runs.KeepsToCalls, Steps.AreCodeBytes, Steps.HasCode, Steps.ReadsCode, Steps.is_taken, Variables.HoldsSet, Variables.IsSaid, Variables.is_bit, Variables.takes, declared.fitting.fitting.Placed.Placed, declared.states.cells.Cell.Cell, declared.states.cells.Cells.Cells, declared.states.memory_after.StoredByte.StoredByte, declared.states.pairs.PairSpan.PairSpan, declared.states.state.State.State, declared.states.variables.Variable.Variable, declared.states.words.Words.Words}
 pub use Rattle.verify80_states.specs.Following.{added_carry, address_after, after_operation, called, code_or, counted, exchanged, index_words, is_accumulator, is_steady, known_pair, loaded, loaded_at, moved, only_address, operand_bytes, pushed_pair, registers_after, resulted, returned, source_after, state_after, stored_bytes, tested, turned, words_after}
 pub use Rattle.verify80_states.specs.Given.{carry_bytes, cut_to, given, given_carry, given_flag, given_sign, given_zero, zero_bytes}
 pub use Rattle.verify80_states.specs.State.{AreWordsInside, Compares, Holds, HoldsPair, HoldsRegisters, HoldsSource, HoldsWord, HoldsWords, IsCopyInside, IsOnStack, IsPairInside, IsQuietSource, IsQuietState, IsSameIfKnown, IsStateInside, IsWordInside, any_pair, anything, byte_of, compared_with, copy_outside, copy_without, cut, cut_copy, cut_high, cut_low, next_pair, no_words, pair_of_halves, pair_of_words, popped, previous_pair, pushed, span_of, sum_pair, unknown_but, with_any_flags, with_byte, with_carry, with_outcome, with_span}

@@ -23,7 +23,7 @@ fits_program image quiet reached bytes returns variables table are whole start f
   knows = knows;
   quiet_variables = quiet_variables;
   entries = λ place placed found there walk looked. (one_of (FitsWhereReached image.regions bytes returns reached variables table) table place placed fit.entries there).fits found (here placed.at found walk looked);
-  accounts = λ at found walk looked. fit.accounts at found (let inside = entry_within reached at found (here at found walk looked) in omega (arith, inside, whole)) (here at found walk looked);
+  accounts = λ at found walk looked. let there = here at found walk looked in let inside = entry_within reached at found there in (fit.accounts at (omega (arith, inside, whole))).accounts found there;
 } where
   here : (at : ℕ) (found : Fetched) → IsReached (code_of image) at → (code_of image).look at ≡ Ok found → found_at reached at ≡ Some found
   here at found walk looked = found_there (code_of image) reached at found (found_at reached at) are refl walk looked

@@ -29,10 +29,13 @@ pub record Fits (quiet : ℕ → Bool) (code : Code) (bytes : List (Option ℕ))
 pub record FitsWhereReached (regions : Areas) (bytes : List (Option ℕ)) (returns : ReturnFacts) (reached : List (Option Fetched)) (variables : List Variable) (table : List Placed) (placed : Placed) : Type 0 where
   pub fits : (found : Fetched) → found_at reached placed.at ≡ Some found → EntryFits bytes returns (declared_targets regions placed.at) variables table placed.at placed.state found
 
+-- an address accounts for where the instruction that is reached there leads
+pub record AccountsAt (regions : Areas) (returns : ReturnFacts) (reached : List (Option Fetched)) (at : ℕ) : Type 0 where
+  pub accounts : (found : Fetched) → found_at reached at ≡ Some found → AccountsFor returns (declared_targets regions at) at found.next (flow found.instr)
+
 pub record AllFit (regions : Areas) (bytes : List (Option ℕ)) (returns : ReturnFacts) (reached : List (Option Fetched)) (variables : List Variable) (table : List Placed) : Type 0 where
   pub entries : All (FitsWhereReached regions bytes returns reached variables table) table
-  pub accounts : (at : ℕ) (found : Fetched) → at < 65536 → found_at reached at ≡ Some found →
-      AccountsFor returns (declared_targets regions at) at found.next (flow found.instr)
+  pub accounts : (at : ℕ) → at < 65536 → AccountsAt regions returns reached at
 
 -- a state that says nothing
 abbrev pub nothing_at : (at : ℕ) → Placed

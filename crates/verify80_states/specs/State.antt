@@ -8,7 +8,7 @@ use Rattle.decode80.specs.declared.pair.Pair.TheVariants.{Bc, De, Hl, Sp}
 use Rattle.image80.specs.{Range.in_range, Regions.Areas, Regions.top_of}
 use Rattle.machine80.specs.{declared.flags.Flags.Flags, declared.registers.Registers.Registers, Cpu.word, Cpu.register_of, Effects.byte_in, Step.Machine}
 use Rattle.verify80_spans.specs.{declared.span.Span.Span, declared.byte_span.ByteSpan.ByteSpan, declared.byte_span.Outcome.Outcome}
-use Rattle.verify80_states.specs.{declared.states.pairs.PairSpan.PairSpan, declared.states.words.Words.Words, declared.states.state.State.State, declared.states.variables.Variable.Variable, Variables.is_bit}
+use Rattle.verify80_states.specs.{declared.states.cells.Cells.Cells, declared.states.pairs.PairSpan.PairSpan, declared.states.words.Words.Words, declared.states.state.State.State, declared.states.variables.Variable.Variable, Variables.is_bit}
 use Rattle.verify80_spans.specs.Span.{Within, ByteWithin, IsInside, IsByteInside, IsKnown, any_word, any_byte, byte_alone, is_byte_alone, next_span, previous_span, next_byte, previous_byte, sum_span, sum_of, meet, meet_bytes, high_of, low_of, joined, zero_of, sign_of}
 use Rattle.verify80_states.specs.Cells.{HoldsCells, AreCellsInside, AreQuietCells, bytes_at, no_cells, cut_cells}
 
@@ -96,10 +96,12 @@ pub record AreRegistersInside (inner outer : State) : Type 0 where
   pub de : IsPairInside inner.de outer.de
   pub hl : IsPairInside inner.hl outer.hl
 
--- each variable that it names is named by the other, or said by its cells
+-- a variable that a set names is named by another, or said by its cells; and so is each that a state names
+pub record IsVariableInside (number : ℕ) (v : Variable) (inner : ℕ) (cells : Cells) (outer : ℕ) : Type 0 where
+  pub either : is_bit outer number ≡ true → (is_bit inner number ≡ true) ⊎ IsByteInside (bytes_at cells v.at) v.bytes
+
 abbrev pub IsSetInside : List Variable → (inner outer : State) → Type 0
-IsSetInside variables inner outer = (number : ℕ) (v : Variable) → slice_get variables number ≡ Some v → is_bit outer.set number ≡ true →
-    (is_bit inner.set number ≡ true) ⊎ IsByteInside (bytes_at inner.cells v.at) v.bytes
+IsSetInside variables inner outer = (number : ℕ) (v : Variable) → slice_get variables number ≡ Some v → IsVariableInside number v inner.set inner.cells outer.set
 
 pub record IsStateInside (variables : List Variable) (inner outer : State) : Type 0 where
   pub registers : AreRegistersInside inner outer

@@ -5,7 +5,7 @@ ghost use Rattle.std.specs.Prelude.{◌≡◌, ◌<◌, ℕ, Bool, true, false, 
 ghost use Rattle.decode80.specs.{declared.fetching.Fetched.Fetched, Facts.flow};
 ghost use Rattle.image80.specs.Regions.{AreRegions, in_data};
 ghost use Rattle.verify80.specs.{Looking.code_of, Looking.declared_targets, Reached.AreReached, Reached.found_at};
-ghost use Rattle.verify80_states.specs.{State.cut, State.unknown_but, Following.is_steady, Following.state_after, Marks.is_marked, Steps.AreCodeBytes, FittingTable.FitsWhereReached, Runs.IsKept};
+ghost use Rattle.verify80_states.specs.{State.cut, State.unknown_but, Following.is_steady, Following.state_after, Marks.is_marked, Steps.AreCodeBytes, FittingTable.AccountsAt, FittingTable.FitsWhereReached, Runs.IsKept};
 ghost use Rattle.verify80_spans.specs.Span.{Within, ByteWithin, byte_alone};
 ghost use Rattle.verify80_states.specs.Fitting.{CallsEntry, Has, Covers, CoversAfter, FitsAt, KnowsQuiet};
 ghost use Rattle.verify80_states.specs.Calls.{AccountsFor, KnowsReturn, KnowsReturnsOf, returns_of};
@@ -120,14 +120,18 @@ impl Fit<'_> {
     fn has_at_each(&self, hint: u32, targets: &[u16], hl: Span, state: State) -> bool
         ensures { result ≡ true → (to : ℕ) → Contains targets.now to → Within hl to → Covers self.now.variables.now self.now.table.now to state }
     {
-        let mut next = hint;
-        for to in targets {
-            if hl.first <= *to && *to <= hl.last && !self.covers(next, *to, state) {
-                return false;
-            }
-            next = next.saturating_add(1);
-        }
-        true
+        targets.iter().enumerate().all(|(place, to)| {
+            self.covers_target(hint, place, *to, hl, state)
+        })
+    }
+
+    /// Whether HL can't be the target `to`, or the hint at a place from `hint` on names states there, which together say no more than
+    /// `state`.
+    fn covers_target(&self, hint: u32, place: usize, to: u16, hl: Span, state: State) -> bool
+        ensures { result ≡ true → Within hl to → Covers self.now.variables.now self.now.table.now to state }
+    {
+        let next = hint.saturating_add(u32::try_from(place).unwrap_or(u32::MAX));
+        !(hl.first <= to && to <= hl.last) || self.covers(next, to, state)
     }
 
     /// Whether the table covers what the instruction at a state's address makes of it, wherever the instruction leads but by a return.
@@ -158,32 +162,6 @@ impl Fit<'_> {
                 self.covers_after(hint, next, found, false, given(condition, false, state))
             }
             Flow::Returns | Flow::Halts => true,
-        }
-    }
-
-    /// Whether each reached address accounts for the addresses where its instruction leads.
-    fn all_account(&self) -> bool
-        ensures { result ≡ true → (at : ℕ) (found : Fetched) → at < 65536 → found_at self.now.reached.now at ≡ Some found →
-            AccountsFor (returns_of self.now.returns.now) (declared_targets self.now.regions.now at) at found.next (flow found.instr) }
-    {
-        for at in 0..65_536_usize {
-            if !self.accounts_at(at as u16) {
-                return false;
-            }
-        }
-        true
-    }
-
-    /// Whether `at` accounts for the addresses where its instruction leads; true if no instruction is reached there.
-    fn accounts_at(&self, at: u16) -> bool
-        ensures { result ≡ true → (found : Fetched) → found_at self.now.reached.now at ≡ Some found →
-            AccountsFor (returns_of self.now.returns.now) (declared_targets self.now.regions.now at) at found.next (flow found.instr) }
-    {
-        match entry_at(self.reached, at) {
-            Some(found) => self
-                .returns
-                .accounts_for(targets_at(self.regions, at), at, found),
-            None => true,
         }
     }
 
@@ -324,10 +302,37 @@ pub fn fits(
     if !fit.has(0, image.start, State::ANY) {
         return false;
     }
-    if !fit.all_account() {
+    if !all_account(&image.regions, returns, reached) {
         return false;
     }
     fit.all_fit()
+}
+
+/// Whether each reached address accounts for the addresses where its instruction leads.
+fn all_account(regions: &Regions, returns: &CallReturns, reached: &[Option<Fetched>]) -> bool
+    ensures { result ≡ true → (at : ℕ) → at < 65536 → AccountsAt regions.now (returns_of returns.now) reached.now at }
+{
+    for at in 0..65_536_usize {
+        if !accounts_at(regions, returns, reached, at as u16) {
+            return false;
+        }
+    }
+    true
+}
+
+/// Whether `at` accounts for the addresses where its instruction leads; true if no instruction is reached there.
+fn accounts_at(
+    regions: &Regions,
+    returns: &CallReturns,
+    reached: &[Option<Fetched>],
+    at: u16,
+) -> bool
+    ensures { result ≡ true → AccountsAt regions.now (returns_of returns.now) reached.now at }
+{
+    match entry_at(reached, at) {
+        Some(found) => returns.accounts_for(targets_at(regions, at), at, found),
+        None => true,
+    }
 }
 
 /// Whether each state of a table says something of quiet addresses alone.

@@ -102,11 +102,7 @@ fn operand_bytes(code: &[Option<u8>], operand: Operand, state: State) -> ByteSpa
 fn compared_with(byte: ByteSpan) -> Option<u8>
     ensures { result ≡ compared_with byte }
 {
-    if byte.is_alone() {
-        Some(byte.first)
-    } else {
-        None
-    }
+    byte.is_alone().then_some(byte.first)
 }
 
 /// The state after an operation on A and a byte; `itself` says that this is A's own.

@@ -58,11 +58,7 @@ pub fn stored_bytes(
 fn only_address(span: Span) -> Option<u16>
     ensures { result ≡ only_address span }
 {
-    if span.is_alone() {
-        Some(span.first)
-    } else {
-        None
-    }
+    span.is_alone().then_some(span.first)
 }
 
 /// An address, unless a byte is stored that may be there: then `None`.

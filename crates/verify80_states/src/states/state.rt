@@ -33,8 +33,9 @@ pub struct State {
     pub set: u64,
 }
 
-ghost use Rattle.std.specs.Prelude.{◌≡◌, true};
-ghost use Rattle.verify80_states.specs.State.{copy_without, copy_outside, IsSameIfKnown, IsCopyInside};
+ghost use Rattle.std.specs.Prelude.{◌≡◌, ℕ, true, Some, slice_get};
+ghost use Rattle.verify80_states.specs.declared.states.variables.Variable.{Variable};
+ghost use Rattle.verify80_states.specs.State.{copy_without, copy_outside, IsSameIfKnown, IsCopyInside, IsVariableInside};
 
 /// The register that has A's byte after a register is written: A itself, if none else does.
 fn copy_without(written: Register, copy: Register) -> Register
@@ -92,11 +93,34 @@ fn is_copy_inside(inner: Register, outer: Register) -> bool
     outer == Register::A || inner == outer
 }
 
+/// Whether each variable that the set `outer` names is named by `inner`, or said by cells.
+fn is_set_inside(variables: &[Variable], inner: u64, cells: Cells, outer: u64) -> bool
+    ensures { result ≡ true → (number : ℕ) (v : Variable) → slice_get variables.now number ≡ Some v → IsVariableInside number v inner cells outer }
+{
+    variables.iter().enumerate().all(|(number, variable)| is_variable_inside(
+        number, *variable, inner, cells, outer,
+    ))
+}
+
+/// Whether a variable, if the set `outer` names it, is named by `inner`, or cells say that its byte is one of the variable's.
+fn is_variable_inside(
+    number: usize,
+    variable: Variable,
+    inner: u64,
+    cells: Cells,
+    outer: u64,
+) -> bool
+    ensures { result ≡ true → IsVariableInside number variable inner cells outer }
+{
+    !is_bit(outer, number)
+        || is_bit(inner, number)
+        || cells.bytes_at(variable.at).is_inside(variable.bytes)
+}
+
 impl State {
-    ghost use Rattle.std.specs.Prelude.{◌≡◌, ◌⊎◌, true, Some, slice_get};
-    ghost use Rattle.verify80_spans.specs.Span.{IsByteInside};
-    ghost use Rattle.verify80_states.specs.{declared.states.variables.Variable.Variable, Variables.is_bit, Cells.bytes_at, Marks.is_marked};
-    ghost use Rattle.verify80_states.specs.State.{byte_of, span_of, with_byte, with_pair, with_span, with_outcome, with_carry, with_any_flags, cut, cut_copy, AreRegistersInside, IsSetInside, IsStateInside, IsQuietState};
+    ghost use Rattle.std.specs.Prelude.{◌≡◌, true};
+    ghost use Rattle.verify80_states.specs.Marks.{is_marked};
+    ghost use Rattle.verify80_states.specs.State.{byte_of, span_of, with_byte, with_pair, with_span, with_outcome, with_carry, with_any_flags, cut, cut_copy, AreRegistersInside, IsStateInside, IsQuietState};
 
     /// The state that says nothing.
     pub const ANY: State = State {
@@ -119,7 +143,7 @@ impl State {
     pub fn is_inside(self, other: State, variables: &[Variable]) -> bool
         ensures { result ≡ true → IsStateInside variables.now self other }
     {
-        if !self.is_set_inside(other, variables) {
+        if !is_set_inside(variables, self.set, self.cells, other.set) {
             return false;
         }
         self.are_registers_inside(other)
@@ -131,34 +155,6 @@ impl State {
             && is_source_inside(self.source, other.source)
             && self.words.are_inside(other.words)
             && self.cells.are_inside(other.cells, variables, self.set)
-    }
-
-    /// Whether this state names each variable that another one names, or its cells say as much.
-    fn is_set_inside(self, other: State, variables: &[Variable]) -> bool
-        ensures { result ≡ true → IsSetInside variables.now self other }
-    {
-        for number in 0..variables.len() {
-            if !self.is_variable_inside(other, variables, number) {
-                return false;
-            }
-        }
-        true
-    }
-
-    /// Whether this state says of the variable with a number what `other` does: it names the variable in `set`, or its cells show that
-    /// the byte is one of the variable's. True if `other` doesn't name it, or if there is no such variable.
-    fn is_variable_inside(self, other: State, variables: &[Variable], number: usize) -> bool
-        ensures { result ≡ true → (v : Variable) → slice_get variables.now number ≡ Some v → is_bit other.set number ≡ true →
-            (is_bit self.set number ≡ true) ⊎ IsByteInside (bytes_at self.cells v.at) v.bytes }
-    {
-        match variables.get(number) {
-            Some(variable) => {
-                !is_bit(other.set, number)
-                    || is_bit(self.set, number)
-                    || self.cells.bytes_at(variable.at).is_inside(variable.bytes)
-            }
-            None => true,
-        }
     }
 
     /// Whether this state says of A, BC, DE and HL all that another does.

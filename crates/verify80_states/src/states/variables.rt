@@ -40,17 +40,7 @@ pub fn is_bit(set: u64, number: usize) -> bool
 pub(crate) fn is_said(variables: &[Variable], set: u64, cell: Cell) -> bool
     ensures { result ≡ true → IsSaid variables.now set cell }
 {
-    (0..variables.len()).any(|number| is_said_by(variables, set, number, cell))
-}
-
-/// Whether a set names the variable with a number, and this says all that a cell does.
-fn is_said_by(variables: &[Variable], set: u64, number: usize, cell: Cell) -> bool
-    ensures { result ≡ true → IsSaid variables.now set cell }
-{
-    match variables.get(number) {
-        Some(variable) => {
-            is_bit(set, number) && variable.at == cell.at && variable.bytes.is_inside(cell.bytes)
-        }
-        None => false,
-    }
+    variables.iter().enumerate().any(|(number, variable)| {
+        is_bit(set, number) && variable.at == cell.at && variable.bytes.is_inside(cell.bytes)
+    })
 }
