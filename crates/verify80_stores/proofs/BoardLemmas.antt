@@ -1,5 +1,5 @@
 -- On a board each world keeps to the table of states, so its stores go as they are listed.
-use Rattle.verify80_stores.proofs.Names.{◌≡◌, ◌≢◌, ◌⊎◌, ℕ, Bool, true, false, List, [], All, Any, Contains, Option, Some, length, refl, ◌∙◌, subst, sym, ap, inl, inr, get_or, true≢false, Contains-get_or, Pchl, Fetched, Range, Areas, in_data, targets_at, Located, pointed_bytes, target, hl_of, Machine, leads_outside, world_of, World, IsNewest, fetched_by, places_after, places_then, returns, code_of, declared_targets, is_pchl, IsStart, NeverGoesWrongFromPowerOn, StandsOnWalk, StaysOnWalks, AreReached, Disturbs, fetched_anywhere, StaysInside, Executes, OnBoard, with_respected_pointer, respected_pointer, begins, disturbed, executed, Anywhere, KeepsPromise, MayStart, Span, Placed, HoldsBytes, BytesStayBytes, KeepsTo, KeepsToCalls, RunsKeepTo, IsKnown, OpenStore, stores_by_pair, GoesAsListed, AreShown, KeptTable, AreKnown, AreAllBelow, AreOpenBelow, is_at, IsListedAt, KeepsWholePromise, PromiseHoldsOnBoards, PromiseHoldsOnQuietBoards, StaysQuiet, OnQuietBoard, is_quiet, begins_quiet, disturbed_quiet, executed_quiet, and_right, is_listed}
+use Rattle.verify80_stores.proofs.Names.{◌≡◌, ◌≢◌, ◌⊎◌, ℕ, Bool, true, false, List, [], All, Any, Contains, Option, Some, length, refl, ◌∙◌, subst, sym, ap, inl, inr, get_or, true≢false, Contains-get_or, Pchl, Fetched, Range, Areas, in_data, targets_at, Located, pointed_bytes, target, hl_of, Machine, leads_outside, world_of, World, IsNewest, fetched_by, places_after, places_then, returns, code_of, declared_targets, is_pchl, IsStart, NeverGoesWrongFromPowerOn, StandsOnWalk, StaysOnWalks, AreReached, Disturbs, fetched_anywhere, StaysInside, Executes, OnBoard, with_respected_pointer, respected_pointer, begins, disturbed, executed, Anywhere, KeepsPromise, MayStart, Placed, HoldsBytes, BytesStayBytes, KeepsTo, KeepsToCalls, RunsKeepTo, IsKnown, OpenStore, stores_by_pair, GoesAsListed, AreShown, KeptTable, AreKnown, AreAllBelow, AreOpen, Note, is_at, IsListedAt, KeepsWholePromise, PromiseHoldsOnBoards, PromiseHoldsOnQuietBoards, StaysQuiet, OnQuietBoard, is_quiet, begins_quiet, disturbed_quiet, executed_quiet, and_right, is_listed}
 use Rattle.verify80_stores.proofs.StoreLemmas.{KeepsToEach, goes_if, jump_there, listed_or_not, not_outside}
 
 -- what the ports hold counts for nothing
@@ -49,10 +49,10 @@ unfolding respected_disturbs
 respected_quiet regions quiet true w v by stays = stays
 respected_quiet regions quiet false w v by stays = stays
 
-module _ (image : Located) (bytes : ℕ) (quiet : ℕ → Bool) (reached : List (Option Fetched)) (marks : List Bool) (spans : List (Option Span)) (addresses : List ℕ) (stores : List OpenStore) (jumps open_jumps : List ℕ)
+module _ (image : Located) (bytes : ℕ) (quiet : ℕ → Bool) (reached : List (Option Fetched)) (notes : List Note) (addresses : List ℕ) (stores : List OpenStore) (jumps open_jumps : List ℕ)
     (sound : NeverGoesWrongFromPowerOn image bytes) (walks : StaysOnWalks image) (are : AreReached (code_of image) reached) (whole : length reached ≡ 65536) (keeps : (t : KeptTable image quiet) → RunsKeepTo image t.table)
-    (shown : AreShown image quiet reached marks spans) (each_store : AreAllBelow (is_at stores_by_pair reached) 65536 addresses)
-    (open_below : AreOpenBelow reached marks spans 65536 stores) (each_jump : AreAllBelow (is_at is_pchl reached) 65536 jumps) (each_open_jump : AreAllBelow (is_listed is_pchl true reached marks) 65536 open_jumps)
+    (shown : AreShown image quiet reached notes) (each_store : AreAllBelow (is_at stores_by_pair reached) 65536 addresses)
+    (open_below : AreOpen reached notes stores) (each_jump : AreAllBelow (is_at is_pchl reached) 65536 jumps) (each_open_jump : AreAllBelow (is_listed is_pchl true reached notes) 65536 open_jumps)
     (known : AreKnown image bytes) (stay : BytesStayBytes) where
   -- what a world of the board keeps to: each table, and what is owed to open calls
   abbrev Keeps : KeptTable image quiet → World → Type 0
@@ -93,12 +93,12 @@ module _ (image : Located) (bytes : ℕ) (quiet : ℕ → Bool) (reached : List 
 
       goes_listed : All (GoesAsListed image.regions stores w.machine.cpu.pc) (pointed_bytes found.instr w.machine.cpu.registers)
       goes_listed k d inside =
-          goes_if image bytes quiet reached marks spans addresses stores jumps open_jumps sound walks are whole keeps shown each_store open_below each_jump each_open_jump w found (stands_of w s) (each_of w s) fetched_here
+          goes_if image bytes quiet reached notes addresses stores jumps open_jumps sound walks are whole keeps shown each_store open_below each_jump each_open_jump w found (stands_of w s) (each_of w s) fetched_here
           (get_or (pointed_bytes found.instr w.machine.cpu.registers) k d) (Contains-get_or (pointed_bytes found.instr w.machine.cpu.registers) k d inside)
 
       jump_listed : found.instr ≡ Pchl → Contains open_jumps w.machine.cpu.pc ⊎ Contains (declared_targets image.regions w.machine.cpu.pc) (hl_of w.machine.cpu.registers)
       jump_listed is =
-          jump_there image bytes quiet reached marks spans addresses stores jumps open_jumps sound walks are whole keeps shown each_store open_below each_jump each_open_jump w found (stands_of w s) (each_of w s) fetched_here
+          jump_there image bytes quiet reached notes addresses stores jumps open_jumps sound walks are whole keeps shown each_store open_below each_jump each_open_jump w found (stands_of w s) (each_of w s) fetched_here
           (ap is_pchl is)
 
       -- a step that isn't listed stays inside, and one that is does so by the premise

@@ -1,49 +1,55 @@
--- Lists that grow by address.
-use Rattle.verify80_stores.proofs.Names.{◌≡◌, ◌⊎◌, ℕ, ◌+◌, ◌<◌, Bool, true, false, List, [], ◌∷◌, ◌++◌, Any, Contains, Option, Some, subst, sym, ap, ◌∙◌, inl, inr, arith, get_or, Contains-get_or, Contains-append_left, Contains-push, Contains-push_cases, All-push, All-weaker, Any-push, all_pairs_push, Fetched, Span, OpenStore, entry_at, stores_by_pair, AreAllBelow, AreOpenBelow, IsListed, is_marked_at, below_more, All, true≢false}
+-- Lists of addresses, and of the stores there.
+use Rattle.verify80_stores.proofs.Names.{◌≡◌, ◌∙◌, ◌<◌, ℕ, zero, suc, Bool, true, false, List, [], ◌∷◌, Option, None, Some, All, Any, Contains, length, map, get_or, refl, arith, ap, sym, subst, true≢false, filter, range_with_len, AllPairs, All-contains, All-filter, AllPairs-filter, filter_passes, cond_both, get_or-range_with_len, length-range_with_len, get_or-map, length-map, All-map, Contains-get_or, and_parts, Instr, Fetched, OpenStore, Note, found_at, stores_by_pair, AreAllBelow, AreOpen, IsListed, is_at, is_kind, is_listed, note_at, store_at, instr_in}
+use Rattle.verify80_stores.specs.Listing.{addresses_where}
 
-pub all_pushed : (is : ℕ → Bool) (n : ℕ) (xs : List ℕ) → AreAllBelow is n xs → is n ≡ true → AreAllBelow is (n + 1) (xs ++ n ∷ [])
-all_pushed is n xs below here = record {
-  ascending = all_pairs_push (λ a b. a < b) xs n below.ascending (λ k d inside. (below.each (get_or xs k d) (Contains-get_or xs k d inside)).0);
-  each = λ at there. pushed at (Contains-push_cases xs n at there);
-  all = below_more (λ at. is at ≡ true → Contains (xs ++ n ∷ []) at) n (λ at less so. Contains-append_left xs (n ∷ []) at (below.all at less so)) (λ so. Contains-push xs n);
-} where
-  pushed : (at : ℕ) → Contains xs at ⊎ (n ≡ at) → (at < n + 1) × (is at ≡ true)
-  pushed at (inl there) = let e = below.each at there in (omega (arith, e.0), e.1)
-  pushed at (inr same) = (omega arith, subst (λ k. is k ≡ true) same here)
+-- what passes a test is kept
+passes : (is : ℕ → Bool) (xs : List ℕ) (x : ℕ) → is x ≡ true → Contains xs x → Contains (filter is xs) x
+passes is [] x so (k, inside, same) = absurd (omega arith)
+passes is (y ∷ ys) x so (zero, inside, same) = cond_both (is y) (y ∷ filter is ys) (filter is ys) (λ l. Contains l x) (λ t. (0, omega arith, same)) (λ f. absurd (true≢false (sym so ∙ sym (ap is same) ∙ f)))
+passes is (y ∷ ys) x so (suc k, inside, same) = let (i, less, it) = passes is ys x so (k, omega arith, same) in
+    cond_both (is y) (y ∷ filter is ys) (filter is ys) (λ l. Contains l x) (λ t. (suc i, omega arith, it)) (λ f. (i, less, it))
 
-pub all_kept : (is : ℕ → Bool) (n : ℕ) (xs : List ℕ) → AreAllBelow is n xs → is n ≡ false → AreAllBelow is (n + 1) xs
-all_kept is n xs below is_not = record {
-  ascending = below.ascending;
-  each = λ at there. (let e = below.each at there in (omega (arith, e.0), e.1));
-  all = below_more (λ at. is at ≡ true → Contains xs at) n below.all (λ so. absurd (true≢false (sym so ∙ is_not)));
-}
+module _ (is : ℕ → Bool) (bound : ℕ) where
+  abbrev numbers : List ℕ
+  numbers = range_with_len 0 bound
 
-module _ (reached : List (Option Fetched)) (marks : List Bool) (spans : List (Option Span)) where
-  -- a marked store that has a span is in a list
-  abbrev IsIn : List OpenStore → (at : ℕ) → Type 0
-  IsIn xs at = (span : Span) → is_marked_at stores_by_pair reached marks at ≡ true → entry_at spans at ≡ Some span → Any (λ store. store.at ≡ at) xs
+  number : (i d : ℕ) → i < length numbers → get_or numbers i d ≡ i
+  number i d inside = get_or-range_with_len 0 bound i d (let long = length-range_with_len 0 bound in omega (arith, inside, long)) ∙ omega arith
 
-  more_below : (n : ℕ) (xs : List OpenStore) → All (λ store. store.at < n) xs → All (λ store. store.at < n + 1) xs
-  more_below n xs below = All-weaker (λ (store : OpenStore). store.at < n) (λ (store : OpenStore). store.at < n + 1) (λ store less. omega arith) xs below
-
-  any_front : (xs : List OpenStore) (x : OpenStore) (at : ℕ) → Any (λ store. store.at ≡ at) xs → Any (λ store. store.at ≡ at) (xs ++ x ∷ [])
-  any_front xs x at (k, store, inside, is, same) = any_of (Contains-append_left xs (x ∷ []) (get_or xs k store) (Contains-get_or xs k store inside)) (ap (λ (s : OpenStore). s.at) is ∙ same) where
-    any_of : Contains (xs ++ x ∷ []) (get_or xs k store) → (get_or xs k store).at ≡ at → Any (λ store. store.at ≡ at) (xs ++ x ∷ [])
-    any_of (j, within, here) at_it = (j, get_or xs k store, within, here, at_it)
-
-  pub open_pushed : (n : ℕ) (xs : List OpenStore) (x : OpenStore) → AreOpenBelow reached marks spans n xs → x.at ≡ n → IsListed reached marks spans x → AreOpenBelow reached marks spans (n + 1) (xs ++ x ∷ [])
-  open_pushed n xs x below at listed = record {
-    ascending = all_pairs_push (λ (a b : OpenStore). a.at < b.at) xs x below.ascending (λ k d inside. (let h = below.below k d inside in omega arith));
-    below = All-push (λ (store : OpenStore). store.at < n + 1) xs x (more_below n xs below.below) (omega arith);
-    each = All-push (IsListed reached marks spans) xs x below.each listed;
-    all = below_more (IsIn (xs ++ x ∷ [])) n (λ place less span so there. any_front xs x place (below.all place less span so there)) (λ span so there. Any-push (λ (store : OpenStore). store.at ≡ n) xs x at);
+  pub are_all : AreAllBelow is bound (filter is (range_with_len 0 bound))
+  are_all = record {
+    ascending = AllPairs-filter (λ a b. a < b) is numbers (λ i j d less inside. rw (number i d (omega (arith, less, inside)), number j d inside) less);
+    each = λ at there. (
+      All-contains (λ k. k < bound) (filter is numbers) at (All-filter is (λ k. k < bound) numbers (λ k d inside. rw (number k d inside) (let long = length-range_with_len 0 bound in omega (arith, inside, long)))) there,
+      All-contains (λ k. is k ≡ true) (filter is numbers) at (filter_passes is numbers) there,
+    );
+    all = λ at less so. let long = length-range_with_len 0 bound in passes is numbers at so (at, omega (arith, less, long), number at at (omega (arith, less, long)));
   }
 
-  pub open_kept : (n : ℕ) (xs : List OpenStore) → AreOpenBelow reached marks spans n xs →
-      ((span : Span) → is_marked_at stores_by_pair reached marks n ≡ true → entry_at spans n ≡ Some span → ⊥) → AreOpenBelow reached marks spans (n + 1) xs
-  open_kept n xs below none = record {
-    ascending = below.ascending;
-    below = more_below n xs below.below;
-    each = below.each;
-    all = below_more (IsIn xs) n below.all (λ span so there. absurd (none span so there));
+pub all_of : (is : ℕ → Bool) (xs : List ℕ) → xs ≡ addresses_where is → AreAllBelow is 65536 xs
+unfolding addresses_where
+all_of is xs same = subst (AreAllBelow is 65536) (sym same) (are_all is 65536)
+
+-- the stores at the addresses of those that are open
+module _ (reached : List (Option Fetched)) (notes : List Note) where
+  listed : (at : ℕ) (o : Option Fetched) → found_at reached at ≡ o → (note_at notes at).is_open ≡ true → is_kind stores_by_pair o ≡ true → IsListed reached notes (store_at reached notes at)
+  listed at None there is_open is = absurd (true≢false (sym is))
+  listed at (Some found) there is_open is =
+      record { found = found; there = there; instr = sym (ap instr_in there); stores = ap (λ (o : Option Fetched). stores_by_pair (instr_in o)) there ∙ is; is_open = is_open; span = refl }
+
+  pub are_open : (addresses : List ℕ) → AreAllBelow (is_listed stores_by_pair true reached notes) 65536 addresses → AreOpen reached notes (map (store_at reached notes) addresses)
+  are_open addresses are = record {
+    ascending = λ i j d less inside.
+        let long = length-map addresses (store_at reached notes) in
+        rw (get_or-map (store_at reached notes) addresses i 0 d (omega (arith, long, less, inside)), get_or-map (store_at reached notes) addresses j 0 d (omega (arith, long, inside)))
+        (are.ascending i j 0 less (omega (arith, long, inside)));
+    each = All-map (IsListed reached notes) (store_at reached notes) addresses (λ k d inside.
+        let at = get_or addresses k d in
+        let both = and_parts (note_at notes at).is_open (is_at stores_by_pair reached at) (are.each at (Contains-get_or addresses k d inside)).1 in
+        listed at (found_at reached at) refl both.0 both.1);
+    all = λ at less is.
+        let (k, inside, same) = are.all at less is in
+        let it : get_or (map (store_at reached notes) addresses) k (store_at reached notes at) ≡ store_at reached notes at =
+        get_or-map (store_at reached notes) addresses k at (store_at reached notes at) inside ∙ ap (store_at reached notes) same in
+        (k, store_at reached notes at, (let long = length-map addresses (store_at reached notes) in omega (arith, long, inside)), it, refl);
   }

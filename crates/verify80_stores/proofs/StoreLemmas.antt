@@ -1,5 +1,5 @@
 -- The stores of runs, by what is listed.
-use Rattle.verify80_stores.proofs.Names.{◌≡◌, ◌≢◌, ◌⊎◌, ℕ, zero, suc, ◌<◌, ◌==◌, Bool, true, false, not, List, [], ◌∷◌, All, Any, Contains, Option, None, Some, Ok, length, refl, if◌then◌else◌, list_any, list_any_at, option_map_or, nat_tests, subst, sym, ap, ◌∙◌, inl, inr, arith, get_or, Contains-get_or, All-nil, All-cons, Instr, Bc, De, Fetched, In, Out, Pchl, Hlt, direct_bytes, in_range, Areas, in_data, targets_at, Located, End, Registers, InputEnd, OutputRefused, StoreOutside, JumpOutside, Fetch, Stack, Direct, hl_of, index_pair_of, next_input, pointed_bytes, stack_bytes, Machine, Stop, first_outside, ends_at, guard, guarded, execute, turn_of, leads_outside, proceeded, with_input, step_on, World, turn_at, fetched_by, refuses, IsProperEnd, code_of, declared_targets, is_pchl, IsStart, IsWorldFrom, NeverGoesWrongFromPowerOn, StandsOnWalk, StaysOnWalks, AreReached, found_at, Span, State, HoldsBytes, HoldsRegisters, entry_at, is_marked, KeepsTo, RunsKeepTo, Within, AreShown, KeptTable, stores_by_pair, pointer_span, IsLeftOpen, OpenStore, IsReachedAs, AreReachedAs, IsOpen, GoesAsListed, EndsAsListed, StoresGoAsListed, AreStoresOf, AreAllBelow, AreOpenBelow, IsSpanned, IsLeftAt, IsListed, is_kind, is_at, and_parts, cases_eq, and_from, is_listed, storing, Storing, Through, ThroughHl, pointed_by, is_through_pair, span_through, IsInside, true≢false}
+use Rattle.verify80_stores.proofs.Names.{◌≡◌, ◌≢◌, ◌⊎◌, ℕ, zero, suc, ◌<◌, ◌==◌, Bool, true, false, not, List, [], ◌∷◌, All, Any, Contains, Option, None, Some, Ok, length, refl, if◌then◌else◌, list_any, list_any_at, option_map_or, nat_tests, subst, sym, ap, ◌∙◌, inl, inr, arith, get_or, Contains-get_or, All-nil, All-cons, Instr, Bc, De, Fetched, In, Out, Pchl, Hlt, direct_bytes, in_range, Areas, in_data, targets_at, Located, End, Registers, InputEnd, OutputRefused, StoreOutside, JumpOutside, Fetch, Stack, Direct, hl_of, index_pair_of, next_input, pointed_bytes, stack_bytes, Machine, Stop, first_outside, ends_at, guard, guarded, execute, turn_of, leads_outside, proceeded, with_input, step_on, World, turn_at, fetched_by, refuses, same_Some, IsProperEnd, code_of, declared_targets, is_pchl, IsStart, IsWorldFrom, NeverGoesWrongFromPowerOn, StandsOnWalk, StaysOnWalks, AreReached, found_at, Span, State, HoldsBytes, HoldsRegisters, Note, note_at, unwrap_or, any_word, KeepsTo, RunsKeepTo, Within, AreShown, KeptTable, stores_by_pair, pointer_span, IsLeftOpen, OpenStore, IsReachedAs, AreReachedAs, IsOpen, GoesAsListed, EndsAsListed, StoresGoAsListed, AreStoresOf, AreAllBelow, AreOpen, IsSpanned, IsLeftAt, IsListed, is_kind, is_at, and_parts, cases_eq, and_from, is_listed, storing, Storing, Through, ThroughHl, pointed_by, is_through_pair, span_through, IsInside, true≢false}
 use Rattle.verify80_stores.proofs.ReachedLemmas.{kind_there, there_if_reached}
 
 -- an instruction that stores by a pair is such a store
@@ -57,69 +57,57 @@ first_is : (inside : ℕ → Bool) (xs : List ℕ) (a : ℕ) → first_outside i
 first_is inside [] a h = cc
 first_is inside (x ∷ xs) a h = first_step inside x xs a (inside x) refl (λ rest. first_is inside xs a rest) h
 
--- a guard's end is at a store through a pair only if the pair points outside data
-store_guard : (first second third : Option ℕ) (a : ℕ) → ends_at first Stack (ends_at second Direct (ends_at third StoreOutside None)) ≡ Some (StoreOutside a) → third ≡ Some a
-store_guard None None None a h = cc
-store_guard None None (Some b) a h = (let e : b ≡ a = cc in ap (λ x. Some x) e)
-store_guard first second third a h = cc
+-- how a step may end: at a store, through a pair that points outside data; at a jump, by a PCHL that leads outside its targets
+abbrev GuardEndsSo : (third : Option ℕ) → End → Type 0
+GuardEndsSo third (StoreOutside a) = third ≡ Some a
+GuardEndsSo third (JumpOutside to) = ⊥
+GuardEndsSo third e = Unit {0}
 
-jump_guard : (first second third : Option ℕ) (to : ℕ) → ends_at first Stack (ends_at second Direct (ends_at third StoreOutside None)) ≡ Some (JumpOutside to) → ⊥
-jump_guard None None None to h = cc
-jump_guard first second third to h = cc
-
--- no instruction that is executed ends at a store, and PCHL alone at a jump
-no_input_end : (next port : ℕ) (m : Machine) (byte : Option ℕ) (e : End) → ((p : ℕ) → InputEnd p ≡ e → ⊥) → with_input m next port byte ≡ Stop e → ⊥
-no_input_end next port m None e other h = other port (let same : InputEnd port ≡ e = cc in same)
-no_input_end next port m (Some byte) e other h = cc
-
-no_output_end : (regions : Areas) (refused : Bool) (next port : ℕ) (m : Machine) (e : End) → ((p : ℕ) → OutputRefused p ≡ e → ⊥) → execute regions refused (Out port) next m ≡ Stop e → ⊥
-no_output_end regions true next port m e other h = other port (let same : OutputRefused port ≡ e = cc in same)
-no_output_end regions false next port m e other h = cc
-
-no_jump_store : (outside : Bool) (to a : ℕ) (after : Machine) → turn_of (if outside then Some (JumpOutside to) else None) after ≡ Stop (StoreOutside a) → ⊥
-no_jump_store true to a after h = cc
-no_jump_store false to a after h = cc
-
-no_store : (regions : Areas) (refused : Bool) (i : Instr) (next : ℕ) (m : Machine) (a : ℕ) → execute regions refused i next m ≡ Stop (StoreOutside a) → ⊥
-no_store regions refused Hlt next m a h = cc
-no_store regions refused (In port) next m a h = no_input_end next port m (next_input m.inputs port) (StoreOutside a) (λ p e. cc) h
-no_store regions refused (Out port) next m a h = no_output_end regions refused next port m (StoreOutside a) (λ p e. cc) h
-no_store regions refused Pchl next m a h = no_jump_store (leads_outside (targets_at regions m.cpu.pc) (hl_of m.cpu.registers)) (hl_of m.cpu.registers) a (proceeded Pchl next m) h
-no_store regions refused i next m a h = cc
-
-outside_if : (outside : Bool) (to : ℕ) (after : Machine) (e : End) → turn_of (if outside then Some (JumpOutside to) else None) after ≡ Stop e → outside ≡ true
-outside_if true to after e h = refl
-outside_if false to after e h = cc
+guard_ends : (first second third : Option ℕ) (e : End) → ends_at first Stack (ends_at second Direct (ends_at third StoreOutside None)) ≡ Some e → GuardEndsSo third e
+guard_ends None None None e h = cc
+guard_ends None None (Some a) e h = subst (GuardEndsSo (Some a)) (same_Some _ _ h) refl
+guard_ends None (Some a) third e h = subst (GuardEndsSo third) (same_Some _ _ h) tt
+guard_ends (Some a) second third e h = subst (GuardEndsSo third) (same_Some _ _ h) tt
 
 abbrev JumpsOutside : Areas → Instr → Machine → Type 0
 JumpsOutside regions i m = (is_pchl i ≡ true) × (leads_outside (targets_at regions m.cpu.pc) (hl_of m.cpu.registers) ≡ true)
 
-jump_is : (regions : Areas) (refused : Bool) (i : Instr) (next : ℕ) (m : Machine) (to : ℕ) → execute regions refused i next m ≡ Stop (JumpOutside to) → JumpsOutside regions i m
-jump_is regions refused Hlt next m to h = cc
-jump_is regions refused (In port) next m to h = absurd (no_input_end next port m (next_input m.inputs port) (JumpOutside to) (λ p e. cc) h)
-jump_is regions refused (Out port) next m to h = absurd (no_output_end regions refused next port m (JumpOutside to) (λ p e. cc) h)
-jump_is regions refused Pchl next m to h = (refl, outside_if (leads_outside (targets_at regions m.cpu.pc) (hl_of m.cpu.registers)) (hl_of m.cpu.registers) (proceeded Pchl next m) (JumpOutside to) h)
-jump_is regions refused i next m to h = cc
+abbrev EndsSo : Areas → Instr → Machine → End → Type 0
+EndsSo regions i m (StoreOutside a) = Contains (pointed_bytes i m.cpu.registers) a × (in_data regions a ≡ false)
+EndsSo regions i m (JumpOutside to) = JumpsOutside regions i m
+EndsSo regions i m e = Unit {0}
+
+same_end : (e f : End) → Stop e ≡ Stop f → e ≡ f
+same_end e f h = cc
+
+input_ends : (regions : Areas) (next port : ℕ) (m : Machine) (byte : Option ℕ) (e : End) → with_input m next port byte ≡ Stop e → EndsSo regions (In port) m e
+input_ends regions next port m None e h = subst (EndsSo regions (In port) m) (same_end _ _ h) tt
+input_ends regions next port m (Some byte) e h = cc
+
+jump_ends : (regions : Areas) (m after : Machine) (e : End) (outside : Bool) → leads_outside (targets_at regions m.cpu.pc) (hl_of m.cpu.registers) ≡ outside →
+    turn_of (if outside then Some (JumpOutside (hl_of m.cpu.registers)) else None) after ≡ Stop e → EndsSo regions Pchl m e
+jump_ends regions m after e true outside h = subst (EndsSo regions Pchl m) (same_end _ _ h) (refl, outside)
+jump_ends regions m after e false outside h = cc
+
+executed_ends : (regions : Areas) (refused : Bool) (i : Instr) (next : ℕ) (m : Machine) (e : End) → execute regions refused i next m ≡ Stop e → EndsSo regions i m e
+executed_ends regions refused Hlt next m e h = subst (EndsSo regions Hlt m) (same_end _ _ h) tt
+executed_ends regions refused (In port) next m e h = input_ends regions next port m (next_input m.inputs port) e h
+executed_ends regions true (Out port) next m e h = subst (EndsSo regions (Out port) m) (same_end _ _ h) tt
+executed_ends regions false (Out port) next m e h = cc
+executed_ends regions refused Pchl next m e h = jump_ends regions m (proceeded Pchl next m) e (leads_outside (targets_at regions m.cpu.pc) (hl_of m.cpu.registers)) refl h
+executed_ends regions refused i next m e h = cc
+
+step_ends : (regions : Areas) (g : Option End) (refused : Bool) (found : Fetched) (m : Machine) (e : End) → guard regions found.instr m.cpu ≡ g → guarded regions g refused found m ≡ Stop e → EndsSo regions found.instr m e
+step_ends regions None refused found m e is h = executed_ends regions refused found.instr found.next m e h
+step_ends regions (Some f) refused found m e is h = so e (guard_ends _ _ _ e (is ∙ ap (λ (x : End). Some x) (same_end f e h))) where
+  so : (x : End) → GuardEndsSo (first_outside (in_data regions) (pointed_bytes found.instr m.cpu.registers)) x → EndsSo regions found.instr m x
+  so (StoreOutside a) third = first_is (in_data regions) (pointed_bytes found.instr m.cpu.registers) a third
+  so (JumpOutside to) third = absurd third
+  so x third = tt
 
 -- what is one of the declared targets isn't outside them
 any_by : (x : ℕ) (xs : List ℕ) → Contains xs x → list_any (λ y. y == x) xs ≡ true
 any_by x xs (k, inside, same) = list_any_at (λ y. y == x) xs k x inside (grind (arith, nat_tests, same))
-
-store_ends : (regions : Areas) (g : Option End) (refused : Bool) (found : Fetched) (m : Machine) (a : ℕ) → guard regions found.instr m.cpu ≡ g → guarded regions g refused found m ≡ Stop (StoreOutside a) →
-    Contains (pointed_bytes found.instr m.cpu.registers) a × (in_data regions a ≡ false)
-store_ends regions None refused found m a is h = absurd (no_store regions refused found.instr found.next m a h)
-store_ends regions (Some e) refused found m a is h =
-    let same : e ≡ StoreOutside a = cc in
-    first_is (in_data regions) (pointed_bytes found.instr m.cpu.registers) a
-    (store_guard (first_outside (in_range regions.stack) (stack_bytes found.instr m.cpu)) (first_outside (in_data regions) (direct_bytes found.instr)) (first_outside (in_data regions) (pointed_bytes found.instr m.cpu.registers)) a
-    (is ∙ ap (λ (x : End). Some x) same))
-
-jump_ends : (regions : Areas) (g : Option End) (refused : Bool) (found : Fetched) (m : Machine) (to : ℕ) → guard regions found.instr m.cpu ≡ g → guarded regions g refused found m ≡ Stop (JumpOutside to) → JumpsOutside regions found.instr m
-jump_ends regions None refused found m to is h = jump_is regions refused found.instr found.next m to h
-jump_ends regions (Some e) refused found m to is h =
-    let same : e ≡ JumpOutside to = cc in
-    absurd (jump_guard (first_outside (in_range regions.stack) (stack_bytes found.instr m.cpu)) (first_outside (in_data regions) (direct_bytes found.instr)) (first_outside (in_data regions) (pointed_bytes found.instr m.cpu.registers)) to
-    (is ∙ ap (λ (x : End). Some x) same))
 
 -- a target that is declared is not outside
 pub not_outside : (declared : Option (List ℕ)) (hl : ℕ) → Contains (option_map_or (λ targets. targets) declared []) hl → leads_outside declared hl ≡ false
@@ -134,10 +122,10 @@ none_listed at stores (k, store, inside, is, same) none = none k store inside (a
 abbrev pub KeepsToEach : (image : Located) (quiet : ℕ → Bool) → World → Type 0
 KeepsToEach image quiet w = (t : KeptTable image quiet) → KeepsTo image t.table w
 
-module _ (image : Located) (bytes : ℕ) (quiet : ℕ → Bool) (reached : List (Option Fetched)) (marks : List Bool) (spans : List (Option Span)) (addresses : List ℕ) (stores : List OpenStore) (jumps open_jumps : List ℕ)
+module _ (image : Located) (bytes : ℕ) (quiet : ℕ → Bool) (reached : List (Option Fetched)) (notes : List Note) (addresses : List ℕ) (stores : List OpenStore) (jumps open_jumps : List ℕ)
     (sound : NeverGoesWrongFromPowerOn image bytes) (walks : StaysOnWalks image) (are : AreReached (code_of image) reached) (whole : length reached ≡ 65536) (keeps : (t : KeptTable image quiet) → RunsKeepTo image t.table)
-    (shown : AreShown image quiet reached marks spans) (each_store : AreAllBelow (is_at stores_by_pair reached) 65536 addresses)
-    (open_below : AreOpenBelow reached marks spans 65536 stores) (each_jump : AreAllBelow (is_at is_pchl reached) 65536 jumps) (each_open_jump : AreAllBelow (is_listed is_pchl true reached marks) 65536 open_jumps) where
+    (shown : AreShown image quiet reached notes) (each_store : AreAllBelow (is_at stores_by_pair reached) 65536 addresses)
+    (open_below : AreOpen reached notes stores) (each_jump : AreAllBelow (is_at is_pchl reached) 65536 jumps) (each_open_jump : AreAllBelow (is_listed is_pchl true reached notes) 65536 open_jumps) where
   -- a world stands at an instruction that is reached
   record Here (w : World) (found : Fetched) : Type 0 where
     there : found_at reached w.machine.cpu.pc ≡ Some found
@@ -155,14 +143,14 @@ module _ (image : Located) (bytes : ℕ) (quiet : ℕ → Bool) (reached : List 
 
   -- what a world does at an address that a table shows
   data_stores : (w : World) (found : Fetched) (address : ℕ) → KeepsToEach image quiet w → found_at reached w.machine.cpu.pc ≡ Some found → Contains (pointed_bytes found.instr w.machine.cpu.registers) address →
-      is_marked marks w.machine.cpu.pc ≡ false → in_data image.regions address ≡ true
+      (note_at notes w.machine.cpu.pc).is_open ≡ false → in_data image.regions address ≡ true
   data_stores w found address keep instr there unmarked =
       let it = shown.stays w.machine.cpu.pc unmarked in
       let k = keep it.by in
       let points = points_by (storing found.instr) k.placed.state w.machine.cpu.registers address k.holds.registers there in
       (it.shut k.place k.placed found k.there k.at instr).stores points.span points.is address points.within
 
-  target_jumps : (w : World) (found : Fetched) → KeepsToEach image quiet w → found_at reached w.machine.cpu.pc ≡ Some found → is_pchl found.instr ≡ true → is_marked marks w.machine.cpu.pc ≡ false →
+  target_jumps : (w : World) (found : Fetched) → KeepsToEach image quiet w → found_at reached w.machine.cpu.pc ≡ Some found → is_pchl found.instr ≡ true → (note_at notes w.machine.cpu.pc).is_open ≡ false →
       Contains (declared_targets image.regions w.machine.cpu.pc) (hl_of w.machine.cpu.registers)
   target_jumps w found keep instr jump unmarked =
       let it = shown.stays w.machine.cpu.pc unmarked in
@@ -170,10 +158,10 @@ module _ (image : Located) (bytes : ℕ) (quiet : ℕ → Bool) (reached : List 
       (it.shut k.place k.placed found k.there k.at instr).jumps jump (hl_of w.machine.cpu.registers) k.holds.registers.hl.words
 
   spanned : (w : World) (found : Fetched) (keep : KeepsTo image shown.first.table w) (span : Span) → found_at reached w.machine.cpu.pc ≡ Some found → pointer_span found.instr keep.placed.state ≡ Some span →
-      IsSpanned spans w.machine.cpu.pc span
+      IsSpanned notes w.machine.cpu.pc span
   spanned w found keep span there is =
       let at : keep.placed.at ≡ w.machine.cpu.pc = keep.at in
-      subst (λ n. IsSpanned spans n span) at (shown.are_spans keep.place keep.placed found span keep.there (subst (λ n. found_at reached n ≡ Some found) (sym at) there) is)
+      subst (λ n. IsSpanned notes n span) at (shown.spans keep.place keep.placed found span keep.there (subst (λ n. found_at reached n ≡ Some found) (sym at) there) is)
 
   pub goes_if : (w : World) (found : Fetched) → StandsOnWalk image w → KeepsToEach image quiet w → fetched_by image.regions w ≡ Some found → (address : ℕ) →
       Contains (pointed_bytes found.instr w.machine.cpu.registers) address → GoesAsListed image.regions stores w.machine.cpu.pc address
@@ -185,25 +173,22 @@ module _ (image : Located) (bytes : ℕ) (quiet : ℕ → Bool) (reached : List 
       record {
         listed = λ k d inside same.
             let store = get_or stores k d in
-            let other : entry_at spans w.machine.cpu.pc ≡ Some store.span = subst (λ n. entry_at spans n ≡ Some store.span) same (open_below.each k d inside).span in
-            let mine : entry_at spans w.machine.cpu.pc ≡ Some whole_span.whole = whole_span.there in
-            subst (λ (s : Span). Within s address) (let e : whole_span.whole ≡ store.span = cc in e) within;
-        unlisted = λ none. go here points.span points.is whole_span.whole whole_span.there none (is_marked marks w.machine.cpu.pc) refl;
+            let other : unwrap_or (note_at notes w.machine.cpu.pc).span any_word ≡ store.span = subst (λ n. unwrap_or (note_at notes n).span any_word ≡ store.span) same (open_below.each k d inside).span in
+            subst (λ (s : Span). Within s address) (sym (ap (λ (o : Option Span). unwrap_or o any_word) whole_span.there) ∙ other) within;
+        unlisted = λ none. go here (by_any_pair (storing found.instr) (keep shown.first).placed.state points.span points.is) none (note_at notes w.machine.cpu.pc).is_open refl;
       } where
-        go : Here w found → (span : Span) → pointer_span found.instr (keep shown.first).placed.state ≡ Some span → (whole_one : Span) → entry_at spans w.machine.cpu.pc ≡ Some whole_one →
-            All (λ store. store.at ≢ w.machine.cpu.pc) stores → (b : Bool) → is_marked marks w.machine.cpu.pc ≡ b → in_data image.regions address ≡ true
-        go here span is whole_one there_one none true marked =
-            let store = kind_at stores_by_pair w.machine.cpu.pc found here.there (by_any_pair (storing found.instr) (keep shown.first).placed.state span is) in
+        go : Here w found → stores_by_pair found.instr ≡ true → All (λ store. store.at ≢ w.machine.cpu.pc) stores → (b : Bool) → (note_at notes w.machine.cpu.pc).is_open ≡ b → in_data image.regions address ≡ true
+        go here store none true is_open =
             absurd (none_listed w.machine.cpu.pc stores
-            (open_below.all w.machine.cpu.pc here.small whole_one (and_from (is_at stores_by_pair reached w.machine.cpu.pc) (is_marked marks w.machine.cpu.pc) store marked) there_one) none)
-        go here span is whole_one there_one none false unmarked = data_stores w found address keep here.there there unmarked
+            (open_below.all w.machine.cpu.pc here.small (and_from (note_at notes w.machine.cpu.pc).is_open (is_at stores_by_pair reached w.machine.cpu.pc) is_open (kind_at stores_by_pair w.machine.cpu.pc found here.there store))) none)
+        go here store none false unmarked = data_stores w found address keep here.there there unmarked
 
   -- a PCHL is listed, or goes to a declared target
   pub jump_there : (w : World) (found : Fetched) → StandsOnWalk image w → KeepsToEach image quiet w → fetched_by image.regions w ≡ Some found → is_pchl found.instr ≡ true →
       Contains open_jumps w.machine.cpu.pc ⊎ Contains (declared_targets image.regions w.machine.cpu.pc) (hl_of w.machine.cpu.registers)
-  jump_there w found stands keep fetched jump = go (here_if w found stands fetched) (is_marked marks w.machine.cpu.pc) refl where
-    go : Here w found → (b : Bool) → is_marked marks w.machine.cpu.pc ≡ b → Contains open_jumps w.machine.cpu.pc ⊎ Contains (declared_targets image.regions w.machine.cpu.pc) (hl_of w.machine.cpu.registers)
-    go here true marked = inl (each_open_jump.all w.machine.cpu.pc here.small (and_from (is_marked marks w.machine.cpu.pc) (is_at is_pchl reached w.machine.cpu.pc) marked (kind_at is_pchl w.machine.cpu.pc found here.there jump)))
+  jump_there w found stands keep fetched jump = go (here_if w found stands fetched) ((note_at notes w.machine.cpu.pc).is_open) refl where
+    go : Here w found → (b : Bool) → (note_at notes w.machine.cpu.pc).is_open ≡ b → Contains open_jumps w.machine.cpu.pc ⊎ Contains (declared_targets image.regions w.machine.cpu.pc) (hl_of w.machine.cpu.registers)
+    go here true marked = inl (each_open_jump.all w.machine.cpu.pc here.small (and_from ((note_at notes w.machine.cpu.pc).is_open) (is_at is_pchl reached w.machine.cpu.pc) marked (kind_at is_pchl w.machine.cpu.pc found here.there jump)))
     go here false unmarked = inr (target_jumps w found keep here.there jump unmarked)
 
   -- each world of a run keeps to each table
@@ -238,11 +223,11 @@ module _ (image : Located) (bytes : ℕ) (quiet : ℕ → Bool) (reached : List 
   ends_so : (start : Machine) → IsStart image start → HoldsBytes start → (most : Option ℕ) (w : World) (e : End) → IsWorldFrom image start most w → turn_at image.regions most w ≡ Stop e → IsProperEnd e → EndsAsListed stores open_jumps w.machine.cpu.pc e
   ends_so start begins held most w (StoreOutside address) from stops proper =
       let stands = walks.stands start begins most w from in
-      let out = store_ends image.regions (guard image.regions stands.found.instr w.machine.cpu) (refuses most w.machine.outputs) stands.found w.machine address refl (turn_there most w stands.found (StoreOutside address) stands.fetched stops) in
+      let out = step_ends image.regions _ (refuses most w.machine.outputs) stands.found w.machine (StoreOutside address) refl (turn_there most w stands.found (StoreOutside address) stands.fetched stops) in
       outside_end w address (goes start begins held most w stands.found from stands.fetched address out.0) out.1 (listed_or_not w.machine.cpu.pc stores)
   ends_so start begins held most w (JumpOutside to) from stops proper =
       let stands = walks.stands start begins most w from in
-      let jump = jump_ends image.regions (guard image.regions stands.found.instr w.machine.cpu) (refuses most w.machine.outputs) stands.found w.machine to refl (turn_there most w stands.found (JumpOutside to) stands.fetched stops) in
+      let jump = step_ends image.regions _ (refuses most w.machine.outputs) stands.found w.machine (JumpOutside to) refl (turn_there most w stands.found (JumpOutside to) stands.fetched stops) in
       jump_listed w to jump.1 (jump_there w stands.found stands (run_keeps start begins held most w from) stands.fetched jump.0)
   ends_so start begins held most w (Fetch at) from stops proper = absurd proper
   ends_so start begins held most w (Stack at) from stops proper = absurd proper
@@ -263,17 +248,17 @@ module _ (image : Located) (bytes : ℕ) (quiet : ℕ → Bool) (reached : List 
   }
 
   open_jump_there : (at : ℕ) → Contains open_jumps at → IsReachedAs (code_of image) is_pchl at
-  open_jump_there at there = kind_there (code_of image) reached are is_pchl at (found_at reached at) refl (and_parts (is_marked marks at) (is_at is_pchl reached at) (each_open_jump.each at there).1).1
+  open_jump_there at there = kind_there (code_of image) reached are is_pchl at (found_at reached at) refl (and_parts (note_at notes at).is_open (is_at is_pchl reached at) (each_open_jump.each at there).1).1
 
   -- a state that leaves a store open shows an address of its whole span that is no data
-  open_by : (store : OpenStore) (l : IsListed reached marks spans store) (left : IsLeftAt image.regions reached shown.first.table store.at) → left.found ≡ l.found → IsOpen image store
+  open_by : (store : OpenStore) (l : IsListed reached notes store) (left : IsLeftAt image.regions reached shown.first.table store.at) → left.found ≡ l.found → IsOpen image store
   open_by store l left same = go left.leaves where
     go : IsLeftOpen image.regions left.found.instr left.placed.state → IsOpen image store
     go (inl may) =
         let at : left.placed.at ≡ store.at = left.here in
-        let whole_span = shown.are_spans left.place left.placed left.found may.span left.there (subst (λ n. found_at reached n ≡ Some left.found) (sym at) left.instr) may.is in
-        let mine : entry_at spans store.at ≡ Some whole_span.whole = subst (λ n. entry_at spans n ≡ Some whole_span.whole) at whole_span.there in
-        let its : whole_span.whole ≡ store.span = (let e : entry_at spans store.at ≡ Some store.span = l.span in cc) in
+        let whole_span = shown.spans left.place left.placed left.found may.span left.there (subst (λ n. found_at reached n ≡ Some left.found) (sym at) left.instr) may.is in
+        let mine : (note_at notes store.at).span ≡ Some whole_span.whole = subst (λ n. (note_at notes n).span ≡ Some whole_span.whole) at whole_span.there in
+        let its : whole_span.whole ≡ store.span = sym (ap (λ (o : Option Span). unwrap_or o any_word) mine) ∙ l.span in
         let walk = are.found store.at l.found l.there in
         record {
           reached = walk.0;
@@ -289,9 +274,9 @@ module _ (image : Located) (bytes : ℕ) (quiet : ℕ → Bool) (reached : List 
         let is : left.found.instr ≡ store.instr = ap (λ (f : Fetched). f.instr) same ∙ l.instr in
         absurd (no_jump store.instr l.stores (sym (ap is_pchl is) ∙ jump))
 
-  open_there : (store : OpenStore) → IsListed reached marks spans store → IsOpen image store
+  open_there : (store : OpenStore) → IsListed reached notes store → IsOpen image store
   open_there store l =
-      let left = shown.leaves store.at l.marked in
+      let left = shown.leaves store.at l.is_open in
       open_by store l left (let f : found_at reached store.at ≡ Some left.found = left.instr in let g : found_at reached store.at ≡ Some l.found = l.there in let e : left.found ≡ l.found = cc in e)
 
   pub are_stores : AreStoresOf image addresses stores jumps open_jumps

@@ -1,15 +1,15 @@
 -- What is listed of the instructions that are reached, by the states that a table has for them. (This project's own.)
-use Rattle.std.specs.Prelude.{◌≡◌, ◌<◌, ◌&&◌, ◌||◌, ℕ, Bool, true, false, not, List, All, AllPairs, Any, Contains, Option, None, Some, slice_get}
-use Rattle.decode80.specs.declared.{instr.Instr.Instr, fetching.Fetched.Fetched}
+use Rattle.std.specs.Prelude.{◌≡◌, ◌<◌, ◌&&◌, ◌||◌, ℕ, Bool, true, false, not, List, All, AllPairs, Any, Contains, Option, None, Some, slice_get, slice_index_or, unwrap_or}
+use Rattle.std.specs.List.{filter, range_with_len}
+use Rattle.decode80.specs.declared.{instr.Instr.Instr, instr.Instr.TheVariants.Nop, fetching.Fetched.Fetched}
 use Rattle.image80.specs.{Regions.Areas, Regions.AreRegions, Image.Located}
 use Rattle.machine80.specs.{Step.Machine, World.World}
 use Rattle.verify80.specs.{Starts.NeverGoesWrongFromPowerOn, Reached.StaysOnWalks, Reached.found_at, Looking.declared_targets}
 use Rattle.verify80.specs.Boards.{Anywhere, Executes, IsGuarded, KeepsPromise, KeepsToWalks, MayStart, OnBoard, with_respected_pointer, sets_sp}
 use Rattle.verify80_spans.specs.declared.span.Span.{Span}
+use Rattle.verify80_spans.specs.Span.{IsInside, any_word}
 use Rattle.verify80_states.specs.declared.fitting.fitting.Placed.{Placed}
-use Rattle.verify80_stores.specs.declared.stores.OpenStore.{OpenStore}
-use Rattle.verify80_spans.specs.Span.{IsInside}
-use Rattle.verify80_states.specs.{Marks.entry_at, Marks.is_marked}
+use Rattle.verify80_stores.specs.declared.{listing.Note.Note, stores.OpenStore.OpenStore}
 use Rattle.verify80_stores.specs.{Pointers.stores_by_pair, Opening.pointer_span, Opening.StaysIn, Opening.IsLeftOpen}
 
 -- no run of the image goes wrong, and each stays on walks; and so it is on boards
@@ -29,22 +29,28 @@ pub record AreKnown (image : Located) (bytes : ℕ) : Type 0 where
       set ≡ (before || sets_sp step.found.instr) →
       Executes image.regions Anywhere (with_respected_pointer image.regions before w) (with_respected_pointer image.regions set v)
 
+-- what is noted of an address: nothing, if it isn't one of memory
+abbrev pub no_note : Note
+no_note = record { is_open = false; span = None }
+
+abbrev pub note_at : List Note → ℕ → Note
+note_at notes at = slice_index_or notes at no_note
+
 abbrev pub is_kind : (Instr → Bool) → Option Fetched → Bool
 is_kind kind None = false
 is_kind kind (Some found) = kind found.instr
 
--- whether the instruction at an address is of a kind, and whether it also is marked
+-- whether the instruction at an address is of a kind; and is open, if that is asked for
 abbrev pub is_at : (Instr → Bool) → List (Option Fetched) → ℕ → Bool
 is_at kind reached at = is_kind kind (found_at reached at)
 
-abbrev pub is_marked_at : (Instr → Bool) → List (Option Fetched) → (marks : List Bool) → ℕ → Bool
-is_marked_at kind reached marks at = is_at kind reached at && is_marked marks at
+abbrev pub is_listed : (Instr → Bool) → (only_open : Bool) → List (Option Fetched) → List Note → ℕ → Bool
+is_listed kind only_open reached notes at = (not only_open || (note_at notes at).is_open) && is_at kind reached at
 
--- the same, if the mark is asked for
-abbrev pub is_listed : (Instr → Bool) → (only_marked : Bool) → List (Option Fetched) → (marks : List Bool) → ℕ → Bool
-is_listed kind only_marked reached marks at = (not only_marked || is_marked marks at) && is_at kind reached at
+-- the addresses for which something holds; they are ascending, and all of those below a bound
+unfoldable pub addresses_where : (ℕ → Bool) → List ℕ
+addresses_where is = filter is (range_with_len 0 65536)
 
--- addresses, ascending: all of those below a bound for which something holds
 pub record AreAllBelow (is : ℕ → Bool) (bound : ℕ) (addresses : List ℕ) : Type 0 where
   pub ascending : AllPairs (λ a b. a < b) addresses
   pub each : (at : ℕ) → Contains addresses at → (at < bound) × (is at ≡ true)
@@ -60,36 +66,41 @@ pub record IsLeftAt (regions : Areas) (reached : List (Option Fetched)) (table :
   pub instr : found_at reached at ≡ Some found
   pub leaves : IsLeftOpen regions found.instr placed.state
 
--- marks for the addresses at which a state of the table leaves the instruction open
-pub record AreOpenMarks (regions : Areas) (reached : List (Option Fetched)) (table : List Placed) (marks : List Bool) : Type 0 where
-  pub stays : (place : ℕ) (placed : Placed) (found : Fetched) → slice_get table place ≡ Some placed → found_at reached placed.at ≡ Some found →
-      is_marked marks placed.at ≡ false → StaysIn regions (declared_targets regions placed.at) found.instr placed.state
-  pub leaves : (at : ℕ) → is_marked marks at ≡ true → IsLeftAt regions reached table at
-
--- the span at an address has the words of another
-pub record IsSpanned (spans : List (Option Span)) (at : ℕ) (span : Span) : Type 0 where
+-- the span that is noted of an address has the words of another
+pub record IsSpanned (notes : List Note) (at : ℕ) (span : Span) : Type 0 where
   pub whole : Span
-  pub there : entry_at spans at ≡ Some whole
+  pub there : (note_at notes at).span ≡ Some whole
   pub inside : IsInside span whole
 
--- spans by address, that have the words of all that states of the table say of the stores there
-abbrev pub AreSpans : List (Option Fetched) → List Placed → List (Option Span) → Type 0
-AreSpans reached table spans = (place : ℕ) (placed : Placed) (found : Fetched) (span : Span) → slice_get table place ≡ Some placed →
-    found_at reached placed.at ≡ Some found → pointer_span found.instr placed.state ≡ Some span → IsSpanned spans placed.at span
+-- the instruction at a state's address stays inside in that state, unless the note says that it is open; and its span has the state's words
+pub record IsNoted (regions : Areas) (notes : List Note) (placed : Placed) (found : Fetched) : Type 0 where
+  pub stays : (note_at notes placed.at).is_open ≡ false → StaysIn regions (declared_targets regions placed.at) found.instr placed.state
+  pub spans : (span : Span) → pointer_span found.instr placed.state ≡ Some span → IsSpanned notes placed.at span
 
--- an open store is that of its address: the instruction, which is marked, and its span
-pub record IsListed (reached : List (Option Fetched)) (marks : List Bool) (spans : List (Option Span)) (store : OpenStore) : Type 0 where
+-- notes by address of the states of a table
+pub record AreNotes (regions : Areas) (reached : List (Option Fetched)) (table : List Placed) (notes : List Note) : Type 0 where
+  pub each : (place : ℕ) (placed : Placed) (found : Fetched) → slice_get table place ≡ Some placed → found_at reached placed.at ≡ Some found →
+      IsNoted regions notes placed found
+  pub leaves : (at : ℕ) → (note_at notes at).is_open ≡ true → IsLeftAt regions reached table at
+
+-- the store at an address: the instruction, and the span that is noted
+abbrev pub instr_in : Option Fetched → Instr
+instr_in None = Nop
+instr_in (Some found) = found.instr
+
+abbrev pub store_at : List (Option Fetched) → List Note → ℕ → OpenStore
+store_at reached notes at = record { at = at; instr = instr_in (found_at reached at); span = unwrap_or (note_at notes at).span any_word }
+
+-- such stores, ascending: each is open, and all that are open are among them
+pub record IsListed (reached : List (Option Fetched)) (notes : List Note) (store : OpenStore) : Type 0 where
   pub found : Fetched
   pub there : found_at reached store.at ≡ Some found
   pub instr : found.instr ≡ store.instr
   pub stores : stores_by_pair store.instr ≡ true
-  pub marked : is_marked marks store.at ≡ true
-  pub span : entry_at spans store.at ≡ Some store.span
+  pub is_open : (note_at notes store.at).is_open ≡ true
+  pub span : unwrap_or (note_at notes store.at).span any_word ≡ store.span
 
--- the open stores below a bound, ascending: each marked store that has a span is there
-pub record AreOpenBelow (reached : List (Option Fetched)) (marks : List Bool) (spans : List (Option Span)) (bound : ℕ) (stores : List OpenStore) : Type 0 where
+pub record AreOpen (reached : List (Option Fetched)) (notes : List Note) (stores : List OpenStore) : Type 0 where
   pub ascending : AllPairs (λ a b. a.at < b.at) stores
-  pub below : All (λ store. store.at < bound) stores
-  pub each : All (IsListed reached marks spans) stores
-  pub all : (at : ℕ) → at < bound → (span : Span) → is_marked_at stores_by_pair reached marks at ≡ true →
-      entry_at spans at ≡ Some span → Any (λ store. store.at ≡ at) stores
+  pub each : All (IsListed reached notes) stores
+  pub all : (at : ℕ) → at < 65536 → is_listed stores_by_pair true reached notes at ≡ true → Any (λ store. store.at ≡ at) stores

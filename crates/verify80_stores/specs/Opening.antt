@@ -44,6 +44,6 @@ span_in (Some found) s = pointer_span found.instr s
 
 -- the words of two spans, as far as there are such
 abbrev pub joined : (old new : Option Span) → Option Span
-joined None new = new
-joined (Some old) None = Some old
+joined old None = old
+joined None (Some new) = Some new
 joined (Some old) (Some new) = Some (hull old new)

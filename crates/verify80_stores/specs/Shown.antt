@@ -4,13 +4,12 @@ use Rattle.decode80.specs.declared.fetching.Fetched.{Fetched}
 use Rattle.image80.specs.{Image.Located, Regions.Areas}
 use Rattle.verify80.specs.{Looking.declared_targets, Reached.found_at}
 use Rattle.verify80_spans.specs.declared.span.Span.{Span}
-use Rattle.verify80_states.specs.declared.fitting.fitting.Placed.{Placed}
-use Rattle.verify80_states.specs.{Marks.is_marked, Runs.IsKept}
-use Rattle.verify80_stores.specs.{Opening.StaysIn, Listing.AreSpans, Listing.IsLeftAt}
+use Rattle.verify80_states.specs.{declared.fitting.fitting.Placed.Placed, Runs.IsKept}
+use Rattle.verify80_stores.specs.{declared.listing.Note.Note, Opening.StaysIn, Opening.pointer_span, Listing.IsLeftAt, Listing.IsSpanned, Listing.note_at}
 
--- whether both of two lists mark an address
-abbrev pub are_both : (one other : List Bool) → ℕ → Bool
-are_both one other at = is_marked one at && is_marked other at
+-- what is noted of an address by both
+abbrev pub noted_by_both : (first other : List Note) → ℕ → Note
+noted_by_both first other at = record { is_open = (note_at first at).is_open && (note_at other at).is_open; span = (note_at first at).span }
 
 -- a table to which all runs keep
 pub record KeptTable (image : Located) (quiet : ℕ → Bool) : Type 0 where
@@ -27,10 +26,11 @@ pub record IsShut (image : Located) (quiet : ℕ → Bool) (reached : List (Opti
   pub by : KeptTable image quiet
   pub shut : IsShutAt image.regions reached by.table at
 
--- Marks and spans by address. At each unmarked address a table that is kept lets the instruction stay inside. One such table leaves the
--- instruction open at each marked address: the spans are those of its states.
-pub record AreShown (image : Located) (quiet : ℕ → Bool) (reached : List (Option Fetched)) (marks : List Bool) (spans : List (Option Span)) : Type 0 where
+-- Notes by address. If none says that the instruction at an address is open, a table that is kept lets it stay inside. One such table leaves
+-- it open at each other address: the spans are those of its states.
+pub record AreShown (image : Located) (quiet : ℕ → Bool) (reached : List (Option Fetched)) (notes : List Note) : Type 0 where
   pub first : KeptTable image quiet
-  pub stays : (at : ℕ) → is_marked marks at ≡ false → IsShut image quiet reached at
-  pub leaves : (at : ℕ) → is_marked marks at ≡ true → IsLeftAt image.regions reached first.table at
-  pub are_spans : AreSpans reached first.table spans
+  pub stays : (at : ℕ) → (note_at notes at).is_open ≡ false → IsShut image quiet reached at
+  pub leaves : (at : ℕ) → (note_at notes at).is_open ≡ true → IsLeftAt image.regions reached first.table at
+  pub spans : (place : ℕ) (placed : Placed) (found : Fetched) (span : Span) → slice_get first.table place ≡ Some placed →
+      found_at reached placed.at ≡ Some found → pointer_span found.instr placed.state ≡ Some span → IsSpanned notes placed.at span

@@ -89,31 +89,41 @@ pub fn find_causes(
     let program = ReachedProgram::new(image, reached, &code, &marks);
     let groups = Groups::new(alloc, program, vouched.rows())?;
     let reasons = Reasons::new(alloc, image, quiet, program, &groups)?;
-    let mut causes = Vec::new(alloc);
-    for open in &open_pairs(alloc, stores)? {
-        causes.push(cause_of(image, quiet, reached, &reasons, *open))?;
-    }
-    Ok(causes)
+    causes_of(alloc, image, quiet, reached, &reasons, stores)
 }
 
-/// The address and the pair of each open store and each open jump.
+/// What is found of each open store, and of each open jump.
 ///
 /// # Errors
 /// `AllocError` if memory runs out.
-fn open_pairs(alloc: Global, stores: &Stores) -> Result<Vec<(u16, Pair)>, AllocError> {
-    let mut pairs = Vec::new(alloc);
-    for open in &stores.open {
-        let pair = match open.instr.storing() {
-            Storing::Through(IndexPair::Bc) => Pair::Bc,
-            Storing::Through(IndexPair::De) => Pair::De,
-            _ => Pair::Hl,
-        };
-        pairs.push((open.at, pair))?;
+fn causes_of(
+    alloc: Global,
+    image: &Image,
+    quiet: &[Range],
+    reached: &[Option<Fetched>],
+    reasons: &Reasons<'_>,
+    stores: &Stores,
+) -> Result<Vec<Cause>, AllocError>
+    requires { AreReached (code_of image.now) reached.now }
+    ensures { IfOk result (λ causes. All (IsCause image.now quiet.now) causes.items) }
+{
+    let open = stores
+        .open
+        .iter()
+        .map(|open| (open.at, pointer_of(open.instr)));
+    let jumps = stores.open_jumps.iter().map(|at| (*at, Pair::Hl));
+    open.chain(jumps)
+        .map(|(at, pair)| cause_of(image, quiet, reached, reasons, at, pair))
+        .collect(alloc)
+}
+
+/// The pair by which an instruction stores.
+fn pointer_of(instr: Instr) -> Pair {
+    match instr.storing() {
+        Storing::Through(IndexPair::Bc) => Pair::Bc,
+        Storing::Through(IndexPair::De) => Pair::De,
+        _ => Pair::Hl,
     }
-    for at in &stores.open_jumps {
-        pairs.push((*at, Pair::Hl))?;
-    }
-    Ok(pairs)
 }
 
 /// What is found of the pair of an open store or jump, without what isn't so.
@@ -122,12 +132,12 @@ fn cause_of(
     quiet: &[Range],
     reached: &[Option<Fetched>],
     reasons: &Reasons<'_>,
-    open: (u16, Pair),
+    at: u16,
+    pair: Pair,
 ) -> Cause
     requires { AreReached (code_of image.now) reached.now }
     ensures { IsCause image.now quiet.now result }
 {
-    let (at, pair) = open;
     let setter = setter_of(reached, pair, reasons.setter(at, pair));
     let reason = match setter {
         Setter::Nothing => None,

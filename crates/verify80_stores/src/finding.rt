@@ -65,10 +65,10 @@ pub fn find_stores(alloc: Global, vouched: &Vouched, quiet: &[Range]) -> Result<
     let found = find_reached(alloc, vouched)?;
     let reached = found.instructions();
     let shown = show(alloc, image, vouched.rows(), reached, quiet)?;
-    let addresses = addresses_of(alloc, Kind::Store, false, reached, &shown.marks)?;
-    let open = open_stores(alloc, reached, &shown.marks, &shown.spans)?;
-    let jumps = addresses_of(alloc, Kind::Jump, false, reached, &shown.marks)?;
-    let open_jumps = addresses_of(alloc, Kind::Jump, true, reached, &shown.marks)?;
+    let addresses = addresses_of(alloc, Kind::Store, false, reached, &shown)?;
+    let open = open_stores(alloc, reached, &shown)?;
+    let jumps = addresses_of(alloc, Kind::Jump, false, reached, &shown)?;
+    let open_jumps = addresses_of(alloc, Kind::Jump, true, reached, &shown)?;
     Ok(Stores {
         addresses,
         open,

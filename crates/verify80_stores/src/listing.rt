@@ -1,13 +1,11 @@
 //! What is listed of the instructions that are reached.
 
-ghost use Rattle.std.specs.Prelude.{◌≡◌, ◌⊎◌, ◌+◌, ◌<◌, ℕ, true, false, Some, Contains, IfOk, IfSome, IfNone, length};
+ghost use Rattle.std.specs.Prelude.{◌≡◌, ◌⊎◌, ◌<◌, ℕ, true, false, Some, Contains, IfOk, length, map};
 ghost use Rattle.verify80.specs.{Looking.declared_targets, Reached.found_at};
-ghost use Rattle.verify80_spans.specs.declared.span.Span.{Span};
 ghost use Rattle.verify80_spans.specs.Span.{Within};
-ghost use Rattle.verify80_states.specs.Marks.{entry_at, is_marked};
-ghost use Rattle.verify80_stores.specs.{DataReach.AreDataEnds, Pointers.stores_by_pair, Kinds.is_of};
+ghost use Rattle.verify80_stores.specs.{DataReach.AreDataEnds, Kinds.is_of};
 ghost use Rattle.verify80_stores.specs.Opening.{joined, span_in, StaysIn, IsLeftOpen};
-ghost use Rattle.verify80_stores.specs.Listing.{AreAllBelow, AreOpenBelow, AreOpenMarks, AreSpans, IsListed, is_at, is_listed, is_marked_at};
+ghost use Rattle.verify80_stores.specs.Listing.{AreNotes, AreOpen, addresses_where, is_at, is_listed, note_at, store_at};
 
 use crate::data_ends::{data_ends, is_all_data};
 use crate::pointer::pointer_span;
@@ -15,7 +13,34 @@ use crate::stores::OpenStore;
 use decode80::{Fetched, Instr, Storing};
 use image80::Regions;
 use std::alloc::{AllocError, Global};
-use verify80_states::{Placed, Span, State, entry_at, is_marked, targets_at};
+use verify80_states::{Placed, Span, State, entry_at, targets_at};
+
+/// What is noted of the instruction at an address.
+#[derive(Clone, Copy)]
+pub(crate) struct Note {
+    /// Whether a state leaves the instruction open.
+    pub is_open: bool,
+    /// The words that a pair may be, if the instruction stores by it.
+    pub span: Option<Span>,
+}
+
+impl Note {
+    /// Nothing is noted.
+    pub const NONE: Note = Note {
+        is_open: false,
+        span: None,
+    };
+}
+
+/// What is noted of an address.
+pub(crate) fn note_at(notes: &[Note], at: u16) -> Note
+    ensures { result ≡ note_at notes.now at }
+{
+    match notes.get(usize::from(at)) {
+        Some(note) => *note,
+        None => Note::NONE,
+    }
+}
 
 /// The kinds of instructions that are listed.
 #[derive(Clone, Copy)]
@@ -38,27 +63,24 @@ impl Kind {
     }
 }
 
-/// The addresses of the instructions of a kind; of the marked ones, if they alone are asked for.
+/// The addresses of the instructions of a kind; of the open ones, if they alone are asked for.
 ///
 /// # Errors
 /// `AllocError` if memory runs out.
+#[tactic(auto, unfolding(crate::specs::Listing::addresses_where))]
 pub(crate) fn addresses_of(
     alloc: Global,
     kind: Kind,
-    only_marked: bool,
+    only_open: bool,
     reached: &[Option<Fetched>],
-    marks: &[bool],
+    notes: &[Note],
 ) -> Result<Vec<u16>, AllocError>
-    ensures { IfOk result (λ addresses. AreAllBelow (is_listed (is_of kind) only_marked reached.now marks.now) 65536 addresses.items) }
+    ensures { IfOk result (λ addresses. addresses.items ≡ addresses_where (is_listed (is_of kind) only_open reached.now notes.now)) }
 {
-    let mut addresses = Vec::new(alloc);
-    for at in 0..65_536_usize {
-        let address = at as u16;
-        if is_listed(kind, only_marked, reached, marks, address) {
-            addresses.push(address)?;
-        }
-    }
-    Ok(addresses)
+    (0..65_536_u32)
+        .map(|at| at as u16)
+        .filter(|at| is_listed(kind, only_open, reached, notes, *at))
+        .collect(alloc)
 }
 
 /// Whether an instruction of a kind is reached at an address.
@@ -71,17 +93,17 @@ fn is_at(kind: Kind, reached: &[Option<Fetched>], at: u16) -> bool
     }
 }
 
-/// Whether an instruction of a kind is reached at an address, which is marked, if that is asked for.
+/// Whether an instruction of a kind is reached at an address, and is open, if that is asked for.
 fn is_listed(
     kind: Kind,
-    only_marked: bool,
+    only_open: bool,
     reached: &[Option<Fetched>],
-    marks: &[bool],
+    notes: &[Note],
     at: u16,
 ) -> bool
-    ensures { result ≡ is_listed (is_of kind) only_marked reached.now marks.now at }
+    ensures { result ≡ is_listed (is_of kind) only_open reached.now notes.now at }
 {
-    (!only_marked || is_marked(marks, at)) && is_at(kind, reached, at)
+    (!only_open || note_at(notes, at).is_open) && is_at(kind, reached, at)
 }
 
 /// Whether an instruction in a state stores to data and jumps to a declared target, if it does so by a pair.
@@ -106,146 +128,117 @@ fn is_target(targets: &[u16], words: Span) -> bool
     words.is_alone() && targets.contains(&words.first)
 }
 
-/// Marks for the addresses at which a state of the table leaves the instruction open.
+/// By address whether a state of the table leaves the instruction there open, and the words that a pair may be in the states if the
+/// instruction stores by it.
 ///
 /// # Errors
 /// `AllocError` if memory runs out.
-pub(crate) fn open_marks(
+pub(crate) fn notes_of(
     alloc: Global,
     regions: &Regions,
     reached: &[Option<Fetched>],
     table: &[Placed],
-) -> Result<Vec<bool>, AllocError>
-    ensures { IfOk result (λ marks. AreOpenMarks regions.now reached.now table.now marks.items) }
+) -> Result<Vec<Note>, AllocError>
+    ensures { IfOk result (λ notes. AreNotes regions.now reached.now table.now notes.items) }
 {
     let ends = data_ends(alloc, regions)?;
-    let mut marks = unmarked(alloc, 65_536)?;
+    let mut notes = no_notes(alloc, 65_536)?;
     for placed in table {
-        marks[usize::from(placed.at)] = is_open(&marks, regions, &ends, reached, *placed);
+        let note = note_at(&notes, placed.at);
+        notes[usize::from(placed.at)] = note.with(regions, &ends, reached, *placed);
     }
-    Ok(marks)
+    Ok(notes)
 }
 
-/// `count` marks, none of them set.
-fn unmarked(alloc: Global, count: usize) -> Result<Vec<bool>, AllocError>
-    ensures count { IfOk result (λ marks. length marks.items ≡ count) }
-    ensures none { IfOk result (λ marks. (at : ℕ) → is_marked marks.items at ≡ false) }
+/// Nothing is noted of any of `count` addresses.
+fn no_notes(alloc: Global, count: usize) -> Result<Vec<Note>, AllocError>
+    ensures count { IfOk result (λ notes. length notes.items ≡ count) }
+    ensures none { IfOk result (λ notes. (at : ℕ) → (note_at notes.items at).is_open ≡ false) }
 {
-    Ok(vec![in alloc; false; count]?)
+    Ok(vec![in alloc; Note::NONE; count]?)
 }
 
-/// Whether the address of a state is marked, or the state leaves the instruction there open.
-fn is_open(
-    marks: &[bool],
-    regions: &Regions,
-    ends: &[u32],
-    reached: &[Option<Fetched>],
-    placed: Placed,
-) -> bool
-    requires { AreDataEnds regions.now ends.now }
-    ensures stays { result ≡ false → (is_marked marks.now placed.at ≡ false) × ((found : Fetched) → found_at reached.now placed.at ≡ Some found →
-        StaysIn regions.now (declared_targets regions.now placed.at) found.instr placed.state) }
-    ensures leaves { result ≡ true → (is_marked marks.now placed.at ≡ true)
-        ⊎ ((found : Fetched) × ((found_at reached.now placed.at ≡ Some found) × IsLeftOpen regions.now found.instr placed.state)) }
-    ensures address { placed.at < 65536 }
-{
-    if is_marked(marks, placed.at) {
-        return true;
+impl Note {
+    /// This note of the address of a state with what the state says of the instruction there.
+    fn with(
+        self,
+        regions: &Regions,
+        ends: &[u32],
+        reached: &[Option<Fetched>],
+        placed: Placed,
+    ) -> Note
+        requires { AreDataEnds regions.now ends.now }
+        ensures stays { result.is_open ≡ false → (self.is_open ≡ false) × ((found : Fetched) → found_at reached.now placed.at ≡ Some found →
+            StaysIn regions.now (declared_targets regions.now placed.at) found.instr placed.state) }
+        ensures leaves { result.is_open ≡ true → (self.is_open ≡ true)
+            ⊎ ((found : Fetched) × ((found_at reached.now placed.at ≡ Some found) × IsLeftOpen regions.now found.instr placed.state)) }
+        ensures span { result.span ≡ joined self.span (span_in (found_at reached.now placed.at) placed.state) }
+        ensures address { placed.at < 65536 }
+    {
+        let Placed { at, state, hint: _ } = placed;
+        match entry_at(reached, at) {
+            Some(Fetched { instr, next: _ }) => Note {
+                is_open: self.is_open
+                    || !stays_in(regions, ends, targets_at(regions, at), instr, state),
+                span: joined(self.span, pointer_span(instr, state)),
+            },
+            None => self,
+        }
     }
-    match entry_at(reached, placed.at) {
-        Some(found) => !stays_in(
-            regions,
-            ends,
-            targets_at(regions, placed.at),
-            found.instr,
-            placed.state,
-        ),
-        None => false,
-    }
 }
 
-/// By address the words that a pair may be in the states of the table if the instruction there stores by it.
-///
-/// # Errors
-/// `AllocError` if memory runs out.
-pub(crate) fn spans_of(
-    alloc: Global,
-    reached: &[Option<Fetched>],
-    table: &[Placed],
-) -> Result<Vec<Option<Span>>, AllocError>
-    ensures { IfOk result (λ spans. AreSpans reached.now table.now spans.items) }
+/// The words of two spans, as far as there are such.
+fn joined(old: Option<Span>, new: Option<Span>) -> Option<Span>
+    ensures { result ≡ joined old new }
 {
-    let mut spans = no_spans(alloc, 65_536)?;
-    for placed in table {
-        let span = span_of(reached, *placed);
-        spans[usize::from(placed.at)] = joined_at(&spans, placed.at, span);
-    }
-    Ok(spans)
-}
-
-/// No span at any of `count` addresses.
-fn no_spans(alloc: Global, count: usize) -> Result<Vec<Option<Span>>, AllocError>
-    ensures { IfOk result (λ spans. length spans.items ≡ count) }
-{
-    Ok(vec![in alloc; None; count]?)
-}
-
-/// Where a state lets the instruction at its address store by a pair.
-fn span_of(reached: &[Option<Fetched>], placed: Placed) -> Option<Span>
-    ensures span { result ≡ span_in (found_at reached.now placed.at) placed.state }
-    ensures address { placed.at < 65536 }
-{
-    let found = entry_at(reached, placed.at)?;
-    pointer_span(found.instr, placed.state)
-}
-
-/// The span at an address with the words of another too, if there is one.
-fn joined_at(spans: &[Option<Span>], at: u16, new: Option<Span>) -> Option<Span>
-    ensures { result ≡ joined (entry_at spans.now at) new }
-{
-    match (entry_at(spans, at), new) {
+    match (old, new) {
         (Some(old), Some(new)) => Some(old.hull(new)),
-        (Some(old), None) => Some(old),
+        (old, None) => old,
         (None, new) => new,
     }
 }
 
-/// The stores that are marked as open, with their spans.
+/// The open stores, with their spans.
 ///
 /// # Errors
 /// `AllocError` if memory runs out.
 pub(crate) fn open_stores(
     alloc: Global,
     reached: &[Option<Fetched>],
-    marks: &[bool],
-    spans: &[Option<Span>],
+    notes: &[Note],
 ) -> Result<Vec<OpenStore>, AllocError>
-    ensures { IfOk result (λ stores. AreOpenBelow reached.now marks.now spans.now 65536 stores.items) }
+    ensures { IfOk result (λ stores. AreOpen reached.now notes.now stores.items) }
 {
-    let mut stores = Vec::new(alloc);
-    for at in 0..65_536_usize {
-        if let Some(store) = open_store(reached, marks, spans, at as u16) {
-            stores.push(store)?;
-        }
-    }
+    let addresses = addresses_of(alloc, Kind::Store, true, reached, notes)?;
+    let stores = stores_at(alloc, reached, notes, &addresses)?;
     Ok(stores)
 }
 
-/// The store at an address, if it is marked as open.
-fn open_store(
+/// The stores at these addresses, with their spans.
+fn stores_at(
+    alloc: Global,
     reached: &[Option<Fetched>],
-    marks: &[bool],
-    spans: &[Option<Span>],
-    at: u16,
-) -> Option<OpenStore>
-    ensures some { IfSome result (λ store. (store.at ≡ at) × IsListed reached.now marks.now spans.now store) }
-    ensures none { IfNone result ((span : Span) → is_marked_at stores_by_pair reached.now marks.now at ≡ true →
-        entry_at spans.now at ≡ Some span → ⊥) }
+    notes: &[Note],
+    addresses: &[u16],
+) -> Result<Vec<OpenStore>, AllocError>
+    ensures { IfOk result (λ stores. stores.items ≡ map (store_at reached.now notes.now) addresses.now) }
 {
-    let Fetched { instr, next: _ } = entry_at(reached, at)?;
-    if !Kind::Store.has(instr) || !is_marked(marks, at) {
-        return None;
+    addresses
+        .iter()
+        .map(|at| store_at(reached, notes, *at))
+        .collect(alloc)
+}
+
+/// The store at an address, with its span: any address, if no span is noted.
+fn store_at(reached: &[Option<Fetched>], notes: &[Note], at: u16) -> OpenStore
+    ensures { result ≡ store_at reached.now notes.now at }
+{
+    OpenStore {
+        at,
+        instr: match entry_at(reached, at) {
+            Some(found) => found.instr,
+            None => Instr::Nop,
+        },
+        span: note_at(notes, at).span.unwrap_or(Span::ANY),
     }
-    let span = entry_at(spans, at)?;
-    Some(OpenStore { at, instr, span })
 }

@@ -4,32 +4,24 @@ ghost use Rattle.std.specs.Prelude.{◌≡◌, ℕ, true, IfOk, IfSome, length, 
 ghost use Rattle.std.specs.List.{range_with_len};
 ghost use Rattle.image80.specs.Regions.{AreRegions};
 ghost use Rattle.verify80.specs.{Looking.code_of, Reached.AreReached};
-ghost use Rattle.verify80_stores.specs.{Boards.is_quiet, Shown.AreShown, Shown.are_both};
+ghost use Rattle.verify80_stores.specs.{Boards.is_quiet, Shown.AreShown, Shown.noted_by_both};
 ghost use Rattle.verify80_states.specs.{Marks.is_marked, Steps.AreCodeBytes, Runs.IsKept};
 
 use crate::code_bytes::code_bytes;
-use crate::listing::{open_marks, spans_of};
+use crate::listing::{Note, note_at, notes_of};
 use crate::quiet::mark_quiet;
 use decode80::Fetched;
 use image80::{Image, Range};
 use std::alloc::{AllocError, Global};
 use verify80::ProcRow;
 use verify80_proposals::{Groups, Proposal, ReachedProgram, propose_table};
-use verify80_states::{Placed, Span, anything, fits, is_marked};
+use verify80_states::{Placed, anything, fits};
 
 /// How many tables are tried.
 const TABLES: usize = 6;
 
-/// What is shown by tables that fit.
-#[derive(Drop)]
-pub(crate) struct Shown {
-    /// By address whether each table leaves the store or jump open.
-    pub marks: Vec<bool>,
-    /// By address the words that a pair may be, if the instruction stores by it.
-    pub spans: Vec<Option<Span>>,
-}
-
-/// What is shown of a program, in whose quiet ranges of data nobody but it writes.
+/// What is shown of a program, in whose quiet ranges of data nobody but it writes: by address whether each table leaves the store or jump
+/// there open, and the words that a pair may be, if the instruction stores by it.
 ///
 /// A table is tried only if those before left something open. The spans are those of the first that fits.
 ///
@@ -41,11 +33,11 @@ pub(crate) fn show(
     rows: &[ProcRow],
     reached: &[Option<Fetched>],
     quiet: &[Range],
-) -> Result<Shown, AllocError>
+) -> Result<Vec<Note>, AllocError>
     requires reached { AreReached (code_of image.now) reached.now }
     requires whole { length reached.now ≡ 65536 }
     requires rules { AreRegions image.now.regions }
-    ensures { IfOk result (λ shown. AreShown image.now (is_quiet image.now.regions quiet.now) reached.now shown.marks.items shown.spans.items) }
+    ensures { IfOk result (λ shown. AreShown image.now (is_quiet image.now.regions quiet.now) reached.now shown.items) }
 {
     let code = code_bytes(alloc, image)?;
     let marks = mark_quiet(alloc, &image.regions, quiet)?;
@@ -65,9 +57,9 @@ pub(crate) fn show(
 }
 
 /// Whether something is still open.
-fn is_open(shown: &Option<Shown>) -> bool {
+fn is_open(shown: &Option<Vec<Note>>) -> bool {
     match shown {
-        Some(shown) => shown.marks.contains(&true),
+        Some(notes) => notes.iter().any(|note| note.is_open),
         None => true,
     }
 }
@@ -84,15 +76,15 @@ fn show_more(
     code: &[Option<u8>],
     marks: &[bool],
     found: Option<Proposal>,
-    shown: Option<Shown>,
-) -> Result<Option<Shown>, AllocError>
+    shown: Option<Vec<Note>>,
+) -> Result<Option<Vec<Note>>, AllocError>
     requires reached { AreReached (code_of image.now) reached.now }
     requires whole { length reached.now ≡ 65536 }
     requires rules { AreRegions image.now.regions }
     requires code { AreCodeBytes image.now code.now }
     requires marks { (at : ℕ) → is_marked marks.now at ≡ true → is_quiet image.now.regions quiet.now at ≡ true }
-    requires shown { IfSome shown (λ s. AreShown image.now (is_quiet image.now.regions quiet.now) reached.now s.marks.items s.spans.items) }
-    ensures { IfOk result (λ more. IfSome more (λ s. AreShown image.now (is_quiet image.now.regions quiet.now) reached.now s.marks.items s.spans.items)) }
+    requires shown { IfSome shown (λ s. AreShown image.now (is_quiet image.now.regions quiet.now) reached.now s.items) }
+    ensures { IfOk result (λ more. IfSome more (λ s. AreShown image.now (is_quiet image.now.regions quiet.now) reached.now s.items)) }
 {
     let Some(
         Proposal {
@@ -124,41 +116,41 @@ fn show_with(
     reached: &[Option<Fetched>],
     quiet: &[Range],
     table: &[Placed],
-    shown: Option<Shown>,
-) -> Result<Shown, AllocError>
+    shown: Option<Vec<Note>>,
+) -> Result<Vec<Note>, AllocError>
     requires whole { length reached.now ≡ 65536 }
     requires kept { IsKept image.now (is_quiet image.now.regions quiet.now) table.now }
-    requires shown { IfSome shown (λ s. AreShown image.now (is_quiet image.now.regions quiet.now) reached.now s.marks.items s.spans.items) }
-    ensures { IfOk result (λ s. AreShown image.now (is_quiet image.now.regions quiet.now) reached.now s.marks.items s.spans.items) }
+    requires shown { IfSome shown (λ s. AreShown image.now (is_quiet image.now.regions quiet.now) reached.now s.items) }
+    ensures { IfOk result (λ s. AreShown image.now (is_quiet image.now.regions quiet.now) reached.now s.items) }
 {
-    let marks = open_marks(alloc, &image.regions, reached, table)?;
+    let notes = notes_of(alloc, &image.regions, reached, table)?;
     match shown {
-        Some(
-            Shown {
-                marks: before,
-                spans,
-            },
-        ) => Ok(Shown {
-            marks: both(alloc, &before, &marks)?,
-            spans,
-        }),
-        None => Ok(Shown {
-            marks,
-            spans: spans_of(alloc, reached, table)?,
-        }),
+        Some(before) => Ok(all_noted(alloc, &before, &notes)?),
+        None => Ok(notes),
     }
 }
 
-/// Marks for the addresses that both of these mark.
+/// What is noted by both: an address is open if both leave it open, and its span is that of `first`.
 ///
 /// # Errors
 /// `AllocError` if memory runs out.
-fn both(alloc: Global, one: &[bool], other: &[bool]) -> Result<Vec<bool>, AllocError>
-    ensures { IfOk result (λ marks. marks.items ≡ map (are_both one.now other.now) (range_with_len 0 65536)) }
+fn all_noted(alloc: Global, first: &[Note], other: &[Note]) -> Result<Vec<Note>, AllocError>
+    ensures { IfOk result (λ notes. notes.items ≡ map (noted_by_both first.now other.now) (range_with_len 0 65536)) }
 {
     (0..65_536_u32)
-        .map(|at| is_marked(one, at as u16) && is_marked(other, at as u16))
+        .map(|at| noted_by_both(first, other, at as u16))
         .collect(alloc)
+}
+
+/// What is noted of an address by both.
+fn noted_by_both(first: &[Note], other: &[Note], at: u16) -> Note
+    ensures { result ≡ noted_by_both first.now other.now at }
+{
+    let Note { is_open, span } = note_at(first, at);
+    Note {
+        is_open: is_open && note_at(other, at).is_open,
+        span,
+    }
 }
 
 /// What is shown by a table that says nothing.
@@ -170,11 +162,11 @@ fn show_nothing(
     image: &Image,
     reached: &[Option<Fetched>],
     quiet: &[Range],
-) -> Result<Shown, AllocError>
+) -> Result<Vec<Note>, AllocError>
     requires reached { AreReached (code_of image.now) reached.now }
     requires whole { length reached.now ≡ 65536 }
     requires rules { AreRegions image.now.regions }
-    ensures { IfOk result (λ s. AreShown image.now (is_quiet image.now.regions quiet.now) reached.now s.marks.items s.spans.items) }
+    ensures { IfOk result (λ s. AreShown image.now (is_quiet image.now.regions quiet.now) reached.now s.items) }
 {
     let table = anything(alloc, image, reached)?;
     show_with(alloc, image, reached, quiet, &table, None)

@@ -1,14 +1,11 @@
-use Rattle.verify80_stores.proofs.ListLemmas.{open_pushed, open_kept}
-use Rattle.verify80_stores.proofs.listing.open_stores.Goals.{in-Some+in_ok-push, in_default}
+use Rattle.verify80_stores.proofs.Names.{◌∙◌, true, ap, map, subst, sym, AreOpen, is_listed, store_at, stores_by_pair}
+use Rattle.verify80_stores.proofs.ListLemmas.{all_of, are_open}
 use Rattle.verify80_stores.proofs.listing.open_stores.Goals as goal
 
-pub loop-at-preserved : goal.loop-at-preserved
-loop-at-preserved c =
-    elim c.match-open_store.branch [
-      | in-Some+in_ok-push w ↦
-          rw (w.stores-is, w.in_ok-push.ensures.items)
-          (open_pushed c.args.reached.now c.args.marks.now c.args.spans.now c.loop-at.at c.loop-at.stores.items w.in-Some.store c.loop-at.invariant w.in-Some.ensures.some.0 w.in-Some.ensures.some.1)
-      | in_default w ↦
-          rw w.stores-is
-          (open_kept c.args.reached.now c.args.marks.now c.args.spans.now c.loop-at.at c.loop-at.stores.items c.loop-at.invariant w.in_default.ensures.none)
-    ]
+pub returns : goal.returns
+returns c =
+    let reached = c.args.reached.now in
+    let notes = c.args.notes.now in
+    let addresses = c.in_ok-addresses.addresses.items in
+    subst (AreOpen reached notes) (sym (c.in_ok-stores.ensures ∙ ap (map (store_at reached notes)) c.deref.ensures.value))
+    (are_open reached notes addresses (all_of (is_listed stores_by_pair true reached notes) addresses c.in_ok-addresses.ensures))
