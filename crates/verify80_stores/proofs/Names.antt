@@ -32,8 +32,8 @@ pub use Rattle.verify80_states.specs.{Bytes.BytesStayBytes, Bytes.HasBytes, Byte
 pub use Rattle.verify80_states.specs.Runs.{IsKept, IsKnown, KeepsTo, KeepsToCalls, RunsKeepTo}
 pub use Rattle.verify80_states.specs.declared.{fitting.fitting.Placed.Placed, states.state.State.State}
 pub use Rattle.verify80_stores.specs.Boards.{IsListedAt, KeepsWholePromise, OnQuietBoard, PromiseHoldsOnBoards, PromiseHoldsOnQuietBoards, StaysQuiet, begins as begins_quiet, disturbed as disturbed_quiet, executed as executed_quiet, is_quiet}
-pub use Rattle.verify80_stores.specs.{DataReach.ReachesTo, Kinds.is_of, Pointers.is_through_pair, Pointers.stores_by_pair, Causes.IsCause, Causes.IsSetBy, Causes.IsSo, Causes.writes_to, StackPointer.AreClosed, StackPointer.IsClosedAt, StackPointer.LeadsToMarked}
-pub use Rattle.verify80_stores.specs.Listing.{AreAllBelow, AreKnown, AreNotes, AreOpen, IsLeftAt, IsListed, IsNoted, IsSpanned, instr_in, is_at, is_kind, is_listed, no_note, note_at, store_at}
+pub use Rattle.verify80_stores.specs.{DataReach.ReachesTo, Pointers.is_through_pair, Pointers.stores_by_pair, Causes.IsCause, Causes.IsSetBy, Causes.IsSo, Causes.writes_to, StackPointer.AreClosed, StackPointer.IsClosedAt, StackPointer.LeadsToMarked}
+pub use Rattle.verify80_stores.specs.Listing.{AreAllBelow, AreKnown, AreNotes, AreOpen, IsLeftAt, IsListed, IsNoted, IsSpanned, instr_in, is_at, is_kind, is_listed, is_of, no_note, note_at, store_at}
 pub use Rattle.verify80_stores.specs.Opening.{IsLeftOpen, StaysIn, joined, pointer_span, span_in, span_through}
 pub use Rattle.verify80_stores.specs.Shown.{AreShown, IsShut, IsShutAt, KeptTable, noted_by_both}
 pub use Rattle.verify80_stores.specs.Stores.{AreReachedAs, AreStoresOf, EndsAsListed, GoesAsListed, IsOpen, IsReachedAs, StoresGoAsListed}

@@ -5,7 +5,6 @@ pub mod StoresText
 pub mod Causes
 -- what the crate's own functions promise one another: no public contract cites these
 pub mod DataReach
-pub mod Kinds
 pub mod StackPointer
 pub mod Opening
 pub mod Listing

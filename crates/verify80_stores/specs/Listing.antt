@@ -4,12 +4,12 @@ use Rattle.std.specs.List.{filter, range_with_len}
 use Rattle.decode80.specs.declared.{instr.Instr.Instr, instr.Instr.TheVariants.Nop, fetching.Fetched.Fetched}
 use Rattle.image80.specs.{Regions.Areas, Regions.AreRegions, Image.Located}
 use Rattle.machine80.specs.{Step.Machine, World.World}
-use Rattle.verify80.specs.{Starts.NeverGoesWrongFromPowerOn, Reached.StaysOnWalks, Reached.found_at, Looking.declared_targets}
+use Rattle.verify80.specs.{Starts.NeverGoesWrongFromPowerOn, Reached.StaysOnWalks, Reached.found_at, Looking.declared_targets, Looking.is_pchl}
 use Rattle.verify80.specs.Boards.{Anywhere, Executes, IsGuarded, KeepsPromise, KeepsToWalks, MayStart, OnBoard, with_respected_pointer, sets_sp}
 use Rattle.verify80_spans.specs.declared.span.Span.{Span}
 use Rattle.verify80_spans.specs.Span.{IsInside, any_word}
 use Rattle.verify80_states.specs.declared.fitting.fitting.Placed.{Placed}
-use Rattle.verify80_stores.specs.declared.{listing.Note.Note, stores.OpenStore.OpenStore}
+use Rattle.verify80_stores.specs.declared.{listing.Kind.Kind, listing.Kind.TheVariants.Store, listing.Kind.TheVariants.Jump, listing.Note.Note, stores.OpenStore.OpenStore}
 use Rattle.verify80_stores.specs.{Pointers.stores_by_pair, Opening.pointer_span, Opening.StaysIn, Opening.IsLeftOpen}
 
 -- no run of the image goes wrong, and each stays on walks; and so it is on boards
@@ -35,6 +35,11 @@ no_note = record { is_open = false; span = None }
 
 abbrev pub note_at : List Note → ℕ → Note
 note_at notes at = slice_index_or notes at no_note
+
+-- the kinds of instructions that are listed
+abbrev pub is_of : Kind → Instr → Bool
+is_of Store instr = stores_by_pair instr
+is_of Jump instr = is_pchl instr
 
 abbrev pub is_kind : (Instr → Bool) → Option Fetched → Bool
 is_kind kind None = false

@@ -3,17 +3,16 @@
 ghost use Rattle.std.specs.Prelude.{◌≡◌, ◌⊎◌, ◌<◌, ℕ, true, false, Some, Contains, IfOk, length, map};
 ghost use Rattle.verify80.specs.{Looking.declared_targets, Reached.found_at};
 ghost use Rattle.verify80_spans.specs.Span.{Within};
-ghost use Rattle.verify80_stores.specs.{DataReach.AreDataEnds, Kinds.is_of};
-ghost use Rattle.verify80_stores.specs.Opening.{joined, span_in, StaysIn, IsLeftOpen};
-ghost use Rattle.verify80_stores.specs.Listing.{AreNotes, AreOpen, addresses_where, is_at, is_listed, note_at, store_at};
+ghost use Rattle.verify80_stores.specs.DataReach.{AreDataEnds};
+ghost use Rattle.verify80_stores.specs.Opening.{joined, pointer_span, span_in, StaysIn, IsLeftOpen};
+ghost use Rattle.verify80_stores.specs.Listing.{AreNotes, AreOpen, addresses_where, is_at, is_listed, is_of, note_at, store_at};
 
 use crate::data_ends::{data_ends, is_all_data};
-use crate::pointer::pointer_span;
 use crate::stores::OpenStore;
 use decode80::{Fetched, Instr, Storing};
 use image80::Regions;
 use std::alloc::{AllocError, Global};
-use verify80_states::{Placed, Span, State, entry_at, targets_at};
+use verify80_states::{Placed, Span, State, entry_at, index_words, targets_at};
 
 /// What is noted of the instruction at an address.
 #[derive(Clone, Copy)]
@@ -118,6 +117,17 @@ fn stays_in(regions: &Regions, ends: &[u32], targets: &[u16], instr: Instr, stat
             Instr::Pchl => is_target(targets, state.hl.words),
             _ => true,
         },
+    }
+}
+
+/// Where an instruction may store by a pair in a state; `None` if it stores by none.
+fn pointer_span(instr: Instr, state: State) -> Option<Span>
+    ensures { result ≡ pointer_span instr state }
+{
+    match instr.storing() {
+        Storing::ThroughHl => Some(state.hl.words),
+        Storing::Through(pair) => Some(index_words(state, pair)),
+        Storing::Nowhere | Storing::Byte(_) | Storing::Word(_) => None,
     }
 }
 

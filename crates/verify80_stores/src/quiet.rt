@@ -1,8 +1,8 @@
 //! Which addresses are quiet.
 
-ghost use Rattle.std.specs.Prelude.{◌≡◌, ℕ, IfOk, map, true};
+ghost use Rattle.std.specs.Prelude.{◌≡◌, ◌<◌, ℕ, None, IfOk, IfSome, map, true, false};
 ghost use Rattle.std.specs.List.{range_with_len};
-ghost use Rattle.image80.specs.Range.{in_ranges};
+ghost use Rattle.image80.specs.{Range.in_range, Range.in_ranges, Regions.in_data};
 ghost use Rattle.verify80_stores.specs.Boards.{is_quiet};
 ghost use Rattle.verify80_states.specs.Marks.{is_marked};
 
@@ -45,4 +45,18 @@ fn are_around(ranges: &[Range], at: u16) -> bool
     ensures { result ≡ in_ranges ranges.now at }
 {
     ranges.iter().any(|range| range.contains(at))
+}
+
+/// The first address of a range that is no data, if there is one: such a range isn't quiet as a whole.
+pub fn first_outside_data(regions: &Regions, range: Range) -> Option<u16>
+    ensures some { IfSome result (λ at. (in_range range at ≡ true) × (in_data regions.now at ≡ false)) }
+    ensures none { result ≡ None → (at : ℕ) → at < 65536 → in_range range at ≡ true → in_data regions.now at ≡ true }
+{
+    for place in 0..65_536_usize {
+        let at = place as u16;
+        if range.contains(at) && !regions.in_data(at) {
+            return Some(at);
+        }
+    }
+    None
 }
