@@ -2,7 +2,7 @@
 use Rattle.verify80_states.proofs.Names.{◌<◌, ℕ, Bool, true, false, arith, or_of_8, xor_of_8, and_lt, Operation, Rotation, And, ExclusiveOr, Or, Compare, Left, Flags, word, IsByte, IsWord}
 use Rattle.decode80.specs.{Fetch.ahead, Fetch.behind}
 use Rattle.machine80.specs.{Flags.bit_of, Flags.flags_byte}
-use Rattle.machine80.specs.Arithmetic.{byte_answer, sum_answer, difference_answer, operation_answer, increment_answer, decrement_answer, decimal_answer, rotation_answer, pair_sum, complement_of}
+use Rattle.machine80.specs.Arithmetic.{byte_answer, sum_answer, difference_answer, operation_answer, increment_answer, decrement_answer, decimal_answer, rotation_answer}
 
 -- words and their bytes
 pub word_of_bytes : (high low : ℕ) → IsByte high → IsByte low → IsWord (word high low)
@@ -15,10 +15,6 @@ ahead_is_word a n = omega arith
 pub behind_is_word : (a n : ℕ) → IsWord (behind a n)
 unfolding behind
 behind_is_word a n = omega arith
-
-pub pair_sum_is_word : (hl pair : ℕ) → IsWord (pair_sum hl pair)
-unfolding pair_sum
-pair_sum_is_word hl pair = omega arith
 
 pub bit_is_small : (flag : Bool) → bit_of flag < 2
 unfolding bit_of
@@ -60,7 +56,3 @@ pub rotation_is_byte : (n : Rotation) (a : ℕ) (f : Flags) → IsByte a → IsB
 unfolding rotation_answer
 rotation_is_byte Left a f byte = omega arith
 rotation_is_byte n a f byte = let bit = bit_is_small f.carry in omega (arith, bit)
-
-pub complement_is_byte : (byte : ℕ) → IsByte (complement_of byte)
-unfolding complement_of
-complement_is_byte byte = omega arith

@@ -40,11 +40,6 @@ counted_holds s r to span byte half bytes holds inside =
     outcome_holds (with_byte s to span) (with_register r to byte) (record { value = span; carry = s.carry }) byte half r.flags.carry
     (with_byte_holds s r to span byte bytes holds inside) (record { value = inside; carry = holds.flags.carry })
 
--- Z and S are those of a byte, and CY stays
-flags_counted : (s : State) (r : Registers) (span : ByteSpan) (byte : ℕ) (half : Bool) → HoldsRegisters s r → ByteWithin span byte →
-    HoldsRegisters (with_outcome s (record { value = span; carry = s.carry })) (record r { flags = flags_of_result byte half r.flags.carry })
-flags_counted s r span byte half holds inside = outcome_holds s r (record { value = span; carry = s.carry }) byte half r.flags.carry holds (record { value = inside; carry = holds.flags.carry })
-
 -- operations on A
 resulted_holds : (s : State) (r : Registers) (out : Outcome) (byte : ℕ) (half full : Bool) → AreBytes r → HoldsRegisters s r → Makes out byte full →
     HoldsRegisters (resulted out s) (record r { a = byte; flags = flags_of_result byte half full })
@@ -205,12 +200,12 @@ module _ (code : List (Option ℕ)) (memory : List ℕ) (reads : ReadsCode code 
       (previous_byte_within (byte_of s to) (register_of cpu.registers to) (register_is_byte cpu.registers to bytes) (byte_holds s cpu.registers to bytes holds))
   changed_registers regions InrMemory cpu s small bytes holds words cells =
       let inside = loaded_within code s.cells memory s.hl.words (hl_of cpu.registers) reads cells held holds.hl.words in
-      flags_counted s cpu.registers (next_byte (loaded code s.cells s.hl.words)) ((byte_in memory (hl_of cpu.registers) + 1) % 256) _ holds
-      (next_byte_within (loaded code s.cells s.hl.words) (byte_in memory (hl_of cpu.registers)) (memory_byte memory (hl_of cpu.registers) held) inside)
+      let counted = next_byte_within (loaded code s.cells s.hl.words) (byte_in memory (hl_of cpu.registers)) (memory_byte memory (hl_of cpu.registers) held) inside in
+      outcome_holds s cpu.registers (record { value = next_byte (loaded code s.cells s.hl.words); carry = s.carry }) _ _ cpu.registers.flags.carry holds (record { value = counted; carry = holds.flags.carry })
   changed_registers regions DcrMemory cpu s small bytes holds words cells =
       let inside = loaded_within code s.cells memory s.hl.words (hl_of cpu.registers) reads cells held holds.hl.words in
-      flags_counted s cpu.registers (previous_byte (loaded code s.cells s.hl.words)) ((byte_in memory (hl_of cpu.registers) + 255) % 256) _ holds
-      (previous_byte_within (loaded code s.cells s.hl.words) (byte_in memory (hl_of cpu.registers)) (memory_byte memory (hl_of cpu.registers) held) inside)
+      let counted = previous_byte_within (loaded code s.cells s.hl.words) (byte_in memory (hl_of cpu.registers)) (memory_byte memory (hl_of cpu.registers) held) inside in
+      outcome_holds s cpu.registers (record { value = previous_byte (loaded code s.cells s.hl.words); carry = s.carry }) _ _ cpu.registers.flags.carry holds (record { value = counted; carry = holds.flags.carry })
   changed_registers regions (Lxi pair n) cpu s small bytes holds words cells = with_span_holds s cpu pair (pair_of_words (word_alone n)) n holds (split_holds (word_alone n) n (record { above = omega arith; below = omega arith }))
   changed_registers regions (Inx pair) cpu s small bytes holds words cells = counts next_pair (λ n. ahead n 1) s cpu pair next_holds bytes holds
   changed_registers regions (Dcx pair) cpu s small bytes holds words cells = counts previous_pair (λ n. behind n 1) s cpu pair previous_holds bytes holds

@@ -6,9 +6,6 @@ use Rattle.verify80_states.proofs.SpanLemmas.{known_if, high_within, low_within,
 use Rattle.verify80_states.proofs.{ArithmeticBounds.word_of_bytes, OutcomeLemmas.Makes, OutcomeLemmas.sum_makes}
 
 -- pairs
-pub words_hold : (span : Span) (h l : ℕ) → l < 256 → Within span (word h l) → HoldsPair (pair_of_words span) h l
-words_hold span h l small inside = record { words = inside; low = low_within span h l small inside }
-
 pub halves_hold : (high low : ByteSpan) (h l : ℕ) → ByteWithin high h → ByteWithin low l → HoldsPair (pair_of_halves high low) h l
 halves_hold high low h l first second = record { words = joined_within high low h l first second; low = second }
 
@@ -17,7 +14,9 @@ high_holds p h l small holds = high_within p.words h l small holds.words
 
 -- a word that is put into a pair
 pub split_holds : (span : Span) (n : ℕ) → Within span n → HoldsPair (pair_of_words span) (n / 256) (n % 256)
-split_holds span n inside = words_hold span (n / 256) (n % 256) (omega arith) (record { above = omega arith; below = omega arith })
+split_holds span n inside =
+    let word : Within span (word (n / 256) (n % 256)) = record { above = omega arith; below = omega arith } in
+    record { words = word; low = low_within span (n / 256) (n % 256) (omega arith) word }
 
 -- a register's byte
 pub byte_holds : (s : State) (r : Registers) (register : Register) → AreBytes r → HoldsRegisters s r → ByteWithin (byte_of s register) (register_of r register)

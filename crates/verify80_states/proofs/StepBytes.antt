@@ -1,6 +1,7 @@
 -- One step of a machine that holds bytes.
-use Rattle.verify80_states.proofs.Names.{arith, [], ◌≡◌, ℕ, ◌/◌, ◌%◌, Bool, true, false, List, length, refl, if◌then◌else◌, All-nil, Instr, Mov, Load, Store, Mvi, MviMemory, Lxi, Dad, Inx, Dcx, Inr, InrMemory, Dcr, DcrMemory, Operate, Call, CallIf, Rst, Push, Pop, Stax, Ldax, Shld, Lhld, Sta, Lda, Rotate, Daa, Cma, Stc, Cmc, Xthl, Xchg, InRegister, Memory, Immediate, ahead, HasOperandInRange, Cpu, holds, increment_answer, decrement_answer, pair_sum, register_of, with_register, hl_of, pair_of, byte_in, push_bytes, stores, changed, Machine, IsByte, IsWord, HasBytes, AreBytes, HoldsBytes, BytesStayBytes, MemoryKeepsItsLength, FetchedOperandsAreBounded, operand_of, Operand, Operation, Registers}
-use Rattle.verify80_states.proofs.ArithmeticBounds.{ahead_is_word, behind_is_word, pair_sum_is_word, operation_is_byte, increment_is_byte, decrement_is_byte, decimal_is_byte, rotation_is_byte, complement_is_byte}
+use Rattle.verify80_states.proofs.Names.{arith, [], ◌≡◌, ℕ, ◌/◌, ◌%◌, Bool, true, false, List, length, refl, if◌then◌else◌, All-nil, Instr, Mov, Load, Store, Mvi, MviMemory, Lxi, Dad, Inx, Dcx, Inr, InrMemory, Dcr, DcrMemory, Operate, Call, CallIf, Rst, Push, Pop, Stax, Ldax, Shld, Lhld, Sta, Lda, Rotate, Daa, Cma, Stc, Cmc, Xthl, Xchg, InRegister, Memory, Immediate, ahead, HasOperandInRange, Cpu, holds, increment_answer, decrement_answer, register_of, with_register, hl_of, pair_of, byte_in, push_bytes, stores, changed, Machine, IsByte, IsWord, HasBytes, AreBytes, HoldsBytes, BytesStayBytes, MemoryKeepsItsLength, FetchedOperandsAreBounded, operand_of, Operand, Operation, Registers}
+use Rattle.machine80.specs.Arithmetic.{complement_of, pair_sum}
+use Rattle.verify80_states.proofs.ArithmeticBounds.{ahead_is_word, behind_is_word, operation_is_byte, increment_is_byte, decrement_is_byte, decimal_is_byte, rotation_is_byte}
 use Rattle.verify80_states.proofs.RegisterBytes.{register_is_byte, high_is_byte, low_is_byte, flags_written, accumulator_written, hl_written, register_written, pair_written, stack_pair_written}
 use Rattle.verify80_states.proofs.StepLeads.{any_step}
 use Rattle.verify80_states.proofs.ByteLemmas.{byte_at, one_each, two_each, StoresByte, StoresBytes, stored_are_bytes, stored_length, input_is_byte, inputs_left}
@@ -13,6 +14,7 @@ operand_is_byte o (Immediate byte) memory r small held bytes = small
 
 -- registers after an instruction
 pub changed_bytes : (i : Instr) (memory : List ℕ) (cpu : Cpu) → HasOperandInRange i → HasBytes memory → AreBytes cpu.registers → AreBytes (changed i memory cpu).registers
+unfolding pair_sum complement_of
 changed_bytes (Mov to from) memory cpu small held bytes = register_written cpu.registers to _ (register_is_byte cpu.registers from bytes) bytes
 changed_bytes (Load to) memory cpu small held bytes = register_written cpu.registers to _ (byte_at memory _ held) bytes
 changed_bytes (Mvi to byte) memory cpu small held bytes = register_written cpu.registers to byte small bytes
@@ -35,10 +37,10 @@ changed_bytes InrMemory memory cpu small held bytes = flags_written cpu.register
 changed_bytes DcrMemory memory cpu small held bytes = flags_written cpu.registers _ bytes
 changed_bytes (Dad pair) memory cpu small held bytes = flags_written
     (record cpu.registers { h = pair_sum (hl_of cpu.registers) (pair_of cpu pair) / 256; l = pair_sum (hl_of cpu.registers) (pair_of cpu pair) % 256 }) _
-    (hl_written cpu.registers _ _ (let sum = pair_sum_is_word (hl_of cpu.registers) (pair_of cpu pair) in omega (arith, sum)) (omega arith) bytes)
+    (hl_written cpu.registers _ _ (omega arith) (omega arith) bytes)
 changed_bytes (Rotate n) memory cpu small held bytes = accumulator_written cpu.registers _ _ (rotation_is_byte n cpu.registers.a cpu.registers.flags bytes.a) bytes
 changed_bytes Daa memory cpu small held bytes = accumulator_written cpu.registers _ _ (decimal_is_byte cpu.registers.a cpu.registers.flags) bytes
-changed_bytes Cma memory cpu small held bytes = accumulator_written cpu.registers _ cpu.registers.flags (complement_is_byte cpu.registers.a) bytes
+changed_bytes Cma memory cpu small held bytes = accumulator_written cpu.registers _ cpu.registers.flags (omega arith) bytes
 changed_bytes Stc memory cpu small held bytes = flags_written cpu.registers _ bytes
 changed_bytes Cmc memory cpu small held bytes = flags_written cpu.registers _ bytes
 changed_bytes i memory cpu small held bytes = bytes

@@ -3,11 +3,8 @@ use Rattle.verify80_states.proofs.Names.{◌≡◌, ◌⊎◌, ◌≢◌, ◌<�
 use Rattle.verify80_states.proofs.{MemoryLemmas.Ground, MemoryLemmas.one_stored, StoredLemmas.AreStored, StoredLemmas.stack_stored}
 
 -- no variable is named by an empty set
-no_bits : (n : ℕ) → is_bit 0 n ≡ true → ⊥
-no_bits n is = let none = shr_le 0 n in grind (arith, nat_tests)
-
 pub none_named : (variables : List Variable) (memory : List ℕ) → HoldsSet variables 0 memory
-none_named variables memory v named = absurd (no_bits named.number named.named)
+none_named variables memory v named = absurd (let none = shr_le 0 named.number in let is = named.named in grind (arith, nat_tests))
 
 -- a byte is stored
 taken_within : (v : Variable) (s : StoredByte) (x : ℕ) → takes v (Some s) ≡ true → Within s.at v.at → ByteWithin s.bytes x → ByteWithin v.bytes x

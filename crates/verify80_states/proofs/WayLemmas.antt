@@ -19,18 +19,18 @@ either : (b : Bool) (address next : ℕ) → ((b ≡ true) × ((if b then addres
 either true address next = inl (refl, refl)
 either false address next = inr (refl, refl)
 
-return_or_not : (b : Bool) (word next : ℕ) → (b ≡ true) ⊎ ((b ≡ false) × ((if b then word else next) ≡ next))
-return_or_not true word next = inl refl
-return_or_not false word next = inr (refl, refl)
+returns_or_not : (b : Bool) (word next : ℕ) → ((b ≡ true) × ((if b then word else next) ≡ (if b then word else next))) ⊎ ((b ≡ false) × ((if b then word else next) ≡ next))
+returns_or_not true word next = inl (refl, refl)
+returns_or_not false word next = inr (refl, refl)
 
 -- what is no jump by HL and no halt
 goes : (w : Flow) (targets : List ℕ) (next hl : ℕ) (memory : List ℕ) (cpu : Cpu) → (w ≡ JumpsToHl → ⊥) → (w ≡ Halts → ⊥) →
-    (is_return_taken w cpu.registers.flags ≡ true) ⊎ Leads w cpu.registers.flags targets next hl (goes_to w next memory cpu)
+    ((is_return_taken w cpu.registers.flags ≡ true) × (goes_to w next memory cpu ≡ goes_to w next memory cpu)) ⊎ Leads w cpu.registers.flags targets next hl (goes_to w next memory cpu)
 goes (JumpsIf condition to) targets next hl memory cpu no_jump no_halt = inr (either (holds condition cpu.registers.flags) to next)
 goes JumpsToHl targets next hl memory cpu no_jump no_halt = absurd (no_jump refl)
 goes (CallsIf condition to) targets next hl memory cpu no_jump no_halt = inr (either (holds condition cpu.registers.flags) to next)
-goes Returns targets next hl memory cpu no_jump no_halt = inl refl
-goes (ReturnsIf condition) targets next hl memory cpu no_jump no_halt = return_or_not (holds condition cpu.registers.flags) _ next
+goes Returns targets next hl memory cpu no_jump no_halt = inl (refl, refl)
+goes (ReturnsIf condition) targets next hl memory cpu no_jump no_halt = returns_or_not (holds condition cpu.registers.flags) _ next
 goes Halts targets next hl memory cpu no_jump no_halt = absurd (no_halt refl)
 goes w targets next hl memory cpu no_jump no_halt = inr refl
 
@@ -49,10 +49,7 @@ pub record GoesOn (regions : Areas) (i : Instr) (next : ℕ) (m after : Machine)
       ⊎ Leads (flow i) m.cpu.registers.flags (declared_targets regions m.cpu.pc) next (hl_of m.cpu.registers) after.cpu.pc
 
 by_target : (regions : Areas) (i : Instr) (next : ℕ) (m : Machine) → (flow i ≡ JumpsToHl → ⊥) → (flow i ≡ Halts → ⊥) → GoesOn regions i next m (proceeded i next m)
-by_target regions i next m no_jump no_halt = go (goes (flow i) (declared_targets regions m.cpu.pc) next (hl_of m.cpu.registers) m.memory m.cpu no_jump no_halt) where
-  go : (returns i m.cpu.registers.flags ≡ true) ⊎ Leads (flow i) m.cpu.registers.flags (declared_targets regions m.cpu.pc) next (hl_of m.cpu.registers) (target i next m.memory m.cpu) → GoesOn regions i next m (proceeded i next m)
-  go (inl taken) = record { way = inl (taken, refl) }
-  go (inr way) = record { way = inr way }
+by_target regions i next m no_jump no_halt = record { way = goes (flow i) (declared_targets regions m.cpu.pc) next (hl_of m.cpu.registers) m.memory m.cpu no_jump no_halt }
 
 proceeds_on : (regions : Areas) (i : Instr) (next : ℕ) (m : Machine) → (i ≡ Pchl → IsSome (targets_at regions m.cpu.pc)) → (i ≡ Pchl → jump_end (targets_at regions m.cpu.pc) (hl_of m.cpu.registers) ≡ None) → (i ≡ Hlt → ⊥) →
     GoesOn regions i next m (proceeded i next m)

@@ -62,8 +62,7 @@ impl<'a> Reasons<'a> {
 
     /// The address of the instruction that sets a pair before an address; `None` if nothing does since the program begins.
     pub fn setter(&self, at: u16, pair: Pair) -> Option<u16> {
-        let (by, _) = self.setters.setter(at, Place::Pair(pair))?;
-        Some(by)
+        self.setters.setter(at, Place::Pair(pair)).map(|(by, _)| by)
     }
 
     /// Why nothing is known of a pair before an address; `None` if that isn't seen.
@@ -112,10 +111,9 @@ impl<'a> Reasons<'a> {
     fn read_by(&self, at: u16, instr: Instr) -> Option<Reason> {
         match instr {
             Instr::Lda(address) => self.unknown(address),
-            Instr::Lhld(address) => match self.unknown(address) {
-                Some(reason) => Some(reason),
-                None => self.unknown(address.wrapping_add(1)),
-            },
+            Instr::Lhld(address) => self
+                .unknown(address)
+                .or(self.unknown(address.wrapping_add(1))),
             Instr::Load(_) | Instr::Operate(_, Operand::Memory) => self.pointed(at, Pair::Hl),
             Instr::Ldax(IndexPair::Bc) => self.pointed(at, Pair::Bc),
             Instr::Ldax(IndexPair::De) => self.pointed(at, Pair::De),

@@ -58,10 +58,9 @@ pub(crate) fn show(
 
 /// Whether something is still open.
 fn is_open(shown: &Option<Vec<Note>>) -> bool {
-    match shown {
-        Some(notes) => notes.iter().any(|note| note.is_open),
-        None => true,
-    }
+    shown
+        .as_ref()
+        .is_none_or(|notes| notes.iter().any(|note| note.is_open))
 }
 
 /// What is shown with a table that is proposed, if it fits.

@@ -188,7 +188,9 @@ fn popped_to(pair: StackPair, word: PairSpan, state: State) -> State
         StackPair::Bc => state.with_span(Pair::Bc, word),
         StackPair::De => state.with_span(Pair::De, word),
         StackPair::Hl => state.with_span(Pair::Hl, word),
-        StackPair::Psw => state.with_byte(Register::A, word.high()).with_any_flags(),
+        StackPair::Psw => state
+            .with_byte(Register::A, word.high())
+            .with_outcome(Outcome::ANY),
     }
 }
 
@@ -237,7 +239,9 @@ fn registers_after(code: &[Option<u8>], instr: Instr, state: State) -> State
         Instr::Rotate(rotation) => state
             .with_byte(Register::A, rotated(rotation, state.a, state.carry))
             .with_carry(None),
-        Instr::Daa => state.with_byte(Register::A, ByteSpan::ANY).with_any_flags(),
+        Instr::Daa => state
+            .with_byte(Register::A, ByteSpan::ANY)
+            .with_outcome(Outcome::ANY),
         Instr::Cma => state.with_byte(Register::A, state.a.complemented()),
         Instr::Stc => state.with_carry(Some(true)),
         Instr::Cmc => state.with_carry(turned(state.carry)),

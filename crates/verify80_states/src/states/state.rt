@@ -120,7 +120,7 @@ fn is_variable_inside(
 impl State {
     ghost use Rattle.std.specs.Prelude.{◌≡◌, true};
     ghost use Rattle.verify80_states.specs.Marks.{is_marked};
-    ghost use Rattle.verify80_states.specs.State.{byte_of, span_of, with_byte, with_pair, with_span, with_outcome, with_carry, with_any_flags, cut, cut_copy, AreRegistersInside, IsStateInside, IsQuietState};
+    ghost use Rattle.verify80_states.specs.State.{byte_of, span_of, with_byte, with_pair, with_span, with_outcome, with_carry, cut, cut_copy, AreRegistersInside, IsStateInside, IsQuietState};
 
     /// The state that says nothing.
     pub const ANY: State = State {
@@ -260,19 +260,6 @@ impl State {
     {
         State {
             carry,
-            compared: None,
-            ..self
-        }
-    }
-
-    /// This state after flags are written of which nothing is known.
-    pub fn with_any_flags(self) -> State
-        ensures { result ≡ with_any_flags self }
-    {
-        State {
-            zero: None,
-            carry: None,
-            sign: None,
             compared: None,
             ..self
         }
