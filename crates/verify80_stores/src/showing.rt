@@ -52,7 +52,10 @@ pub(crate) fn show(
     }
     match shown {
         Some(shown) => Ok(shown),
-        None => show_nothing(alloc, image, reached, quiet),
+        None => {
+            let table = anything(alloc, image, reached)?;
+            show_with(alloc, image, reached, quiet, &table, None)
+        }
     }
 }
 
@@ -150,23 +153,4 @@ fn noted_by_both(first: &[Note], other: &[Note], at: u16) -> Note
         is_open: is_open && note_at(other, at).is_open,
         span,
     }
-}
-
-/// What is shown by a table that says nothing.
-///
-/// # Errors
-/// `AllocError` if memory runs out.
-fn show_nothing(
-    alloc: Global,
-    image: &Image,
-    reached: &[Option<Fetched>],
-    quiet: &[Range],
-) -> Result<Vec<Note>, AllocError>
-    requires reached { AreReached (code_of image.now) reached.now }
-    requires whole { length reached.now ≡ 65536 }
-    requires rules { AreRegions image.now.regions }
-    ensures { IfOk result (λ s. AreShown image.now (is_quiet image.now.regions quiet.now) reached.now s.items) }
-{
-    let table = anything(alloc, image, reached)?;
-    show_with(alloc, image, reached, quiet, &table, None)
 }
