@@ -171,22 +171,17 @@ module _ (image : Located) (bytes : ℕ) (quiet : ℕ → Bool) (reached : List 
         }
 
     -- the same of a world with any SP, as long as that isn't set
-    respected_stays : (set : Bool) (w : World) → Stands (with_respected_pointer image.regions set w) → (found : Fetched) → fetched_anywhere w.machine.memory w.machine.cpu.pc ≡ Some found →
-        (Listed w.machine.cpu.pc → StaysInside image.regions w.machine found.instr) → StaysInside image.regions w.machine found.instr
-    respected_stays true w s found fetched inside = stays w s found fetched inside
-    respected_stays false w s found fetched inside =
-        let there = stays (with_respected_pointer image.regions false w) s found fetched (λ listed. record { stores = (inside listed).stores; jumps = (inside listed).jumps }) in
-        record { stores = there.stores; jumps = there.jumps }
-
-    respected_stores : (set : Bool) (w : World) → Stands (with_respected_pointer image.regions set w) → (found : Fetched) → fetched_anywhere w.machine.memory w.machine.cpu.pc ≡ Some found →
-        All (GoesAsListed image.regions stores w.machine.cpu.pc) (pointed_bytes found.instr w.machine.cpu.registers)
-    respected_stores true w s found fetched = goes_listed w s found fetched
-    respected_stores false w s found fetched = goes_listed (with_respected_pointer image.regions false w) s found fetched
-
-    respected_jumps : (set : Bool) (w : World) → Stands (with_respected_pointer image.regions set w) → (found : Fetched) → fetched_anywhere w.machine.memory w.machine.cpu.pc ≡ Some found → found.instr ≡ Pchl →
-        Contains open_jumps w.machine.cpu.pc ⊎ Contains (declared_targets image.regions w.machine.cpu.pc) (hl_of w.machine.cpu.registers)
-    respected_jumps true w s found fetched is = jump_listed w s found fetched is
-    respected_jumps false w s found fetched is = jump_listed (with_respected_pointer image.regions false w) s found fetched is
+    respected : (set : Bool) (w : World) → Stands (with_respected_pointer image.regions set w) → (found : Fetched) → fetched_anywhere w.machine.memory w.machine.cpu.pc ≡ Some found →
+        All (GoesAsListed image.regions stores w.machine.cpu.pc) (pointed_bytes found.instr w.machine.cpu.registers) × (
+          (found.instr ≡ Pchl → Contains open_jumps w.machine.cpu.pc ⊎ Contains (declared_targets image.regions w.machine.cpu.pc) (hl_of w.machine.cpu.registers))
+          × ((Listed w.machine.cpu.pc → StaysInside image.regions w.machine found.instr) → StaysInside image.regions w.machine found.instr)
+        )
+    respected true w s found fetched = (goes_listed w s found fetched, (jump_listed w s found fetched, stays w s found fetched))
+    respected false w s found fetched =
+        let v = with_respected_pointer image.regions false w in
+        (goes_listed v s found fetched, (jump_listed v s found fetched, λ inside.
+            let there = stays v s found fetched (λ listed. record { stores = (inside listed).stores; jumps = (inside listed).jumps }) in
+            record { stores = there.stores; jumps = there.jumps }))
 
   module _ (start : Machine) (began : Bool) (may_start : MayStart image began start) (start_bytes : HoldsBytes start) where
     abbrev StandsRespected : Bool → World → Type 0
@@ -215,7 +210,7 @@ module _ (image : Located) (bytes : ℕ) (quiet : ℕ → Bool) (reached : List 
         }
     always set w (executed_quiet before _ v _ on by is) =
         let g = always before v on in
-        let inside = respected_stays (set_start image began start) (begins_set image began start may_start) before v g.stands by.found by.fetched by.inside in
+        let inside = (respected (set_start image began start) (begins_set image began start may_start) before v g.stands by.found by.fetched).1.1 by.inside in
         let e : Executes image.regions Anywhere v w =
         record { found = by.found; byte = by.byte; after = by.after; fetched = by.fetched; small = by.small; inside = λ listed. inside; goes = by.goes; is = by.is } in
         record {
@@ -229,7 +224,7 @@ module _ (image : Located) (bytes : ℕ) (quiet : ℕ → Bool) (reached : List 
     keeps_whole set w on =
         let g = always set w on in
         let p = known.promise start began may_start w set g.on in
-        let set_begins = begins_set image began start may_start in
+        let respects = respected (set_start image began start) (begins_set image began start may_start) set w g.stands p.found p.anywhere in
         record {
           promise = record {
             found = p.found;
@@ -242,7 +237,7 @@ module _ (image : Located) (bytes : ℕ) (quiet : ℕ → Bool) (reached : List 
             stack = p.stack;
             halts = p.halts;
             goes_on = λ not_halt inside byte small.
-                let f = p.goes_on not_halt (λ anywhere. respected_stays (set_start image began start) set_begins set w g.stands p.found p.anywhere inside) byte small in
+                let f = p.goes_on not_halt (λ anywhere. respects.1.1 inside) byte small in
                 let e = f.step in
                 record {
                   next = f.next;
@@ -251,8 +246,8 @@ module _ (image : Located) (bytes : ℕ) (quiet : ℕ → Bool) (reached : List 
                 };
           };
           walks = known.boards start began may_start w set g.on;
-          stores = respected_stores (set_start image began start) set_begins set w g.stands p.found p.anywhere;
-          jumps = respected_jumps (set_start image began start) set_begins set w g.stands p.found p.anywhere;
+          stores = respects.0;
+          jumps = respects.1.0;
         }
 
   -- so the promise holds on quiet boards

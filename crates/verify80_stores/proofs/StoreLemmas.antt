@@ -2,12 +2,6 @@
 use Rattle.verify80_stores.proofs.Names.{◌≡◌, ◌≢◌, ◌⊎◌, ℕ, zero, suc, ◌<◌, ◌==◌, Bool, true, false, not, List, [], ◌∷◌, All, Any, Contains, Option, None, Some, Ok, length, refl, if◌then◌else◌, list_any, list_any_at, option_map_or, nat_tests, subst, sym, ap, ◌∙◌, inl, inr, arith, get_or, Contains-get_or, All-nil, All-cons, Instr, Bc, De, Fetched, In, Out, Pchl, Hlt, direct_bytes, in_range, Areas, in_data, targets_at, Located, End, Registers, InputEnd, OutputRefused, StoreOutside, JumpOutside, Fetch, Stack, Direct, hl_of, index_pair_of, next_input, pointed_bytes, stack_bytes, Machine, Stop, first_outside, ends_at, guard, guarded, execute, turn_of, leads_outside, proceeded, with_input, step_on, World, turn_at, fetched_by, refuses, same_Some, IsProperEnd, code_of, declared_targets, is_pchl, IsStart, IsWorldFrom, NeverGoesWrongFromPowerOn, StandsOnWalk, StaysOnWalks, AreReached, found_at, Span, State, HoldsBytes, HoldsRegisters, Note, note_at, unwrap_or, any_word, KeepsTo, RunsKeepTo, Within, AreShown, KeptTable, stores_by_pair, pointer_span, IsLeftOpen, OpenStore, IsReachedAs, AreReachedAs, IsOpen, GoesAsListed, EndsAsListed, StoresGoAsListed, AreStoresOf, AreAllBelow, AreOpen, IsSpanned, IsLeftAt, IsListed, is_kind, is_at, and_parts, cases_eq, and_from, is_listed, storing, Storing, Through, ThroughHl, pointed_by, is_through_pair, span_through, IsInside, true≢false}
 use Rattle.verify80_stores.proofs.ReachedLemmas.{kind_there, there_if_reached}
 
--- an instruction that stores by a pair is such a store
-by_any_pair : (w : Storing) (s : State) (span : Span) → span_through w s ≡ Some span → is_through_pair w ≡ true
-by_any_pair ThroughHl s span h = refl
-by_any_pair (Through pair) s span h = refl
-by_any_pair w s span h = cc
-
 -- a store is no PCHL
 no_jump : (i : Instr) → stores_by_pair i ≡ true → is_pchl i ≡ true → ⊥
 no_jump Pchl stores jump = cc
@@ -18,15 +12,16 @@ record Points (w : Storing) (s : State) (address : ℕ) : Type 0 where
   span : Span
   is : span_through w s ≡ Some span
   within : Within span address
+  stores : is_through_pair w ≡ true
 
 alone : (x y : ℕ) → Contains (x ∷ []) y → x ≡ y
 alone x y (zero, inside, same) = same
 alone x y (suc k, inside, same) = absurd (omega arith)
 
 points_by : (w : Storing) (s : State) (r : Registers) (address : ℕ) → HoldsRegisters s r → Contains (pointed_by w r) address → Points w s address
-points_by ThroughHl s r address holds there = record { span = s.hl.words; is = refl; within = subst (λ a. Within s.hl.words a) (alone (hl_of r) address there) holds.hl.words }
-points_by (Through Bc) s r address holds there = record { span = s.bc.words; is = refl; within = subst (λ a. Within s.bc.words a) (alone (index_pair_of r Bc) address there) holds.bc.words }
-points_by (Through De) s r address holds there = record { span = s.de.words; is = refl; within = subst (λ a. Within s.de.words a) (alone (index_pair_of r De) address there) holds.de.words }
+points_by ThroughHl s r address holds there = record { span = s.hl.words; is = refl; within = subst (λ a. Within s.hl.words a) (alone (hl_of r) address there) holds.hl.words; stores = refl }
+points_by (Through Bc) s r address holds there = record { span = s.bc.words; is = refl; within = subst (λ a. Within s.bc.words a) (alone (index_pair_of r Bc) address there) holds.bc.words; stores = refl }
+points_by (Through De) s r address holds there = record { span = s.de.words; is = refl; within = subst (λ a. Within s.de.words a) (alone (index_pair_of r De) address there) holds.de.words; stores = refl }
 points_by w s r address holds there = absurd (omega (arith, there.1))
 
 -- an address is listed, or it isn't
@@ -42,20 +37,12 @@ inside_within : (s t : Span) (n : ℕ) → IsInside s t → Within s n → Withi
 inside_within s t n inside within = record { above = omega arith; below = omega arith }
 
 -- the first address outside is one of the list, and is outside
-first_step : (inside : ℕ → Bool) (x : ℕ) (xs : List ℕ) (a : ℕ) (b : Bool) → inside x ≡ b → (first_outside inside xs ≡ Some a → Contains xs a × (inside a ≡ false)) → first_outside inside (x ∷ xs) ≡ Some a →
-    Contains (x ∷ xs) a × (inside a ≡ false)
-first_step inside x xs a true e rest h =
-    let step : first_outside inside (x ∷ xs) ≡ first_outside inside xs = ap (λ t. if not t then Some x else first_outside inside xs) e in
-    let more = rest (sym step ∙ h) in
-    ((suc more.0.0, omega (arith, more.0.1), more.0.2), more.1)
-first_step inside x xs a false e rest h =
-    let step : first_outside inside (x ∷ xs) ≡ Some x = ap (λ t. if not t then Some x else first_outside inside xs) e in
-    let same : x ≡ a = cc in
-    ((0, omega arith, same), ap inside (sym same) ∙ e)
-
 first_is : (inside : ℕ → Bool) (xs : List ℕ) (a : ℕ) → first_outside inside xs ≡ Some a → Contains xs a × (inside a ≡ false)
 first_is inside [] a h = cc
-first_is inside (x ∷ xs) a h = first_step inside x xs a (inside x) refl (λ rest. first_is inside xs a rest) h
+first_is inside (x ∷ xs) a h = by (inside x) refl (λ rest. first_is inside xs a rest) h where
+  by : (b : Bool) → inside x ≡ b → (first_outside inside xs ≡ Some a → Contains xs a × (inside a ≡ false)) → (if not b then Some x else first_outside inside xs) ≡ Some a → Contains (x ∷ xs) a × (inside a ≡ false)
+  by true e rest later = let ((k, less, same), outside) = rest later in ((suc k, omega arith, same), outside)
+  by false e rest here = let same = same_Some x a here in ((0, omega arith, same), ap inside (sym same) ∙ e)
 
 -- how a step may end: at a store, through a pair that points outside data; at a jump, by a PCHL that leads outside its targets
 abbrev GuardEndsSo : (third : Option ℕ) → End → Type 0
@@ -105,14 +92,10 @@ step_ends regions (Some f) refused found m e is h = so e (guard_ends _ _ _ e (is
   so (JumpOutside to) third = absurd third
   so x third = tt
 
--- what is one of the declared targets isn't outside them
-any_by : (x : ℕ) (xs : List ℕ) → Contains xs x → list_any (λ y. y == x) xs ≡ true
-any_by x xs (k, inside, same) = list_any_at (λ y. y == x) xs k x inside (grind (arith, nat_tests, same))
-
 -- a target that is declared is not outside
 pub not_outside : (declared : Option (List ℕ)) (hl : ℕ) → Contains (option_map_or (λ targets. targets) declared []) hl → leads_outside declared hl ≡ false
 not_outside None hl there = refl
-not_outside (Some targets) hl there = ap (λ b. not b) (any_by hl targets there)
+not_outside (Some targets) hl (k, inside, same) = ap (λ b. not b) (list_any_at (λ y. y == hl) targets k hl inside (grind (arith, nat_tests, same)))
 
 -- none is listed there
 none_listed : (at : ℕ) (stores : List OpenStore) → Any (λ store. store.at ≡ at) stores → All (λ store. store.at ≢ at) stores → ⊥
@@ -157,25 +140,21 @@ module _ (image : Located) (bytes : ℕ) (quiet : ℕ → Bool) (reached : List 
       let k = keep it.by in
       (it.shut k.place k.placed found k.there k.at instr).jumps jump (hl_of w.machine.cpu.registers) k.holds.registers.hl.words
 
-  spanned : (w : World) (found : Fetched) (keep : KeepsTo image shown.first.table w) (span : Span) → found_at reached w.machine.cpu.pc ≡ Some found → pointer_span found.instr keep.placed.state ≡ Some span →
-      IsSpanned notes w.machine.cpu.pc span
-  spanned w found keep span there is =
-      let at : keep.placed.at ≡ w.machine.cpu.pc = keep.at in
-      subst (λ n. IsSpanned notes n span) at (shown.spans keep.place keep.placed found span keep.there (subst (λ n. found_at reached n ≡ Some found) (sym at) there) is)
-
   pub goes_if : (w : World) (found : Fetched) → StandsOnWalk image w → KeepsToEach image quiet w → fetched_by image.regions w ≡ Some found → (address : ℕ) →
       Contains (pointed_bytes found.instr w.machine.cpu.registers) address → GoesAsListed image.regions stores w.machine.cpu.pc address
   goes_if w found stands keep fetched address there =
       let here = here_if w found stands fetched in
       let points = points_by (storing found.instr) (keep shown.first).placed.state w.machine.cpu.registers address (keep shown.first).holds.registers there in
-      let whole_span = spanned w found (keep shown.first) points.span here.there points.is in
+      let k = keep shown.first in
+      let spans = shown.spans k.place k.placed found points.span k.there (subst (λ n. found_at reached n ≡ Some found) (sym k.at) here.there) points.is in
+      let whole_span : IsSpanned notes w.machine.cpu.pc points.span = subst (λ n. IsSpanned notes n points.span) k.at spans in
       let within : Within whole_span.whole address = inside_within points.span whole_span.whole address whole_span.inside points.within in
       record {
         listed = λ k d inside same.
             let store = get_or stores k d in
             let other : unwrap_or (note_at notes w.machine.cpu.pc).span any_word ≡ store.span = subst (λ n. unwrap_or (note_at notes n).span any_word ≡ store.span) same (open_below.each k d inside).span in
             subst (λ (s : Span). Within s address) (sym (ap (λ (o : Option Span). unwrap_or o any_word) whole_span.there) ∙ other) within;
-        unlisted = λ none. go here (by_any_pair (storing found.instr) (keep shown.first).placed.state points.span points.is) none (note_at notes w.machine.cpu.pc).is_open refl;
+        unlisted = λ none. go here points.stores none (note_at notes w.machine.cpu.pc).is_open refl;
       } where
         go : Here w found → stores_by_pair found.instr ≡ true → All (λ store. store.at ≢ w.machine.cpu.pc) stores → (b : Bool) → (note_at notes w.machine.cpu.pc).is_open ≡ b → in_data image.regions address ≡ true
         go here store none true is_open =
