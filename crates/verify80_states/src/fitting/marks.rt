@@ -7,10 +7,7 @@ ghost use Rattle.verify80_states.specs.Marks.{entry_at, is_marked};
 pub fn is_marked(marks: &[bool], address: u16) -> bool
     ensures { result ≡ is_marked marks.now address }
 {
-    match marks.get(usize::from(address)) {
-        Some(mark) => *mark,
-        None => false,
-    }
+    marks.get(usize::from(address)).copied().unwrap_or(false)
 }
 
 /// What stands in a table at an address; `None` if nothing does.

@@ -9,8 +9,5 @@ use image80::Regions;
 pub fn targets_at(regions: &Regions, at: u16) -> &[u16]
     ensures { result.now ≡ declared_targets regions.now at }
 {
-    match regions.targets(at) {
-        Some(targets) => targets,
-        None => &[],
-    }
+    regions.targets(at).unwrap_or(&[])
 }

@@ -116,10 +116,7 @@ impl Cells {
     pub fn bytes_at(self, at: u16) -> ByteSpan
         ensures { result ≡ bytes_at self at }
     {
-        match self.cell_at(at) {
-            Some(cell) => cell.bytes,
-            None => ByteSpan::ANY,
-        }
+        self.cell_at(at).map_or(ByteSpan::ANY, |cell| cell.bytes)
     }
 
     /// The cells when the byte at `at` is known to be one of `bytes` too; unchanged if no address is given, or no cell is at it.

@@ -46,10 +46,7 @@ fn carry_bytes(compared: Option<u8>, wanted: bool, a: ByteSpan) -> Option<ByteSp
 fn cut_to(bytes: Option<ByteSpan>, state: State) -> Option<State>
     ensures { result ≡ cut_to bytes state }
 {
-    match bytes {
-        None => None,
-        Some(bytes) => Some(state.cut(bytes)),
-    }
+    bytes.map(|bytes| state.cut(bytes))
 }
 
 /// The state that is left if Z is as wanted; `None` if it can't be.

@@ -145,10 +145,7 @@ fn added_carry(state: State, pair: Pair) -> Option<bool>
 fn turned(carry: Option<bool>) -> Option<bool>
     ensures { result ≡ turned carry }
 {
-    match carry {
-        Some(carry) => Some(!carry),
-        None => None,
-    }
+    carry.map(|carry| !carry)
 }
 
 /// The state after DE and HL are exchanged.

@@ -295,10 +295,6 @@ impl State {
     pub fn is_quiet(self, quiet: &[bool]) -> bool
         ensures { result ≡ true → IsQuietState (is_marked quiet.now) self }
     {
-        self.cells.are_quiet(quiet)
-            && match self.source {
-                None => true,
-                Some(at) => is_marked(quiet, at),
-            }
+        self.cells.are_quiet(quiet) && self.source.is_none_or(|at| is_marked(quiet, at))
     }
 }
