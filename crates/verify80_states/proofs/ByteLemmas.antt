@@ -1,5 +1,9 @@
 -- Memory and waiting inputs of bytes, read and written.
-use Rattle.verify80_states.proofs.Names.{All-cons, ◌≡◌, ℕ, List, [], ◌∷◌, Some, All, length, drop, slice_get, slice_index, slice_set, refl, ◌∙◌, arith, subst, zero, suc, length-set, All-nil, All-head, All-tail, All-set, All-drop, stored, waiting, next_input, without_next, IsByte, HasBytes}
+use Rattle.verify80_states.proofs.Names.{All-cons, ◌≡◌, ℕ, List, [], ◌∷◌, Some, All, length, drop, slice_get, slice_index, slice_set, get_or_from_slice_get, slice_get_within, refl, ◌∙◌, arith, subst, zero, suc, length-set, All-nil, All-head, All-tail, All-set, All-drop, stored, waiting, next_input, without_next, IsByte, HasBytes}
+
+-- what holds of each of a list holds of one
+pub one_of : {A : Type 0} (P : A → Type 0) (xs : List A) (k : ℕ) (x : A) → All P xs → slice_get xs k ≡ Some x → P x
+one_of P xs k x each there = subst P (get_or_from_slice_get xs k x x there) (each k x (slice_get_within xs k x there))
 
 -- read; past its end a memory reads as 0
 pub byte_at : (memory : List ℕ) (address : ℕ) → HasBytes memory → IsByte (slice_index memory address)
@@ -37,14 +41,8 @@ waiting_bytes [] port held = All-nil IsByte
 waiting_bytes (x ∷ xs) zero held = All-head HasBytes x xs held
 waiting_bytes (x ∷ xs) (suc i) held = waiting_bytes xs i (All-tail HasBytes x xs held)
 
-first_byte : (bytes : List ℕ) (byte : ℕ) → HasBytes bytes → slice_get bytes 0 ≡ Some byte → IsByte byte
-first_byte [] byte held is = cc
-first_byte (x ∷ xs) byte held is =
-    let same : x ≡ byte = cc in
-    subst IsByte same (All-head IsByte x xs held)
-
 pub input_is_byte : (lists : List (List ℕ)) (port byte : ℕ) → All HasBytes lists → next_input lists port ≡ Some byte → IsByte byte
-input_is_byte lists port byte held is = first_byte (waiting lists port) byte (waiting_bytes lists port held) is
+input_is_byte lists port byte held is = one_of IsByte (waiting lists port) 0 byte (waiting_bytes lists port held) is
 
 pub inputs_left : (lists : List (List ℕ)) (port : ℕ) → All HasBytes lists → All HasBytes (without_next lists port)
 inputs_left lists port held =

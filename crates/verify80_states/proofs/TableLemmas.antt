@@ -1,6 +1,6 @@
 -- A table that fits what is reached fits the program.
 use Rattle.verify80_states.proofs.Names.{IsBehind, ◌≡◌, ℕ, zero, suc, ◌<◌, Bool, List, [], ◌∷◌, Option, None, Some, Ok, length, slice_get, slice_index_or, refl, subst, sym, ap, ◌∙◌, arith, true, Fetched, Located, World, world_of, Code, code_of, AreReached, IsReached, StandsOnWalk, found_at, Placed, Variable, HoldsBytes, MemoryKeepsItsLength, IsQuietState, anything, HasCode, ReturnFacts, no_returns, Has, KnowsQuiet, AllFit, Fits, nothing_at, FitsWhereReached, map, range_with_len, All-map, slice_get-get_or, get_or-map-range_with_len, length-map-range_with_len, KeepsToCalls, IsKept, FetchedOperandsAreBounded}
-use Rattle.verify80_states.proofs.{VariableLemmas.one_of, MemoryLemmas.Ground, CellLemmas.none_quiet, CallLemmas.nothing_owed, KeepLemmas.nothing_holds, KeepLemmas.code_stays, KeepLemmas.still_keeps}
+use Rattle.verify80_states.proofs.{ByteLemmas.one_of, MemoryLemmas.Ground, CellLemmas.none_quiet, CallLemmas.nothing_owed, KeepLemmas.nothing_holds, KeepLemmas.code_stays, KeepLemmas.still_keeps}
 
 -- an entry that is there is within the table
 entry_within : {A : Type 0} (table : List (Option A)) (at : ℕ) (x : A) → slice_index_or table at None ≡ Some x → at < length table

@@ -1,6 +1,6 @@
 -- Variables stay inside their spans.
 use Rattle.verify80_states.proofs.Names.{◌≡◌, ◌⊎◌, ◌≢◌, ◌<◌, ◌&&◌, ℕ, Bool, true, List, [], ◌∷◌, Option, None, Some, length, slice_get, slice_index, slice_set, list_all, subst, sym, ap, ◌∙◌, arith, inl, inr, nat_tests, shr_le, get_or-set_same, length-set, Areas, in_data, byte_in, stored, Within, ByteWithin, Variable, HoldsSet, is_bit, takes, StoredByte, and_parts, AllPass-from_list_all, All, get_or_from_slice_get, slice_get_within, cases_eq}
-use Rattle.verify80_states.proofs.{MemoryLemmas.Ground, MemoryLemmas.one_stored, StoredLemmas.AreStored, StoredLemmas.stack_stored}
+use Rattle.verify80_states.proofs.{ByteLemmas.one_of, MemoryLemmas.Ground, MemoryLemmas.one_stored, StoredLemmas.AreStored, StoredLemmas.stack_stored}
 
 -- no variable is named by an empty set
 pub none_named : (variables : List Variable) (memory : List ℕ) → HoldsSet variables 0 memory
@@ -32,9 +32,6 @@ module _ (v : Variable) where
       stored_within c (slice_set m x.0 x.1) y.0 y.1 (length-set m x.0 x.1 ∙ whole) are.1.small each.1 are.1.there are.1.is (stored_within b m x.0 x.1 whole are.0.small each.0 are.0.there are.0.is before)
   variable_kept regions ground b c bytes m are whole here steady before = absurd are
 
--- what holds of each of a list, or is tested of it, holds of one
-pub one_of : {A : Type 0} (P : A → Type 0) (xs : List A) (k : ℕ) (x : A) → All P xs → slice_get xs k ≡ Some x → P x
-one_of P xs k x each there = subst P (get_or_from_slice_get xs k x x there) (each k x (slice_get_within xs k x there))
-
+-- what is tested of each of a list is so of one
 pub tested_of : {A : Type 0} (p : A → Bool) (xs : List A) (k : ℕ) (x : A) → list_all p xs ≡ true → slice_get xs k ≡ Some x → p x ≡ true
 tested_of p xs k x each there = one_of (λ y. p y ≡ true) xs k x (AllPass-from_list_all p xs each) there

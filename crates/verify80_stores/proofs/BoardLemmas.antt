@@ -173,15 +173,20 @@ module _ (image : Located) (bytes : ℕ) (quiet : ℕ → Bool) (reached : List 
     -- the same of a world with any SP, as long as that isn't set
     respected : (set : Bool) (w : World) → Stands (with_respected_pointer image.regions set w) → (found : Fetched) → fetched_anywhere w.machine.memory w.machine.cpu.pc ≡ Some found →
         All (GoesAsListed image.regions stores w.machine.cpu.pc) (pointed_bytes found.instr w.machine.cpu.registers) × (
-          (found.instr ≡ Pchl → Contains open_jumps w.machine.cpu.pc ⊎ Contains (declared_targets image.regions w.machine.cpu.pc) (hl_of w.machine.cpu.registers))
-          × ((Listed w.machine.cpu.pc → StaysInside image.regions w.machine found.instr) → StaysInside image.regions w.machine found.instr)
+        (found.instr ≡ Pchl → Contains open_jumps w.machine.cpu.pc ⊎ Contains (declared_targets image.regions w.machine.cpu.pc) (hl_of w.machine.cpu.registers))
+        × ((Listed w.machine.cpu.pc → StaysInside image.regions w.machine found.instr) → StaysInside image.regions w.machine found.instr)
         )
     respected true w s found fetched = (goes_listed w s found fetched, (jump_listed w s found fetched, stays w s found fetched))
     respected false w s found fetched =
-        let v = with_respected_pointer image.regions false w in
-        (goes_listed v s found fetched, (jump_listed v s found fetched, λ inside.
-            let there = stays v s found fetched (λ listed. record { stores = (inside listed).stores; jumps = (inside listed).jumps }) in
-            record { stores = there.stores; jumps = there.jumps }))
+        let v = with_respected_pointer image.regions false w in (
+          goes_listed v s found fetched,
+          (
+            jump_listed v s found fetched,
+            λ inside.
+                let there = stays v s found fetched (λ listed. record { stores = (inside listed).stores; jumps = (inside listed).jumps }) in
+                record { stores = there.stores; jumps = there.jumps },
+          ),
+        )
 
   module _ (start : Machine) (began : Bool) (may_start : MayStart image began start) (start_bytes : HoldsBytes start) where
     abbrev StandsRespected : Bool → World → Type 0

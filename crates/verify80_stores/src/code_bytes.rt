@@ -33,10 +33,6 @@ fn bytes_of(
     ensures { IfOk result (λ code. code.items ≡ map (code_in regions.now memory.now) (range_with_len 0 65536)) }
 {
     (0..65_536_u32)
-        .map(|at| if areas.is_code(at as u16) {
-            Some(memory[at as usize])
-        } else {
-            None
-        })
+        .map(|at| areas.is_code(at as u16).then_some(memory[at as usize]))
         .collect(alloc)
 }

@@ -35,10 +35,7 @@ impl Note {
 pub(crate) fn note_at(notes: &[Note], at: u16) -> Note
     ensures { result ≡ note_at notes.now at }
 {
-    match notes.get(usize::from(at)) {
-        Some(note) => *note,
-        None => Note::NONE,
-    }
+    notes.get(usize::from(at)).copied().unwrap_or(Note::NONE)
 }
 
 /// The kinds of instructions that are listed.
@@ -86,10 +83,7 @@ pub(crate) fn addresses_of(
 fn is_at(kind: Kind, reached: &[Option<Fetched>], at: u16) -> bool
     ensures { result ≡ is_at (is_of kind) reached.now at }
 {
-    match entry_at(reached, at) {
-        Some(found) => kind.has(found.instr),
-        None => false,
-    }
+    entry_at(reached, at).is_some_and(|found| kind.has(found.instr))
 }
 
 /// Whether an instruction of a kind is reached at an address, and is open, if that is asked for.
@@ -245,10 +239,7 @@ fn store_at(reached: &[Option<Fetched>], notes: &[Note], at: u16) -> OpenStore
 {
     OpenStore {
         at,
-        instr: match entry_at(reached, at) {
-            Some(found) => found.instr,
-            None => Instr::Nop,
-        },
+        instr: entry_at(reached, at).map_or(Instr::Nop, |found| found.instr),
         span: note_at(notes, at).span.unwrap_or(Span::ANY),
     }
 }

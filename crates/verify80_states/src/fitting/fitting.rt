@@ -329,10 +329,11 @@ fn accounts_at(
 ) -> bool
     ensures { result ≡ true → AccountsAt regions.now (returns_of returns.now) reached.now at }
 {
-    match entry_at(reached, at) {
-        Some(found) => returns.accounts_for(targets_at(regions, at), at, found),
-        None => true,
-    }
+    entry_at(reached, at).is_none_or(|found| returns.accounts_for(
+        targets_at(regions, at),
+        at,
+        found,
+    ))
 }
 
 /// Whether each state of a table says something of quiet addresses alone.
