@@ -147,10 +147,7 @@ fn cause_of(
         at,
         pair,
         setter,
-        reason: match reason {
-            Some(reason) if is_so(image, quiet, reached, reason) => Some(reason),
-            _ => None,
-        },
+        reason: reason.filter(|reason| is_so(image, quiet, reached, *reason)),
     }
 }
 
