@@ -2,7 +2,6 @@
 
 use crate::program::ReachedProgram;
 use decode80::{Instr, Operand};
-use image80::RegionMap;
 use std::alloc::{AllocError, Global};
 use std::array;
 use verify80_states::{ByteSpan, Cell, Cells, PairSpan, Span, State, Words};
@@ -12,8 +11,7 @@ const JOINS: u32 = 4;
 /// How often it then grows from landmark to landmark, before it grows to any word: once for each page of memory and some more.
 const STEPS: u32 = 300;
 
-/// The numbers at which growing spans begin, and before which they end: ends of data, of pages, and what the program names. Both lists
-/// are ascending.
+/// The numbers at which growing spans begin, and before which they end: pages, and bytes that the program names. Both lists are ascending.
 #[derive(Drop)]
 pub struct Landmarks {
     words: Vec<u16>,
@@ -26,26 +24,21 @@ impl Landmarks {
     /// # Errors
     /// `AllocError` if memory runs out.
     pub fn new(alloc: Global, program: ReachedProgram<'_>) -> Result<Landmarks, AllocError> {
-        let map = RegionMap::new(alloc, program.regions)?;
-        let mut words = Vec::new(alloc);
         let mut bytes = Vec::new(alloc);
         for number in 0..65_536_u32 {
-            let at = number as u16;
-            if at % 256 == 0 || map.is_data(at) != map.is_data(at.wrapping_sub(1)) {
-                words.push(at)?;
-            }
-            match program.instr(at) {
-                Some(Instr::Lxi(_, word)) => push_named(&mut words, word)?,
-                Some(
-                    Instr::Operate(_, Operand::Immediate(byte))
-                    | Instr::Mvi(_, byte)
-                    | Instr::MviMemory(byte),
-                ) => push_named(&mut bytes, u16::from(byte))?,
-                _ => {}
+            if let Some(
+                Instr::Operate(_, Operand::Immediate(byte))
+                | Instr::Mvi(_, byte)
+                | Instr::MviMemory(byte),
+            ) = program.instr(number as u16)
+            {
+                bytes.push(u16::from(byte))?;
+                bytes.push(u16::from(byte) + 1)?;
             }
         }
-        words.sort_unstable();
         bytes.sort_unstable();
+        bytes.dedup();
+        let words = (0..256_u16).map(|page| 256 * page).collect(alloc)?;
         Ok(Landmarks { words, bytes })
     }
 
@@ -121,13 +114,6 @@ impl Landmarks {
     }
 }
 
-/// Appends a number that the program names, at which spans begin, or before which they end; and the next one.
-fn push_named(landmarks: &mut Vec<u16>, named: u16) -> Result<(), AllocError> {
-    landmarks.push(named)?;
-    landmarks.push(named.saturating_add(1))?;
-    Ok(())
-}
-
 /// A span of bytes as one of words.
 fn words_of(bytes: ByteSpan) -> Span {
     Span {
@@ -144,29 +130,20 @@ fn grown(landmarks: &[u16], old: Span, new: Span, growths: u32) -> Span {
         return hull;
     }
     let landmarks: &[u16] = if growths > STEPS { &[] } else { landmarks };
-    let first = if hull.first == old.first {
-        old.first
-    } else {
-        landmark_below(landmarks, hull.first)
-    };
-    let last = if hull.last == old.last {
-        old.last
-    } else {
-        end_above(landmarks, hull.last)
-    };
-    Span { first, last }
-}
-
-/// The last landmark up to a number; 0 if there is none.
-fn landmark_below(landmarks: &[u16], number: u16) -> u16 {
-    let count = landmarks.partition_point(|landmark| *landmark <= number);
-    landmarks.get(count.wrapping_sub(1)).copied().unwrap_or(0)
-}
-
-/// The number before the first landmark above a number; the greatest word if there is none.
-fn end_above(landmarks: &[u16], number: u16) -> u16 {
-    let count = landmarks.partition_point(|landmark| *landmark <= number);
-    landmarks.get(count).copied().unwrap_or(0).wrapping_sub(1)
+    let below = landmarks.partition_point(|landmark| *landmark <= hull.first);
+    let above = landmarks.partition_point(|landmark| *landmark <= hull.last);
+    Span {
+        first: if hull.first == old.first {
+            old.first
+        } else {
+            landmarks.get(below.wrapping_sub(1)).copied().unwrap_or(0)
+        },
+        last: if hull.last == old.last {
+            old.last
+        } else {
+            landmarks.get(above).copied().unwrap_or(0).wrapping_sub(1)
+        },
+    }
 }
 
 /// What two states know of a part, if they know the same.

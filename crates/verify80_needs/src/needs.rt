@@ -1,68 +1,26 @@
-//! What a later store, jump by HL or condition may depend on, at each address.
+//! Which bytes of memory a state names, at each address.
 
-use crate::moving::parts_before;
 use crate::program::ReachedProgram;
-use crate::slots::{
-    SLOTS, Slots, find_places, find_pointers, parts_stored, placed_cells, slots_before,
-    slots_stored,
-};
-use crate::units::{Units, reduce};
+use crate::slots::{Slots, bytes_read, bytes_stored, find_places, find_pointers, placed};
 use crate::variables::Variables;
-use decode80::{Fetched, Flow, Instr, Storing};
+use decode80::{Fetched, Flow, Instr};
 use std::alloc::{AllocError, Global};
 use verify80_states::{State, entry_at};
 
 /// How often the program is gone through, at most: then the rest is left as it is.
 const SWEEPS: usize = 32;
 
-/// What is needed of a state at an address: these parts of it, and these bytes of memory.
-#[derive(Clone, Copy, Debug, PartialEq, Eq)]
-struct Need {
-    parts: Units,
-    slots: Slots,
-}
-
-impl Need {
-    const NONE: Need = Need {
-        parts: Units::NONE,
-        slots: Slots::NONE,
-    };
-
-    /// What either of two needs names.
-    fn and(self, other: Need) -> Need {
-        Need {
-            parts: self.parts.union(other.parts),
-            slots: self.slots.and(other.slots),
-        }
-    }
-
-    /// A need with these parts too.
-    fn with(self, parts: Units) -> Need {
-        Need {
-            parts: self.parts.union(parts),
-            slots: self.slots,
-        }
-    }
-
-    /// What is needed before a call, given what its callee needs.
-    fn before_call(self) -> Need {
-        Need {
-            parts: self.parts.shallower(),
-            slots: self.slots,
-        }
-    }
-}
-
-/// What is needed at each address, by address.
+/// The bytes of memory that states name.
 #[derive(Drop)]
 pub struct Needs {
-    needs: Vec<Need>,
-    /// The bytes of memory that a state there names.
+    /// By address the bytes that a state there names.
     named: Vec<Slots>,
+    /// The bytes that are to be variables: if it is local, all that are read, ascending.
+    pub variables: Vec<u16>,
 }
 
 impl Needs {
-    /// What a program needs; of memory, if it is local, what the next instruction reads.
+    /// The bytes that a later instruction of a program may read; if it is local, those alone that the next one reads or stores.
     ///
     /// # Errors
     /// `AllocError` if memory runs out.
@@ -79,80 +37,38 @@ impl Needs {
             places: &places,
             is_local,
         };
-        let mut needs = vec![in alloc; Need::NONE; 65_536]?;
-        let mut behind = vec![in alloc; Need::NONE; 65_536]?;
+        let mut before = vec![in alloc; Slots::NONE; 65_536]?;
+        let mut behind = vec![in alloc; Slots::NONE; 65_536]?;
         for _ in 0..SWEEPS {
-            if !reading.sweep(&mut needs, &mut behind) {
+            if !reading.sweep(&mut before, &mut behind) {
                 break;
             }
         }
-        let named = reading.find_named(alloc, &needs)?;
-        Ok(Needs { needs, named })
-    }
-
-    /// The bytes of memory that are read, by address.
-    ///
-    /// # Errors
-    /// `AllocError` if memory runs out.
-    pub fn addresses(&self, alloc: Global) -> Result<Vec<u16>, AllocError> {
-        let mut addresses = Vec::new(alloc);
-        for need in &self.needs {
-            for place in 0..SLOTS {
-                if let Some(address) = need.slots.at(place) {
-                    addresses.push(address)?;
-                }
-            }
-        }
-        addresses.sort_unstable();
-        addresses.dedup();
-        Ok(addresses)
-    }
-
-    /// The bytes of memory that are named, each with the addresses where it is.
-    ///
-    /// # Errors
-    /// `AllocError` if memory runs out.
-    pub fn readers(&self, alloc: Global) -> Result<Vec<(u16, u16)>, AllocError> {
-        let mut readers = Vec::new(alloc);
+        let mut named = Vec::with_capacity(alloc, 65_536)?;
+        let mut variables = Vec::new(alloc);
         for number in 0..65_536_u32 {
-            let slots = self.names(number as u16);
-            for place in 0..SLOTS {
-                if let Some(address) = slots.at(place) {
-                    readers.push((address, number as u16))?;
-                }
+            let at = number as u16;
+            named.push(reading.named(&before, &behind, at))?;
+            if is_local && entry_at(&places, at).is_some() {
+                variables.push(at)?;
             }
         }
-        Ok(readers)
+        Ok(Needs { named, variables })
     }
 
-    /// The bytes of memory that a state at an address names.
-    fn names(&self, at: u16) -> Slots {
-        self.named
-            .get(usize::from(at))
-            .copied()
-            .unwrap_or(Slots::NONE)
-    }
-
-    /// A state at an address with only what is needed there; nothing is known of the rest. It also names each variable, once that has
-    /// grown, whose byte its cells show to be one of the variable's. Its cells are at the addresses that states there name; a byte for
-    /// which it has no cell is known by a variable that it names, if there is one.
+    /// A state at an address that knows no bytes of memory but those that states there name. It also names each variable, once that has
+    /// grown, whose byte its cells show to be one of the variable's. A byte for which it has no cell is known by a variable that it names,
+    /// if there is one.
     pub fn needed_part(&self, at: u16, state: State, variables: &Variables) -> State {
-        let need = need_at(&self.needs, at);
-        let named = self.names(at);
+        let named = slots_at(&self.named, at);
         let set = variables.set_in(state);
-        let placed = State {
-            cells: placed_cells(state.cells, named, variables, set),
+        State {
+            cells: named.placed_cells(state.cells, variables, set),
             set,
             source: state.source.filter(|address| named.has(*address)),
             ..state
-        };
-        reduce(placed, need.parts.union(need.slots.parts()))
+        }
     }
-}
-
-/// What is needed at an address so far.
-fn need_at(needs: &[Need], at: u16) -> Need {
-    needs.get(usize::from(at)).copied().unwrap_or(Need::NONE)
 }
 
 /// How a program's memory is read.
@@ -162,137 +78,87 @@ struct Reading<'a> {
     /// By address the word that HL is known to be.
     pointers: &'a [Option<u16>],
     /// By address the place of a byte.
-    places: &'a [usize],
+    places: &'a [Option<usize>],
     /// Whether bytes are needed by the next instruction alone.
     is_local: bool,
 }
 
 impl Reading<'_> {
-    /// Goes through the program once, from its end, and says whether something changed. `behind` has for each group what is needed behind
-    /// the calls of its procedures, if these know where they return to.
-    fn sweep(self, needs: &mut [Need], behind: &mut [Need]) -> bool {
-        let program = self.program;
+    /// Goes through the program once, from its end, and says whether something changed. `before` has for each address the bytes that are
+    /// needed there, and `behind` for each group those that are needed behind the calls of its procedures, if these know where they return
+    /// to.
+    fn sweep(self, before: &mut [Slots], behind: &mut [Slots]) -> bool {
         let mut is_changed = false;
         for below in 0..65_536_u32 {
             let at = (65_535 - below) as u16;
-            if let Some(found) = program.at(at) {
-                if let Flow::Calls(entry) | Flow::CallsIf(_, entry) = found.instr.flow() {
-                    is_changed |= note_behind(program, behind, entry, need_at(needs, found.next));
+            if let Some(found) = self.program.at(at) {
+                if let Flow::Calls(entry) | Flow::CallsIf(_, entry) = found.instr.flow()
+                    && self.program.must_know_return(entry)
+                {
+                    let group = self.program.group(entry);
+                    let slots = slots_at(behind, group).and(slots_at(before, found.next));
+                    is_changed |= note(behind, group, slots);
                 }
-                let need = self.need_before(needs, behind, at, found);
-                if let Some(place) = needs.get_mut(usize::from(at)) {
-                    is_changed |= *place != need;
-                    *place = need;
-                }
+                let after = self.after(before, behind, at, found);
+                is_changed |= note(before, at, self.before(at, found.instr, after));
             }
         }
         is_changed
     }
 
-    /// What is needed before an instruction, by what is needed where it leads.
-    fn need_before(self, needs: &[Need], behind: &[Need], at: u16, found: Fetched) -> Need {
-        let program = self.program;
-        let Fetched { instr, next } = found;
-        let need = match instr.flow() {
-            Flow::Halts => Need::NONE,
-            Flow::Returns => before_return(program, behind, at),
-            Flow::Continues | Flow::Pushes | Flow::Pops | Flow::Exchanges => {
-                return self.through(at, instr, need_at(needs, next));
-            }
-            Flow::Jumps(to) => need_at(needs, to),
-            Flow::JumpsIf(condition, to) => need_at(needs, next)
-                .and(need_at(needs, to))
-                .with(Units::of_condition(condition)),
-            Flow::ReturnsIf(condition) => need_at(needs, next)
-                .and(before_return(program, behind, at))
-                .with(Units::of_condition(condition)),
-            Flow::Calls(to) => need_at(needs, to).before_call(),
-            Flow::CallsIf(condition, to) => need_at(needs, to)
-                .before_call()
-                .and(need_at(needs, next))
-                .with(Units::of_condition(condition)),
-            Flow::JumpsToHl => {
-                let mut need = Need::NONE.with(Units::HL);
-                for to in program.targets(at) {
-                    need = need.and(need_at(needs, *to));
-                }
-                need
-            }
-        };
+    /// The bytes that are needed after an instruction, by what is needed where it leads.
+    fn after(self, before: &[Slots], behind: &[Slots], at: u16, found: Fetched) -> Slots {
         if self.is_local {
-            Need::NONE.with(need.parts)
-        } else {
-            need
+            let pointer = entry_at(self.pointers, at);
+            return placed(self.places, bytes_stored(found.instr, pointer));
         }
-    }
-
-    /// What is needed before an instruction that goes on, given what is needed after it.
-    fn through(self, at: u16, instr: Instr, need: Need) -> Need {
-        let pointer = entry_at(self.pointers, at);
-        let pointed = match instr.storing() {
-            Storing::ThroughHl => Units::HL,
-            Storing::Through(pair) => Units::of_index_pair(pair),
-            Storing::Nowhere | Storing::Byte(_) | Storing::Word(_) => Units::NONE,
-        };
-        let after = if self.is_local {
-            slots_stored(self.places, instr, pointer)
-        } else {
-            need.slots
-        };
-        Need {
-            parts: parts_before(instr, need.parts)
-                .union(pointed)
-                .union(parts_stored(instr, pointer, after)),
-            slots: slots_before(self.places, instr, pointer, need.parts, after),
-        }
-    }
-
-    /// By address the bytes that a state names: those that are needed before the instruction, and at free places those that are needed
-    /// after it, since it may store them.
-    fn find_named(self, alloc: Global, needs: &[Need]) -> Result<Vec<Slots>, AllocError> {
-        let mut named = vec![in alloc; Slots::NONE; 65_536]?;
-        for number in 0..65_536_u32 {
-            let at = number as u16;
-            if let Some(Fetched { instr, next }) = self.program.at(at) {
-                let after = match instr.flow() {
-                    _ if self.is_local => {
-                        slots_stored(self.places, instr, entry_at(self.pointers, at))
-                    }
-                    Flow::Continues | Flow::Pushes | Flow::Pops | Flow::Exchanges => {
-                        need_at(needs, next).slots
-                    }
-                    _ => Slots::NONE,
-                };
-                if let Some(place) = named.get_mut(number as usize) {
-                    *place = need_at(needs, at).slots.and(after);
-                }
+        let (direct, targets) = self.program.ways_inside(at, found);
+        let mut after = match found.instr.flow() {
+            Flow::Calls(entry) | Flow::CallsIf(_, entry) => slots_at(before, entry),
+            Flow::Returns | Flow::ReturnsIf(_) if self.program.must_know_return(at) => {
+                slots_at(behind, self.program.group(at))
             }
+            _ => Slots::NONE,
+        };
+        for to in direct.iter().flatten().chain(targets.iter()) {
+            after = after.and(slots_at(before, *to));
         }
-        Ok(named)
+        after
+    }
+
+    /// The bytes that are needed before an instruction, given those that are needed after it.
+    fn before(self, at: u16, instr: Instr, after: Slots) -> Slots {
+        let pointer = entry_at(self.pointers, at);
+        after
+            .without(bytes_stored(instr, pointer))
+            .and(placed(self.places, bytes_read(instr, pointer)))
+    }
+
+    /// The bytes that a state at an address names: those that are needed before the instruction, and at free places those that are needed
+    /// after it, since it may store them.
+    fn named(self, before: &[Slots], behind: &[Slots], at: u16) -> Slots {
+        match self.program.at(at) {
+            Some(found) => {
+                let after = self.after(before, behind, at, found);
+                self.before(at, found.instr, after).and(after)
+            }
+            None => Slots::NONE,
+        }
     }
 }
 
-/// Notes what is needed behind a call of the procedure at `entry`, if it knows where it returns to, and says whether that is more than
-/// before.
-fn note_behind(program: ReachedProgram<'_>, behind: &mut [Need], entry: u16, need: Need) -> bool {
-    match behind.get_mut(usize::from(program.group(entry))) {
-        Some(place) if program.must_know_return(entry) => {
-            let before = *place;
-            *place = before.and(need);
-            *place != before
+/// The slots of an address.
+fn slots_at(slots: &[Slots], at: u16) -> Slots {
+    slots.get(usize::from(at)).copied().unwrap_or(Slots::NONE)
+}
+
+/// Sets the slots of an address, and says whether they are others than before.
+fn note(slots: &mut [Slots], at: u16, new: Slots) -> bool {
+    match slots.get_mut(usize::from(at)) {
+        Some(place) if *place != new => {
+            *place = new;
+            true
         }
         _ => false,
-    }
-}
-
-/// What is needed before a return that is taken: nothing if its group doesn't know where it goes.
-fn before_return(program: ReachedProgram<'_>, behind: &[Need], at: u16) -> Need {
-    if !program.must_know_return(at) {
-        return Need::NONE;
-    }
-    let Need { parts, slots } = need_at(behind, program.group(at));
-    Need {
-        parts: parts.deeper().union(Units::FIRST),
-        slots,
     }
 }

@@ -128,7 +128,12 @@ impl<'a> ReachedProgram<'a> {
             }
             Flow::Continues | Flow::Pushes | Flow::Pops | Flow::Exchanges => (next, false, state),
         };
-        Some((to, state_after(self.code, instr, taken, next, left)))
+        // Before a HLT nothing has to be known.
+        let after = match self.instr(to) {
+            Some(Instr::Hlt) => State::ANY,
+            _ => state_after(self.code, instr, taken, next, left),
+        };
+        Some((to, after))
     }
 
     /// The way behind a call, with nothing but the variables known there; `None` unless the callee may return and its states don't know

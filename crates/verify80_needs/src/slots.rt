@@ -2,18 +2,17 @@
 
 use crate::marks::mark;
 use crate::program::ReachedProgram;
-use crate::units::Units;
 use crate::variables::Variables;
-use decode80::{Fetched, Flow, Instr, Operand, Pair};
+use decode80::{Fetched, Flow, Instr, Operand, Pair, Storing};
 use std::alloc::{AllocError, Global};
 use std::array;
 use verify80_spans::ByteSpan;
 use verify80_states::{Cell, Cells, entry_at, is_marked};
 
 /// How many bytes a state may know.
-pub const SLOTS: usize = 8;
+const SLOTS: usize = 8;
 /// What stands at a place without an address.
-const NONE: u16 = u16::MAX;
+const NOWHERE: u16 = u16::MAX;
 
 /// The addresses of the bytes that are known, or are to be known: one for each place.
 #[derive(Clone, Copy, Debug, PartialEq, Eq)]
@@ -21,92 +20,65 @@ pub struct Slots([u16; SLOTS]);
 
 impl Slots {
     /// Slots without an address.
-    pub const NONE: Slots = Slots([NONE; SLOTS]);
-
-    /// The address at a place, if it has one.
-    pub fn at(self, place: usize) -> Option<u16> {
-        self.0
-            .get(place)
-            .copied()
-            .filter(|address| *address != NONE)
-    }
+    pub const NONE: Slots = Slots([NOWHERE; SLOTS]);
 
     /// Whether an address has a place.
     pub fn has(self, address: u16) -> bool {
-        address != NONE && self.0.contains(&address)
+        address != NOWHERE && self.0.contains(&address)
     }
 
-    /// These slots with an address at a place, if that is free or has a greater address.
-    fn with(self, place: usize, address: u16) -> Slots {
-        let Slots(mut slots) = self;
-        if let Some(slot) = slots.get_mut(place) {
-            *slot = address.min(*slot);
-        }
-        Slots(slots)
-    }
-
-    /// These slots without one address.
-    fn without(self, address: u16) -> Slots {
-        Slots(self.0.map(|slot| if slot == address { NONE } else { slot }))
+    /// These slots without these addresses.
+    pub fn without(self, addresses: [Option<u16>; 2]) -> Slots {
+        Slots(
+            self.0.map(|slot| if addresses.contains(&Some(slot)) {
+                NOWHERE
+            } else {
+                slot
+            }),
+        )
     }
 
     /// The addresses of two slots: at each place the lower one.
     pub fn and(self, other: Slots) -> Slots {
-        let mut both = self;
-        for (place, address) in other.0.iter().enumerate() {
-            both = both.with(place, *address);
-        }
-        both
+        Slots(array::from_fn(|place| self.0[place].min(other.0[place])))
     }
 
-    /// The parts of a state that are the cells of these addresses.
-    pub fn parts(self) -> Units {
-        let mut parts = Units::NONE;
-        for place in 0..SLOTS {
-            if self.at(place).is_some() {
-                parts = parts.union(Units::of_cell(place));
-            }
-        }
-        parts
+    /// The cells of these addresses, from cells or else from variables. What is known of other addresses is forgotten.
+    pub fn placed_cells(self, cells: Cells, variables: &Variables, set: u64) -> Cells {
+        let each = array::from_fn(|place| match (self.0[place], cells.each[place]) {
+            (NOWHERE, _) => Cell::ANY,
+            (at, cell) if cell.at == at && cell.bytes != ByteSpan::ANY => cell,
+            (at, _) => Cell {
+                at,
+                bytes: variables.bytes_at(set, at),
+            },
+        });
+        Cells { each }
     }
 }
 
-/// The bytes of memory that an instruction reads, or stores, by name or through a known pointer: of each its address, and the parts of a
-/// state to which it goes, or from which it comes.
-type Bytes = [Option<(u16, Units)>; 2];
-
-/// The bytes that an instruction reads, given the word that HL is known to be.
-fn bytes_read(instr: Instr, pointer: Option<u16>) -> Bytes {
-    let (address, parts) = match instr {
-        Instr::Lhld(address) => {
-            let next = address.wrapping_add(1);
-            return [Some((address, Units::L)), Some((next, Units::H))];
-        }
-        Instr::Lda(address) => (Some(address), Units::A.union(Units::TEST)),
-        Instr::Load(to) => (pointer, Units::of(to)),
-        Instr::InrMemory | Instr::DcrMemory => (pointer, Units::ZERO.union(Units::SIGN)),
-        Instr::Operate(_, Operand::Memory) => (pointer, Units::A.union(Units::ALL_FLAGS)),
-        _ => return [None, None],
-    };
-    [address.map(|address| (address, parts)), None]
+/// The bytes of memory that an instruction reads by name or through HL, given the word that HL is known to be.
+pub fn bytes_read(instr: Instr, pointer: Option<u16>) -> [Option<u16>; 2] {
+    match instr {
+        Instr::Lhld(address) => [Some(address), Some(address.wrapping_add(1))],
+        Instr::Lda(address) => [Some(address), None],
+        Instr::Load(_) | Instr::InrMemory | Instr::DcrMemory | Instr::Operate(_, Operand::Memory) =>
+            [pointer, None],
+        _ => [None, None],
+    }
 }
 
-/// The bytes that an instruction stores, given the word that HL is known to be.
-fn bytes_stored(instr: Instr, pointer: Option<u16>) -> Bytes {
-    let (address, parts) = match instr {
-        Instr::Shld(address) => {
-            let next = address.wrapping_add(1);
-            return [Some((address, Units::L)), Some((next, Units::H))];
-        }
-        Instr::Sta(address) => (Some(address), Units::A),
-        Instr::Store(register) => (pointer, Units::of(register)),
-        Instr::MviMemory(_) | Instr::InrMemory | Instr::DcrMemory => (pointer, Units::NONE),
-        _ => return [None, None],
-    };
-    [address.map(|address| (address, parts)), None]
+/// The bytes of memory that an instruction stores by name or through HL, given the word that HL is known to be.
+pub fn bytes_stored(instr: Instr, pointer: Option<u16>) -> [Option<u16>; 2] {
+    match instr.storing() {
+        Storing::Word(address) => [Some(address), Some(address.wrapping_add(1))],
+        Storing::Byte(address) => [Some(address), None],
+        Storing::ThroughHl => [pointer, None],
+        Storing::Nowhere | Storing::Through(_) => [None, None],
+    }
 }
 
-/// By address the place, in turn, of each quiet byte that the program reads by name or through a known pointer; `SLOTS` for others.
+/// By address the place, in turn, of each quiet byte that the program reads by name or through a known pointer; `None` for others.
 ///
 /// # Errors
 /// `AllocError` if memory runs out.
@@ -114,30 +86,38 @@ pub fn find_places(
     alloc: Global,
     program: ReachedProgram<'_>,
     pointers: &[Option<u16>],
-) -> Result<Vec<usize>, AllocError> {
+) -> Result<Vec<Option<usize>>, AllocError> {
     let mut is_read = vec![in alloc; false; 65_536]?;
     for number in 0..65_536_u32 {
         let at = number as u16;
         if let Some(instr) = program.instr(at) {
-            for (address, _) in bytes_read(instr, entry_at(pointers, at))
-                .into_iter()
-                .flatten()
-            {
-                mark(&mut is_read, address);
+            for address in bytes_read(instr, entry_at(pointers, at)).iter().flatten() {
+                mark(&mut is_read, *address);
             }
         }
     }
-    let mut places = vec![in alloc; SLOTS; 65_536]?;
-    let mut next = 0;
-    for number in 0..65_536_u32 {
+    let mut places = vec![in alloc; None; 65_536]?;
+    let mut next = 0_usize;
+    for (number, place) in places.iter_mut().enumerate() {
         if is_marked(&is_read, number as u16) && is_marked(program.quiet, number as u16) {
-            if let Some(place) = places.get_mut(number as usize) {
-                *place = next;
-            }
+            *place = Some(next);
             next = next.wrapping_add(1) % SLOTS;
         }
     }
     Ok(places)
+}
+
+/// The addresses that have a place, each at it.
+pub fn placed(places: &[Option<usize>], addresses: [Option<u16>; 2]) -> Slots {
+    let Slots(mut slots) = Slots::NONE;
+    for address in addresses.iter().flatten() {
+        if let Some(place) = entry_at(places, *address)
+            && let Some(slot) = slots.get_mut(place)
+        {
+            *slot = *address;
+        }
+    }
+    Slots(slots)
 }
 
 /// By address the word that HL is known to be before the instruction there; `None` unless an LXI H stands before it in one piece of code.
@@ -150,12 +130,11 @@ pub fn find_pointers(
 ) -> Result<Vec<Option<u16>>, AllocError> {
     let mut pointers = vec![in alloc; None; 65_536]?;
     for number in 0..65_536_u32 {
-        if let Some(found) = program.at(number as u16) {
-            let after = pointer_after(found, entry_at(&pointers, number as u16));
-            let place = pointers.get_mut(usize::from(found.next));
-            if let (Some(_), Some(place)) = (after, place) {
-                *place = after;
-            }
+        if let Some(found) = program.at(number as u16)
+            && let Some(word) = pointer_after(found, entry_at(&pointers, number as u16))
+            && let Some(place) = pointers.get_mut(usize::from(found.next))
+        {
+            *place = Some(word);
         }
     }
     Ok(pointers)
@@ -173,68 +152,6 @@ fn pointer_after(found: Fetched, before: Option<u16>) -> Option<u16> {
             if !facts.writes.includes(Pair::Hl) => before,
         _ => None,
     }
-}
-
-/// The bytes that an instruction stores, at their places.
-pub fn slots_stored(places: &[usize], instr: Instr, pointer: Option<u16>) -> Slots {
-    let mut slots = Slots::NONE;
-    for (address, _) in bytes_stored(instr, pointer).into_iter().flatten() {
-        slots = with_placed(slots, places, address);
-    }
-    slots
-}
-
-/// The bytes that are to be known before an instruction, given the bytes and the parts of a state that are to be known after it.
-pub fn slots_before(
-    places: &[usize],
-    instr: Instr,
-    pointer: Option<u16>,
-    parts: Units,
-    after: Slots,
-) -> Slots {
-    let mut before = after;
-    // INR M and DCR M store the byte that they read.
-    if !matches!(instr, Instr::InrMemory | Instr::DcrMemory) {
-        for (address, _) in bytes_stored(instr, pointer).into_iter().flatten() {
-            before = before.without(address);
-        }
-    }
-    for (address, to) in bytes_read(instr, pointer).into_iter().flatten() {
-        if parts.intersects(to) {
-            before = with_placed(before, places, address);
-        }
-    }
-    before
-}
-
-/// Slots with an address at its place, if it has one.
-fn with_placed(slots: Slots, places: &[usize], address: u16) -> Slots {
-    let place = places.get(usize::from(address)).copied().unwrap_or(SLOTS);
-    slots.with(place, address)
-}
-
-/// The registers of which an instruction stores a byte that is among the slots after it.
-pub fn parts_stored(instr: Instr, pointer: Option<u16>, after: Slots) -> Units {
-    let mut parts = Units::NONE;
-    for (address, from) in bytes_stored(instr, pointer).into_iter().flatten() {
-        if after.has(address) {
-            parts = parts.union(from);
-        }
-    }
-    parts
-}
-
-/// The cells of the addresses of slots, from cells or else from variables. What is known of other addresses is forgotten.
-pub fn placed_cells(cells: Cells, slots: Slots, variables: &Variables, set: u64) -> Cells {
-    let each = array::from_fn(|place| match (slots.at(place), cells.each[place]) {
-        (None, _) => Cell::ANY,
-        (Some(at), cell) if cell.at == at && cell.bytes != ByteSpan::ANY => cell,
-        (Some(at), _) => Cell {
-            at,
-            bytes: variables.bytes_at(set, at),
-        },
-    });
-    Cells { each }
 }
 
 /// Cells, of which the one of an address may be these bytes too.

@@ -2,8 +2,8 @@
 
 use crate::landmarks::Landmarks;
 use std::alloc::{AllocError, Global};
-use verify80_spans::{ByteSpan, Span};
-use verify80_states::{State, StoredByte, Variable, is_bit};
+use verify80_spans::ByteSpan;
+use verify80_states::{State, Variable, is_bit};
 
 /// How many variables a program has, at most: a state has a bit for each.
 const MOST: usize = 64;
@@ -38,30 +38,24 @@ impl Variables {
         &self.list
     }
 
-    /// The number of the variable at an address, if there is one.
-    fn number_at(&self, at: u16) -> Option<usize> {
-        self.list.iter().position(|variable| variable.at == at)
-    }
-
     /// The bytes that may be at an address: those of the variable there, if its bit is set, otherwise any.
     pub fn bytes_at(&self, set: u64, at: u16) -> ByteSpan {
-        match self.number_at(at) {
-            Some(number) if is_bit(set, number) => match self.list.get(number) {
-                Some(variable) => variable.bytes,
-                None => ByteSpan::ANY,
-            },
+        match self.list.iter().position(|variable| variable.at == at) {
+            Some(number) if is_bit(set, number) => {
+                self.list
+                    .get(number)
+                    .map_or(ByteSpan::ANY, |variable| variable.bytes)
+            }
             _ => ByteSpan::ANY,
         }
     }
 
     /// A bit for each variable that has one of its bytes in a state: by the state's bits, or by its cells.
     pub fn set_in(&self, state: State) -> u64 {
-        let mut set = 0_u64;
+        let mut set = state.set;
         let mut bit = 1_u64;
-        for (number, variable) in self.list.iter().enumerate() {
-            let has_grown = self.growths.get(number).is_some_and(|growths| *growths > 0);
-            let bytes = state.cells.bytes_at(variable.at);
-            if is_bit(state.set, number) || has_grown && bytes.is_inside(variable.bytes) {
+        for (variable, growths) in self.list.iter().zip(self.growths.iter()) {
+            if *growths > 0 && state.cells.bytes_at(variable.at).is_inside(variable.bytes) {
                 set = set | bit;
             }
             bit = bit.wrapping_mul(2);
@@ -71,7 +65,7 @@ impl Variables {
 
     /// Notes that one of these bytes is stored at an address, and says whether the span of a variable has grown by that.
     pub fn grow(&mut self, landmarks: &Landmarks, at: u16, bytes: ByteSpan) -> bool {
-        let Some(number) = self.number_at(at) else {
+        let Some(number) = self.list.iter().position(|variable| variable.at == at) else {
             return false;
         };
         match (self.list.get_mut(number), self.growths.get_mut(number)) {
@@ -87,23 +81,5 @@ impl Variables {
                 }
             _ => false,
         }
-    }
-
-    /// Takes the marks of the variables that aren't steady: a byte that is stored, if one is, may be where they are, and outside their
-    /// span. Says whether there is one.
-    pub fn unmark_unsteady(&self, is_steady: &mut [bool], stored: Option<StoredByte>) -> bool {
-        let Some(StoredByte { at, bytes }) = stored else {
-            return false;
-        };
-        let mut is_changed = false;
-        for variable in &self.list {
-            if Span::alone(variable.at).is_inside(at) && !bytes.is_inside(variable.bytes) {
-                if let Some(mark) = is_steady.get_mut(usize::from(variable.at)) {
-                    *mark = false;
-                    is_changed = true;
-                }
-            }
-        }
-        is_changed
     }
 }

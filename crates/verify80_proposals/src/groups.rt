@@ -2,19 +2,19 @@
 //!
 //! Instructions that may follow one another without a call or a return are a group: a procedure, or several that share a piece of code.
 
-use decode80::{Flow, Instr};
+use decode80::Flow;
 use std::alloc::{AllocError, Global};
 use verify80::ProcRow;
 use verify80_needs::{ReachedProgram, mark};
 use verify80_states::{CallReturns, Placed, is_marked};
 
-/// How often the calls are gone through, at most.
+/// How often the program is gone through, at most, before all of it is one group.
 const SWEEPS: usize = 64;
 
 /// The groups of a program's instructions.
 #[derive(Drop)]
 pub struct Groups {
-    /// By address the number of its group, which is an address of that group: 65,536 places.
+    /// By address the number of its group, which is its lowest address: 65,536 places.
     pub(crate) numbers: Vec<u16>,
     /// By number whether a group may return.
     returns: Vec<bool>,
@@ -32,35 +32,75 @@ impl Groups {
         program: ReachedProgram<'_>,
         rows: &[ProcRow],
     ) -> Result<Groups, AllocError> {
-        let mut joined = Joined::new(alloc)?;
-        joined.join_all(alloc, program, rows)?;
         let mut groups = Groups {
+            numbers: (0..65_536_u32).map(|number| number as u16).collect(alloc)?,
             returns: vec![in alloc; false; 65_536]?,
             calls: Vec::new(alloc),
-            numbers: joined.into_numbers(alloc)?,
         };
+        let mut is_changed = true;
+        for _ in 0..SWEEPS {
+            is_changed = is_changed && groups.sweep(program, rows);
+        }
+        if is_changed {
+            groups.numbers.fill(0);
+            groups.returns.fill(true);
+        }
         for number in 0..65_536_u32 {
-            groups.note(program, number as u16)?;
+            if let Some(found) = program.at(number as u16)
+                && let Flow::Calls(entry) | Flow::CallsIf(_, entry) = found.instr.flow()
+            {
+                let callee = groups.number(entry);
+                groups.calls.push((callee, found.next))?;
+            }
         }
         groups.calls.sort_unstable();
         Ok(groups)
     }
 
-    /// Notes the return or the call at an address.
-    fn note(&mut self, program: ReachedProgram<'_>, at: u16) -> Result<(), AllocError> {
-        let Some(found) = program.at(at) else {
-            return Ok(());
-        };
-        let group = self.number(at);
-        match found.instr.flow() {
-            Flow::Returns | Flow::ReturnsIf(_) => mark(&mut self.returns, group),
-            Flow::Calls(entry) | Flow::CallsIf(_, entry) => {
-                let callee = self.number(entry);
-                self.calls.push((callee, found.next))?;
+    /// Joins each instruction with those that may come after it before a return, and none of a callee, and says whether something changed.
+    /// Where procedures share code, one that doesn't return may be in a group that does.
+    fn sweep(&mut self, program: ReachedProgram<'_>, rows: &[ProcRow]) -> bool {
+        for row in rows {
+            if row.returns {
+                let group = self.number(row.entry);
+                mark(&mut self.returns, group);
             }
-            _ => {}
         }
-        Ok(())
+        let mut is_changed = false;
+        for number in 0..65_536_u32 {
+            let at = number as u16;
+            let Some(found) = program.at(at) else {
+                continue;
+            };
+            let (direct, targets) = program.ways_inside(at, found);
+            for to in direct.iter().flatten().chain(targets) {
+                is_changed |= self.join(at, *to);
+            }
+            let group = self.number(at);
+            match found.instr.flow() {
+                Flow::Returns | Flow::ReturnsIf(_) => {
+                    is_changed |= !is_marked(&self.returns, group);
+                    mark(&mut self.returns, group);
+                }
+                Flow::Calls(entry) if is_marked(&self.returns, self.number(entry)) => {
+                    is_changed |= self.join(at, found.next);
+                }
+                _ => {}
+            }
+        }
+        is_changed
+    }
+
+    /// Gives two addresses, and those that their numbers are, the lowest number of theirs, and says whether the two had different ones.
+    fn join(&mut self, one: u16, other: u16) -> bool {
+        let (first, second) = (self.number(one), self.number(other));
+        let lowest = self.number(first).min(self.number(second));
+        for at in [one, other, first, second] {
+            if let Some(number) = self.numbers.get_mut(usize::from(at)) {
+                *number = lowest;
+            }
+        }
+        first != second
     }
 
     /// The number of the group at an address.
@@ -128,139 +168,5 @@ impl Groups {
             .iter()
             .map(|group| is_marked(marks, *group))
             .collect(alloc)
-    }
-}
-
-/// Addresses, some of which are joined.
-#[derive(Drop)]
-struct Joined {
-    /// By address another one that it is joined with; the same one, if it stands for its group.
-    others: Vec<u16>,
-}
-
-impl Joined {
-    /// All addresses, none of them joined with another.
-    fn new(alloc: Global) -> Result<Joined, AllocError> {
-        Ok(Joined {
-            others: (0..65_536_u32).map(|number| number as u16).collect(alloc)?,
-        })
-    }
-
-    /// An address that this one is joined with; the same one, if it stands for its group.
-    fn other(&self, at: u16) -> u16 {
-        self.others.get(usize::from(at)).copied().unwrap_or(at)
-    }
-
-    /// Sets the address that another one is joined with.
-    fn set_other(&mut self, at: u16, other: u16) {
-        if let Some(place) = self.others.get_mut(usize::from(at)) {
-            *place = other;
-        }
-    }
-
-    /// The address that stands for the group of an address.
-    fn find(&mut self, at: u16) -> u16 {
-        let mut here = at;
-        for _ in 0..65_536_u32 {
-            let other = self.other(here);
-            if other == here {
-                break;
-            }
-            let further = self.other(other);
-            self.set_other(here, further);
-            here = further;
-        }
-        here
-    }
-
-    /// Joins the groups of two addresses, and says whether they were apart.
-    fn join(&mut self, one: u16, other: u16) -> bool {
-        let one = self.find(one);
-        let other = self.find(other);
-        self.set_other(one, other);
-        one != other
-    }
-
-    /// Joins each instruction with those that may come after it before a return, and none of a callee.
-    fn join_all(
-        &mut self,
-        alloc: Global,
-        program: ReachedProgram<'_>,
-        rows: &[ProcRow],
-    ) -> Result<(), AllocError> {
-        for number in 0..65_536_u32 {
-            self.join_ways(program, number as u16);
-        }
-        for _ in 0..SWEEPS {
-            let returns = self.find_returning(alloc, program, rows)?;
-            if !self.join_behind(program, &returns) {
-                return Ok(());
-            }
-        }
-        for number in 0..65_536_u32 {
-            self.join(number as u16, program.start);
-        }
-        Ok(())
-    }
-
-    /// Joins an instruction with those to which it leads inside its procedure.
-    fn join_ways(&mut self, program: ReachedProgram<'_>, at: u16) {
-        if let Some(found) = program.at(at) {
-            let (direct, targets) = program.ways_inside(at, found);
-            for to in direct.iter().flatten() {
-                self.join(at, *to);
-            }
-            for to in targets {
-                self.join(at, *to);
-            }
-        }
-    }
-
-    /// Marks for the addresses that stand for groups that return. Where procedures share code, one that doesn't return may be in a group
-    /// that does.
-    fn find_returning(
-        &mut self,
-        alloc: Global,
-        program: ReachedProgram<'_>,
-        rows: &[ProcRow],
-    ) -> Result<Vec<bool>, AllocError> {
-        let mut returns = vec![in alloc; false; 65_536]?;
-        for row in rows {
-            if row.returns {
-                mark(&mut returns, self.find(row.entry));
-            }
-        }
-        for number in 0..65_536_u32 {
-            let at = number as u16;
-            if let Some(Flow::Returns | Flow::ReturnsIf(_)) = program.instr(at).map(Instr::flow) {
-                mark(&mut returns, self.find(at));
-            }
-        }
-        Ok(returns)
-    }
-
-    /// Joins each call with what comes behind it, if its callee is in a marked group, and says whether some were apart.
-    fn join_behind(&mut self, program: ReachedProgram<'_>, returns: &[bool]) -> bool {
-        let mut is_changed = false;
-        for number in 0..65_536_u32 {
-            if let Some(found) = program.at(number as u16) {
-                if let Flow::Calls(entry) = found.instr.flow() {
-                    let callee = self.find(entry);
-                    if is_marked(returns, callee) {
-                        is_changed |= self.join(number as u16, found.next);
-                    }
-                }
-            }
-        }
-        is_changed
-    }
-
-    /// By address the address that stands for its group.
-    fn into_numbers(mut self, alloc: Global) -> Result<Vec<u16>, AllocError> {
-        let mut numbers = Vec::with_capacity(alloc, 65_536)?;
-        for number in 0..65_536_u32 {
-            numbers.push(self.find(number as u16))?;
-        }
-        Ok(numbers)
     }
 }

@@ -2,9 +2,9 @@
 //!
 //! Proved: nothing rests on it.
 //!
-//! States are followed from the start, several at an address: a loop with constant bounds is walked through. A state keeps only what is
-//! needed (`verify80_needs`). Where an address has too many, they are no longer distinguished by those registers that distinguish the most
-//! of them: such states are joined, and joined spans grow to landmarks before they grow to any word.
+//! States are followed from the start, several at an address: a loop with constant bounds is walked through. Of memory a state names only
+//! bytes that may be read later (`verify80_needs`). Where an address has too many states, they are no longer distinguished by those
+//! registers that distinguish the most of them: such states are joined, and joined spans grow to landmarks before they grow to any word.
 //!
 //! | Item | What it is |
 //! |---|---|
@@ -15,13 +15,11 @@
 //! | [`Groups`] | which of its procedures return |
 #![tactic(auto)]
 
-mod compacting;
 mod groups;
 mod joining;
 mod nodes;
 mod proposals;
 mod proposing;
-mod storing;
 
 pub use groups::Groups;
 pub use proposals::{crowded_states, propose_table};

@@ -6,15 +6,13 @@ use std::alloc::{AllocError, Global};
 use verify80_needs::ReachedProgram;
 
 /// How many states an address has, at most: a loop of 4,096 turns is walked through.
-const MOST_STATES: u32 = 4352;
+const MOST_STATES: usize = 4352;
 /// How many states an address has, at most, in one trial after the other.
-const STATES: [u32; 4] = [MOST_STATES, 256, 32, 8];
+const STATES: [usize; 2] = [MOST_STATES, 32];
 /// How often it is tried which procedures know where they return to.
 const TRIALS: usize = 3;
-/// How many ways are followed on trial, each as often as its state grows.
+/// How many ways are followed for a number of states if calls are distinguished, each as often as its state grows.
 const TRIAL_WAYS: usize = 120_000;
-/// How many ways are followed in all trials of a table.
-const TRIALS_WAYS: usize = 480_000;
 /// How many ways are followed if calls aren't distinguished, before the search hurries.
 const WAYS: usize = 400_000;
 /// How many ways are followed then, at most.
@@ -65,49 +63,33 @@ pub fn crowded_states(
 }
 
 /// A table in which calls are distinguished, with as many states at an address as can be followed; `None` if no calls can be.
+///
+/// At first each procedure is to know where it returns to, so that what its callers know is distinguished. If states were joined, or words
+/// are too deep on the stack, some don't: nothing is known behind their calls.
 fn propose_distinguished(
     alloc: Global,
     program: ReachedProgram<'_>,
     groups: &Groups,
     keeps_variables: bool,
 ) -> Result<Option<Proposal>, AllocError> {
-    let mut left = TRIALS_WAYS;
-    for states in &STATES {
-        let limits = Limits {
-            states: *states,
+    for states in STATES {
+        let mut limits = Limits {
+            states,
             ways: TRIAL_WAYS,
             late_ways: 0,
             keeps_variables,
         };
-        let found = try_distinguished(alloc, program, groups, limits, &mut left)?;
-        if found.is_some() {
-            return Ok(found);
-        }
-    }
-    Ok(None)
-}
-
-/// A table in which calls are distinguished, within these limits; `None` if no calls can be.
-///
-/// At first each procedure is to know where it returns to, so that what its callers know is distinguished. If states were joined, or words
-/// are too deep on the stack, some don't: nothing is known behind their calls.
-fn try_distinguished(
-    alloc: Global,
-    program: ReachedProgram<'_>,
-    groups: &Groups,
-    limits: Limits,
-    left: &mut usize,
-) -> Result<Option<Proposal>, AllocError> {
-    let mut knows = groups.marks_of_called(alloc)?;
-    for _ in 0..TRIALS {
-        if !knows.contains(&true) {
-            break;
-        }
-        let Some(proposal) = propose(alloc, program, groups, &knows, limits, left)? else {
-            break;
-        };
-        if !groups.take_marks(program, &proposal.table, &mut knows) {
-            return Ok(Some(proposal));
+        let mut knows = groups.marks_of_called(alloc)?;
+        for _ in 0..TRIALS {
+            if !knows.contains(&true) {
+                break;
+            }
+            let Some(proposal) = propose(alloc, program, groups, &knows, &mut limits)? else {
+                break;
+            };
+            if !groups.take_marks(program, &proposal.table, &mut knows) {
+                return Ok(Some(proposal));
+            }
         }
     }
     Ok(None)
@@ -120,12 +102,11 @@ fn propose_joined(
     groups: &Groups,
     keeps_variables: bool,
 ) -> Result<Option<Proposal>, AllocError> {
-    let limits = Limits {
+    let mut limits = Limits {
         states: MOST_STATES,
         ways: WAYS,
         late_ways: LATE_WAYS,
         keeps_variables,
     };
-    let mut left = WAYS.saturating_add(LATE_WAYS);
-    propose(alloc, program, groups, &[], limits, &mut left)
+    propose(alloc, program, groups, &[], &mut limits)
 }

@@ -1,11 +1,10 @@
 //! A table of states is proposed.
 
-use crate::compacting::compact;
 use crate::groups::Groups;
 use crate::nodes::{NOWHERE, Nodes, place_of};
 use decode80::{Instr, Operand, Operation};
 use std::alloc::{AllocError, Global};
-use verify80_needs::{Landmarks, Needs, ReachedProgram, Variables};
+use verify80_needs::{Landmarks, Needs, ReachedProgram};
 use verify80_spans::ByteSpan;
 use verify80_states::{APART, CallReturns, Placed, State, Variable, stored_bytes};
 
@@ -24,24 +23,21 @@ pub struct Proposal {
 /// How many bytes of A are distinguished, at most.
 const MOST_APART: usize = 16;
 
-/// How often the search begins anew without variables that aren't steady.
-const ROUNDS: usize = 6;
-
 /// What a search may cost.
 #[derive(Clone, Copy)]
 pub(crate) struct Limits {
     /// How many states an address has, at most.
-    pub states: u32,
-    /// How many ways are followed from states, each as often as the state grows.
+    pub states: usize,
+    /// How many ways may still be followed from states, each as often as the state grows.
     pub ways: usize,
-    /// How many ways are followed after that, when each address has one state.
+    /// How many ways may be followed after that, when each address has one state.
     pub late_ways: usize,
     /// Whether bytes of memory are variables.
     pub keeps_variables: bool,
 }
 
-/// What is known at each address that the program may reach, if the marked groups know where they return to. `None` if too many ways would
-/// have to be followed: more than the limits say, or than are left, which become fewer.
+/// What is known at each address that the program may reach, if the marked groups know where they return to. `None` if more ways would have
+/// to be followed than the limits say, which become narrower.
 ///
 /// At the start nothing is, and behind a call nothing, unless the callee's states know where they return to.
 ///
@@ -52,122 +48,124 @@ pub(crate) fn propose(
     program: ReachedProgram<'_>,
     groups: &Groups,
     knows: &[bool],
-    limits: Limits,
-    left: &mut usize,
+    limits: &mut Limits,
 ) -> Result<Option<Proposal>, AllocError> {
     let returns = groups.returns(alloc, knows)?;
-    let mut is_steady = Vec::from_slice(alloc, program.quiet)?;
-    for _ in 0..ROUNDS {
-        let grouped = ReachedProgram {
-            may_return: &returns.may_return,
-            know_return: &returns.know_return,
-            groups: &groups.numbers,
-            quiet: &is_steady,
-            ..program
-        };
-        let Some(nodes) = follow_from_start(alloc, grouped, limits, left)? else {
-            return Ok(None);
-        };
-        if !nodes.unmark_unsteady(program, &mut is_steady) {
-            return Ok(Some(compact(alloc, &nodes, program, returns)?));
-        }
-    }
-    Ok(None)
-}
-
-/// The states of a program whose variables are all steady, first the one at the start; `None` if there are too many ways.
-fn follow_from_start(
-    alloc: Global,
-    program: ReachedProgram<'_>,
-    limits: Limits,
-    left: &mut usize,
-) -> Result<Option<Nodes>, AllocError> {
-    let needs = Needs::of(alloc, program, limits.keeps_variables)?;
-    let landmarks = Landmarks::new(alloc, program)?;
-    let addresses = if limits.keeps_variables {
-        needs.addresses(alloc)?
-    } else {
-        Vec::new(alloc)
+    let grouped = ReachedProgram {
+        may_return: &returns.may_return,
+        know_return: &returns.know_return,
+        groups: &groups.numbers,
+        ..program
     };
-    let variables = Variables::new(alloc, &addresses)?;
-    let mut nodes = Nodes::new(alloc, needs, landmarks, variables, limits.states)?;
+    let needs = Needs::of(alloc, grouped, limits.keeps_variables)?;
+    let mut nodes = Nodes::new(alloc, needs, Landmarks::new(alloc, program)?, limits.states)?;
     nodes.enter(alloc, program.start, State::ANY)?;
-    if !follow_all(alloc, &mut nodes, program, limits.ways, left)? {
+    if !nodes.follow_all(alloc, grouped, &mut limits.ways)? {
         nodes.is_late = true;
-        if !follow_all(alloc, &mut nodes, program, limits.late_ways, left)? {
+        if !nodes.follow_all(alloc, grouped, &mut limits.late_ways)? {
             return Ok(None);
         }
     }
-    Ok(Some(nodes))
+    Ok(Some(nodes.into_proposal(alloc, returns)?))
 }
 
-/// Follows states until none waits, but no more ways than these, and says whether none waits.
-fn follow_all(
-    alloc: Global,
-    nodes: &mut Nodes,
-    program: ReachedProgram<'_>,
-    most: usize,
-    left: &mut usize,
-) -> Result<bool, AllocError> {
-    let mut waiting = most.min(*left);
-    *left = left.saturating_sub(waiting);
-    for _ in 0..most {
-        let Some(place) = nodes.take_waiting() else {
-            *left = left.saturating_add(waiting);
-            return Ok(true);
-        };
-        let ways = follow(alloc, nodes, program, place)?;
-        if ways > waiting {
-            return Ok(false);
-        }
-        waiting = waiting.saturating_sub(ways);
-    }
-    Ok(false)
-}
-
-/// Enters what each way makes of a state, notes where, and answers how many ways there are. Of a state that was taken in none is followed.
-fn follow(
-    alloc: Global,
-    nodes: &mut Nodes,
-    program: ReachedProgram<'_>,
-    place: u32,
-) -> Result<usize, AllocError> {
-    let Some(node) = nodes.get(place).copied() else {
-        return Ok(0);
-    };
-    let found = match program.at(node.at) {
-        Some(found) if node.taken_by == place => found,
-        _ => return Ok(0),
-    };
-    let ways = program.count_ways(node.at, found.instr);
-    let first = if node.hint == NOWHERE {
-        let first = nodes.hints.len();
-        nodes.hints.resize(first.saturating_add(ways), NOWHERE)?;
-        if let Some(node) = nodes.nodes.get_mut(place as usize) {
-            node.hint = place_of(first);
-        }
-        first
-    } else {
-        node.hint as usize
-    };
-    let stored = stored_bytes(program.code, found.instr, node.state);
-    nodes.note_stored(stored.0)?;
-    nodes.note_stored(stored.1)?;
-    let mut followed = ways;
-    for number in 0..ways {
-        let to = match program.way(node.at, found, node.state, number) {
-            Some((to, after)) if distinguishes(found.instr, node.state, after) => {
-                followed = followed.saturating_add(MOST_APART);
-                enter_apart(alloc, nodes, to, after)?
+impl Nodes {
+    /// Follows states until none waits, but no more ways than are left, and says whether none waits.
+    fn follow_all(
+        &mut self,
+        alloc: Global,
+        program: ReachedProgram<'_>,
+        left: &mut usize,
+    ) -> Result<bool, AllocError> {
+        for _ in 0..*left {
+            let Some(place) = self.take_waiting() else {
+                return Ok(true);
+            };
+            let ways = self.follow(alloc, program, place)?;
+            *left = left.saturating_sub(ways);
+            if *left == 0 {
+                break;
             }
-            Some((to, after)) => nodes.enter(alloc, to, after)?,
-            None => NOWHERE,
-        };
-        if let Some(hint) = nodes.hints.get_mut(first.saturating_add(number)) {
-            *hint = to;
         }
+        Ok(false)
     }
-    Ok(followed)
+
+    /// Enters what each way makes of a state, notes where, and answers how many ways there are. Of a state that was taken in none is
+    /// followed.
+    fn follow(
+        &mut self,
+        alloc: Global,
+        program: ReachedProgram<'_>,
+        place: u32,
+    ) -> Result<usize, AllocError> {
+        let Some(node) = self.nodes.get_mut(place as usize) else {
+            return Ok(0);
+        };
+        let Placed { at, state, hint } = node.placed;
+        let found = match program.at(at) {
+            Some(found) if node.taken_by == place => found,
+            _ => return Ok(0),
+        };
+        let mut followed = program.count_ways(at, found.instr);
+        let mut first = hint as usize;
+        if hint == NOWHERE {
+            first = self.hints.len();
+            node.placed.hint = place_of(first);
+            self.hints.resize(first.saturating_add(followed), NOWHERE)?;
+        }
+        let (one, other) = stored_bytes(program.code, found.instr, state);
+        for stored in [one, other].into_iter().flatten() {
+            self.note_stored(stored)?;
+        }
+        for number in 0..followed {
+            let to = match program.way(at, found, state, number) {
+                Some((to, after)) if distinguishes(found.instr, state, after) => {
+                    followed = followed.saturating_add(MOST_APART);
+                    self.enter_apart(alloc, to, after)?
+                }
+                Some((to, after)) => self.enter(alloc, to, after)?,
+                None => NOWHERE,
+            };
+            if let Some(hint) = self.hints.get_mut(first.saturating_add(number)) {
+                *hint = to;
+            }
+        }
+        Ok(followed)
+    }
+
+    /// Enters a state for each byte of A. The hint says where among the hints their places begin.
+    fn enter_apart(&mut self, alloc: Global, to: u16, state: State) -> Result<u32, AllocError> {
+        let first = self.hints.len();
+        for byte in state.a.first..=state.a.last {
+            let place = self.enter(alloc, to, state.cut(ByteSpan::alone(byte)))?;
+            self.hints.push(place)?;
+        }
+        Ok(APART.saturating_add(place_of(first)))
+    }
+
+    /// The states as a table, in which one that was taken in stands as the one that has it.
+    fn into_proposal(self, alloc: Global, returns: CallReturns) -> Result<Proposal, AllocError> {
+        let crowded = if self.is_late {
+            None
+        } else {
+            let joined = self.groups.iter().map(|group| group.joined != self.never);
+            Some(joined.collect(alloc)?)
+        };
+        let mut table: Vec<Placed> = self.nodes.iter().map(|node| node.placed).collect(alloc)?;
+        for (place, node) in self.nodes.iter().enumerate().rev() {
+            let holder = table.get(node.taken_by as usize).copied();
+            if let (Some(placed), Some(holder)) = (table.get_mut(place), holder) {
+                *placed = holder;
+            }
+        }
+        Ok(Proposal {
+            table,
+            variables: Vec::from_slice(alloc, self.variables.list())?,
+            hints: self.hints,
+            returns,
+            crowded,
+        })
+    }
 }
 
 /// Whether the bytes of A are distinguished on a way: few are left by ANI, or by a jump behind a comparison.
@@ -179,17 +177,4 @@ fn distinguishes(instr: Instr, before: State, after: State) -> bool {
         _ => false,
     };
     asks && count > 0 && count < MOST_APART
-}
-
-/// Enters a state for each byte of A. The hint says where among the hints their number stands, and behind it their places.
-fn enter_apart(alloc: Global, nodes: &mut Nodes, to: u16, state: State) -> Result<u32, AllocError> {
-    let first = nodes.hints.len();
-    nodes
-        .hints
-        .push(u32::from(state.a.last.saturating_sub(state.a.first)) + 1)?;
-    for number in u32::from(state.a.first)..u32::from(state.a.last) + 1 {
-        let place = nodes.enter(alloc, to, state.cut(ByteSpan::alone(number as u8)))?;
-        nodes.hints.push(place)?;
-    }
-    Ok(APART.saturating_add(place_of(first)))
 }
