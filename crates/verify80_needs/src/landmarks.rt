@@ -42,7 +42,8 @@ impl Landmarks {
         Ok(Landmarks { words, bytes })
     }
 
-    /// A state with all that two states may be. The ends of its spans go on to landmarks if it has grown this often.
+    /// A state with all that two states may be, whose cells have the same addresses. The ends of its spans go on to landmarks if it has grown
+    /// this often.
     pub fn grown(&self, old: State, new: State, growths: u32) -> State {
         State {
             a: self.grown_bytes(old.a, new.a, growths),
@@ -67,8 +68,13 @@ impl Landmarks {
                 fourth: self.grown_word(old.words.fourth, new.words.fourth, growths),
             },
             cells: Cells {
-                each: array::from_fn(|place| {
-                    self.grown_cell(old.cells.each[place], new.cells.each[place], growths)
+                each: array::from_fn(|place| Cell {
+                    bytes: self.grown_bytes(
+                        old.cells.each[place].bytes,
+                        new.cells.each[place].bytes,
+                        growths,
+                    ),
+                    ..old.cells.each[place]
                 }),
             },
         }
@@ -80,18 +86,6 @@ impl Landmarks {
         ByteSpan {
             first: words.first.min(255) as u8,
             last: words.last.min(255) as u8,
-        }
-    }
-
-    /// The bytes of two cells at one place; nothing if their addresses differ.
-    fn grown_cell(&self, old: Cell, new: Cell, growths: u32) -> Cell {
-        if old.at == new.at {
-            Cell {
-                at: old.at,
-                bytes: self.grown_bytes(old.bytes, new.bytes, growths),
-            }
-        } else {
-            Cell::ANY
         }
     }
 

@@ -13,7 +13,6 @@
 #![tactic(auto)]
 
 mod landmarks;
-mod marks;
 mod needs;
 mod program;
 mod slots;
@@ -21,9 +20,8 @@ mod units;
 mod variables;
 
 pub use landmarks::Landmarks;
-pub use marks::mark;
 pub use needs::Needs;
-pub use program::ReachedProgram;
+pub use program::{ReachedProgram, mark};
 pub use slots::widened_cells;
 pub use units::{PARTS, Units, sum_of};
 pub use variables::Variables;

@@ -105,10 +105,8 @@ impl<'a> ReachedProgram<'a> {
                 let left = given(condition, true, state)?;
                 (self.return_address(at, left)?, true, left)
             }
-            Flow::Calls(entry) if number > 0 => {
-                return self.way_behind_call(entry, next, state.set);
-            }
-            Flow::CallsIf(_, entry) if number > 1 => {
+            Flow::Calls(entry) | Flow::CallsIf(_, entry)
+                if number.saturating_add(1) >= self.count_ways(at, instr) => {
                 return self.way_behind_call(entry, next, state.set);
             }
             Flow::JumpsIf(condition, to) | Flow::CallsIf(condition, to) if number == 0 => {
@@ -139,21 +137,14 @@ impl<'a> ReachedProgram<'a> {
     /// The way behind a call, with nothing but the variables known there; `None` unless the callee may return and its states don't know
     /// where to.
     fn way_behind_call(self, entry: u16, next: u16, set: u64) -> Option<(u16, State)> {
-        if is_marked(self.may_return, entry) && !self.must_know_return(entry) {
-            Some((next, State { set, ..State::ANY }))
-        } else {
-            None
-        }
+        let is_unknown = is_marked(self.may_return, entry) && !self.must_know_return(entry);
+        is_unknown.then_some((next, State { set, ..State::ANY }))
     }
 
     /// Where the return at an address goes; `None` unless the states there are to know that, and this one does.
     fn return_address(self, at: u16, state: State) -> Option<u16> {
         let PairSpan { words, .. } = state.words.first?;
-        if self.must_know_return(at) && words.is_alone() {
-            Some(words.first)
-        } else {
-            None
-        }
+        (self.must_know_return(at) && words.is_alone()).then_some(words.first)
     }
 
     /// Whether a state knows where a return goes; so does each that doesn't return.
@@ -164,5 +155,12 @@ impl<'a> ReachedProgram<'a> {
             _ => None,
         };
         left.is_none_or(|left| left.words.first.is_some_and(|word| word.words.is_alone()))
+    }
+}
+
+/// Marks an address.
+pub fn mark(marks: &mut [bool], at: u16) {
+    if let Some(place) = marks.get_mut(usize::from(at)) {
+        *place = true;
     }
 }

@@ -1,7 +1,6 @@
 //! The bytes of memory that a state may know, at each address: each has a place among eight, in all states the same.
 
-use crate::marks::mark;
-use crate::program::ReachedProgram;
+use crate::program::{ReachedProgram, mark};
 use crate::variables::Variables;
 use decode80::{Fetched, Flow, Instr, Operand, Pair, Storing};
 use std::alloc::{AllocError, Global};
@@ -154,18 +153,12 @@ fn pointer_after(found: Fetched, before: Option<u16>) -> Option<u16> {
     }
 }
 
-/// Cells, of which the one of an address may be these bytes too.
+/// Cells, of which the one of an address is any of these bytes.
 pub fn widened_cells(cells: Cells, address: u16, bytes: ByteSpan) -> Cells {
-    let each = cells.each.map(|cell| if cell.at == address {
-        Cell {
-            at: address,
-            bytes: ByteSpan {
-                first: cell.bytes.first.min(bytes.first),
-                last: cell.bytes.last.max(bytes.last),
-            },
-        }
-    } else {
-        cell
-    });
-    Cells { each }
+    Cells {
+        each: cells.each.map(|Cell { at, bytes: before }| Cell {
+            at,
+            bytes: if at == address { bytes } else { before },
+        }),
+    }
 }

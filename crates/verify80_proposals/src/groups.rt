@@ -138,14 +138,13 @@ impl Groups {
     ) -> bool {
         let mut is_changed = false;
         for placed in table {
-            if let (Some(instr), Some(mark)) = (
-                program.instr(placed.at),
-                marks.get_mut(usize::from(self.number(placed.at))),
-            ) {
-                if *mark && !program.knows_return(instr, placed.state) {
-                    *mark = false;
-                    is_changed = true;
-                }
+            if let Some(instr) = program.instr(placed.at)
+                && let Some(mark) = marks.get_mut(usize::from(self.number(placed.at)))
+                && *mark
+                && !program.knows_return(instr, placed.state)
+            {
+                *mark = false;
+                is_changed = true;
             }
         }
         is_changed

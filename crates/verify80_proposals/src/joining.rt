@@ -12,8 +12,8 @@ impl Nodes {
         let Some(group) = self.groups.get_mut(usize::from(at)) else {
             return Ok(());
         };
-        let places = mem::replace(&mut group.places, Vec::new(alloc));
         let before = group.joined;
+        let places = mem::replace(&mut group.places, Vec::new(alloc));
         let joined = self.parts_to_join(alloc, before, &places)?;
         if let Some(group) = self.groups.get_mut(usize::from(at)) {
             group.joined = joined;

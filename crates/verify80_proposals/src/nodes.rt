@@ -10,12 +10,8 @@ use verify80_states::{Placed, State, StoredByte};
 pub(crate) const NOWHERE: u32 = u32::MAX;
 /// How many states an address has, at most, once some of them are no longer distinguished.
 const JOINED: usize = 256;
-/// How many states there are in all before each address has fewer.
-const MANY: usize = 200_000;
-/// How many states an address has then, at most.
-const FEWER: usize = 16;
 /// How many states there are in all before each address has one.
-const TOO_MANY: usize = 300_000;
+const MANY: usize = 200_000;
 
 /// A number as a place of a list of states.
 pub(crate) fn place_of(number: usize) -> u32 {
@@ -53,7 +49,7 @@ pub(crate) struct Nodes {
     pub(crate) groups: Vec<Group>,
     /// The place of each state that none has taken in, by the sum of its address and of the parts that distinguish states there.
     by_sum: HashMap<u64, u32>,
-    waiting: Vec<u32>,
+    pub(crate) waiting: Vec<u32>,
     needs: Needs,
     pub(crate) landmarks: Landmarks,
     pub(crate) variables: Variables,
@@ -102,16 +98,6 @@ impl Nodes {
             is_late: false,
             most,
         })
-    }
-
-    /// Takes out the state that was noted last of those from which others have still to be followed, and returns its place; `None` if
-    /// there is none.
-    pub fn take_waiting(&mut self) -> Option<u32> {
-        let place = self.waiting.pop()?;
-        if let Some(node) = self.nodes.get_mut(place as usize) {
-            node.is_waiting = false;
-        }
-        Some(place)
     }
 
     /// Notes that others have to be followed from a state.
@@ -205,8 +191,7 @@ impl Nodes {
     /// How many states an address has now, at most; `is_joined` says whether some of them are no longer distinguished.
     pub fn most(&self, is_joined: bool) -> usize {
         match self.nodes.len() {
-            count if self.is_late || count >= TOO_MANY => 1,
-            count if count >= MANY => FEWER,
+            count if self.is_late || count >= MANY => 1,
             _ if is_joined => JOINED.min(self.most),
             _ => self.most,
         }

@@ -78,7 +78,7 @@ impl Nodes {
         left: &mut usize,
     ) -> Result<bool, AllocError> {
         for _ in 0..*left {
-            let Some(place) = self.take_waiting() else {
+            let Some(place) = self.waiting.pop() else {
                 return Ok(true);
             };
             let ways = self.follow(alloc, program, place)?;
@@ -101,6 +101,7 @@ impl Nodes {
         let Some(node) = self.nodes.get_mut(place as usize) else {
             return Ok(0);
         };
+        node.is_waiting = false;
         let Placed { at, state, hint } = node.placed;
         let found = match program.at(at) {
             Some(found) if node.taken_by == place => found,
