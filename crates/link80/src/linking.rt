@@ -85,33 +85,24 @@ fn start_of(tables: &SymbolTables, main: Option<usize>) -> Option<(u8, u16)>
     ))
 }
 
-/// The [`Parts`] of the linked module but for its publics, which are empty. `main` must be the
+/// Sets the segments, the commons, the externals, the contents and the start of `parts` to those of the linked module. `main` must be the
 /// index of the only main program, or `None` if there is none. `Err` only if memory runs out.
-fn parts_without_publics(
+fn set_parts(
     alloc: Global,
-    name: &Name,
+    parts: &mut Parts,
     tables: &SymbolTables,
     main: Option<usize>,
-) -> Result<Parts, AllocError>
+) -> Result<(), AllocError>
     requires { cons_option main [] ≡ mains_from 0 tables.now }
-    ensures parts { IfOk result (λ parts. parts ≡ record (linked_parts name.now tables.now) { publics = [] }) }
+    ensures parts { OnOk result (parts.new ≡ record (linked_parts parts.old.name tables.now) { publics = parts.old.publics }) }
     ensures sound { OnOk result (AllByRecursion IsModule tables.now) }
 {
-    let name = name.copy(alloc)?;
-    let segments = linked_segments(alloc, tables.joined)?;
-    let commons = tables.joined.linked_commons(alloc)?;
-    let externals = copy_names(alloc, tables.unresolved())?;
-    let contents = linked_contents(alloc, tables)?;
-    let start = start_of(tables, main);
-    Ok(Parts {
-        name,
-        segments,
-        commons,
-        publics: Vec::new(alloc),
-        externals,
-        contents,
-        start,
-    })
+    parts.segments = linked_segments(alloc, tables.joined)?;
+    parts.commons = tables.joined.linked_commons(alloc)?;
+    parts.externals = copy_names(alloc, tables.unresolved())?;
+    parts.contents = linked_contents(alloc, tables)?;
+    parts.start = start_of(tables, main);
+    Ok(())
 }
 
 /// The [`Parts`] of the linked module, and the names that no module declares. `main` must be the
@@ -127,7 +118,16 @@ fn parts_of(
     ensures unresolved { IfOk result (λ made. made.1.items ≡ unresolved tables.entry) }
     ensures sound { OnOk result (AllByRecursion IsModule tables.entry) }
 {
-    let mut parts = parts_without_publics(alloc, name, &tables, main)?;
+    let mut parts = Parts {
+        name: name.copy(alloc)?,
+        segments: Vec::new(alloc),
+        commons: Vec::new(alloc),
+        publics: Vec::new(alloc),
+        externals: Vec::new(alloc),
+        contents: Vec::new(alloc),
+        start: None,
+    };
+    set_parts(alloc, &mut parts, &tables, main)?;
     let (publics, unresolved) = tables.into_names();
     parts.publics = publics;
     Ok((parts, unresolved))
