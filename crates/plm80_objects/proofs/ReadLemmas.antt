@@ -21,9 +21,7 @@ read_more old (file ∷ files) path bytes = read_more (and_read old file.path fi
 -- none
 pub none_read : {A X : Type 0} (path_of : A → List ℕ) (xs : List A) (old : Journal) (Have : List FileValue → X → Type 0) (read zero : X)
     → read ≡ zero → Have [] zero → AreRead Have (map path_of (take 0 xs)) old old read
-none_read path_of [] old Have read zero is have =
-    record { files = []; paths_are = refl; have = subst (Have []) (sym is) have; journal = refl }
-none_read path_of (x ∷ xs) old Have read zero is have =
+none_read path_of xs old Have read zero is have =
     record { files = []; paths_are = refl; have = subst (Have []) (sym is) have; journal = refl }
 
 -- one more

@@ -1,6 +1,6 @@
 -- What `compare` prints of an image and a dump.
 -- (The form of the lines and the status are this project's own.)
-use Rattle.std.specs.Prelude.{◌≡◌, ◌≢◌, ◌+◌, ◌<◌, ℕ, List, [], ◌∷◌, length, codes}
+use Rattle.std.specs.Prelude.{◌≡◌, ◌≢◌, ◌+◌, ◌<◌, ℕ, Bool, List, [], ◌∷◌, length, codes}
 use Rattle.omf_model.specs.declared.symbols.Public.{Public}
 use Rattle.image80.specs.Image.{Located, PlacedBytes}
 use Rattle.image80_file.specs.ImageFile.{SpellsImage, without_regions}
@@ -29,18 +29,22 @@ pub record PrintsDifferences (chunks : List PlacedBytes) (image dump : List ℕ)
   pub answer_is : answer ≡ prints (named_text (byte_ranges chunks) publics (codes "DIFFERS ") (comparison_text image dump first ranges))
       (status_of ranges)
 
--- what is printed of an image's file and of a dump, by the options
+-- what is printed of the bytes of an image's file and of a dump's, from its first address on; with the image's publics if asked for
+pub record ComparesBytes (asked : Bool) (file : List ℕ) (first : ℕ) (dump : List ℕ) (fill : ℕ) (answer : AnswerValue) : Type 0 where
+  pub whole : IsDump first dump
+  pub image : Located
+  pub contents : SpellsImage file (without_regions image)
+  pub publics : List Public
+  pub names : AreNamesOf asked file publics
+  pub answer_is : PrintsDifferences image.chunks (bytes_over fill image.chunks first (length dump)) dump first publics answer
+
+-- the same of the files of the image and of the dump, by the options
 pub record ComparesFiles (arguments : CompareArguments) (files : List FileValue) (answer : AnswerValue) : Type 0 where
   pub file : FileValue
   pub dump : FileValue
   pub files_are : files ≡ file ∷ dump ∷ []
   pub first : ℕ
   pub first_is : WritesWord arguments.first first
-  pub whole : IsDump first dump.bytes
   pub fill : ℕ
   pub fill_is : WritesByte arguments.fill fill
-  pub image : Located
-  pub contents : SpellsImage file.bytes (without_regions image)
-  pub publics : List Public
-  pub names : AreNamesOf arguments.names file.bytes publics
-  pub answer_is : PrintsDifferences image.chunks (bytes_over fill image.chunks first (length dump.bytes)) dump.bytes first publics answer
+  pub answer_is : ComparesBytes arguments.names file.bytes first dump.bytes fill answer

@@ -40,14 +40,14 @@ pub data AreLinkFiles : List FileValue → List LinkFile → Type 0 where
 abbrev pub AreFilesRead : (paths : List (List ℕ)) → (old new : Journal) → List LinkFile → Type 0
 AreFilesRead = AreRead AreLinkFiles
 
--- what is printed of a dump and of files
-pub record FindsIn (dump : DumpValue) (files : List FileValue) (answer : AnswerValue) : Type 0 where
+-- what is printed of the dump that the first file has, from the option's first address on, and of the files behind it
+pub record FindsModules (arguments : FindArguments) (read : List FileValue) (answer : AnswerValue) : Type 0 where
+  pub dump : FileValue
+  pub files : List FileValue
+  pub read_are : read ≡ dump ∷ files
+  pub first : ℕ
+  pub first_is : WritesWord arguments.first first
+  pub whole : IsDump first dump.bytes
   pub are : List LinkFile
   pub are_files : AreLinkFiles files are
-  pub answer_is : PrintsFound dump are answer
-
--- of the dump that the first file has, from the option's first address on
-abbrev pub FindsModules : FindArguments → List FileValue → AnswerValue → Type 0
-FindsModules arguments (dump ∷ files) answer =
-    (first : ℕ) × WritesWord arguments.first first × IsDump first dump.bytes × FindsIn (record { first = first; bytes = dump.bytes }) files answer
-FindsModules arguments [] answer = ⊥
+  pub answer_is : PrintsFound (record { first = first; bytes = dump.bytes }) are answer

@@ -1,6 +1,6 @@
 -- What `locate` writes of a program: its image, and its regions.
 -- (ISIS-II User's Guide, LOCATE. That the regions have a file of their own is this project's.)
-use Rattle.std.specs.Prelude.{◌≡◌, ◌⊎◌, ℕ, ◌==◌, Bool, true, false, ◌||◌, not, if◌then◌else◌, Option, None, Some, List, [], ◌∷◌, length}
+use Rattle.std.specs.Prelude.{◌≡◌, ℕ, ◌==◌, Bool, true, false, ◌||◌, not, if◌then◌else◌, Option, None, Some, List, [], ◌∷◌, length}
 use Rattle.omf_model.specs.Modules.{ModuleValue}
 use Rattle.omf_module.specs.Writing.{file_bytes}
 use Rattle.image80.specs.{declared.range.Range.Range, Image.Located, RegionsText.regions_text}
@@ -8,12 +8,10 @@ use Rattle.image80_file.specs.ImageFile.{image_bytes, named_module}
 use Rattle.place80.specs.Locating.{ArrangesSegments, located_chunks, program_start}
 use Rattle.place80.specs.Restart.{ArrangesWithRestart, RestartsAt, restart_fault}
 use Rattle.place80.specs.{declared.options.Options.Options, declared.place_fault.PlaceFault.PlaceFault}
-use Rattle.place80.specs.{declared.place_fault.PlaceFault.TheVariants.Memory, Layout.layout_of, PlaceFault.locate_fault}
+use Rattle.place80.specs.{Layout.layout_of, PlaceFault.locate_fault}
 use Rattle.place80_text.specs.Board.{first_unmapped, places_of}
-use Rattle.place80_text.specs.{declared.board.Unmapped.Unmapped as UnmappedAddress, ImagePublics.publics_at}
+use Rattle.place80_text.specs.{declared.board.Unmapped.Unmapped, ImagePublics.publics_at}
 use Rattle.plm80_console.specs.Answer.{AnswerValue, writes_both}
-use Rattle.plm80_objects.specs.declared.locate.LocateFault.TheVariants.{Place, Unmapped}
-use Rattle.plm80_objects.specs.declared.locate.LocateFault.{LocateFault}
 
 -- why a program can't be located, with a restart or without
 abbrev pub fault_of : (restart : Bool) → Options → ModuleValue → Option PlaceFault
@@ -25,15 +23,9 @@ abbrev pub names_board : (rom ram : List Range) → Bool
 names_board rom ram = not (length rom == 0) || not (length ram == 0)
 
 -- the first address at which a board that is named has no memory for a program
-abbrev pub unmapped_of : (rom ram : List Range) → (restart : Bool) → Options → ModuleValue → Option UnmappedAddress
+abbrev pub unmapped_of : (rom ram : List Range) → (restart : Bool) → Options → ModuleValue → Option Unmapped
 unmapped_of rom ram restart options m =
     if names_board rom ram then first_unmapped rom ram (places_of m (layout_of options m) restart) else None
-
--- why a program isn't located: LOCATE can't place it; or it can, and a board that is named has no memory for it. Memory may have run out
--- in place of either.
-abbrev pub IsLocateFault : (rom ram : List Range) → (restart : Bool) → Options → ModuleValue → LocateFault → Type 0
-IsLocateFault rom ram restart options m (Place fault) = (fault ≡ Memory) ⊎ (fault_of restart options m ≡ Some fault)
-IsLocateFault rom ram restart options m (Unmapped found) = (fault_of restart options m ≡ None) × (unmapped_of rom ram restart options m ≡ Some found)
 
 -- the image that LOCATE makes of a program
 pub record IsLocated (options : Options) (m : ModuleValue) (image : Located) : Type 0 where

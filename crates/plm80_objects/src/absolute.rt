@@ -157,11 +157,11 @@ fn files_of<'a, C: Console>(
     ensures unchanged { IfOk result (λ _. C.journal console.new ≡ C.journal console.old) }
     ensures fault { IfErr result (λ _. OnlyReports (C.journal console.old) (C.journal console.new)) }
 {
-    let mut files = Vec::new(console.alloc());
     let first = RomFile {
         first: arguments.first.word(console)?,
         path: arguments.bytes,
     };
+    let mut files = Vec::new(console.alloc());
     add_file(console, &mut files, first)?;
     for further in &arguments.further {
         let file = file_of(console, further)?;

@@ -4,7 +4,7 @@ ghost use Rattle.std.specs.Prelude.{◌≡◌, ◌∷◌, [], codes, length, IfO
 ghost use Rattle.image80_text.specs.NameText.{named_text};
 ghost use Rattle.rom80.specs.{Ranges.byte_ranges, Rom.bytes_over};
 ghost use Rattle.plm80_console.specs.{Answer.Gives, Journal.OnlyReports};
-ghost use Rattle.plm80_objects.specs.Compare.{ComparesFiles, IsDump, PrintsDifferences};
+ghost use Rattle.plm80_objects.specs.Compare.{ComparesBytes, ComparesFiles, IsDump, PrintsDifferences};
 ghost use Rattle.plm80_objects.specs.{Arguments.AreCompareArguments, RomFaults.IsRefused};
 
 use crate::extract::{FILL, FIRST, fill_of};
@@ -116,11 +116,30 @@ fn print_differences<C: Console>(
     let fill = arguments.fill.byte(console)?;
     let file = console.read_file(arguments.image)?;
     let dump = console.read_file(arguments.dump)?;
+    let answer = compare_read(console, arguments.names, &file, first, &dump, fill)?;
+    console.give(answer)
+}
+
+/// What `compare` answers to the files of an image and of a dump, as [`compare_dump`] does; with names if they are asked for. Reports the
+/// fault of either file.
+fn compare_read<C: Console>(
+    console: &mut C,
+    asks_names: bool,
+    file: &ReadFile<'_>,
+    first: u16,
+    dump: &ReadFile<'_>,
+    fill: u8,
+) -> Result<Answer<'static>, Reported>
+    ensures compared { IfOk result (ComparesBytes asks_names file.now.bytes.items first dump.now.bytes.items fill) }
+    ensures no_file { IfOk result (λ answer. answer.files ≡ []) }
+    ensures unchanged { IfOk result (λ _. C.journal console.new ≡ C.journal console.old) }
+    ensures fault { IfErr result (λ _. OnlyReports (C.journal console.old) (C.journal console.new)) }
+{
     let none = no_regions(console.alloc());
     let image = image_of(console, file.path, &file.bytes, none)?;
-    let names = Names::of(console, arguments.names, file.path, &file.bytes)?;
-    match compare_dump(console.alloc(), &image, &names, first, &dump, fill) {
-        Ok(answer) => console.give(answer),
+    let names = Names::of(console, asks_names, file.path, &file.bytes)?;
+    match compare_dump(console.alloc(), &image, &names, first, dump, fill) {
+        Ok(answer) => Ok(answer),
         Err(fault) => Err(report_rom_fault(console, fault)),
     }
 }

@@ -6,7 +6,7 @@ ghost use Rattle.plm80_console.specs.{Answer.Gives, Answer.GivesUp, Answer.write
 ghost use Rattle.plm80_objects.specs.{Arguments.AreExtractArguments, Arguments.IsExtentOf, Arguments.fill_text, Absolute.ExtractsFile};
 
 use crate::helpers::byte_words::explain_bytes;
-use crate::helpers::decimal_words::decimal_size;
+use crate::helpers::decimal_words::DecimalWords;
 use clap::ArgMatches;
 use image80::Image;
 use plm80_console::{Answer, Argument, Console, Kind, OptionText, Reported, Syntax, argument_text};
@@ -132,13 +132,9 @@ pub fn extract_file<C: Console>(
         Ok(answer) => {
             let given = console.give(answer);
             if given.is_ok() {
-                let (first, length) = (arguments.first.text(), arguments.length.text());
+                let first = arguments.first.text();
                 explain_bytes(console, arguments.image, arguments.out, first, "");
-                if let Some(number) = decimal_size(length) {
-                    console.explain(format_args!(
-                        "--length {length} is hexadecimal: {length} in decimal is {number:X}"
-                    ));
-                }
+                console.explain_any(DecimalWords::of(arguments.length));
             }
             given
         }
@@ -166,13 +162,10 @@ fn extent_of<C: Console>(
     ensures unchanged { IfOk result (λ _. C.journal console.new ≡ C.journal console.old) }
     ensures fault { IfErr result (λ _. OnlyReports (C.journal console.old) (C.journal console.new)) }
 {
-    let first = arguments.first.word(console)?;
-    let length = arguments.length.length(console)?;
-    let fill = arguments.fill.byte(console)?;
     Ok(Extent {
-        first,
-        length,
-        fill,
+        first: arguments.first.word(console)?,
+        length: arguments.length.length(console)?,
+        fill: arguments.fill.byte(console)?,
     })
 }
 

@@ -3,7 +3,7 @@
 ghost use Rattle.std.specs.Prelude.{◌≡◌, ◌∷◌, [], map, IfOk, IfErr, OnOk};
 ghost use Rattle.rom80_find.specs.Dump.{dump_of};
 ghost use Rattle.plm80_console.specs.{Answer.Gives, Journal.OnlyReports};
-ghost use Rattle.plm80_objects.specs.Find.{AreFilesRead, FindsIn, FindsModules, PrintsFile, PrintsFound};
+ghost use Rattle.plm80_objects.specs.Find.{AreFilesRead, FindsModules, PrintsFile, PrintsFound};
 ghost use Rattle.plm80_objects.specs.{Arguments.AreFindArguments, Compare.IsDump, RomFaults.IsRefused};
 
 use crate::extract::FIRST;
@@ -130,23 +130,14 @@ fn find_in_dump<C: Console>(console: &mut C, arguments: &FindArguments<'_>) -> R
         (C.journal console.old) (C.journal console.new)) }
     ensures fault { IfErr result (λ _. OnlyReports (C.journal console.old) (C.journal console.new)) }
 {
+    reading_leaves_files_alone();
     let first = arguments.first.word(console)?;
     let file = console.read_file(arguments.dump)?;
-    match dump_of(first, &file) {
-        Ok(dump) => find_in(console, dump, &arguments.files),
-        Err(fault) => Err(report_rom_fault(console, fault)),
-    }
-}
-
-/// Reads the files of these paths, prints where their modules lie in `dump`, and returns the exit status, 1 if a module of an object file
-/// is missing.
-fn find_in<C: Console>(console: &mut C, dump: Dump<'_>, paths: &[&str]) -> Result<u8, Reported>
-    ensures done { IfOk result (Gives (FindsIn (dump_of dump.entry)) (map (λ path. path.now) paths.now)
-        (C.journal console.old) (C.journal console.new)) }
-    ensures fault { IfErr result (λ _. OnlyReports (C.journal console.old) (C.journal console.new)) }
-{
-    reading_leaves_files_alone();
-    let files = read_all(console, paths)?;
+    let dump = match dump_of(first, &file) {
+        Ok(dump) => dump,
+        Err(fault) => return Err(report_rom_fault(console, fault)),
+    };
+    let files = read_all(console, &arguments.files)?;
     let answer = find_all(console.alloc(), dump, &files);
     console.give_if_made(answer)
 }
@@ -200,7 +191,7 @@ fn find_all(
     let mut are_there = true;
     for file in files {
         let is_there = look_for(alloc, dump, file, &mut text)?;
-        are_there = are_there && is_there;
+        are_there &= is_there;
     }
     let status = if are_there { 0 } else { 1 };
     Ok(Answer::prints(text, status))

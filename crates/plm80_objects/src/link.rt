@@ -5,11 +5,11 @@ ghost use Rattle.link80.specs.Selection.{IsSelection};
 ghost use Rattle.link80_text.specs.Parts.{IsMade};
 ghost use Rattle.plm80_objects.specs.Link.{AddsFile, AddsLibrary, AddsModules, AreLinkFilesRead, LinksFiles, LinksInto, WritesLinked};
 ghost use Rattle.plm80_objects.specs.Arguments.{AreLinkArguments};
-ghost use Rattle.plm80_console.specs.{Answer.Gives, Answer.GivesUp, Answer.IsAnswered, Answer.IsGivenUp, Journal.OnlyReports};
+ghost use Rattle.plm80_console.specs.{Answer.Gives, Answer.GivesUp, Journal.OnlyReports};
 
 use crate::helpers::causes::report_link_fault;
 use crate::helpers::image_words::explain_images;
-use crate::helpers::link_lines::{LinkLines, lines_of};
+use crate::helpers::link_lines::{LinkLines, append_rest, taken_lines};
 use clap::ArgMatches;
 use link80::{Linked, link};
 use omf_core::Name;
@@ -137,28 +137,40 @@ pub fn link_files<C: Console>(
     reading_leaves_files_alone();
     let name = arguments.name.module_name(console)?;
     let files = read_files(console, &arguments.files)?;
-    let done = link_read(console, arguments, &name, &files);
-    explain_images(console, &arguments.files, IMAGE_ADVICE);
-    done
+    match link_read(console, arguments, &name, &files) {
+        Ok(answer) => {
+            let given = console.give(answer);
+            explain_images(console, &arguments.files, IMAGE_ADVICE);
+            given
+        }
+        Err(reported) => {
+            explain_images(console, &arguments.files, IMAGE_ADVICE);
+            Err(reported)
+        }
+    }
 }
 
-/// Links the modules of `files` into one called `name`, writes that, prints the lines that the arguments ask for, and returns the exit
-/// status.
-fn link_read<C: Console>(
+/// What `link` answers to `files`, of which it links the modules into one called `name`. Reports why they can't be linked, or that memory
+/// ran out.
+fn link_read<'a, C: Console>(
     console: &mut C,
-    arguments: &LinkArguments<'_>,
+    arguments: &LinkArguments<'a>,
     name: &Name,
     files: &LinkFiles<'_>,
-) -> Result<u8, Reported>
-    ensures done { IfOk result (IsAnswered (LinksInto arguments.now.out.now arguments.now.lines name.now files.now)
-        (C.journal console.old) (C.journal console.new)) }
-    ensures fault { IfErr result (λ _. IsGivenUp (LinksInto arguments.now.out.now arguments.now.lines name.now files.now)
-        (C.journal console.old) (C.journal console.new)) }
+) -> Result<Answer<'a>, Reported>
+    ensures links { IfOk result (LinksInto arguments.now.out.now arguments.now.lines name.now files.now) }
+    ensures unchanged { IfOk result (λ _. C.journal console.new ≡ C.journal console.old) }
+    ensures fault { IfErr result (λ _. OnlyReports (C.journal console.old) (C.journal console.new)) }
 {
-    let linked = link_modules(console, name, files)?;
-    let (out, lines) = (arguments.out, arguments.lines);
-    let answer = answer(console.alloc(), out, lines, &linked, files);
-    console.give_if_made(answer)
+    let alloc = console.alloc();
+    let made = match link(alloc, name, &files.roots, &files.libraries) {
+        Ok(linked) => answer(alloc, arguments.out, arguments.lines, &linked, files),
+        Err(fault) => return Err(report_link_fault(console, files, &fault)),
+    };
+    match made {
+        Ok(answer) => Ok(answer),
+        Err(AllocError) => Err(console.report_memory()),
+    }
 }
 
 /// Reads the object files and libraries of these paths, in order. Each file is checked before the next one is opened, and the first fault
@@ -206,7 +218,8 @@ impl<'a> LinkFiles<'a> {
             path: path.as_bytes(),
             modules: modules.len(),
         })?;
-        push_modules(&mut self.roots, modules)
+        push_modules(&mut self.roots, modules)?;
+        Ok(())
     }
 
     /// Appends a library and its path.
@@ -233,24 +246,6 @@ fn push_modules(roots: &mut Vec<Module>, mut modules: Vec<Module>) -> Result<(),
     }
 }
 
-/// The linked module of these files, called `name`, and which library modules were taken for it. Reports why the modules can't be linked.
-fn link_modules<C: Console>(
-    console: &mut C,
-    name: &Name,
-    files: &LinkFiles<'_>,
-) -> Result<Linked, Reported>
-    ensures selection { IfOk result (λ made. IsSelection files.now.roots.items files.now.libraries.items made.taken.items) }
-    ensures made { IfOk result (λ made. IsMade files.now.roots.items files.now.libraries.items made) }
-    ensures name { IfOk result (λ made. made.module.name ≡ name.now) }
-    ensures unchanged { IfOk result (λ _. C.journal console.new ≡ C.journal console.old) }
-    ensures fault { IfErr result (λ _. OnlyReports (C.journal console.old) (C.journal console.new)) }
-{
-    match link(console.alloc(), name, &files.roots, &files.libraries) {
-        Ok(linked) => Ok(linked),
-        Err(fault) => Err(report_link_fault(console, files, fault)),
-    }
-}
-
 /// What `link` answers: the object file of the linked module goes to the file `path`, and the wanted lines are printed.
 fn answer<'a>(
     alloc: Global,
@@ -264,7 +259,8 @@ fn answer<'a>(
     ensures { IfOk result (WritesLinked path.now wanted files.now.roots.items files.now.libraries.items
         (map (λ p. p.now) files.now.paths.items) linked.now) }
 {
-    let lines = lines_of(alloc, wanted, linked, files)?;
+    let mut lines = taken_lines(alloc, wanted.reasons, linked, files)?;
+    append_rest(alloc, &mut lines, wanted.map, linked, files)?;
     let mut object = Vec::new(alloc);
     write_file(alloc, slice::from_ref(&linked.module), &mut object)?;
     Ok(Answer::writes(path, object, lines))

@@ -3,10 +3,10 @@
 ghost use Rattle.std.specs.Prelude.{◌≡◌, ◌⊎◌, ◌∷◌, None, Some, [], length, IfOk, IfErr, OnOk};
 ghost use Rattle.image80.specs.RegionsText.{regions_text};
 ghost use Rattle.place80.specs.declared.place_fault.PlaceFault.TheVariants.{Memory};
-ghost use Rattle.plm80_console.specs.{Answer.Gives, Answer.GivesUp, Journal.OnlyReports, Journal.and_reported};
+ghost use Rattle.plm80_console.specs.{Answer.Gives, Answer.GivesUp, Answer.writes_both, Journal.OnlyReports, Journal.file_value};
 ghost use Rattle.plm80_files.specs.LinkFiles.{AreModulesRead};
-ghost use Rattle.plm80_objects.specs.Locate.{IsImageOf, IsLocateFault, WritesProgram, fault_of, image_file, unmapped_of};
-ghost use Rattle.plm80_objects.specs.{Arguments.AreLocateArguments, Modules.LocatesFile};
+ghost use Rattle.plm80_objects.specs.Locate.{IsImageOf, fault_of, image_file, unmapped_of};
+ghost use Rattle.plm80_objects.specs.{Arguments.AreLocateArguments, Modules.LocatesFile, Modules.WritesLocated};
 
 use crate::helpers::board_options::{RAM_RANGE, ROM_RANGE, unmapped_of};
 use crate::helpers::causes::{report_place_fault, report_unmapped};
@@ -20,7 +20,7 @@ use image80::{Image, write_regions};
 use image80_file::write_image;
 use omf_module::Module;
 use place80::{Options, PlaceFault, layout, locate, locate_with_restart};
-use place80_text::{Board, Unmapped, write_image_with_publics};
+use place80_text::{Board, write_image_with_publics};
 use plm80_console::{
     Answer, Argument, Console, Kind, Reported, Syntax, WrittenFile, argument_text, argument_values,
     ranges_of,
@@ -148,85 +148,76 @@ pub fn locate_file<C: Console>(
     };
     let modules = read_program(console, arguments.object)?;
     let program = &modules[0];
-    match locate_program(console.alloc(), arguments, program, &options, board) {
-        Ok(answer) => {
-            let given = console.give(answer);
-            if given.is_ok() && console.explains() {
-                explain_empty_segments(console, program, &options, arguments.options);
-            }
-            given
-        }
-        Err(fault) => Err(report_fault(console, program, &options, fault)),
+    let answer = locate_program(console, arguments, program, &options, board)?;
+    let given = console.give(answer);
+    if given.is_ok() && console.explains() {
+        explain_empty_segments(console, program, &options, arguments.options);
     }
+    given
 }
 
-/// Why `locate` doesn't locate a program.
-#[derive(Drop)]
-enum LocateFault {
-    /// The segments can't be placed by the options, or memory ran out.
-    Place(PlaceFault),
-    /// The board has no memory at an address of a segment.
-    Unmapped(Unmapped),
-}
-
-impl From<PlaceFault> for LocateFault {
-    ghost use Rattle.plm80_objects.specs.declared.locate.LocateFault.TheVariants.{Place};
-
-    ghost from_gives = { λ given fault. fault ≡ Place given };
-
-    /// Passes on why the segments can't be placed.
-    fn from(fault: PlaceFault) -> LocateFault {
-        LocateFault::Place(fault)
-    }
-}
-
-impl From<AllocError> for LocateFault {
-    ghost use Rattle.plm80_objects.specs.declared.locate.LocateFault.TheVariants.{Place};
-
-    ghost from_gives = { λ _ fault. fault ≡ Place Memory };
-
-    /// Out of memory, as a fault of placing.
-    fn from(_: AllocError) -> LocateFault {
-        LocateFault::Place(PlaceFault::Memory)
-    }
-}
-
-/// Reports why `program` isn't located by these options, and shows where the cause is, if words are asked for.
-fn report_fault<C: Console>(
+/// What `locate` answers to `program`: the files of its image and its regions. Reports why it can't be located, or at which address the
+/// board has no memory for it.
+fn locate_program<'a, C: Console>(
     console: &mut C,
-    program: &Module,
-    options: &Options,
-    fault: LocateFault,
-) -> Reported
-    ensures { C.journal console.new ≡ and_reported (C.journal console.old) }
-{
-    match fault {
-        LocateFault::Place(fault) => report_place_fault(console, program, options, fault),
-        LocateFault::Unmapped(found) => report_unmapped(console, program, options, found),
-    }
-}
-
-/// What `locate` answers: the files of the image of `program` and of its regions, with a restart and with its publics if they are asked
-/// for. The fault says why it can't be located, or at which address the board has no memory.
-fn locate_program<'a>(
-    alloc: Global,
     arguments: &LocateArguments<'a>,
     program: &Module,
     options: &Options,
     board: Board<'_>,
-) -> Result<Answer<'a>, LocateFault>
-    ensures files { let asked = arguments.now in IfOk result
-        (WritesProgram asked.image.now asked.regions.now asked.restart asked.publics options.now program.now) }
-    ensures none { OnOk result (fault_of arguments.now.restart options.now program.now ≡ None) }
-    ensures on_board { OnOk result (unmapped_of board.entry.rom.now board.entry.ram.now arguments.now.restart options.now program.now ≡ None) }
-    ensures fault { IfErr result (IsLocateFault board.entry.rom.now board.entry.ram.now arguments.now.restart options.now program.now) }
+) -> Result<Answer<'a>, Reported>
+    ensures located { IfOk result (WritesLocated arguments.now options.now board.entry.rom.now board.entry.ram.now program.now) }
+    ensures unchanged { IfOk result (λ _. C.journal console.new ≡ C.journal console.old) }
+    ensures fault { IfErr result (λ _. OnlyReports (C.journal console.old) (C.journal console.new)) }
 {
-    let image = image_of(alloc, arguments.restart, program, options)?;
-    if let Some(found) = unmapped_of(alloc, program, options, arguments.restart, board)? {
-        return Err(LocateFault::Unmapped(found));
+    match image_of(console.alloc(), arguments.restart, program, options) {
+        Ok(image) => answer_on_board(console, arguments, program, options, board, &image),
+        Err(fault) => Err(report_place_fault(console, program, options, &fault)),
     }
-    let bytes = file_of(alloc, arguments.publics, &image, program, options)?;
-    let text = text_of(alloc, &image)?;
+}
+
+/// What `locate` answers to `program`, of which it made `image`. Reports the address at which the board has no memory for it.
+fn answer_on_board<'a, C: Console>(
+    console: &mut C,
+    arguments: &LocateArguments<'a>,
+    program: &Module,
+    options: &Options,
+    board: Board<'_>,
+    image: &Image,
+) -> Result<Answer<'a>, Reported>
+    ensures on_board { let asked = arguments.now in
+        OnOk result (unmapped_of board.entry.rom.now board.entry.ram.now asked.restart options.now program.now ≡ None) }
+    ensures answer { let asked = arguments.now in IfOk result (λ answer. answer ≡ writes_both
+        (file_value asked.image.now (image_file asked.publics options.now program.now image.now))
+        (file_value asked.regions.now (regions_text image.now.regions))) }
+    ensures unchanged { IfOk result (λ _. C.journal console.new ≡ C.journal console.old) }
+    ensures fault { IfErr result (λ _. OnlyReports (C.journal console.old) (C.journal console.new)) }
+{
+    match unmapped_of(console.alloc(), program, options, arguments.restart, board) {
+        Ok(None) => {}
+        Ok(Some(found)) => return Err(report_unmapped(console, program, options, found)),
+        Err(AllocError) => return Err(console.report_memory()),
+    }
+    match answer(console.alloc(), arguments, program, options, image) {
+        Ok(answer) => Ok(answer),
+        Err(AllocError) => Err(console.report_memory()),
+    }
+}
+
+/// The files that `locate` writes: of `image`, with the publics of `program` if they are asked for, and of its regions.
+fn answer<'a>(
+    alloc: Global,
+    arguments: &LocateArguments<'a>,
+    program: &Module,
+    options: &Options,
+    image: &Image,
+) -> Result<Answer<'a>, AllocError>
+    ensures { let asked = arguments.now in IfOk result (λ answer. answer ≡ writes_both
+        (file_value asked.image.now (image_file asked.publics options.now program.now image.now))
+        (file_value asked.regions.now (regions_text image.now.regions))) }
+{
+    let bytes = file_of(alloc, arguments.publics, image, program, options)?;
+    let mut text = Vec::new(alloc);
+    write_regions(alloc, &image.regions, &mut text)?;
     let file = WrittenFile {
         path: arguments.image,
         bytes,
@@ -279,15 +270,6 @@ fn file_of(
         write_image(alloc, image, &mut bytes)?;
     }
     Ok(bytes)
-}
-
-/// The text of the regions of `image`, as a file has it.
-fn text_of(alloc: Global, image: &Image) -> Result<Vec<u8>, AllocError>
-    ensures { IfOk result (λ text. text.items ≡ regions_text image.now.regions) }
-{
-    let mut text = Vec::new(alloc);
-    write_regions(alloc, &image.regions, &mut text)?;
-    Ok(text)
 }
 
 /// Reads the object file of this path and returns its modules, of which there is exactly one. Reports any fault of the file, among them

@@ -84,7 +84,7 @@ pub fn map_file<C: Console>(console: &mut C, arguments: MapArguments<'_>) -> Res
     let program = &modules[0];
     match map_program(console.alloc(), program, &options) {
         Ok(answer) => console.give(answer),
-        Err(fault) => Err(report_place_fault(console, program, &options, fault)),
+        Err(fault) => Err(report_place_fault(console, program, &options, &fault)),
     }
 }
 

@@ -3,7 +3,6 @@
 ghost use Rattle.std.specs.Prelude.{◌≡◌, ◌∷◌, ℕ, List, [], IfErr, IfOk, IfSome, codes};
 ghost use Rattle.omf_core.specs.Record.{SpellsRecord};
 ghost use Rattle.plm80_console.specs.{Answer.Gives, Arguments.argument_text, Journal.OnlyReports};
-ghost use Rattle.plm80_files.specs.LinkFiles.{AreModulesRead};
 ghost use Rattle.plm80_objects.specs.Modules.{AnswersModules, DescribesModules};
 
 use clap::ArgMatches;
@@ -59,7 +58,8 @@ impl<'a> ModuleArguments<'a> {
     }
 }
 
-/// Does `module`: prints what the object file has, module by module, and returns the exit status.
+/// Does `module`: prints what the object file has, module by module, and returns the exit status. Of a library in its place it says which
+/// modules that has, if words are asked for.
 pub fn describe_file<C: Console>(
     console: &mut C,
     arguments: ModuleArguments<'_>,
@@ -68,43 +68,33 @@ pub fn describe_file<C: Console>(
         (C.journal console.old) (C.journal console.new)) }
     ensures fault { IfErr result (λ _. OnlyReports (C.journal console.old) (C.journal console.new)) }
 {
-    let modules = read_described(console, arguments.object)?;
-    let answer = describe_modules(console.alloc(), &modules);
-    console.give_if_made(answer)
-}
-
-/// Reads the modules of the object file of this path. Reports its fault; of a library in its place it says which modules that has, if words
-/// are asked for.
-fn read_described<C: Console>(console: &mut C, path: &str) -> Result<Vec<Module>, Reported>
-    ensures read { IfOk result (λ modules. AreModulesRead path.now (C.journal console.old) (C.journal console.new) modules.items) }
-    ensures fault { IfErr result (λ _. OnlyReports (C.journal console.old) (C.journal console.new)) }
-{
-    let read = read_modules(console, path);
-    explain_library(console, read.is_ok(), path);
-    read
-}
-
-/// Says which modules a library has, and the places of their first records, if words are asked for. Nothing is said if `is_read`, since the
-/// file is an object file then.
-fn explain_library<C: Console>(console: &C, is_read: bool, path: &str) {
-    if is_read {
-        return;
-    }
-    let Some(bytes) = console.text_to_explain(path) else {
-        return;
-    };
-    let Ok(library) = read_library(console.alloc(), &bytes) else {
-        return;
-    };
-    let mut rest = 0;
-    for member in &library.modules {
-        let Some((at, after)) = header_from(&bytes, rest) else {
-            return;
-        };
-        if let Ok(name) = str::from_utf8(member.name().bytes()) {
-            console.explain(format_args!("it has the module {name} at {at}"));
+    match read_modules(console, arguments.object) {
+        Ok(modules) => {
+            let answer = describe_modules(console.alloc(), &modules);
+            console.give_if_made(answer)
         }
-        rest = after;
+        Err(reported) => {
+            explain_library(console, arguments.object);
+            Err(reported)
+        }
+    }
+}
+
+/// Says which modules the file of this path has if it is a library, and the places of their first records, if words are asked for.
+fn explain_library<C: Console>(console: &C, path: &str) {
+    if let Some(bytes) = console.text_to_explain(path)
+        && let Ok(library) = read_library(console.alloc(), &bytes)
+    {
+        let mut rest = 0;
+        for member in &library.modules {
+            let Some((at, after)) = header_from(&bytes, rest) else {
+                break;
+            };
+            if let Ok(name) = str::from_utf8(member.name().bytes()) {
+                console.explain(format_args!("it has the module {name} at {at}"));
+            }
+            rest = after;
+        }
     }
 }
 

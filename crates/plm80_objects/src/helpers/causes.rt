@@ -4,9 +4,9 @@ ghost use Rattle.std.specs.Prelude.{◌≡◌, ◌++◌, ◌∷◌, [], map, IfO
 ghost use Rattle.std.specs.List.{repeat};
 ghost use Rattle.link80_text.specs.Causes.{PrintsCause};
 ghost use Rattle.plm80_console.specs.Journal.{and_reported};
+ghost use Rattle.plm80_objects.specs.Link.{root_paths};
 ghost use Rattle.place80.specs.{Causes.cause_text, Layout.layout_of};
 ghost use Rattle.place80_text.specs.Board.{unmapped_text};
-ghost use Rattle.plm80_objects.specs.Link.{root_paths};
 
 use crate::link::{LinkFiles, RootFile};
 use link80::LinkFault;
@@ -23,22 +23,15 @@ use std::str;
 pub(crate) fn report_link_fault<C: Console>(
     console: &mut C,
     files: &LinkFiles<'_>,
-    fault: LinkFault,
+    fault: &LinkFault,
 ) -> Reported
     ensures { C.journal console.new ≡ and_reported (C.journal console.old) }
 {
-    let lines = if console.explains() {
-        link_lines(console.alloc(), files, &fault).ok()
-    } else {
-        None
-    };
-    let has_too_many = matches!(
-        &fault,
-        LinkFault::TooManyCommons | LinkFault::TooManyExternals
-    );
     let reported = console.report(fault);
-    explain_lines(console, lines);
-    if has_too_many {
+    if console.explains() {
+        explain_lines(console, link_lines(console.alloc(), files, fault));
+    }
+    if let LinkFault::TooManyCommons | LinkFault::TooManyExternals = fault {
         console.explain(
             "link fewer modules, or name the libraries that are missing (docs/FAULTS.md, 'link')",
         );
@@ -82,9 +75,8 @@ fn root_paths<'a>(alloc: Global, files: &[RootFile<'a>]) -> Result<Vec<&'a [u8]>
 fn push_paths<'a>(paths: &mut Vec<&'a [u8]>, count: usize, path: &'a [u8]) -> Result<(), AllocError>
     ensures { OnOk result (map (λ p. p.now) paths.new.items ≡ map (λ p. p.now) paths.old.items ++ repeat count (path.now ∷ [])) }
 {
-    for _ in 0..count {
-        paths.push(path)?;
-    }
+    let len = paths.len().checked_add(count).ok_or(AllocError)?;
+    paths.resize(len, path)?;
     Ok(())
 }
 
@@ -93,28 +85,23 @@ pub(crate) fn report_place_fault<C: Console>(
     console: &mut C,
     program: &Module,
     options: &Options,
-    fault: PlaceFault,
+    fault: &PlaceFault,
 ) -> Reported
     ensures { C.journal console.new ≡ and_reported (C.journal console.old) }
 {
-    let lines = if console.explains() {
-        place_lines(console.alloc(), program, options, &fault).ok()
-    } else {
-        None
-    };
-    let more = match (&fault, program.start()) {
-        (PlaceFault::NoStart, _) => {
-            "it isn't the main program, which ends with END and a label: link it with that one"
-        }
-        (PlaceFault::StartNotCode, Some((ABSOLUTE, _))) => {
-            "an image is located already: check, list and run take it"
-        }
-        _ => "",
-    };
     let reported = console.report(fault);
-    explain_lines(console, lines);
-    if !more.is_empty() {
-        console.explain(more);
+    if console.explains() {
+        let lines = place_lines(console.alloc(), program, options, fault);
+        explain_lines(console, lines);
+    }
+    match (fault, program.start()) {
+        (PlaceFault::NoStart, _) => console.explain(
+            "it isn't the main program, which ends with END and a label: link it with that one",
+        ),
+        (PlaceFault::StartNotCode, Some((ABSOLUTE, _))) => {
+            console.explain("an image is located already: check, list and run take it");
+        }
+        _ => {}
     }
     reported
 }
@@ -144,10 +131,8 @@ pub(crate) fn report_unmapped<C: Console>(
 {
     let reported = console.report(found);
     if console.explains() {
-        explain_lines(
-            console,
-            unmapped_lines(console.alloc(), program, options, found).ok(),
-        );
+        let lines = unmapped_lines(console.alloc(), program, options, found);
+        explain_lines(console, lines);
     }
     reported
 }
@@ -169,9 +154,9 @@ fn unmapped_lines(
     Ok(lines)
 }
 
-/// Prints these lines, each of which begins as words below a fault do. Nothing is printed if there are none.
-fn explain_lines<C: Console>(console: &C, lines: Option<Vec<u8>>) {
-    let Some(lines) = lines else { return };
+/// Prints these lines, each of which begins as words below a fault do. Nothing is printed if memory ran out for them.
+fn explain_lines<C: Console>(console: &C, lines: Result<Vec<u8>, AllocError>) {
+    let Ok(lines) = lines else { return };
     if let Ok(text) = str::from_utf8(&lines) {
         for line in text.lines() {
             console.explain(line.strip_prefix("  ").unwrap_or(line));

@@ -4,7 +4,7 @@ ghost use Rattle.std.specs.Prelude.{◌≡◌, ◌⊎◌, ◌==◌, ◌||◌, no
 ghost use Rattle.std.specs.List.{list_all};
 ghost use Rattle.omf_core.specs.SegmentId.{segment_word};
 
-use crate::helpers::decimal_words::decimal_size;
+use crate::helpers::decimal_words::DecimalWords;
 use crate::helpers::locate_options::LocateTexts;
 use omf_core::segment_id::word_of;
 use omf_module::Module;
@@ -20,35 +20,33 @@ pub(crate) fn explain_empty_segments<C: Console>(
     options: &Options,
     texts: LocateTexts<'_>,
 ) {
-    let Ok(layout) = layout(console.alloc(), program, options) else {
-        return;
-    };
-    for option in texts.all() {
-        if let Some(option) = option
-            && let Some(number) = decimal_size(option.text())
-        {
-            let (name, text) = (option.name(), option.text());
-            console.explain(format_args!(
-                "--{name} {text} is hexadecimal: {text} in decimal is {number:X}"
-            ));
+    if let Ok(layout) = layout(console.alloc(), program, options) {
+        explain_texts(console, &layout.segments, texts);
+    }
+}
+
+/// Says which of these options may have been meant in decimal, and which bases are those of empty ones of `segments`; then where the
+/// others are.
+fn explain_texts<C: Console>(console: &C, segments: &[Placed], texts: LocateTexts<'_>) {
+    for (_, option) in texts.all() {
+        if let Some(words) = option.and_then(DecimalWords::of) {
+            console.explain(words);
         }
     }
     let mut has_empty = false;
-    for (id, option) in texts.bases() {
-        if let Some(option) = option {
-            if is_empty(&layout.segments, id) {
-                let (name, text, word) = (option.name(), option.text(), segment_word(id));
-                console.explain(format_args!("--{name} {text}: {word} is empty"));
-                has_empty = true;
-            }
+    for base in texts.all() {
+        if let (Some(id), Some(option)) = base
+            && is_empty(segments, id)
+        {
+            let (name, text, word) = (option.name(), option.text(), segment_word(id));
+            console.explain(format_args!("--{name} {text}: {word} is empty"));
+            has_empty = true;
         }
     }
-    if has_empty {
-        for placed in &layout.segments {
-            if placed.length > 0 {
-                let (word, base, length) = (segment_word(placed.id), placed.base, placed.length);
-                console.explain(format_args!("{word} {base:04X} {length:04X}"));
-            }
+    for placed in segments {
+        if has_empty && placed.length > 0 {
+            let (word, base, length) = (segment_word(placed.id), placed.base, placed.length);
+            console.explain(format_args!("{word} {base:04X} {length:04X}"));
         }
     }
 }
@@ -66,8 +64,5 @@ fn is_empty(segments: &[Placed], id: u8) -> bool
 fn segment_word(id: u8) -> &'static str
     ensures { (result.now ≡ segment_word id) ⊎ (result.now ≡ []) }
 {
-    match str::from_utf8(word_of(id)) {
-        Ok(word) => word,
-        Err(_) => "",
-    }
+    str::from_utf8(word_of(id)).unwrap_or("")
 }

@@ -4,7 +4,7 @@ ghost use Rattle.std.specs.Prelude.{◌≡◌, ◌++◌, map, option_copied, IfO
 ghost use Rattle.link80.specs.Selection.{IsSelection};
 ghost use Rattle.link80_select.specs.Selected.{module_at};
 ghost use Rattle.link80_text.specs.Parts.{IsMade, modules_of};
-ghost use Rattle.plm80_objects.specs.Link.{PrintsLink, PrintsTaken, named_line, names_text, rest_text, taken_line, taken_text};
+ghost use Rattle.plm80_objects.specs.Link.{PrintsTaken, named_line, names_text, rest_text, taken_line, taken_text};
 
 use crate::link::LinkFiles;
 use link80::{Chosen, Linked};
@@ -21,26 +21,8 @@ pub(crate) struct LinkLines {
     pub reasons: bool,
 }
 
-/// The lines that `link` prints: one for each module that was taken, with its reason if that is wanted; then one for each unresolved name,
-/// or with the map one for each module that needs it, and one for each part.
-pub(crate) fn lines_of(
-    alloc: Global,
-    wanted: LinkLines,
-    linked: &Linked,
-    files: &LinkFiles<'_>,
-) -> Result<Vec<u8>, AllocError>
-    requires selection { IsSelection files.now.roots.items files.now.libraries.items linked.now.taken.items }
-    requires made { IsMade files.now.roots.items files.now.libraries.items linked.now }
-    ensures { IfOk result (λ lines. PrintsLink wanted files.now.roots.items files.now.libraries.items
-        (map (λ p. p.now) files.now.paths.items) linked.now lines.items) }
-{
-    let mut lines = taken_lines(alloc, wanted.reasons, linked, files)?;
-    append_rest(alloc, &mut lines, wanted.map, linked, files)?;
-    Ok(lines)
-}
-
 /// A line for each module that was taken from a library, with its reason if reasons are wanted and found.
-fn taken_lines(
+pub(crate) fn taken_lines(
     alloc: Global,
     reasons: bool,
     linked: &Linked,
@@ -60,7 +42,7 @@ fn taken_lines(
 }
 
 /// Appends a line for each unresolved name; with `map` in its place one for each module that needs it, and one for each part.
-fn append_rest(
+pub(crate) fn append_rest(
     alloc: Global,
     lines: &mut Vec<u8>,
     map: bool,
@@ -73,11 +55,9 @@ fn append_rest(
 {
     if map {
         append_unresolved(alloc, lines, &files.roots, &files.libraries, linked)?;
-        append_parts(alloc, lines, &files.roots, &files.libraries, linked)?;
-        Ok(())
+        append_parts(alloc, lines, &files.roots, &files.libraries, linked)
     } else {
-        append_names(lines, &linked.unresolved)?;
-        Ok(())
+        append_names(lines, &linked.unresolved)
     }
 }
 

@@ -1,6 +1,6 @@
 //! The options of LOCATE, which `locate` and `map` take.
 
-ghost use Rattle.std.specs.Prelude.{◌≡◌, ◌∷◌, [], IfErr, IfOk};
+ghost use Rattle.std.specs.Prelude.{◌≡◌, ◌∷◌, None, Some, [], IfErr, IfOk};
 ghost use Rattle.plm80_console.specs.Journal.{OnlyReports};
 ghost use Rattle.plm80_objects.specs.Arguments.{AreLocateTexts, AreNumbersOf};
 
@@ -86,33 +86,20 @@ impl<'a> LocateTexts<'a> {
         }
     }
 
-    /// The text of each of the five bases, `None` if it isn't given, behind the id of its segment.
-    pub fn bases(self) -> [(u8, Option<OptionText<'a>>); 5]
-        ensures { let texts = self.entry in result ≡ (CODE, texts.code) ∷ (STACK, texts.stack) ∷ (UNNAMED_COMMON, texts.common)
-            ∷ (DATA, texts.data_base) ∷ (MEMORY, texts.memory) ∷ [] }
+    /// The texts of the options of LOCATE, `None` for each that isn't given; that of a base behind the id of its segment.
+    pub fn all(self) -> [(Option<u8>, Option<OptionText<'a>>); 7]
+        ensures { let texts = self.entry in result ≡ (Some CODE, texts.code) ∷ (Some STACK, texts.stack)
+            ∷ (Some UNNAMED_COMMON, texts.common) ∷ (Some DATA, texts.data_base) ∷ (Some MEMORY, texts.memory)
+            ∷ (None, texts.stack_size) ∷ (None, texts.memory_size) ∷ [] }
     {
         [
-            (CODE, self.code),
-            (STACK, self.stack),
-            (UNNAMED_COMMON, self.common),
-            (DATA, self.data_base),
-            (MEMORY, self.memory),
-        ]
-    }
-
-    /// The texts of all seven options of LOCATE, `None` for each that isn't given.
-    pub fn all(self) -> [Option<OptionText<'a>>; 7]
-        ensures { let texts = self.entry in result ≡ texts.code ∷ texts.stack ∷ texts.common ∷ texts.data_base ∷ texts.memory
-            ∷ texts.stack_size ∷ texts.memory_size ∷ [] }
-    {
-        [
-            self.code,
-            self.stack,
-            self.common,
-            self.data_base,
-            self.memory,
-            self.stack_size,
-            self.memory_size,
+            (Some(CODE), self.code),
+            (Some(STACK), self.stack),
+            (Some(UNNAMED_COMMON), self.common),
+            (Some(DATA), self.data_base),
+            (Some(MEMORY), self.memory),
+            (None, self.stack_size),
+            (None, self.memory_size),
         ]
     }
 
@@ -122,21 +109,14 @@ impl<'a> LocateTexts<'a> {
         ensures unchanged { IfOk result (λ _. C.journal console.new ≡ C.journal console.old) }
         ensures fault { IfErr result (λ _. OnlyReports (C.journal console.old) (C.journal console.new)) }
     {
-        let code = OptionText::word_if_given(self.code, console)?;
-        let stack = OptionText::word_if_given(self.stack, console)?;
-        let common = OptionText::word_if_given(self.common, console)?;
-        let data_base = OptionText::word_if_given(self.data_base, console)?;
-        let memory = OptionText::word_if_given(self.memory, console)?;
-        let stack_size = OptionText::word_if_given(self.stack_size, console)?;
-        let memory_size = OptionText::word_if_given(self.memory_size, console)?;
         Ok(Options {
-            code,
-            stack,
-            common,
-            data_base,
-            memory,
-            stack_size,
-            memory_size,
+            code: OptionText::word_if_given(self.code, console)?,
+            stack: OptionText::word_if_given(self.stack, console)?,
+            common: OptionText::word_if_given(self.common, console)?,
+            data_base: OptionText::word_if_given(self.data_base, console)?,
+            memory: OptionText::word_if_given(self.memory, console)?,
+            stack_size: OptionText::word_if_given(self.stack_size, console)?,
+            memory_size: OptionText::word_if_given(self.memory_size, console)?,
         })
     }
 }

@@ -13,16 +13,12 @@ pub(crate) fn report_rom_fault<C: Console>(
 ) -> Reported
     ensures { C.journal console.new ≡ and_reported (C.journal console.old) }
 {
-    match fault.fault {
-        RomFault::Memory => console.report_memory(),
-        _ => {
-            let reported = console.report_file(fault.path, fault.fault);
-            if let Some(words) = words_for(fault.fault) {
-                console.explain(words);
-            }
-            reported
-        }
+    if let RomFault::Memory = fault.fault {
+        return console.report_memory();
     }
+    let reported = console.report_file(fault.path, fault.fault);
+    console.explain_any(words_for(fault.fault));
+    reported
 }
 
 /// What to do about a fault of a dump, in words; `None` exactly if memory ran out.

@@ -1,5 +1,23 @@
-use Rattle.plm80_objects.proofs.{Names.◌∙◌, RomFileLemmas.rom_more}
+use Rattle.plm80_objects.proofs.Names.{◌≡◌, ℕ, ◌+◌, ◌<◌, List, [], ◌∷◌, ◌++◌, length, take, Bor, all_zipped_more, ◌∙◌, sym, subst, get_or, take_more}
+use Rattle.plm80_objects.proofs.Names.{AreRomFiles, IsRomFile, RomFile}
 use Rattle.plm80_objects.proofs.absolute.files_of.Goals as goal
+
+-- one more file behind the first
+pushed : (path first : List ℕ) (xs : List (Bor (List ℕ))) (files : List RomFile) (text : Bor (List ℕ)) (file : RomFile)
+    → AreRomFiles path first xs files → IsRomFile text.now file → AreRomFiles path first (xs ++ text ∷ []) (files ++ file ∷ [])
+pushed path first xs [] text file are is = absurd are
+pushed path first xs (f ∷ files) text file are is =
+    (are.0, are.1, all_zipped_more (λ (t : Bor (List ℕ)) (rom : RomFile). IsRomFile t.now rom) xs files text file are.2 is)
+
+rom_more : (path first : List ℕ) (xs ys : List (Bor (List ℕ))) (i : ℕ) (d : Bor (List ℕ)) (file : RomFile)
+    (files after : List RomFile) → ys ≡ xs → i < length ys → AreRomFiles path first (take i xs) files
+    → IsRomFile (get_or ys i d).now file → after ≡ files ++ file ∷ [] → AreRomFiles path first (take (i + 1) xs) after
+rom_more path first xs ys i d file files after same below so_far named is =
+    let lt : i < length xs = subst (λ (zs : List (Bor (List ℕ))). i < length zs) same below in
+    let one : IsRomFile (get_or xs i d).now file = subst (λ (zs : List (Bor (List ℕ))). IsRomFile (get_or zs i d).now file) same named in
+    subst (λ (fs : List RomFile). AreRomFiles path first (take (i + 1) xs) fs) (sym is)
+    (subst (λ (ts : List (Bor (List ℕ))). AreRomFiles path first ts (files ++ file ∷ [])) (sym (take_more xs i d lt))
+    (pushed path first (take i xs) files (get_or xs i d) file so_far one))
 
 pub loop-further-preserved : goal.loop-further-preserved
 loop-further-preserved g c = record {

@@ -1,6 +1,6 @@
-use Rattle.plm80_objects.proofs.Names.{List, ◌∙◌, ap, subst, IfErr-weaker, GivesUp, Journal, and_read_files, RomFile, AreDumpsRead}
+use Rattle.plm80_objects.proofs.Names.{List, ◌∙◌, ap, subst, IfErr-weaker, IfOk-weaker, GivesUp, Journal, and_read_files, RomFile, AreDumpsRead}
 use Rattle.plm80_objects.proofs.Names.{GivesUpDumps, WritesDumps, WritesImage, rom_paths}
-use Rattle.plm80_objects.proofs.GivenLemmas.{given_up_if_made, part_given_up}
+use Rattle.plm80_objects.proofs.GivenLemmas.{gives_up_if_made}
 use Rattle.plm80_objects.specs.Absolute.GivesUpDumps.{within}
 use Rattle.plm80_objects.proofs.absolute.write_dumps.Goals as goal
 
@@ -13,14 +13,15 @@ returns-clause-fault g c =
     let between = journal c.read_dumps.new.console in
     let new = journal c.give_if_made-given.new.self in
     let result = c.give_if_made-given.result in
-    let made = WritesImage asked.image.now c.in_ok-name.name c.in_ok-dumps.dumps c.in_ok-start.start in
+    let made = c.answer-answer.result in
     let read = subst (λ (rs : List RomFile). AreDumpsRead rs (journal c.module_name.new.console) between c.in_ok-dumps.dumps) c.deref.ensures.value
     c.in_ok-dumps.ensures.dumps in
     let same = c.in_ok-name.ensures.unchanged ∙ c.in_ok-files.ensures.unchanged ∙ c.in_ok-start.ensures.unchanged in
     IfErr-weaker result (λ _. GivesUp (WritesDumps asked roms) (rom_paths roms) old new) (λ _. GivesUpDumps asked old new)
     (λ _ up. within roms c.in_ok-files.ensures.files up)
-    (part_given_up (WritesDumps asked roms) (rom_paths roms) old between new read.files read.paths_are
-    (read.journal ∙ ap (λ (j : Journal). and_read_files j read.files) same) made
+    (gives_up_if_made (WritesDumps asked roms) (rom_paths roms) old between new read.files read.paths_are
+    (read.journal ∙ ap (λ (j : Journal). and_read_files j read.files) same) made result c.reading_leaves_files_alone.ensures.faults
+    (IfOk-weaker made (WritesImage asked.image.now c.in_ok-name.name c.in_ok-dumps.dumps c.in_ok-start.start) (WritesDumps asked roms read.files)
     (λ answer writes. record {
       image = writes.image;
       name_is = writes.name_is ∙ c.in_ok-name.ensures.name;
@@ -28,5 +29,5 @@ returns-clause-fault g c =
       start_is = writes.start_is ∙ c.in_ok-start.ensures.word.1;
       answer_is = writes.answer_is;
     })
-    result c.reading_leaves_files_alone.ensures.faults
-    (given_up_if_made made between new c.answer-answer.result result c.answer-answer.ensures c.give_if_made-given.ensures.fault))
+    c.answer-answer.ensures)
+    c.give_if_made-given.ensures.fault)

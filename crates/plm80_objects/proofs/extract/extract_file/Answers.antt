@@ -1,17 +1,13 @@
 use Rattle.plm80_objects.proofs.Names.{ℕ, List, [], ◌∷◌, refl, ◌∙◌, ap, subst, SpellsImage, without_regions, Journal, and_read, file_value}
-use Rattle.plm80_objects.proofs.Names.{ExtractsFile}
-use Rattle.plm80_objects.proofs.GivenLemmas.{GivesOrGivesUp, gives_or_gives_up}
-use Rattle.plm80_objects.proofs.extract.extract_file.Given as given
-use Rattle.plm80_objects.proofs.extract.extract_file.Goals.{After-give-given}
+use Rattle.plm80_objects.proofs.{Names.ExtractsFile, GivenLemmas.gives_or_gives_up}
 use Rattle.plm80_objects.proofs.extract.extract_file.Goals as goal
 
-both : (g : given.Over) (c : After-give-given g) → GivesOrGivesUp (ExtractsFile c.args.arguments) (c.args.arguments.image.now ∷ [])
-    (g.C.Console.journal c.args.console.now) (g.C.Console.journal c.give-given.new.self) c.give-given.result
-both g c =
+pub returns-in-Ok : goal.returns-in-Ok
+returns-in-Ok g c =
     let path = c.args.arguments.image.now in
     let bytes = c.in_ok-file.file.bytes.items in
-    gives_or_gives_up (ExtractsFile c.args.arguments) (path ∷ []) (g.C.Console.journal c.args.console.now) (g.C.Console.journal c.image_of.new.console)
-    (g.C.Console.journal c.give-given.new.self) (file_value path bytes ∷ []) refl
+    let both = gives_or_gives_up (ExtractsFile c.args.arguments) (path ∷ []) (g.C.Console.journal c.args.console.now)
+    (g.C.Console.journal c.image_of.new.console) (g.C.Console.journal c.give-given.new.self) (file_value path bytes ∷ []) refl
     (c.in_ok-image.ensures.unchanged ∙ c.in_ok-file.ensures.read ∙ ap (λ (j : Journal). and_read j path bytes) c.in_ok-extent.ensures.unchanged)
     c.in-Ok.answer c.give-given.result
     (record {
@@ -24,10 +20,5 @@ both g c =
       in_memory = (λ past. cc (c.in-Ok.ensures.past.1 past));
       answer_is = c.in-Ok.ensures.answer;
     })
-    c.give-given.ensures.given c.give-given.ensures.fault
-
-pub returns-in-Ok-clause-done : goal.returns-in-Ok-clause-done
-returns-in-Ok-clause-done g c = (both g (goal.at.returns-in-Ok-clause-done g c).After-give-given).0
-
-pub returns-in-Ok-clause-fault : goal.returns-in-Ok-clause-fault
-returns-in-Ok-clause-fault g c = (both g (goal.at.returns-in-Ok-clause-fault g c).After-give-given).1
+    c.give-given.ensures.given c.give-given.ensures.fault in
+    record { done = both.0; fault = both.1 }
