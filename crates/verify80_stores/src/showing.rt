@@ -88,24 +88,22 @@ fn show_more(
     requires shown { IfSome shown (λ s. AreShown image.now (is_quiet image.now.regions quiet.now) reached.now s.items) }
     ensures { IfOk result (λ more. IfSome more (λ s. AreShown image.now (is_quiet image.now.regions quiet.now) reached.now s.items)) }
 {
-    let Some(
-        Proposal {
-            table,
-            hints,
-            returns,
-            variables,
-            crowded: _,
-        },
-    ) = found
-    else {
+    let Some(found) = found else {
         return Ok(shown);
     };
     if !fits(
-        image, &table, &hints, &returns, &variables, code, reached, marks,
+        image,
+        &found.table,
+        &found.hints,
+        &found.returns,
+        &found.variables,
+        code,
+        reached,
+        marks,
     ) {
         return Ok(shown);
     }
-    Ok(Some(show_with(alloc, image, reached, quiet, &table, shown)?))
+    Ok(Some(show_with(alloc, image, reached, quiet, &found.table, shown)?))
 }
 
 /// What is shown with a table that fits.
