@@ -144,19 +144,33 @@ impl Nodes {
         Ok(APART.saturating_add(place_of(first)))
     }
 
-    /// The states as a table, in which one that was taken in stands as the one that has it.
-    fn into_proposal(self, alloc: Global, returns: CallReturns) -> Result<Proposal, AllocError> {
+    /// The states that none has taken in, as a table, with hints to these.
+    fn into_proposal(
+        mut self,
+        alloc: Global,
+        returns: CallReturns,
+    ) -> Result<Proposal, AllocError> {
         let crowded = if self.is_late {
             None
         } else {
             let joined = self.groups.iter().map(|group| group.joined != self.never);
             Some(joined.collect(alloc)?)
         };
-        let mut table: Vec<Placed> = self.nodes.iter().map(|node| node.placed).collect(alloc)?;
-        for (place, node) in self.nodes.iter().enumerate().rev() {
-            let holder = table.get(node.taken_by as usize).copied();
-            if let (Some(placed), Some(holder)) = (table.get_mut(place), holder) {
-                *placed = holder;
+        let mut table = Vec::new(alloc);
+        let mut places = vec![in alloc; NOWHERE; self.nodes.len()]?;
+        for (number, node) in self.nodes.iter().enumerate().rev() {
+            let mut place = places.get(node.taken_by as usize).copied();
+            if node.taken_by == place_of(number) {
+                place = Some(place_of(table.len()));
+                table.push(node.placed)?;
+            }
+            if let (Some(of_number), Some(place)) = (places.get_mut(number), place) {
+                *of_number = place;
+            }
+        }
+        for hint in &mut self.hints {
+            if let Some(place) = places.get(*hint as usize) {
+                *hint = *place;
             }
         }
         Ok(Proposal {
