@@ -4,7 +4,7 @@ use crate::program::ReachedProgram;
 use decode80::{Instr, Operand};
 use std::alloc::{AllocError, Global};
 use std::array;
-use verify80_states::{ByteSpan, Cell, Cells, PairSpan, Span, State, Words};
+use verify80_states::{ByteSpan, Cell, Cells, Known, PairSpan, Span, State, Words};
 
 /// How often a state takes in others as they are.
 const JOINS: u32 = 4;
@@ -46,6 +46,19 @@ impl Landmarks {
     /// this often.
     pub fn grown(&self, old: State, new: State, growths: u32) -> State {
         State {
+            known: self.grown_known(old.known, new.known, growths),
+            words: Words {
+                first: self.grown_word(old.words.first, new.words.first, growths),
+                second: self.grown_word(old.words.second, new.words.second, growths),
+                third: self.grown_word(old.words.third, new.words.third, growths),
+                fourth: self.grown_word(old.words.fourth, new.words.fourth, growths),
+            },
+        }
+    }
+
+    /// All that either may be, the ends of its spans going on to landmarks if it has grown this often.
+    fn grown_known(&self, old: Known, new: Known, growths: u32) -> Known {
+        Known {
             a: self.grown_bytes(old.a, new.a, growths),
             bc: self.grown_pair(old.bc, new.bc, growths),
             de: self.grown_pair(old.de, new.de, growths),
@@ -53,7 +66,7 @@ impl Landmarks {
             copy: if old.copy == new.copy {
                 old.copy
             } else {
-                State::ANY.copy
+                Known::ANY.copy
             },
             source: same(old.source, new.source),
             set: old.set & new.set,
@@ -61,12 +74,6 @@ impl Landmarks {
             carry: same(old.carry, new.carry),
             sign: same(old.sign, new.sign),
             compared: same(old.compared, new.compared),
-            words: Words {
-                first: self.grown_word(old.words.first, new.words.first, growths),
-                second: self.grown_word(old.words.second, new.words.second, growths),
-                third: self.grown_word(old.words.third, new.words.third, growths),
-                fourth: self.grown_word(old.words.fourth, new.words.fourth, growths),
-            },
             cells: Cells {
                 each: array::from_fn(|place| Cell {
                     bytes: self.grown_bytes(

@@ -5,7 +5,7 @@ use crate::slots::{Slots, bytes_read, bytes_stored, find_places, find_pointers, 
 use crate::variables::Variables;
 use decode80::{Fetched, Flow, Instr};
 use std::alloc::{AllocError, Global};
-use verify80_states::{State, entry_at};
+use verify80_states::{Known, State, entry_at};
 
 /// How often the program is gone through, at most: then the rest is left as it is.
 const SWEEPS: usize = 32;
@@ -61,11 +61,15 @@ impl Needs {
     /// if there is one.
     pub fn needed_part(&self, at: u16, state: State, variables: &Variables) -> State {
         let named = slots_at(&self.named, at);
-        let set = variables.set_in(state);
+        let set = variables.set_in(state.known);
+        let known = state.known;
         State {
-            cells: named.placed_cells(state.cells, variables, set),
-            set,
-            source: state.source.filter(|address| named.has(*address)),
+            known: Known {
+                cells: named.placed_cells(known.cells, variables, set),
+                set,
+                source: known.source.filter(|address| named.has(*address)),
+                ..known
+            },
             ..state
         }
     }

@@ -2,7 +2,7 @@
 
 use decode80::{Fetched, Flow, Instr};
 use image80::{Image, Regions};
-use verify80_states::{PairSpan, Span, State, entry_at, given, is_marked, state_after, targets_at};
+use verify80_states::{Known, PairSpan, Span, State, entry_at, is_marked, state_after, targets_at};
 
 /// A program: its code, its instructions that may be reached, and which of its procedures return.
 #[derive(Clone, Copy)]
@@ -102,24 +102,24 @@ impl<'a> ReachedProgram<'a> {
             Flow::Halts => return None,
             Flow::Returns => (self.return_address(at, state)?, true, state),
             Flow::ReturnsIf(condition) if number > 0 => {
-                let left = given(condition, true, state)?;
+                let left = state.given(condition, true)?;
                 (self.return_address(at, left)?, true, left)
             }
             Flow::Calls(entry) | Flow::CallsIf(_, entry)
                 if number.saturating_add(1) >= self.count_ways(at, instr) => {
-                return self.way_behind_call(entry, next, state.set);
+                return self.way_behind_call(entry, next, state.known.set);
             }
             Flow::JumpsIf(condition, to) | Flow::CallsIf(condition, to) if number == 0 => {
-                (to, true, given(condition, true, state)?)
+                (to, true, state.given(condition, true)?)
             }
             Flow::JumpsIf(condition, _)
             | Flow::CallsIf(condition, _)
-            | Flow::ReturnsIf(condition) => { (next, false, given(condition, false, state)?) }
+            | Flow::ReturnsIf(condition) => { (next, false, state.given(condition, false)?) }
             Flow::Calls(to) => (to, true, state),
             Flow::Jumps(to) => (to, false, state),
             Flow::JumpsToHl => {
                 let to = *self.targets(at).get(number)?;
-                if !Span::alone(to).is_inside(state.hl.words) {
+                if !Span::alone(to).is_inside(state.known.hl.words) {
                     return None;
                 }
                 (to, false, state)
@@ -138,7 +138,13 @@ impl<'a> ReachedProgram<'a> {
     /// where to.
     fn way_behind_call(self, entry: u16, next: u16, set: u64) -> Option<(u16, State)> {
         let is_unknown = is_marked(self.may_return, entry) && !self.must_know_return(entry);
-        is_unknown.then_some((next, State { set, ..State::ANY }))
+        is_unknown.then_some((
+            next,
+            State {
+                known: Known { set, ..Known::ANY },
+                ..State::ANY
+            },
+        ))
     }
 
     /// Where the return at an address goes; `None` unless the states there are to know that, and this one does.
@@ -151,7 +157,7 @@ impl<'a> ReachedProgram<'a> {
     pub fn knows_return(self, instr: Instr, state: State) -> bool {
         let left = match instr.flow() {
             Flow::Returns => Some(state),
-            Flow::ReturnsIf(condition) => given(condition, true, state),
+            Flow::ReturnsIf(condition) => state.given(condition, true),
             _ => None,
         };
         left.is_none_or(|left| left.words.first.is_some_and(|word| word.words.is_alone()))

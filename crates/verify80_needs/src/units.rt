@@ -32,6 +32,7 @@ impl Units {
 
 /// A sum of an address and of the parts of a state without the joined ones, by which states are distinguished.
 pub fn sum_of(at: u16, state: State, joined: Units) -> u64 {
+    let known = state.known;
     let bytes = [
         Register::A,
         Register::B,
@@ -41,9 +42,9 @@ pub fn sum_of(at: u16, state: State, joined: Units) -> u64 {
         Register::H,
         Register::L,
     ]
-    .map(|register| byte_value(state.byte(register)));
-    let flags = [state.zero, state.carry, state.sign].map(flag_value);
-    let compared = [state.compared.map_or(256, |byte| u64::from(byte))];
+    .map(|register| byte_value(known.byte(register)));
+    let flags = [known.zero, known.carry, known.sign].map(flag_value);
+    let compared = [known.compared.map_or(256, |byte| u64::from(byte))];
     let words = [
         state.words.first,
         state.words.second,
@@ -51,7 +52,7 @@ pub fn sum_of(at: u16, state: State, joined: Units) -> u64 {
         state.words.fourth,
     ]
     .map(word_value);
-    let cells = state.cells.each.map(|cell| byte_value(cell.bytes));
+    let cells = known.cells.each.map(|cell| byte_value(cell.bytes));
     let values = bytes
         .iter()
         .chain(flags.iter())

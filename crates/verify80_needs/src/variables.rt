@@ -3,7 +3,7 @@
 use crate::landmarks::Landmarks;
 use std::alloc::{AllocError, Global};
 use verify80_spans::ByteSpan;
-use verify80_states::{State, Variable, is_bit};
+use verify80_states::{Known, Variable, is_bit};
 
 /// How many variables a program has, at most: a state has a bit for each.
 const MOST: usize = 64;
@@ -51,7 +51,7 @@ impl Variables {
     }
 
     /// A bit for each variable that has one of its bytes in a state: by the state's bits, or by its cells.
-    pub fn set_in(&self, state: State) -> u64 {
+    pub fn set_in(&self, state: Known) -> u64 {
         let mut set = state.set;
         let mut bit = 1_u64;
         for (variable, growths) in self.list.iter().zip(self.growths.iter()) {

@@ -176,11 +176,11 @@ impl Nodes {
         }
         for number in 0..self.nodes.len() {
             if let Some(node) = self.nodes.get_mut(number) {
-                let state = &mut node.placed.state;
-                let bytes = self.variables.bytes_at(state.set, address);
-                let cells = widened_cells(state.cells, address, bytes);
-                if bytes != ByteSpan::ANY && cells != state.cells {
-                    state.cells = cells;
+                let known = &mut node.placed.state.known;
+                let bytes = self.variables.bytes_at(known.set, address);
+                let cells = widened_cells(known.cells, address, bytes);
+                if bytes != ByteSpan::ANY && cells != known.cells {
+                    known.cells = cells;
                     self.wait(place_of(number))?;
                 }
             }

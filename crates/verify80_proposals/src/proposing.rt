@@ -6,7 +6,7 @@ use decode80::{Instr, Operand, Operation};
 use std::alloc::{AllocError, Global};
 use verify80_needs::{Landmarks, Needs, ReachedProgram};
 use verify80_spans::ByteSpan;
-use verify80_states::{APART, CallReturns, Placed, State, Variable, stored_bytes};
+use verify80_states::{APART, CallReturns, Known, Placed, State, Variable, stored_bytes};
 
 /// A table of states, for each of their ways a place of the table, and the returns and variables by which it was made. The first hint is
 /// that of the start.
@@ -114,13 +114,13 @@ impl Nodes {
             node.placed.hint = place_of(first);
             self.hints.resize(first.saturating_add(followed), NOWHERE)?;
         }
-        let (one, other) = stored_bytes(program.code, found.instr, state);
+        let (one, other) = stored_bytes(program.code, found.instr, state.known);
         for stored in [one, other].into_iter().flatten() {
             self.note_stored(stored)?;
         }
         for number in 0..followed {
             let to = match program.way(at, found, state, number) {
-                Some((to, after)) if distinguishes(found.instr, state, after) => {
+                Some((to, after)) if distinguishes(found.instr, state.known, after.known) => {
                     followed = followed.saturating_add(MOST_APART);
                     self.enter_apart(alloc, to, after)?
                 }
@@ -137,7 +137,7 @@ impl Nodes {
     /// Enters a state for each byte of A. The hint says where among the hints their places begin.
     fn enter_apart(&mut self, alloc: Global, to: u16, state: State) -> Result<u32, AllocError> {
         let first = self.hints.len();
-        for byte in state.a.first..=state.a.last {
+        for byte in state.known.a.first..=state.known.a.last {
             let place = self.enter(alloc, to, state.cut(ByteSpan::alone(byte)))?;
             self.hints.push(place)?;
         }
@@ -184,7 +184,7 @@ impl Nodes {
 }
 
 /// Whether the bytes of A are distinguished on a way: few are left by ANI, or by a jump behind a comparison.
-fn distinguishes(instr: Instr, before: State, after: State) -> bool {
+fn distinguishes(instr: Instr, before: Known, after: Known) -> bool {
     let count = usize::from(after.a.last.saturating_sub(after.a.first));
     let asks = match instr {
         Instr::Operate(Operation::And, Operand::Immediate(_)) => true,

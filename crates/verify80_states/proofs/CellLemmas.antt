@@ -1,5 +1,5 @@
 -- What is known of bytes of memory, along stores and where it is read.
-use Rattle.verify80_states.proofs.Names.{◌≡◌, ◌≢◌, ◌⊎◌, ◌<◌, ◌&&◌, ◌==◌, ℕ, Bool, true, false, List, [], ◌∷◌, Option, None, Some, nat_le, length, slice_index, slice_set, refl, subst, sym, ap, ◌∙◌, arith, inl, inr, eqb-true, nat_tests, get_or-set_same, length-set, Areas, in_data, byte_in, stored, Span, ByteSpan, Cell, Cells, Variable, State, HoldsSet, IsSaid, HasBytes, Within, ByteWithin, is_alone, HoldsCell, HoldsCells, IsByteInside, any_byte, IsCellInside, AreCellsInside, IsQuietCell, AreQuietCells, any_cell, no_cells, map, get_or, All, All-map, All-replicate, slice_get-get_or, cut_cell, cut_cells, stored_cell, HoldsSource, IsQuietSource, IsQuietState, anything, cells_after, StoredByte, All-set, IsByte}
+use Rattle.verify80_states.proofs.Names.{◌≡◌, ◌≢◌, ◌⊎◌, ◌<◌, ◌&&◌, ◌==◌, ℕ, Bool, true, false, List, [], ◌∷◌, Option, None, Some, nat_le, length, slice_index, slice_set, refl, subst, sym, ap, ◌∙◌, arith, inl, inr, eqb-true, nat_tests, get_or-set_same, length-set, Areas, in_data, byte_in, stored, Span, ByteSpan, Cell, Cells, Variable, Known, HoldsSet, IsSaid, HasBytes, Within, ByteWithin, is_alone, HoldsCell, HoldsCells, IsByteInside, any_byte, IsCellInside, AreCellsInside, IsQuietCell, AreQuietCells, any_cell, no_cells, map, get_or, All, All-map, All-replicate, slice_get-get_or, cut_cell, cut_cells, stored_cell, HoldsSource, IsQuietSource, IsQuietKnown, nothing_known, cells_after, StoredByte, All-set, IsByte}
 use Rattle.verify80_states.proofs.{ByteLemmas.byte_at as memory_byte, SpanLemmas.any_byte_within, SpanLemmas.byte_inside_within, SpanLemmas.meet_bytes_within, MemoryLemmas.Ground, MemoryLemmas.one_stored, StoredLemmas.AreStored, StoredLemmas.stack_stored}
 
 -- what holds of each cell holds of what becomes of it
@@ -42,13 +42,13 @@ source_quieter : (quiet other : ℕ → Bool) (o : Option ℕ) → ((at : ℕ) �
 source_quieter quiet other None more is = tt
 source_quieter quiet other (Some at) more is = more at is
 
-pub state_quieter : (quiet other : ℕ → Bool) (s : State) → ((at : ℕ) → quiet at ≡ true → other at ≡ true) → IsQuietState quiet s → IsQuietState other s
-state_quieter quiet other s more are = record {
+pub known_quieter : (quiet other : ℕ → Bool) (s : Known) → ((at : ℕ) → quiet at ≡ true → other at ≡ true) → IsQuietKnown quiet s → IsQuietKnown other s
+known_quieter quiet other s more are = record {
   cells = λ k d inside. quieter quiet other (get_or s.cells.each k d) more (are.cells k d inside).either;
   source = source_quieter quiet other s.source more are.source;
 }
 
-pub none_quiet : (quiet : ℕ → Bool) → IsQuietState quiet anything
+pub none_quiet : (quiet : ℕ → Bool) → IsQuietKnown quiet nothing_known
 none_quiet quiet = record { cells = All-replicate (IsQuietCell quiet) 8 any_cell (record { either = inl refl }); source = tt }
 
 -- what devices don't touch stays that of A

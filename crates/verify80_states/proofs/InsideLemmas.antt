@@ -1,5 +1,5 @@
 -- What a state says, one says that is around it.
-use Rattle.verify80_states.proofs.Names.{◌≡◌, ◌⊎◌, ℕ, Bool, true, List, Option, None, Some, refl, subst, inl, inr, Register, A, ahead, Areas, Registers, word, register_of, byte_in, Machine, PairSpan, Words, State, Variable, HoldsSet, is_bit, bytes_at, HasBytes, ByteWithin, IsByteInside, Holds, HoldsPair, HoldsWord, HoldsWords, HoldsSource, Compares, IsPairInside, IsSameIfKnown, IsCopyInside, IsWordInside, AreWordsInside, IsStateInside}
+use Rattle.verify80_states.proofs.Names.{◌≡◌, ◌⊎◌, ℕ, Bool, true, List, Option, None, Some, refl, subst, inl, inr, Register, A, ahead, Areas, Registers, word, register_of, byte_in, Machine, PairSpan, Words, State, Variable, HoldsSet, is_bit, bytes_at, HasBytes, ByteWithin, IsByteInside, Holds, HoldsPair, HoldsWord, HoldsWords, HoldsSource, Compares, IsPairInside, IsSameIfKnown, IsCopyInside, IsWordInside, AreWordsInside, IsStateInside, Known, HoldsKnown, IsKnownInside}
 use Rattle.verify80_spans.specs.Span.{IsKnown}
 use Rattle.verify80_states.proofs.{CellReads.cells_within, SpanLemmas.inside_within, SpanLemmas.byte_inside_within, CellLemmas.cells_around}
 
@@ -28,8 +28,8 @@ words_around regions w v memory sp inside holds = record {
   fourth = word_around regions w.fourth v.fourth memory sp (ahead sp 6) inside.fourth holds.fourth;
 }
 
-pub state_around : (regions : Areas) (variables : List Variable) (s t : State) (m : Machine) → HasBytes m.memory → IsStateInside variables s t → HoldsSet variables s.set m.memory → Holds regions s m → Holds regions t m
-state_around regions variables s t m bytes inside named holds =
+pub known_around : (variables : List Variable) (s t : Known) (m : Machine) → HasBytes m.memory → IsKnownInside variables s t → HoldsSet variables s.set m.memory → HoldsKnown s m → HoldsKnown t m
+known_around variables s t m bytes inside named holds =
     let r = m.cpu.registers in
     let h = holds.registers in
     record {
@@ -46,14 +46,17 @@ state_around regions variables s t m bytes inside named holds =
           compared = same_around (λ (o : Option ℕ). Compares o r.a r.flags) s.compared t.compared tt inside.compared h.flags.compared;
         };
       };
-      words = words_around regions s.words t.words m.memory m.cpu.sp inside.words holds.words;
       cells = cells_around variables s.set m.memory bytes named s.cells t.cells inside.cells holds.cells;
       source = same_around (λ (o : Option ℕ). HoldsSource o m.memory r.a) s.source t.source tt inside.source holds.source;
     }
 
+pub state_around : (regions : Areas) (variables : List Variable) (s t : State) (m : Machine) → HasBytes m.memory → IsStateInside variables s t → HoldsSet variables s.known.set m.memory → Holds regions s m → Holds regions t m
+state_around regions variables s t m bytes inside named holds =
+    record { known = known_around variables s.known t.known m bytes inside.known named holds.known; words = words_around regions s.words t.words m.memory m.cpu.sp inside.words holds.words }
+
 -- variables that it names have their bytes
-pub set_around : (regions : Areas) (variables : List Variable) (s t : State) (m : Machine) → HasBytes m.memory → IsStateInside variables s t → HoldsSet variables s.set m.memory → Holds regions s m → HoldsSet variables t.set m.memory
-set_around regions variables s t m bytes inside named holds v of = by ((inside.set of.number v of.there).either of.named) where
+pub set_around : (variables : List Variable) (s t : Known) (m : Machine) → HasBytes m.memory → IsKnownInside variables s t → HoldsSet variables s.set m.memory → HoldsKnown s m → HoldsSet variables t.set m.memory
+set_around variables s t m bytes inside named holds v of = by ((inside.set of.number v of.there).either of.named) where
   by : (is_bit s.set of.number ≡ true) ⊎ IsByteInside (bytes_at s.cells v.at) v.bytes → ByteWithin v.bytes (byte_in m.memory v.at)
   by (inl so) = named v (record { number = of.number; there = of.there; named = so })
   by (inr said) = byte_inside_within (bytes_at s.cells v.at) v.bytes (byte_in m.memory v.at) said (cells_within s.cells m.memory v.at holds.cells bytes)

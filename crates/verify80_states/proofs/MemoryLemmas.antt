@@ -1,5 +1,5 @@
 -- The memory after a step: code stays, and the words on the stack are as the state has them.
-use Rattle.verify80_states.proofs.Names.{◌≡◌, ◌≢◌, ◌<◌, ◌≤◌, ℕ, zero, suc, ◌+◌, ◌/◌, ◌%◌, Bool, true, false, not, List, [], ◌∷◌, Option, None, Some, length, slice_index, slice_set, refl, if◌then◌else◌, subst, sym, ap, ◌∙◌, arith, cond, get_or-set_other, true≢false, get_or-set_same, length-set, All-contains, Contains-append_left, Contains-append_right, Contains-push, nat_tests, Instr, Sp, StackPair, Store, MviMemory, InrMemory, DcrMemory, Stax, Sta, Shld, Push, Pop, Call, CallIf, Ret, ReturnIf, Rst, Xthl, Lxi, Inx, Dcx, Sphl, StackBc, StackDe, StackHl, Psw, flow, Range, in_range, IsInMemory, Areas, AreRegions, all_ranges, in_code, in_data, top_of, Registers, Cpu, End, Direct, Stack, StoreOutside, holds_of, flags_byte, guard, first_outside, ends_at, push_bytes, stores, stored, changed, PairSpan, Words, State, any_byte, word_alone, HoldsPair, HoldsRegisters, HoldsWord, HoldsWords, IsOnStack, pair_of_words, no_words, pushed, popped, pushed_pair, called, returned, words_after, is_taken}
+use Rattle.verify80_states.proofs.Names.{◌≡◌, ◌≢◌, ◌<◌, ◌≤◌, ℕ, zero, suc, ◌+◌, ◌/◌, ◌%◌, Bool, true, false, not, List, [], ◌∷◌, Option, None, Some, length, slice_index, slice_set, refl, if◌then◌else◌, subst, sym, ap, ◌∙◌, arith, cond, get_or-set_other, true≢false, get_or-set_same, length-set, All-contains, Contains-append_left, Contains-append_right, Contains-push, nat_tests, Instr, Sp, StackPair, Store, MviMemory, InrMemory, DcrMemory, Stax, Sta, Shld, Push, Pop, Call, CallIf, Ret, ReturnIf, Rst, Xthl, Lxi, Inx, Dcx, Sphl, StackBc, StackDe, StackHl, Psw, flow, Range, in_range, IsInMemory, Areas, AreRegions, all_ranges, in_code, in_data, top_of, Registers, Cpu, End, Direct, Stack, StoreOutside, holds_of, flags_byte, guard, first_outside, ends_at, push_bytes, stores, stored, changed, PairSpan, Words, State, any_byte, word_alone, HoldsPair, HoldsRegisters, HoldsWord, HoldsWords, IsOnStack, pair_of_words, no_words, pushed, popped, pushed_pair, called, returned, words_after, is_taken, Known}
 use Rattle.machine80.specs.Cpu.{high_of, low_of}
 use Rattle.decode80.specs.{Fetch.ahead, Fetch.behind}
 use Rattle.verify80_states.proofs.{ArithmeticBounds.flags_are_byte, ArithmeticBounds.ahead_is_word, ArithmeticBounds.behind_is_word, SpanLemmas.any_byte_within, StateLemmas.halves_hold, StateLemmas.split_holds}
@@ -257,7 +257,7 @@ module _ (regions : Areas) (ground : Ground regions) where
   stack_two m sp b c x y there a stack above filled = two_stored m a b c x y (stack_apart regions a b ground stack there.0) (stack_apart regions a c ground stack there.1)
 
   -- the word that PUSH pushes
-  pushed_holds : (s : State) (r : Registers) (pair : StackPair) → HoldsRegisters s r → HoldsPair (pushed_pair s pair) (high_of r pair) (low_of r pair)
+  pushed_holds : (s : Known) (r : Registers) (pair : StackPair) → HoldsRegisters s r → HoldsPair (pushed_pair s pair) (high_of r pair) (low_of r pair)
   pushed_holds s r StackBc holds = holds.bc
   pushed_holds s r StackDe holds = holds.de
   pushed_holds s r StackHl holds = holds.hl
@@ -280,7 +280,7 @@ module _ (regions : Areas) (ground : Ground regions) where
     maybe_return true w sp holds = words_popped w m sp holds
     maybe_return false w sp holds = holds
 
-    pub words_changed : (i : Instr) (next : ℕ) (cpu : Cpu) (s : State) → guard regions i cpu ≡ None → HoldsRegisters s cpu.registers → HoldsWords regions s.words m cpu.sp →
+    pub words_changed : (i : Instr) (next : ℕ) (cpu : Cpu) (s : State) → guard regions i cpu ≡ None → HoldsRegisters s.known cpu.registers → HoldsWords regions s.words m cpu.sp →
         HoldsWords regions (words_after i (is_taken (flow i) cpu.registers.flags) next s) (stored m (stores i next m cpu)) (changed i m cpu).sp
     words_changed (Store r) next cpu s pass holds words = words_stay s.words m _ cpu.sp (stack_one m cpu.sp _ _ (passed (in_data regions) _ StoreOutside None pass)) words
     words_changed (MviMemory b) next cpu s pass holds words = words_stay s.words m _ cpu.sp (stack_one m cpu.sp _ _ (passed (in_data regions) _ StoreOutside None pass)) words
@@ -291,12 +291,12 @@ module _ (regions : Areas) (ground : Ground regions) where
     words_changed (Shld w) next cpu s pass holds words =
         words_stay s.words m _ cpu.sp (stack_two m cpu.sp w (ahead w 1) cpu.registers.l cpu.registers.h (passed_two (in_data regions) w (ahead w 1) Direct None pass)) words
     words_changed (Push pair) next cpu s pass holds words =
-        words_pushed m cpu.sp (high_of cpu.registers pair) (low_of cpu.registers pair) whole s.words (pushed_pair s pair)
-        (passed_two (in_range regions.stack) (behind cpu.sp 1) (behind cpu.sp 2) Stack _ pass) (pushed_holds s cpu.registers pair holds) words
+        words_pushed m cpu.sp (high_of cpu.registers pair) (low_of cpu.registers pair) whole s.words (pushed_pair s.known pair)
+        (passed_two (in_range regions.stack) (behind cpu.sp 1) (behind cpu.sp 2) Stack _ pass) (pushed_holds s.known cpu.registers pair holds) words
     words_changed (Pop pair) next cpu s pass holds words = words_popped s.words m cpu.sp words
     words_changed Xthl next cpu s pass holds words =
         let both : (in_range regions.stack cpu.sp ≡ true) × (in_range regions.stack (ahead cpu.sp 1) ≡ true) = passed_two (in_range regions.stack) cpu.sp (ahead cpu.sp 1) Stack _ pass in
-        words_exchanged m cpu.sp cpu.registers.h cpu.registers.l whole both.0 both.1 s.words s.hl holds.hl words
+        words_exchanged m cpu.sp cpu.registers.h cpu.registers.l whole both.0 both.1 s.words s.known.hl holds.hl words
     words_changed (Call w) next cpu s pass holds words =
         words_pushed m cpu.sp (next / 256) (next % 256) whole s.words (pair_of_words (word_alone next)) (passed_two (in_range regions.stack) (behind cpu.sp 1) (behind cpu.sp 2) Stack _ pass) (next_holds next) words
     words_changed (Rst n) next cpu s pass holds words =

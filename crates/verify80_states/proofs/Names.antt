@@ -14,14 +14,15 @@ pub use Rattle.std.proofs.Common.{Some, ap, arith, below_more, cond, get_or, get
 pub use Rattle.std.proofs.{Math.Bool.not-not, lemmas.Bool.and_parts, lemmas.Bool.cases_eq, lemmas.Bool.cond_both, lemmas.Bool.eqb-true, lemmas.List.Sums.AllPass-from_list_all, lemmas.Map.Views.Contains-from_any, lemmas.Bool.Decides.nat_tests, lemmas.Grind.get_or_default_zero, lemmas.List.FromFn.get_or-map-range_with_len, lemmas.List.FromFn.length-map-range_with_len, lemmas.List.get_or-set_same, lemmas.List.length-set, lemmas.Nat.and_le_l, lemmas.Nat.and_le_r, lemmas.Nat.le_or_l, lemmas.Nat.le_or_r, lemmas.Nat.or_of_8, lemmas.Nat.shr_le, lemmas.Nat.xor_of_8, lemmas.Option.get_or_from_slice_get, lemmas.Option.same_Some, lemmas.Option.slice_get-get_or, lemmas.Option.slice_get_within}
 pub use Rattle.std.proofs.lemmas.List.Elements.{All-cons, All-contains, All-drop, All-head, All-map, All-nil, All-push, All-replicate, All-set, All-tail, Contains-append_left, Contains-append_right, Contains-push}
 pub use Rattle.std.specs.{Int.Bits.and_lt, Int.Bits.and_self, Int.Bits.or_add_and, Int.Bits.or_self, Int.Bits.xor_add_and, Int.Bits.xor_self, List.find, List.list_all, List.list_any, List.range_with_len, Option.option_map_or, Result.result_ok}
-pub use Rattle.std.specs.Prelude.{All, Bool, Contains, Err, IsSome, List, None, Ok, Option, Result, [], bit_and, bit_or, bit_xor, drop, false, if◌then◌else◌, length, map, max, min, nat_le, nat_lt, not, slice_get, slice_index, slice_index_or, slice_set, ◌%◌, ◌&&◌, ◌*◌, ◌++◌, ◌+◌, ◌-◌, ◌/◌, ◌==◌, ◌∷◌, ◌≢◌, ◌≤◌, ◌⊎◌}
+pub use Rattle.std.specs.Prelude.{All, IfSome, Bool, Contains, Err, IsSome, List, None, Ok, Option, Result, [], bit_and, bit_or, bit_xor, drop, false, if◌then◌else◌, length, map, max, min, nat_le, nat_lt, not, slice_get, slice_index, slice_index_or, slice_set, ◌%◌, ◌&&◌, ◌*◌, ◌++◌, ◌+◌, ◌-◌, ◌/◌, ◌==◌, ◌∷◌, ◌≢◌, ◌≤◌, ◌⊎◌}
 pub use Rattle.verify80.specs.{Boards.LeavesProgram, Boards.with_memory, Looking.code_of, Looking.declared_targets, Starts.IsStart, Starts.IsWorldFrom, Starts.NeverGoesWrongFromPowerOn, Reached.AreReached, Reached.IsReached, Reached.StandsOnWalk, Reached.StaysOnWalks, Reached.found_at}
 pub use Rattle.verify80_spans.specs.Span.{ByteWithin, IsByteInside, IsInside, Within, and_of, any_byte, any_word, are_alone, below, byte_alone, carry_span, complemented, difference_of, doubled, exclusive_or_of, from, high_of as high_bytes, is_alone, is_byte_alone, joined, meet, meet_bytes, next_byte, next_span, only, operated, or_of, previous_byte, previous_span, rotated, sign_of, sum_carries, sum_of, sum_span, uncarried, without, word_alone, zero_of}
 pub use Rattle.verify80_spans.specs.{declared.byte_span.ByteSpan.ByteSpan, declared.byte_span.Outcome.Outcome, declared.span.Span.Span}
 pub use Rattle.verify80_states.specs.Bytes.{AreBytes, BytesStayBytes, FetchedOperandsAreBounded, HasBytes, HoldsBytes, IsBounded, IsByte, IsWord, MemoryKeepsItsLength}
 pub use Rattle.verify80_states.specs.Calls.{AccountsFor, AccountsForCall, IsBehind, IsWithin, KeepsCalls, KnowsReturn, KnowsReturnIf, KnowsReturnsOf, Owes, ReturnFacts, no_returns, returns_of}
 pub use Rattle.verify80_states.specs.Cells.{AreCellsInside, AreQuietCells, HoldsCell, HoldsCells, IsCellInside, IsQuietCell, any_cell, bytes_at, bytes_of, cells_after, cut_cell, cut_cells, no_cells, stored_cell}
-pub use Rattle.verify80_states.specs.{Fitting.CallsEntry, Fitting.Covers, Fitting.CoversAfter, Fitting.FitsAt, Fitting.FitsBy, Fitting.Has, Fitting.KnowsQuiet, FittingTable.AccountsAt, FittingTable.AllFit, FittingTable.EntryFits, FittingTable.Fits, FittingTable.FitsWhereReached, FittingTable.nothing_at, Marks.entry_at, Marks.is_marked, Runs.IsKept, Runs.KeepsTo, Runs.KeepsToCalls, Steps.AreCodeBytes, Steps.HasCode, Steps.ReadsCode, Steps.is_taken, Variables.HoldsSet, Variables.IsSaid, Variables.is_bit, Variables.takes, declared.fitting.fitting.Placed.Placed, declared.states.cells.Cell.Cell, declared.states.cells.Cells.Cells, declared.states.memory_after.StoredByte.StoredByte, declared.states.pairs.PairSpan.PairSpan, declared.states.state.State.State, declared.states.variables.Variable.Variable, declared.states.words.Words.Words}
-pub use Rattle.verify80_states.specs.Following.{added_carry, address_after, after_operation, called, code_or, counted, exchanged, index_words, is_accumulator, is_steady, known_pair, loaded, loaded_at, moved, only_address, operand_bytes, pushed_pair, registers_after, resulted, returned, source_after, state_after, stored_bytes, tested, turned, words_after}
+pub use Rattle.verify80_states.specs.{Fitting.CallsEntry, Fitting.Covers, Fitting.CoversAfter, Fitting.FitsAt, Fitting.FitsBy, Fitting.Has, Fitting.KnowsQuiet, FittingTable.AccountsAt, FittingTable.AllFit, FittingTable.EntryFits, FittingTable.Fits, FittingTable.FitsWhereReached, FittingTable.nothing_at, Marks.entry_at, Marks.is_marked, Runs.IsKept, Runs.KeepsTo, Runs.KeepsToCalls, Steps.AreCodeBytes, Steps.HasCode, Steps.ReadsCode, Steps.is_taken, Variables.HoldsSet, Variables.IsSaid, Variables.is_bit, Variables.takes, declared.fitting.fitting.Placed.Placed, declared.states.cells.Cell.Cell, declared.states.cells.Cells.Cells, declared.states.memory_after.StoredByte.StoredByte, declared.states.pairs.PairSpan.PairSpan, declared.states.known.Known.Known, declared.states.following.StackTop.StackTop, declared.states.state.State.State, declared.states.variables.Variable.Variable, declared.states.words.Words.Words}
+pub use Rattle.verify80_states.specs.Following.{added_carry, address_after, known_after, summand, top_word, after_operation, called, code_or, counted, exchanged, index_words, is_accumulator, is_steady, known_pair, loaded, loaded_at, moved, only_address, operand_bytes, pushed_pair, registers_after, resulted, returned, source_after, state_after, stored_bytes, tested, turned, words_after}
 pub use Rattle.verify80_states.specs.Given.{carry_bytes, cut_to, given, given_carry, given_flag, given_sign, given_zero, zero_bytes}
-pub use Rattle.verify80_states.specs.State.{AreWordsInside, Compares, Holds, HoldsPair, HoldsRegisters, HoldsSource, HoldsWord, HoldsWords, IsCopyInside, IsOnStack, IsPairInside, IsQuietSource, IsQuietState, IsSameIfKnown, IsStateInside, IsWordInside, any_pair, anything, byte_of, compared_with, copy_outside, copy_without, cut, cut_copy, cut_high, cut_low, next_pair, no_words, pair_of_halves, pair_of_words, popped, previous_pair, pushed, span_of, sum_pair, unknown_but, with_any_flags, with_byte, with_carry, with_outcome, with_span}
+pub use Rattle.verify80_states.specs.Known.{Compares, HoldsKnown, HoldsPair, HoldsRegisters, HoldsSource, HoldsTop, IsCopyInside, IsKnownInside, IsPairInside, IsQuietKnown, IsQuietSource, IsSameIfKnown, any_pair, byte_of, compared_with, copy_outside, copy_without, cut, cut_copy, cut_high, cut_low, next_pair, nothing_known, pair_of_halves, pair_of_words, previous_pair, span_of, sum_pair, with_any_flags, with_byte, with_carry, with_outcome, with_span}
+pub use Rattle.verify80_states.specs.State.{AreWordsInside, Holds, HoldsWord, HoldsWords, IsOnStack, IsQuietState, IsStateInside, IsWordInside, anything, cut_state, given_state, no_words, popped, pushed, unknown_but, with_known}

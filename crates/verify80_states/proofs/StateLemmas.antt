@@ -1,5 +1,5 @@
 -- What a state says when registers and flags are written.
-use Rattle.verify80_states.proofs.Names.{◌≡◌, ◌<◌, ◌==◌, ℕ, ◌+◌, ◌/◌, ◌%◌, Bool, true, false, Option, nat_lt, nat_le, refl, arith, subst, sym, nat_tests, Register, Pair, A, B, C, D, E, H, L, Bc, De, Hl, Sp, Flags, Registers, Cpu, word, register_of, with_register, with_pair, Span, ByteSpan, Outcome, PairSpan, State, AreBytes, Within, ByteWithin, any_byte, byte_alone, next_span, previous_span, next_byte, previous_byte, sum_span, sum_of, joined, zero_of, sign_of, HoldsPair, HoldsRegisters, Compares, any_pair, anything, pair_of_words, pair_of_halves, byte_of, copy_without, copy_outside, with_byte, with_span, with_outcome, with_carry, with_any_flags, cut_high, cut_low, cut_copy, cut, next_pair, previous_pair, sum_pair}
+use Rattle.verify80_states.proofs.Names.{◌≡◌, ◌<◌, ◌==◌, ℕ, ◌+◌, ◌/◌, ◌%◌, Bool, true, false, Option, nat_lt, nat_le, refl, arith, subst, sym, nat_tests, Register, Pair, A, B, C, D, E, H, L, Bc, De, Hl, Sp, Flags, Registers, Cpu, word, register_of, with_register, with_pair, Span, ByteSpan, Outcome, PairSpan, Known, AreBytes, Within, ByteWithin, any_byte, byte_alone, next_span, previous_span, next_byte, previous_byte, sum_span, sum_of, joined, zero_of, sign_of, HoldsPair, HoldsRegisters, Compares, any_pair, nothing_known, pair_of_words, pair_of_halves, byte_of, copy_without, copy_outside, with_byte, with_span, with_outcome, with_carry, with_any_flags, cut_high, cut_low, cut_copy, cut, next_pair, previous_pair, sum_pair}
 use Rattle.verify80_spans.specs.Span.{IsKnown, high_of}
 use Rattle.machine80.specs.Flags.{flags_of_result}
 use Rattle.verify80_states.proofs.SpanLemmas.{known_if, high_within, low_within, joined_within, any_word_within, any_byte_within, alone_within, next_within, previous_within, next_byte_within, previous_byte_within, sum_within, meet_within, meet_bytes_within}
@@ -19,7 +19,7 @@ split_holds span n inside =
     record { words = word; low = low_within span (n / 256) (n % 256) (omega arith) word }
 
 -- a register's byte
-pub byte_holds : (s : State) (r : Registers) (register : Register) → AreBytes r → HoldsRegisters s r → ByteWithin (byte_of s register) (register_of r register)
+pub byte_holds : (s : Known) (r : Registers) (register : Register) → AreBytes r → HoldsRegisters s r → ByteWithin (byte_of s register) (register_of r register)
 byte_holds s r A bytes holds = holds.a
 byte_holds s r B bytes holds = high_holds s.bc r.b r.c bytes.c holds.bc
 byte_holds s r C bytes holds = holds.bc.low
@@ -40,7 +40,7 @@ copy_stays L L r byte same = refl
 copy_stays to copy r byte same = same
 
 -- a register is written
-pub with_byte_holds : (s : State) (r : Registers) (to : Register) (span : ByteSpan) (byte : ℕ) → AreBytes r → HoldsRegisters s r → ByteWithin span byte →
+pub with_byte_holds : (s : Known) (r : Registers) (to : Register) (span : ByteSpan) (byte : ℕ) → AreBytes r → HoldsRegisters s r → ByteWithin span byte →
     HoldsRegisters (with_byte s to span) (with_register r to byte)
 with_byte_holds s r A span byte bytes holds inside =
     let flags = holds.flags in
@@ -78,16 +78,16 @@ hl_copy L r high low same = refl
 hl_copy copy r high low same = same
 
 -- a pair is written
-pub bc_written_holds : (s : State) (r : Registers) (span : PairSpan) (high low : ℕ) → HoldsRegisters s r → HoldsPair span high low → HoldsRegisters (with_span s Bc span) (record r { b = high; c = low })
+pub bc_written_holds : (s : Known) (r : Registers) (span : PairSpan) (high low : ℕ) → HoldsRegisters s r → HoldsPair span high low → HoldsRegisters (with_span s Bc span) (record r { b = high; c = low })
 bc_written_holds s r span high low holds pair = record { a = holds.a; bc = pair; de = holds.de; hl = holds.hl; copy = bc_copy s.copy r high low holds.copy; flags = holds.flags }
 
-pub de_written_holds : (s : State) (r : Registers) (span : PairSpan) (high low : ℕ) → HoldsRegisters s r → HoldsPair span high low → HoldsRegisters (with_span s De span) (record r { d = high; e = low })
+pub de_written_holds : (s : Known) (r : Registers) (span : PairSpan) (high low : ℕ) → HoldsRegisters s r → HoldsPair span high low → HoldsRegisters (with_span s De span) (record r { d = high; e = low })
 de_written_holds s r span high low holds pair = record { a = holds.a; bc = holds.bc; de = pair; hl = holds.hl; copy = de_copy s.copy r high low holds.copy; flags = holds.flags }
 
-pub hl_written_holds : (s : State) (r : Registers) (span : PairSpan) (high low : ℕ) → HoldsRegisters s r → HoldsPair span high low → HoldsRegisters (with_span s Hl span) (record r { h = high; l = low })
+pub hl_written_holds : (s : Known) (r : Registers) (span : PairSpan) (high low : ℕ) → HoldsRegisters s r → HoldsPair span high low → HoldsRegisters (with_span s Hl span) (record r { h = high; l = low })
 hl_written_holds s r span high low holds pair = record { a = holds.a; bc = holds.bc; de = holds.de; hl = pair; copy = hl_copy s.copy r high low holds.copy; flags = holds.flags }
 
-pub with_span_holds : (s : State) (cpu : Cpu) (pair : Pair) (span : PairSpan) (n : ℕ) → HoldsRegisters s cpu.registers → HoldsPair span (n / 256) (n % 256) → HoldsRegisters (with_span s pair span) (with_pair cpu pair n).registers
+pub with_span_holds : (s : Known) (cpu : Cpu) (pair : Pair) (span : PairSpan) (n : ℕ) → HoldsRegisters s cpu.registers → HoldsPair span (n / 256) (n % 256) → HoldsRegisters (with_span s pair span) (with_pair cpu pair n).registers
 with_span_holds s cpu Bc span n holds inside = bc_written_holds s cpu.registers span (n / 256) (n % 256) holds inside
 with_span_holds s cpu De span n holds inside = de_written_holds s cpu.registers span (n / 256) (n % 256) holds inside
 with_span_holds s cpu Hl span n holds inside = hl_written_holds s cpu.registers span (n / 256) (n % 256) holds inside
@@ -105,30 +105,30 @@ flags_copy : (copy : Register) (r : Registers) (f : Flags) → register_of r cop
 flags_copy A r f same = refl
 flags_copy copy r f same = same
 
-pub outcome_holds : (s : State) (r : Registers) (out : Outcome) (byte : ℕ) (half full : Bool) → HoldsRegisters s r → Makes out byte full →
+pub outcome_holds : (s : Known) (r : Registers) (out : Outcome) (byte : ℕ) (half full : Bool) → HoldsRegisters s r → Makes out byte full →
     HoldsRegisters (with_outcome s out) (record r { flags = flags_of_result byte half full })
 unfolding flags_of_result
 outcome_holds s r out byte half full holds makes =
     let copy = flags_copy s.copy r (flags_of_result byte half full) holds.copy in
     record { a = holds.a; bc = holds.bc; de = holds.de; hl = holds.hl; copy = copy; flags = record { zero = zero_known out.value byte makes.value; carry = makes.carry; sign = sign_known out.value byte makes.value; compared = tt } }
 
-pub carry_holds : (s : State) (r : Registers) (known : Option Bool) (carry : Bool) → HoldsRegisters s r → IsKnown known carry →
+pub carry_holds : (s : Known) (r : Registers) (known : Option Bool) (carry : Bool) → HoldsRegisters s r → IsKnown known carry →
     HoldsRegisters (with_carry s known) (record r { flags = record r.flags { carry = carry } })
 carry_holds s r known carry holds is =
     let copy = flags_copy s.copy r (record r.flags { carry = carry }) holds.copy in
     record { a = holds.a; bc = holds.bc; de = holds.de; hl = holds.hl; copy = copy; flags = record { zero = holds.flags.zero; carry = is; sign = holds.flags.sign; compared = tt } }
 
-pub any_flags_hold : (s : State) (r : Registers) (f : Flags) → HoldsRegisters s r → HoldsRegisters (with_any_flags s) (record r { flags = f })
+pub any_flags_hold : (s : Known) (r : Registers) (f : Flags) → HoldsRegisters s r → HoldsRegisters (with_any_flags s) (record r { flags = f })
 any_flags_hold s r f holds = record { a = holds.a; bc = holds.bc; de = holds.de; hl = holds.hl; copy = flags_copy s.copy r f holds.copy; flags = record { zero = tt; carry = tt; sign = tt; compared = tt } }
 
 -- a comparison is known
-pub compared_holds : (s : State) (r : Registers) (compared : Option ℕ) → HoldsRegisters s r → Compares compared r.a r.flags → HoldsRegisters (record s { compared = compared }) r
+pub compared_holds : (s : Known) (r : Registers) (compared : Option ℕ) → HoldsRegisters s r → Compares compared r.a r.flags → HoldsRegisters (record s { compared = compared }) r
 compared_holds s r compared holds is =
     let flags = holds.flags in
     record { a = holds.a; bc = holds.bc; de = holds.de; hl = holds.hl; copy = holds.copy; flags = record { zero = flags.zero; carry = flags.carry; sign = flags.sign; compared = is } }
 
 -- another register is known to have A's byte
-pub copy_holds : (s : State) (r : Registers) (copy : Register) → HoldsRegisters s r → register_of r copy ≡ r.a → HoldsRegisters (record s { copy = copy }) r
+pub copy_holds : (s : Known) (r : Registers) (copy : Register) → HoldsRegisters s r → register_of r copy ≡ r.a → HoldsRegisters (record s { copy = copy }) r
 copy_holds s r copy holds same = record { a = holds.a; bc = holds.bc; de = holds.de; hl = holds.hl; copy = same; flags = holds.flags }
 
 -- bytes of a pair are cut
@@ -146,7 +146,7 @@ cut_low_holds p span h l small holds inside =
       low = low;
     }
 
-cut_copy_holds : (s : State) (r : Registers) (copy : Register) (span : ByteSpan) → AreBytes r → HoldsRegisters s r → ByteWithin span (register_of r copy) → HoldsRegisters (cut_copy s copy span) r
+cut_copy_holds : (s : Known) (r : Registers) (copy : Register) (span : ByteSpan) → AreBytes r → HoldsRegisters s r → ByteWithin span (register_of r copy) → HoldsRegisters (cut_copy s copy span) r
 cut_copy_holds s r A span bytes holds inside = holds
 cut_copy_holds s r B span bytes holds inside = record { a = holds.a; bc = cut_high_holds s.bc span r.b r.c bytes.c holds.bc inside; de = holds.de; hl = holds.hl; copy = holds.copy; flags = holds.flags }
 cut_copy_holds s r C span bytes holds inside = record { a = holds.a; bc = cut_low_holds s.bc span r.b r.c bytes.c holds.bc inside; de = holds.de; hl = holds.hl; copy = holds.copy; flags = holds.flags }
@@ -155,7 +155,7 @@ cut_copy_holds s r E span bytes holds inside = record { a = holds.a; bc = holds.
 cut_copy_holds s r H span bytes holds inside = record { a = holds.a; bc = holds.bc; de = holds.de; hl = cut_high_holds s.hl span r.h r.l bytes.l holds.hl inside; copy = holds.copy; flags = holds.flags }
 cut_copy_holds s r L span bytes holds inside = record { a = holds.a; bc = holds.bc; de = holds.de; hl = cut_low_holds s.hl span r.h r.l bytes.l holds.hl inside; copy = holds.copy; flags = holds.flags }
 
-pub cut_holds : (s : State) (r : Registers) (span : ByteSpan) → AreBytes r → HoldsRegisters s r → ByteWithin span r.a → HoldsRegisters (cut s span) r
+pub cut_holds : (s : Known) (r : Registers) (span : ByteSpan) → AreBytes r → HoldsRegisters s r → ByteWithin span r.a → HoldsRegisters (cut s span) r
 cut_holds s r span bytes holds inside =
     let h = cut_copy_holds s r s.copy span bytes holds (subst (λ n. ByteWithin span n) (sym holds.copy) inside) in
     record { a = meet_bytes_within s.a span r.a holds.a inside; bc = h.bc; de = h.de; hl = h.hl; copy = h.copy; flags = h.flags }
@@ -192,8 +192,8 @@ any_sum_holds p h l n high low holds =
     subst (λ m. HoldsPair (sum_pair p any_pair) (m / 256) (m % 256)) same
     (sum_holds p any_pair h l i k high low (omega arith) (omega arith) holds (any_pair_holds i k (omega arith) (omega arith)))
 
--- bytes make registers of which anything holds
-pub anything_holds : (r : Registers) → AreBytes r → HoldsRegisters anything r
+-- bytes make registers of which nothing_known holds
+pub anything_holds : (r : Registers) → AreBytes r → HoldsRegisters nothing_known r
 anything_holds r bytes = record {
   a = any_byte_within r.a bytes.a;
   bc = any_pair_holds r.b r.c bytes.b bytes.c;

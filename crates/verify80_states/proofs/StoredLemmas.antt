@@ -1,5 +1,5 @@
 -- What an instruction stores: to data what its state says, or to the stack; all other bytes stay.
-use Rattle.verify80_states.proofs.Names.{arith, ◌≡◌, ◌≢◌, ◌<◌, ℕ, ◌/◌, ◌%◌, Bool, true, false, List, [], ◌∷◌, Option, None, Some, All, All-nil, All-head, All-tail, slice_index, slice_set, refl, if◌then◌else◌, sym, ap, ◌∙◌, true≢false, get_or-set_other, Instr, Store, MviMemory, InrMemory, DcrMemory, Stax, Sta, Shld, Push, Call, CallIf, Rst, Xthl, ahead, behind, HasOperandInRange, in_range, Areas, in_code, in_data, Registers, Cpu, Direct, Stack, StoreOutside, holds_of, hl_of, byte_in, push_bytes, stores, stored, guard, first_outside, ends_at, ByteSpan, State, StoredByte, HasBytes, AreBytes, ReadsCode, Within, ByteWithin, byte_alone, word_alone, next_byte, previous_byte, HoldsCells, HoldsRegisters, byte_of, loaded, stored_bytes}
+use Rattle.verify80_states.proofs.Names.{arith, ◌≡◌, ◌≢◌, ◌<◌, ℕ, ◌/◌, ◌%◌, Bool, true, false, List, [], ◌∷◌, Option, None, Some, All, All-nil, All-head, All-tail, slice_index, slice_set, refl, if◌then◌else◌, sym, ap, ◌∙◌, true≢false, get_or-set_other, Instr, Store, MviMemory, InrMemory, DcrMemory, Stax, Sta, Shld, Push, Call, CallIf, Rst, Xthl, ahead, behind, HasOperandInRange, in_range, Areas, in_code, in_data, Registers, Cpu, Direct, Stack, StoreOutside, holds_of, hl_of, byte_in, push_bytes, stores, stored, guard, first_outside, ends_at, ByteSpan, Known, StoredByte, HasBytes, AreBytes, ReadsCode, Within, ByteWithin, byte_alone, word_alone, next_byte, previous_byte, HoldsCells, HoldsRegisters, byte_of, loaded, stored_bytes}
 use Rattle.machine80.specs.Arithmetic.{byte_answer, increment_answer, decrement_answer}
 use Rattle.verify80_states.proofs.{ByteLemmas.byte_at as memory_byte, ByteLemmas.two_each, ArithmeticBounds.ahead_is_word, ArithmeticBounds.increment_is_byte, ArithmeticBounds.decrement_is_byte, RegisterBytes.register_is_byte, RegisterBytes.pointed_is_word, RegisterBytes.hl_is_word, StateLemmas.byte_holds, FollowLemmas.loaded_within, FollowLemmas.index_within}
 use Rattle.verify80_states.proofs.SpanLemmas.{alone_within, high_within, next_byte_within, previous_byte_within}
@@ -35,10 +35,10 @@ module _ (regions : Areas) where
   maybe_on_stack true sp high low pass = on_stack _ _ _ _ (passed_two (in_range regions.stack) (behind sp 1) (behind sp 2) Stack _ pass)
   maybe_on_stack false sp high low pass = All-nil (OnStack regions)
 
-  by_hl : (s : State) (r : Registers) (span : ByteSpan) (byte : ℕ) → AreBytes r → HoldsRegisters s r → in_data regions (hl_of r) ≡ true → ByteWithin span byte → byte < 256 → IsStored regions (record { at = s.hl.words; bytes = span }) (hl_of r, byte)
+  by_hl : (s : Known) (r : Registers) (span : ByteSpan) (byte : ℕ) → AreBytes r → HoldsRegisters s r → in_data regions (hl_of r) ≡ true → ByteWithin span byte → byte < 256 → IsStored regions (record { at = s.hl.words; bytes = span }) (hl_of r, byte)
   by_hl s r span byte bytes holds there is small = record { there = holds.hl.words; is = is; small = hl_is_word r bytes; byte = small; inside = there }
 
-  pub are_stored : (code : List (Option ℕ)) (m : List ℕ) (i : Instr) (next : ℕ) (cpu : Cpu) (s : State) → ReadsCode code m → HasBytes m → guard regions i cpu ≡ None → HasOperandInRange i → AreBytes cpu.registers → HoldsRegisters s cpu.registers → HoldsCells s.cells m →
+  pub are_stored : (code : List (Option ℕ)) (m : List ℕ) (i : Instr) (next : ℕ) (cpu : Cpu) (s : Known) → ReadsCode code m → HasBytes m → guard regions i cpu ≡ None → HasOperandInRange i → AreBytes cpu.registers → HoldsRegisters s cpu.registers → HoldsCells s.cells m →
       AreStored regions (stored_bytes code i s).0 (stored_bytes code i s).1 (stores i next m cpu)
   unfolding increment_answer decrement_answer byte_answer
   are_stored code m (Store r) next cpu s reads held pass small bytes holds cells =

@@ -36,7 +36,7 @@ nothing_is_kept image quiet reached table are whole ground bounded length_stays 
   variables = [];
   starts = λ start pc code size held stands. here (world_of start) stands held code size;
   steps = λ refused w after known stands before now keeps step newer.
-      here after stands now (code_stays image ground [] bounded refused w.machine after.machine known.stands.found keeps.keeps.placed.state before (λ at byte none. cc) keeps.keeps.holds known.stands.fetched step keeps.keeps.code)
+      here after stands now (code_stays image ground [] bounded refused w.machine after.machine known.stands.found keeps.keeps.placed.state.known before (λ at byte none. cc) keeps.keeps.holds.known known.stands.fetched step keeps.keeps.code)
       (length_stays image.regions refused w.machine after.machine step ∙ keeps.keeps.whole);
   disturbed = λ w memory leaves stays keeps. still_keeps image ground quiet no_returns [] table w memory knows (λ number v there. cc) leaves stays keeps;
 } where

@@ -3,7 +3,7 @@
 use Rattle.std.specs.Prelude.{◌≡◌, ◌⊎◌, ℕ, Bool, true, false, List, ◌∷◌, [], Contains, Option, Some, IfSome}
 use Rattle.decode80.specs.{declared.flow.Flow.Flow, declared.fetching.Fetched.Fetched, Facts.flow}
 use Rattle.decode80.specs.declared.flow.Flow.TheVariants.{Jumps, JumpsIf, JumpsToHl, Calls, CallsIf, Returns, ReturnsIf, Halts}
-use Rattle.verify80_states.specs.{declared.fitting.calls.CallReturns.CallReturns, declared.fitting.fitting.Placed.Placed, declared.states.pairs.PairSpan.PairSpan, declared.states.state.State.State, declared.states.variables.Variable.Variable, Variables.HoldsSet, State.unknown_but, Following.state_after, Given.given, Marks.is_marked, Fitting.Has, Fitting.Covers, Fitting.CallsEntry}
+use Rattle.verify80_states.specs.{declared.fitting.calls.CallReturns.CallReturns, declared.fitting.fitting.Placed.Placed, declared.states.pairs.PairSpan.PairSpan, declared.states.state.State.State, declared.states.variables.Variable.Variable, Variables.HoldsSet, State.unknown_but, State.given_state, Following.state_after, Marks.is_marked, Fitting.Has, Fitting.Covers, Fitting.CallsEntry}
 use Rattle.verify80_spans.specs.Span.{is_alone}
 
 -- from each address on, until the procedure returns: whether it may return, and whether each of its returns goes to an address that the
@@ -53,14 +53,14 @@ KnowsReturnIf variables table after left = IfSome left (λ s. KnowsReturn variab
 
 abbrev pub KnowsReturnsOf : List Variable → List Placed → (after : State → State) → State → Flow → Type 0
 KnowsReturnsOf variables table after s Returns = KnowsReturn variables table after s
-KnowsReturnsOf variables table after s (ReturnsIf condition) = KnowsReturnIf variables table after (given condition true s)
+KnowsReturnsOf variables table after s (ReturnsIf condition) = KnowsReturnIf variables table after (given_state condition true s)
 KnowsReturnsOf variables table after s w = Unit {0}
 
 -- if a state's instruction is a call whose callee may return, the table has a state that says nothing but of its variables behind it, unless the callee's states
 -- know where they return to; and if this state is to know that, it does
 pub record KeepsCalls (returns : ReturnFacts) (bytes : List (Option ℕ)) (variables : List Variable) (table : List Placed) (at : ℕ) (s : State) (found : Fetched) : Type 0 where
   pub behind : (entry : ℕ) → CallsEntry (flow found.instr) entry → returns.may entry ≡ true → returns.known entry ≡ false →
-      Has variables table found.next (unknown_but s.set)
+      Has variables table found.next (unknown_but s.known.set)
   pub known : returns.known at ≡ true → KnowsReturnsOf variables table (λ t. state_after bytes found.instr true found.next t) s (flow found.instr)
 
 -- What is owed to open calls, the newest first: if a return may come from an address on, it is known where it goes, or what is wanted behind

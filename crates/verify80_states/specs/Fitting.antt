@@ -3,7 +3,7 @@
 use Rattle.std.specs.Prelude.{◌≡◌, ◌⊎◌, ℕ, Bool, true, false, List, All, Contains, Option, Some, slice_get, IfSome}
 use Rattle.decode80.specs.{declared.fetching.Fetched.Fetched, declared.flow.Flow.Flow, Facts.flow}
 use Rattle.decode80.specs.declared.flow.Flow.TheVariants.{Jumps, JumpsIf, JumpsToHl, Calls, CallsIf, Returns, ReturnsIf, Halts}
-use Rattle.verify80_states.specs.{declared.states.state.State.State, declared.states.variables.Variable.Variable, declared.fitting.fitting.Placed.Placed, State.IsStateInside, State.IsQuietState, State.cut, Following.state_after, Given.given}
+use Rattle.verify80_states.specs.{declared.states.state.State.State, declared.states.variables.Variable.Variable, declared.fitting.fitting.Placed.Placed, State.IsStateInside, State.IsQuietState, State.cut_state, State.given_state, Following.state_after}
 use Rattle.verify80_spans.specs.Span.{Within, ByteWithin, byte_alone}
 
 -- the table has a state at an address that says no more than this one
@@ -16,7 +16,7 @@ pub record Has (variables : List Variable) (table : List Placed) (to : ℕ) (s :
 
 -- the table has states at an address that together say no more than this one: one of them, or one for each byte that A may be
 pub record Covers (variables : List Variable) (table : List Placed) (to : ℕ) (s : State) : Type 0 where
-  pub either : Has variables table to s ⊎ ((byte : ℕ) → ByteWithin s.a byte → Has variables table to (cut s (byte_alone byte)))
+  pub either : Has variables table to s ⊎ ((byte : ℕ) → ByteWithin s.known.a byte → Has variables table to (cut_state s (byte_alone byte)))
 
 -- the same of what an instruction makes of a state, if there is one
 abbrev pub CoversAfter : List Variable → List Placed → (to : ℕ) → (State → State) → Option State → Type 0
@@ -26,13 +26,13 @@ CoversAfter variables table to after left = IfSome left (λ s. Covers variables 
 abbrev pub FitsBy : (targets : List ℕ) → List Variable → List Placed → (after : Bool → State → State) → State → (next : ℕ) → Flow → Type 0
 FitsBy targets variables table after s next (Jumps to) = Covers variables table to (after false s)
 FitsBy targets variables table after s next (JumpsIf condition to) =
-    CoversAfter variables table to (after true) (given condition true s) × CoversAfter variables table next (after false) (given condition false s)
-FitsBy targets variables table after s next JumpsToHl = (to : ℕ) → Contains targets to → Within s.hl.words to → Covers variables table to (after false s)
+    CoversAfter variables table to (after true) (given_state condition true s) × CoversAfter variables table next (after false) (given_state condition false s)
+FitsBy targets variables table after s next JumpsToHl = (to : ℕ) → Contains targets to → Within s.known.hl.words to → Covers variables table to (after false s)
 FitsBy targets variables table after s next (Calls to) = Covers variables table to (after true s)
 FitsBy targets variables table after s next (CallsIf condition to) =
-    CoversAfter variables table to (after true) (given condition true s) × CoversAfter variables table next (after false) (given condition false s)
+    CoversAfter variables table to (after true) (given_state condition true s) × CoversAfter variables table next (after false) (given_state condition false s)
 FitsBy targets variables table after s next Returns = Unit {0}
-FitsBy targets variables table after s next (ReturnsIf condition) = CoversAfter variables table next (after false) (given condition false s)
+FitsBy targets variables table after s next (ReturnsIf condition) = CoversAfter variables table next (after false) (given_state condition false s)
 FitsBy targets variables table after s next Halts = Unit {0}
 FitsBy targets variables table after s next w = Covers variables table next (after false s)
 

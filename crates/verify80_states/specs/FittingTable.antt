@@ -14,7 +14,7 @@ use Rattle.verify80_states.specs.{declared.fitting.fitting.Placed.Placed, declar
 pub record EntryFits (bytes : List (Option ℕ)) (returns : ReturnFacts) (targets : List ℕ) (variables : List Variable) (table : List Placed) (at : ℕ) (s : State) (found : Fetched) : Type 0 where
   pub covered : FitsAt bytes targets variables table s found
   pub calls : KeepsCalls returns bytes variables table at s found
-  pub steady : list_all (is_steady bytes found.instr s) variables ≡ true
+  pub steady : list_all (is_steady bytes found.instr s.known) variables ≡ true
 
 pub record Fits (quiet : ℕ → Bool) (code : Code) (bytes : List (Option ℕ)) (returns : ReturnFacts) (variables : List Variable) (table : List Placed) : Type 0 where
   pub start : Has variables table code.start anything

@@ -2,9 +2,10 @@ pub mod Bytes
 pub mod Marks
 pub mod Variables
 pub mod Cells
+pub mod Known
+pub mod Given
 pub mod State
 pub mod Following
-pub mod Given
 pub mod Steps
 pub mod Fitting
 pub mod Calls

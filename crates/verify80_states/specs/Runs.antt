@@ -20,7 +20,7 @@ pub record KeepsTo (image : Located) (table : List Placed) (w : World) : Type 0 
 -- the same, each variable that the state names has one of its bytes, and what is owed to open calls is there
 pub record KeepsToCalls (image : Located) (returns : ReturnFacts) (variables : List Variable) (table : List Placed) (w : World) : Type 0 where
   pub keeps : KeepsTo image table w
-  pub set : HoldsSet variables keeps.placed.state.set w.machine.memory
+  pub set : HoldsSet variables keeps.placed.state.known.set w.machine.memory
   pub owes : Owes returns (IsBehind variables table w.machine.memory) w.machine.cpu.pc w.places
 
 -- so it is for each world of each run from power-on, whatever bytes are in the registers, in memory outside the code and at the

@@ -5,9 +5,11 @@
 //! | Item | What it is |
 //! |---|---|
 //! | [`Span`], [`ByteSpan`] | the words, and the bytes, from a first to a last one |
-//! | [`State`], [`PairSpan`], [`Words`], [`Cells`], [`Cell`] | what registers, flags, the words on top of the stack and some bytes of memory may be |
+//! | [`Known`], [`PairSpan`], [`Cells`], [`Cell`] | what registers, flags and some bytes of memory may be |
+//! | [`State`], [`Words`] | the same, and what the words on top of the stack may be |
 //! | [`Variable`], [`is_bit`] | a byte of memory that stays inside a span once it is there, and whether a state says that it is |
-//! | [`state_after`] | what they may be after an instruction |
+//! | [`known_after`], [`StackTop`] | what they may be after an instruction, given what is known of the stack at SP |
+//! | [`state_after`] | the same of a state |
 //! | [`stored_bytes`], [`StoredByte`] | the bytes that an instruction stores |
 //! | [`given`] | what a condition says of them |
 //! | [`Placed`] | a state at an address: a table is a list of these |
@@ -29,7 +31,7 @@ pub use fitting::{
     targets_at,
 };
 pub use states::{
-    Cell, Cells, PairSpan, State, StoredByte, Variable, Words, given, index_words, is_bit,
-    state_after, stored_bytes,
+    Cell, Cells, Known, PairSpan, StackTop, State, StoredByte, Variable, Words, given, index_words,
+    is_bit, known_after, pushed_pair, state_after, stored_bytes,
 };
 pub use verify80_spans::{ByteSpan, Span};

@@ -3,6 +3,7 @@
 mod cells;
 mod conditions;
 mod following;
+mod known;
 mod memory_after;
 mod pairs;
 mod state;
@@ -11,7 +12,8 @@ mod words;
 
 pub use cells::{Cell, Cells};
 pub use conditions::given;
-pub use following::{index_words, state_after};
+pub use following::{StackTop, index_words, known_after, pushed_pair, state_after};
+pub use known::Known;
 pub(crate) use memory_after::is_steady;
 pub use memory_after::{StoredByte, stored_bytes};
 pub use pairs::PairSpan;

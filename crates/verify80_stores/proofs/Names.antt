@@ -28,9 +28,9 @@ pub use Rattle.verify80.specs.Reached.{AreReached, IsReached, StandsOnWalk, Stay
 pub use Rattle.verify80.specs.Vouched.{IsVouched}
 pub use Rattle.verify80_spans.specs.Span.{IsInside, Within, any_word, hull}
 pub use Rattle.verify80_spans.specs.declared.span.Span.{Span}
-pub use Rattle.verify80_states.specs.{Bytes.BytesStayBytes, Bytes.HasBytes, Bytes.HoldsBytes, Marks.entry_at, Marks.is_marked, State.HoldsRegisters, Steps.AreCodeBytes, Steps.code_in}
+pub use Rattle.verify80_states.specs.{Bytes.BytesStayBytes, Bytes.HasBytes, Bytes.HoldsBytes, Marks.entry_at, Marks.is_marked, Known.HoldsRegisters, Steps.AreCodeBytes, Steps.code_in}
 pub use Rattle.verify80_states.specs.Runs.{IsKept, IsKnown, KeepsTo, KeepsToCalls, RunsKeepTo}
-pub use Rattle.verify80_states.specs.declared.{fitting.fitting.Placed.Placed, states.state.State.State}
+pub use Rattle.verify80_states.specs.declared.{fitting.fitting.Placed.Placed, states.known.Known.Known}
 pub use Rattle.verify80_stores.specs.Boards.{IsListedAt, KeepsWholePromise, OnQuietBoard, PromiseHoldsOnBoards, PromiseHoldsOnQuietBoards, StaysQuiet, begins as begins_quiet, disturbed as disturbed_quiet, executed as executed_quiet, is_quiet}
 pub use Rattle.verify80_stores.specs.{DataReach.ReachesTo, Pointers.is_through_pair, Pointers.stores_by_pair, Causes.IsCause, Causes.IsSetBy, Causes.IsSo, Causes.writes_to, StackPointer.AreClosed, StackPointer.IsClosedAt, StackPointer.LeadsToMarked}
 pub use Rattle.verify80_stores.specs.Listing.{AreAllBelow, AreKnown, AreNotes, AreOpen, IsLeftAt, IsListed, IsNoted, IsSpanned, instr_in, is_at, is_kind, is_listed, is_of, no_note, note_at, store_at}

@@ -5,7 +5,7 @@ use Rattle.verify80_stores.proofs.{AddressLemmas.read_at, AddressLemmas.read_pas
 module _ (image : Located) (quiet : ℕ → Bool) (reached : List (Option Fetched)) where
   shut_by : (table : List Placed) (notes : List Note) → AreNotes image.regions reached table notes → (at : ℕ) → (note_at notes at).is_open ≡ false → IsShutAt image.regions reached table at
   shut_by table notes are at closed place placed found there here instr =
-      subst (λ n. StaysIn image.regions (declared_targets image.regions n) found.instr placed.state) here
+      subst (λ n. StaysIn image.regions (declared_targets image.regions n) found.instr placed.state.known) here
       ((are.each place placed found there (subst (λ n. found_at reached n ≡ Some found) (sym here) instr)).stays (subst (λ n. (note_at notes n).is_open ≡ false) (sym here) closed))
 
   -- what the first table shows

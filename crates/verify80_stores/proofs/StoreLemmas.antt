@@ -1,5 +1,5 @@
 -- The stores of runs, by what is listed.
-use Rattle.verify80_stores.proofs.Names.{◌≡◌, ◌≢◌, ◌⊎◌, ℕ, zero, suc, ◌<◌, ◌==◌, Bool, true, false, not, List, [], ◌∷◌, All, Any, Contains, Option, None, Some, Ok, length, refl, if◌then◌else◌, list_any_at, option_map_or, nat_tests, subst, sym, ap, ◌∙◌, inl, inr, arith, get_or, Contains-get_or, All-nil, All-cons, Instr, Bc, De, Fetched, In, Out, Pchl, Hlt, Areas, in_data, targets_at, Located, End, Registers, StoreOutside, JumpOutside, Fetch, Stack, Direct, hl_of, index_pair_of, next_input, pointed_bytes, Machine, Stop, first_outside, ends_at, guard, guarded, execute, turn_of, leads_outside, proceeded, with_input, step_on, World, turn_at, fetched_by, refuses, same_Some, IsProperEnd, code_of, declared_targets, is_pchl, IsStart, IsWorldFrom, NeverGoesWrongFromPowerOn, StandsOnWalk, StaysOnWalks, AreReached, found_at, Span, State, HoldsBytes, HoldsRegisters, Note, note_at, unwrap_or, any_word, KeepsTo, RunsKeepTo, Within, AreShown, KeptTable, stores_by_pair, IsLeftOpen, OpenStore, IsReachedAs, AreReachedAs, IsOpen, GoesAsListed, EndsAsListed, StoresGoAsListed, AreStoresOf, AreAllBelow, AreOpen, IsSpanned, IsLeftAt, IsListed, is_kind, is_at, and_parts, cases_eq, and_from, is_listed, storing, Storing, Through, ThroughHl, pointed_by, is_through_pair, span_through, IsInside, true≢false}
+use Rattle.verify80_stores.proofs.Names.{◌≡◌, ◌≢◌, ◌⊎◌, ℕ, zero, suc, ◌<◌, ◌==◌, Bool, true, false, not, List, [], ◌∷◌, All, Any, Contains, Option, None, Some, Ok, length, refl, if◌then◌else◌, list_any_at, option_map_or, nat_tests, subst, sym, ap, ◌∙◌, inl, inr, arith, get_or, Contains-get_or, All-nil, All-cons, Instr, Bc, De, Fetched, In, Out, Pchl, Hlt, Areas, in_data, targets_at, Located, End, Registers, StoreOutside, JumpOutside, Fetch, Stack, Direct, hl_of, index_pair_of, next_input, pointed_bytes, Machine, Stop, first_outside, ends_at, guard, guarded, execute, turn_of, leads_outside, proceeded, with_input, step_on, World, turn_at, fetched_by, refuses, same_Some, IsProperEnd, code_of, declared_targets, is_pchl, IsStart, IsWorldFrom, NeverGoesWrongFromPowerOn, StandsOnWalk, StaysOnWalks, AreReached, found_at, Span, Known, HoldsBytes, HoldsRegisters, Note, note_at, unwrap_or, any_word, KeepsTo, RunsKeepTo, Within, AreShown, KeptTable, stores_by_pair, IsLeftOpen, OpenStore, IsReachedAs, AreReachedAs, IsOpen, GoesAsListed, EndsAsListed, StoresGoAsListed, AreStoresOf, AreAllBelow, AreOpen, IsSpanned, IsLeftAt, IsListed, is_kind, is_at, and_parts, cases_eq, and_from, is_listed, storing, Storing, Through, ThroughHl, pointed_by, is_through_pair, span_through, IsInside, true≢false}
 use Rattle.verify80_stores.proofs.ReachedLemmas.{kind_there, there_if_reached}
 
 -- a store is no PCHL
@@ -8,7 +8,7 @@ no_jump Pchl stores jump = cc
 no_jump i stores jump = cc
 
 -- the address that a pair points to is one of its span
-record Points (w : Storing) (s : State) (address : ℕ) : Type 0 where
+record Points (w : Storing) (s : Known) (address : ℕ) : Type 0 where
   span : Span
   is : span_through w s ≡ Some span
   within : Within span address
@@ -18,7 +18,7 @@ alone : (x y : ℕ) → Contains (x ∷ []) y → x ≡ y
 alone x y (zero, inside, same) = same
 alone x y (suc k, inside, same) = absurd (omega arith)
 
-points_by : (w : Storing) (s : State) (r : Registers) (address : ℕ) → HoldsRegisters s r → Contains (pointed_by w r) address → Points w s address
+points_by : (w : Storing) (s : Known) (r : Registers) (address : ℕ) → HoldsRegisters s r → Contains (pointed_by w r) address → Points w s address
 points_by ThroughHl s r address holds there = record { span = s.hl.words; is = refl; within = subst (λ a. Within s.hl.words a) (alone (hl_of r) address there) holds.hl.words; stores = refl }
 points_by (Through Bc) s r address holds there = record { span = s.bc.words; is = refl; within = subst (λ a. Within s.bc.words a) (alone (index_pair_of r Bc) address there) holds.bc.words; stores = refl }
 points_by (Through De) s r address holds there = record { span = s.de.words; is = refl; within = subst (λ a. Within s.de.words a) (alone (index_pair_of r De) address there) holds.de.words; stores = refl }
@@ -130,7 +130,7 @@ module _ (image : Located) (bytes : ℕ) (quiet : ℕ → Bool) (reached : List 
   data_stores w found address keep instr there unmarked =
       let it = shown.stays w.machine.cpu.pc unmarked in
       let k = keep it.by in
-      let points = points_by (storing found.instr) k.placed.state w.machine.cpu.registers address k.holds.registers there in
+      let points = points_by (storing found.instr) k.placed.state.known w.machine.cpu.registers address k.holds.known.registers there in
       (it.shut k.place k.placed found k.there k.at instr).stores points.span points.is address points.within
 
   target_jumps : (w : World) (found : Fetched) → KeepsToEach image quiet w → found_at reached w.machine.cpu.pc ≡ Some found → is_pchl found.instr ≡ true → (note_at notes w.machine.cpu.pc).is_open ≡ false →
@@ -138,13 +138,13 @@ module _ (image : Located) (bytes : ℕ) (quiet : ℕ → Bool) (reached : List 
   target_jumps w found keep instr jump unmarked =
       let it = shown.stays w.machine.cpu.pc unmarked in
       let k = keep it.by in
-      (it.shut k.place k.placed found k.there k.at instr).jumps jump (hl_of w.machine.cpu.registers) k.holds.registers.hl.words
+      (it.shut k.place k.placed found k.there k.at instr).jumps jump (hl_of w.machine.cpu.registers) k.holds.known.registers.hl.words
 
   pub goes_if : (w : World) (found : Fetched) → StandsOnWalk image w → KeepsToEach image quiet w → fetched_by image.regions w ≡ Some found → (address : ℕ) →
       Contains (pointed_bytes found.instr w.machine.cpu.registers) address → GoesAsListed image.regions stores w.machine.cpu.pc address
   goes_if w found stands keep fetched address there =
       let here = here_if w found stands fetched in
-      let points = points_by (storing found.instr) (keep shown.first).placed.state w.machine.cpu.registers address (keep shown.first).holds.registers there in
+      let points = points_by (storing found.instr) (keep shown.first).placed.state.known w.machine.cpu.registers address (keep shown.first).holds.known.registers there in
       let k = keep shown.first in
       let spans = shown.spans k.place k.placed found points.span k.there (subst (λ n. found_at reached n ≡ Some found) (sym k.at) here.there) points.is in
       let whole_span : IsSpanned notes w.machine.cpu.pc points.span = subst (λ n. IsSpanned notes n points.span) k.at spans in
@@ -232,7 +232,7 @@ module _ (image : Located) (bytes : ℕ) (quiet : ℕ → Bool) (reached : List 
   -- a state that leaves a store open shows an address of its whole span that is no data
   open_by : (store : OpenStore) (l : IsListed reached notes store) (left : IsLeftAt image.regions reached shown.first.table store.at) → left.found ≡ l.found → IsOpen image store
   open_by store l left same = go left.leaves where
-    go : IsLeftOpen image.regions left.found.instr left.placed.state → IsOpen image store
+    go : IsLeftOpen image.regions left.found.instr left.placed.state.known → IsOpen image store
     go (inl may) =
         let at : left.placed.at ≡ store.at = left.here in
         let whole_span = shown.spans left.place left.placed left.found may.span left.there (subst (λ n. found_at reached n ≡ Some left.found) (sym at) left.instr) may.is in

@@ -33,9 +33,9 @@ module _ (regions : Areas) (reached : List (Option Fetched)) (table : List Place
   }
 
   pub more_noted : (n : ℕ) (notes : List Note) (e : Placed) (note : Note) → slice_get table n ≡ Some e → Noted regions reached table n notes → e.at < 65536 →
-      (note.is_open ≡ true → ((note_at notes e.at).is_open ≡ true) ⊎ ((found : Fetched) × ((found_at reached e.at ≡ Some found) × IsLeftOpen regions found.instr e.state))) →
-      (note.is_open ≡ false → ((note_at notes e.at).is_open ≡ false) × ((found : Fetched) → found_at reached e.at ≡ Some found → StaysIn regions (declared_targets regions e.at) found.instr e.state)) →
-      note.span ≡ joined (note_at notes e.at).span (span_in (found_at reached e.at) e.state) → Noted regions reached table (n + 1) (slice_set notes e.at note)
+      (note.is_open ≡ true → ((note_at notes e.at).is_open ≡ true) ⊎ ((found : Fetched) × ((found_at reached e.at ≡ Some found) × IsLeftOpen regions found.instr e.state.known))) →
+      (note.is_open ≡ false → ((note_at notes e.at).is_open ≡ false) × ((found : Fetched) → found_at reached e.at ≡ Some found → StaysIn regions (declared_targets regions e.at) found.instr e.state.known)) →
+      note.span ≡ joined (note_at notes e.at).span (span_in (found_at reached e.at) e.state.known) → Noted regions reached table (n + 1) (slice_set notes e.at note)
   more_noted n notes e note there below small opens shut spans = record {
     whole = length-set notes e.at note ∙ below.whole;
     each = λ place placed found less got_it instr. is_noted place placed found got_it instr (split place n less) (cases_eq placed.at e.at);
@@ -55,11 +55,11 @@ module _ (regions : Areas) (reached : List (Option Fetched)) (table : List Place
           stays = λ closed. old.stays (ap (λ k. (note_at notes k).is_open) same ∙ (shut (sym (ap (λ (x : Note). x.is_open) (here placed.at same)) ∙ closed)).0);
           spans = λ span is.
               let was = old.spans span is in
-              let joins = joins_old was.whole (span_in (found_at reached e.at) e.state) span was.inside in
+              let joins = joins_old was.whole (span_in (found_at reached e.at) e.state.known) span was.inside in
               let one : (note_at notes e.at).span ≡ Some was.whole = sym (ap (λ k. (note_at notes k).span) same) ∙ was.there in
               record {
                 whole = joins.whole;
-                there = ap (λ (x : Note). x.span) (here placed.at same) ∙ spans ∙ ap (λ (o : Option Span). joined o (span_in (found_at reached e.at) e.state)) one ∙ joins.is;
+                there = ap (λ (x : Note). x.span) (here placed.at same) ∙ spans ∙ ap (λ (o : Option Span). joined o (span_in (found_at reached e.at) e.state.known)) one ∙ joins.is;
                 inside = joins.inside;
               };
         }
@@ -76,7 +76,7 @@ module _ (regions : Areas) (reached : List (Option Fetched)) (table : List Place
           stays = λ closed. (shut (sym (ap (λ (x : Note). x.is_open) (here e.at refl)) ∙ closed)).1 found it;
           spans = λ span is.
               let joins = joins_new (note_at notes e.at).span span in
-              let mine : span_in (found_at reached e.at) e.state ≡ Some span = ap (λ (x : Option Fetched). span_in x e.state) it ∙ is in
+              let mine : span_in (found_at reached e.at) e.state.known ≡ Some span = ap (λ (x : Option Fetched). span_in x e.state.known) it ∙ is in
               record {
                 whole = joins.whole;
                 there = ap (λ (x : Note). x.span) (here e.at refl) ∙ spans ∙ ap (λ (o : Option Span). joined (note_at notes e.at).span o) mine ∙ joins.is;

@@ -69,7 +69,7 @@ pub record IsLeftAt (regions : Areas) (reached : List (Option Fetched)) (table :
   pub there : slice_get table place ≡ Some placed
   pub here : placed.at ≡ at
   pub instr : found_at reached at ≡ Some found
-  pub leaves : IsLeftOpen regions found.instr placed.state
+  pub leaves : IsLeftOpen regions found.instr placed.state.known
 
 -- the span that is noted of an address has the words of another
 pub record IsSpanned (notes : List Note) (at : ℕ) (span : Span) : Type 0 where
@@ -79,8 +79,8 @@ pub record IsSpanned (notes : List Note) (at : ℕ) (span : Span) : Type 0 where
 
 -- the instruction at a state's address stays inside in that state, unless the note says that it is open; and its span has the state's words
 pub record IsNoted (regions : Areas) (notes : List Note) (placed : Placed) (found : Fetched) : Type 0 where
-  pub stays : (note_at notes placed.at).is_open ≡ false → StaysIn regions (declared_targets regions placed.at) found.instr placed.state
-  pub spans : (span : Span) → pointer_span found.instr placed.state ≡ Some span → IsSpanned notes placed.at span
+  pub stays : (note_at notes placed.at).is_open ≡ false → StaysIn regions (declared_targets regions placed.at) found.instr placed.state.known
+  pub spans : (span : Span) → pointer_span found.instr placed.state.known ≡ Some span → IsSpanned notes placed.at span
 
 -- notes by address of the states of a table
 pub record AreNotes (regions : Areas) (reached : List (Option Fetched)) (table : List Placed) (notes : List Note) : Type 0 where

@@ -19,7 +19,7 @@ pub record KeptTable (image : Located) (quiet : ℕ → Bool) : Type 0 where
 -- each state that a table has at an address stores to data and jumps to a declared target
 abbrev pub IsShutAt : Areas → List (Option Fetched) → List Placed → (at : ℕ) → Type 0
 IsShutAt regions reached table at = (place : ℕ) (placed : Placed) (found : Fetched) → slice_get table place ≡ Some placed → placed.at ≡ at →
-    found_at reached at ≡ Some found → StaysIn regions (declared_targets regions at) found.instr placed.state
+    found_at reached at ≡ Some found → StaysIn regions (declared_targets regions at) found.instr placed.state.known
 
 -- a table that is kept lets the instruction at an address stay inside
 pub record IsShut (image : Located) (quiet : ℕ → Bool) (reached : List (Option Fetched)) (at : ℕ) : Type 0 where
@@ -33,4 +33,4 @@ pub record AreShown (image : Located) (quiet : ℕ → Bool) (reached : List (Op
   pub stays : (at : ℕ) → (note_at notes at).is_open ≡ false → IsShut image quiet reached at
   pub leaves : (at : ℕ) → (note_at notes at).is_open ≡ true → IsLeftAt image.regions reached first.table at
   pub spans : (place : ℕ) (placed : Placed) (found : Fetched) (span : Span) → slice_get first.table place ≡ Some placed →
-      found_at reached placed.at ≡ Some found → pointer_span found.instr placed.state ≡ Some span → IsSpanned notes placed.at span
+      found_at reached placed.at ≡ Some found → pointer_span found.instr placed.state.known ≡ Some span → IsSpanned notes placed.at span

@@ -12,7 +12,7 @@ use crate::stores::OpenStore;
 use decode80::{Fetched, Instr, Storing};
 use image80::Regions;
 use std::alloc::{AllocError, Global};
-use verify80_states::{Placed, Span, State, entry_at, index_words, targets_at};
+use verify80_states::{Known, Placed, Span, entry_at, index_words, targets_at};
 
 /// What is noted of the instruction at an address.
 #[derive(Clone, Copy)]
@@ -100,7 +100,7 @@ fn is_listed(
 }
 
 /// Whether an instruction in a state stores to data and jumps to a declared target, if it does so by a pair.
-fn stays_in(regions: &Regions, ends: &[u32], targets: &[u16], instr: Instr, state: State) -> bool
+fn stays_in(regions: &Regions, ends: &[u32], targets: &[u16], instr: Instr, state: Known) -> bool
     requires { AreDataEnds regions.now ends.now }
     ensures stays { result ≡ true → StaysIn regions.now targets.now instr state }
     ensures leaves { result ≡ false → IsLeftOpen regions.now instr state }
@@ -115,7 +115,7 @@ fn stays_in(regions: &Regions, ends: &[u32], targets: &[u16], instr: Instr, stat
 }
 
 /// Where an instruction may store by a pair in a state; `None` if it stores by none.
-fn pointer_span(instr: Instr, state: State) -> Option<Span>
+fn pointer_span(instr: Instr, state: Known) -> Option<Span>
     ensures { result ≡ pointer_span instr state }
 {
     match instr.storing() {
@@ -173,18 +173,19 @@ impl Note {
     ) -> Note
         requires { AreDataEnds regions.now ends.now }
         ensures stays { result.is_open ≡ false → (self.is_open ≡ false) × ((found : Fetched) → found_at reached.now placed.at ≡ Some found →
-            StaysIn regions.now (declared_targets regions.now placed.at) found.instr placed.state) }
+            StaysIn regions.now (declared_targets regions.now placed.at) found.instr placed.state.known) }
         ensures leaves { result.is_open ≡ true → (self.is_open ≡ true)
-            ⊎ ((found : Fetched) × ((found_at reached.now placed.at ≡ Some found) × IsLeftOpen regions.now found.instr placed.state)) }
-        ensures span { result.span ≡ joined self.span (span_in (found_at reached.now placed.at) placed.state) }
+            ⊎ ((found : Fetched) × ((found_at reached.now placed.at ≡ Some found) × IsLeftOpen regions.now found.instr placed.state.known)) }
+        ensures span { result.span ≡ joined self.span (span_in (found_at reached.now placed.at) placed.state.known) }
         ensures address { placed.at < 65536 }
     {
         let Placed { at, state, hint: _ } = placed;
+        let known = state.known;
         match entry_at(reached, at) {
             Some(Fetched { instr, next: _ }) => Note {
                 is_open: self.is_open
-                    || !stays_in(regions, ends, targets_at(regions, at), instr, state),
-                span: joined(self.span, pointer_span(instr, state)),
+                    || !stays_in(regions, ends, targets_at(regions, at), instr, known),
+                span: joined(self.span, pointer_span(instr, known)),
             },
             None => self,
         }

@@ -5,7 +5,7 @@ ghost use Rattle.std.specs.Prelude.{◌≡◌, ◌<◌, ℕ, Bool, true, false, 
 ghost use Rattle.decode80.specs.{declared.fetching.Fetched.Fetched, Facts.flow};
 ghost use Rattle.image80.specs.Regions.{AreRegions, in_data};
 ghost use Rattle.verify80.specs.{Looking.code_of, Looking.declared_targets, Reached.AreReached, Reached.found_at};
-ghost use Rattle.verify80_states.specs.{State.cut, State.unknown_but, Following.is_steady, Following.state_after, Marks.is_marked, Steps.AreCodeBytes, FittingTable.AccountsAt, FittingTable.FitsWhereReached, Runs.IsKept};
+ghost use Rattle.verify80_states.specs.{State.cut_state, State.unknown_but, Following.is_steady, Following.state_after, Marks.is_marked, Steps.AreCodeBytes, FittingTable.AccountsAt, FittingTable.FitsWhereReached, Runs.IsKept};
 ghost use Rattle.verify80_spans.specs.Span.{Within, ByteWithin, byte_alone};
 ghost use Rattle.verify80_states.specs.Fitting.{CallsEntry, Has, Covers, CoversAfter, FitsAt, KnowsQuiet};
 ghost use Rattle.verify80_states.specs.Calls.{AccountsFor, KnowsReturn, KnowsReturnsOf, returns_of};
@@ -14,7 +14,7 @@ use crate::fitting::calls::CallReturns;
 use crate::fitting::laws::fitting_states_hold;
 use crate::fitting::marks::{entry_at, is_marked};
 use crate::fitting::reached::targets_at;
-use crate::states::{State, Variable, given, is_steady, state_after};
+use crate::states::{Known, State, Variable, is_steady, state_after};
 use decode80::{Fetched, Flow};
 use image80::{Image, Regions};
 use verify80_spans::{ByteSpan, Span};
@@ -73,7 +73,7 @@ impl Fit<'_> {
 
     /// Whether a hint names a state at `to` for each byte that A may be, which says no more than `state` with this byte in A.
     fn has_each(&self, hint: u32, to: u16, state: State) -> bool
-        ensures { result ≡ true → (byte : ℕ) → ByteWithin state.a byte → Has self.now.variables.now self.now.table.now to (cut state (byte_alone byte)) }
+        ensures { result ≡ true → (byte : ℕ) → ByteWithin state.known.a byte → Has self.now.variables.now self.now.table.now to (cut_state state (byte_alone byte)) }
     {
         let Some(first) = self.hints.get(hint as usize) else {
             return false;
@@ -82,7 +82,7 @@ impl Fit<'_> {
             return false;
         }
         let mut next = *first - APART;
-        for number in u32::from(state.a.first)..u32::from(state.a.last) + 1 {
+        for number in u32::from(state.known.a.first)..u32::from(state.known.a.last) + 1 {
             if !self.has(next, to, state.cut(ByteSpan::alone(number as u8))) {
                 return false;
             }
@@ -148,18 +148,18 @@ impl Fit<'_> {
             Flow::Exchanges => self.covers_after(hint, next, found, false, Some(state)),
             Flow::Jumps(to) => self.covers_after(hint, to, found, false, Some(state)),
             Flow::JumpsIf(condition, to) | Flow::CallsIf(condition, to) => {
-                self.covers_after(hint, to, found, true, given(condition, true, state))
-                    && self.covers_after(second, next, found, false, given(condition, false, state))
+                self.covers_after(hint, to, found, true, state.given(condition, true))
+                    && self.covers_after(second, next, found, false, state.given(condition, false))
             }
             Flow::JumpsToHl => self.has_at_each(
                 hint,
                 targets,
-                state.hl.words,
+                state.known.hl.words,
                 self.after(found, false, state),
             ),
             Flow::Calls(to) => self.covers_after(hint, to, found, true, Some(state)),
             Flow::ReturnsIf(condition) => {
-                self.covers_after(hint, next, found, false, given(condition, false, state))
+                self.covers_after(hint, next, found, false, state.given(condition, false))
             }
             Flow::Returns | Flow::Halts => true,
         }
@@ -204,7 +204,7 @@ impl Fit<'_> {
         }
         match found.instr.flow() {
             Flow::Returns => self.knows_return(placed.hint, found, placed.state),
-            Flow::ReturnsIf(condition) => match given(condition, true, placed.state) {
+            Flow::ReturnsIf(condition) => match placed.state.given(condition, true) {
                 Some(left) => self.knows_return(placed.hint.saturating_add(1), found, left),
                 None => true,
             },
@@ -229,16 +229,16 @@ impl Fit<'_> {
     /// call, or if no return comes or each is known.
     fn keeps_behind(&self, placed: Placed, found: Fetched) -> bool
         ensures { result ≡ true → (entry : ℕ) → CallsEntry (flow found.instr) entry → (returns_of self.now.returns.now).may entry ≡ true →
-            (returns_of self.now.returns.now).known entry ≡ false → Has self.now.variables.now self.now.table.now found.next (unknown_but placed.state.set) }
+            (returns_of self.now.returns.now).known entry ≡ false → Has self.now.variables.now self.now.table.now found.next (unknown_but placed.state.known.set) }
     {
         let Fetched { instr, next } = found;
         let Placed { at: _, state, hint } = placed;
         match instr.flow() {
             Flow::Calls(entry) => {
-                self.has_behind(hint.saturating_add(1), entry, next, state.set)
+                self.has_behind(hint.saturating_add(1), entry, next, state.known.set)
             }
             Flow::CallsIf(_, entry) => {
-                self.has_behind(hint.saturating_add(2), entry, next, state.set)
+                self.has_behind(hint.saturating_add(2), entry, next, state.known.set)
             }
             _ => true,
         }
@@ -252,15 +252,22 @@ impl Fit<'_> {
     {
         !self.returns.may_return(entry)
             || self.returns.know_return(entry)
-            || self.has(hint, next, State { set, ..State::ANY })
+            || self.has(
+                hint,
+                next,
+                State {
+                    known: Known { set, ..Known::ANY },
+                    ..State::ANY
+                },
+            )
     }
 
     /// Whether each byte that a state's instruction stores where a variable may be is one of the variable's bytes, for all variables.
     fn are_steady(&self, placed: Placed, found: Fetched) -> bool
-        ensures { result ≡ list_all (is_steady self.now.code.now found.instr placed.state) self.now.variables.now }
+        ensures { result ≡ list_all (is_steady self.now.code.now found.instr placed.state.known) self.now.variables.now }
     {
-        let state = placed.state;
-        self.variables.iter().all(|variable| is_steady(self.code, found.instr, state, *variable))
+        let known = placed.state.known;
+        self.variables.iter().all(|variable| is_steady(self.code, found.instr, known, *variable))
     }
 }
 
@@ -340,7 +347,9 @@ fn accounts_at(
 fn all_know_quiet(table: &[Placed], quiet: &[bool]) -> bool
     ensures { result ≡ true → KnowsQuiet (is_marked quiet.now) table.now }
 {
-    table.iter().all(|placed| placed.state.is_quiet(quiet))
+    table
+        .iter()
+        .all(|placed| placed.state.known.is_quiet(quiet))
 }
 
 /// Whether each variable is at a quiet address.

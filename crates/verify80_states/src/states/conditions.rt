@@ -1,14 +1,14 @@
-//! What a condition says of a state.
+//! What a condition says of registers and flags.
 
 ghost use Rattle.std.specs.Prelude.{◌≡◌};
 ghost use Rattle.verify80_states.specs.Given.{given_flag, zero_bytes, carry_bytes, cut_to, given_zero, given_carry, given_sign, given};
 
-use crate::states::state::State;
+use crate::states::known::Known;
 use decode80::Condition;
 use verify80_spans::ByteSpan;
 
-/// What is left if a flag is as wanted: the state if it is known to be, `None` if it is known not to be, and `left` if it isn't known.
-fn given_flag(known: Option<bool>, wanted: bool, state: State, left: Option<State>) -> Option<State>
+/// What is left if a flag is as wanted: what is known if it is known to be, `None` if it is known not to be, and `left` if it isn't known.
+fn given_flag(known: Option<bool>, wanted: bool, state: Known, left: Option<Known>) -> Option<Known>
     ensures { result ≡ given_flag known wanted state left }
 {
     match known {
@@ -42,15 +42,15 @@ fn carry_bytes(compared: Option<u8>, wanted: bool, a: ByteSpan) -> Option<ByteSp
     }
 }
 
-/// The state in which A holds one of `bytes`; `None` if there are none.
-fn cut_to(bytes: Option<ByteSpan>, state: State) -> Option<State>
+/// What is known if A holds one of `bytes`; `None` if there are none.
+fn cut_to(bytes: Option<ByteSpan>, state: Known) -> Option<Known>
     ensures { result ≡ cut_to bytes state }
 {
     bytes.map(|bytes| state.cut(bytes))
 }
 
-/// The state that is left if Z is as wanted; `None` if it can't be.
-fn given_zero(wanted: bool, state: State) -> Option<State>
+/// What is left if Z is as wanted; `None` if it can't be.
+fn given_zero(wanted: bool, state: Known) -> Option<Known>
     ensures { result ≡ given_zero wanted state }
 {
     let bytes = zero_bytes(state.compared, wanted, state.a);
@@ -59,12 +59,12 @@ fn given_zero(wanted: bool, state: State) -> Option<State>
         state.zero,
         wanted,
         state,
-        cut_to(bytes, State { zero, ..state }),
+        cut_to(bytes, Known { zero, ..state }),
     )
 }
 
-/// The state that is left if CY is as wanted; `None` if it can't be.
-fn given_carry(wanted: bool, state: State) -> Option<State>
+/// What is left if CY is as wanted; `None` if it can't be.
+fn given_carry(wanted: bool, state: Known) -> Option<Known>
     ensures { result ≡ given_carry wanted state }
 {
     let bytes = carry_bytes(state.compared, wanted, state.a);
@@ -73,20 +73,20 @@ fn given_carry(wanted: bool, state: State) -> Option<State>
         state.carry,
         wanted,
         state,
-        cut_to(bytes, State { carry, ..state }),
+        cut_to(bytes, Known { carry, ..state }),
     )
 }
 
-/// The state that is left if S is as wanted; `None` if it can't be.
-fn given_sign(wanted: bool, state: State) -> Option<State>
+/// What is left if S is as wanted; `None` if it can't be.
+fn given_sign(wanted: bool, state: Known) -> Option<Known>
     ensures { result ≡ given_sign wanted state }
 {
     let sign = Some(wanted);
-    given_flag(state.sign, wanted, state, Some(State { sign, ..state }))
+    given_flag(state.sign, wanted, state, Some(Known { sign, ..state }))
 }
 
-/// The state that is left if a condition holds, or if it doesn't; `None` if that can't be.
-pub fn given(condition: Condition, holds: bool, state: State) -> Option<State>
+/// What is left if a condition holds, or if it doesn't; `None` if that can't be.
+pub fn given(condition: Condition, holds: bool, state: Known) -> Option<Known>
     ensures { result ≡ given condition holds state }
 {
     match condition {

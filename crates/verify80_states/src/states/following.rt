@@ -1,12 +1,13 @@
 //! What becomes of a state at an instruction.
 
 ghost use Rattle.std.specs.Prelude.{◌≡◌};
-ghost use Rattle.verify80_states.specs.Following.{loaded_at, loaded, moved, counted, resulted, tested, operand_bytes, after_operation, added_carry, turned, exchanged_pairs, index_words, popped_to, registers_after, pushed_pair, called, returned, words_after, state_after};
+ghost use Rattle.verify80_states.specs.Following.{loaded_at, loaded, moved, counted, resulted, tested, operand_bytes, after_operation, added_carry, turned, exchanged_pairs, index_words, popped_to, summand, registers_after, known_after, pushed_pair, called, returned, words_after, state_after};
 ghost use Rattle.verify80_spans.specs.Span.{uncarried};
-ghost use Rattle.verify80_states.specs.State.{compared_with, with_outcome};
+ghost use Rattle.verify80_states.specs.Known.{compared_with, with_outcome};
 
 use crate::fitting::entry_at;
 use crate::states::cells::Cells;
+use crate::states::known::Known;
 use crate::states::memory_after::{source_after, stored_bytes};
 use crate::states::pairs::PairSpan;
 use crate::states::state::State;
@@ -36,22 +37,22 @@ pub(crate) fn loaded(code: &[Option<u8>], cells: Cells, at: Span) -> ByteSpan
 }
 
 /// The state after MOV copies a register.
-fn moved(to: Register, from: Register, state: State) -> State
+fn moved(to: Register, from: Register, state: Known) -> Known
     ensures { result ≡ moved to from state }
 {
     let after = state.with_byte(to, state.byte(from));
     match (to, from) {
-        (Register::A, from) => State {
+        (Register::A, from) => Known {
             copy: from,
             ..after
         },
-        (to, Register::A) => State { copy: to, ..after },
+        (to, Register::A) => Known { copy: to, ..after },
         _ => after,
     }
 }
 
 /// The state after a register is counted up or down to one of these bytes; CY stays.
-fn counted(register: Register, byte: ByteSpan, state: State) -> State
+fn counted(register: Register, byte: ByteSpan, state: Known) -> Known
     ensures { result ≡ counted register byte state }
 {
     let outcome = Outcome {
@@ -62,7 +63,7 @@ fn counted(register: Register, byte: ByteSpan, state: State) -> State
 }
 
 /// The state after a result comes into A.
-fn resulted(outcome: Outcome, state: State) -> State
+fn resulted(outcome: Outcome, state: Known) -> Known
     ensures { result ≡ resulted outcome state }
 {
     state
@@ -71,24 +72,24 @@ fn resulted(outcome: Outcome, state: State) -> State
 }
 
 /// The state in which Z and CY are as if A had been compared with 0.
-fn tested(state: State) -> State
+fn tested(state: Known) -> Known
     ensures { result ≡ tested state }
 {
-    State {
+    Known {
         compared: Some(0),
         ..state
     }
 }
 
 /// The state after an operation that leaves A's byte, and sets Z, S and CY by it.
-fn unchanged(state: State) -> State
+fn unchanged(state: Known) -> Known
     ensures { result ≡ tested (with_outcome state (uncarried state.a)) }
 {
     tested(state.with_outcome(Outcome::uncarried(state.a)))
 }
 
 /// What the operand of an operation on A may be.
-fn operand_bytes(code: &[Option<u8>], operand: Operand, state: State) -> ByteSpan
+fn operand_bytes(code: &[Option<u8>], operand: Operand, state: Known) -> ByteSpan
     ensures { result ≡ operand_bytes code.now operand state }
 {
     match operand {
@@ -106,12 +107,12 @@ fn compared_with(byte: ByteSpan) -> Option<u8>
 }
 
 /// The state after an operation on A and a byte; `itself` says that this is A's own.
-fn after_operation(operation: Operation, itself: bool, byte: ByteSpan, state: State) -> State
+fn after_operation(operation: Operation, itself: bool, byte: ByteSpan, state: Known) -> Known
     ensures { result ≡ after_operation operation itself byte state }
 {
     let outcome = operated(operation, state.a, byte, state.carry);
     match (operation, itself) {
-        (Operation::Compare, _) => State {
+        (Operation::Compare, _) => Known {
             compared: compared_with(byte),
             ..state.with_outcome(outcome)
         },
@@ -129,15 +130,32 @@ fn after_operation(operation: Operation, itself: bool, byte: ByteSpan, state: St
     }
 }
 
-/// The carry after DAD adds a pair to HL; `None` if it isn't known.
-fn added_carry(state: State, pair: Pair) -> Option<bool>
-    ensures { result ≡ added_carry state pair }
+/// What is known of the stack at SP, by whoever follows it.
+#[derive(Clone, Copy, Debug)]
+pub struct StackTop {
+    /// SP; `None` if it isn't known.
+    pub pointer: Option<u16>,
+    /// What the word at SP may be.
+    pub word: PairSpan,
+}
+
+/// What DAD may add to HL. `pointer` is SP, if it is known.
+fn summand(pair: Pair, pointer: Option<u16>, state: Known) -> PairSpan
+    ensures { result ≡ summand pair pointer state }
 {
-    match pair {
-        Pair::Bc => state.hl.words.carries(state.bc.words),
-        Pair::De => state.hl.words.carries(state.de.words),
-        Pair::Hl => state.hl.words.carries(state.hl.words),
-        Pair::Sp => None,
+    match (pair, pointer) {
+        (Pair::Sp, Some(pointer)) => PairSpan::of_words(Span::alone(pointer)),
+        (pair, _) => state.pair(pair),
+    }
+}
+
+/// The carry after DAD adds a pair to HL; `None` if it isn't known. `pointer` is SP, if it is known.
+fn added_carry(pair: Pair, pointer: Option<u16>, state: Known) -> Option<bool>
+    ensures { result ≡ added_carry pair pointer state }
+{
+    match (pair, pointer) {
+        (Pair::Sp, None) => None,
+        (pair, pointer) => state.hl.words.carries(summand(pair, pointer, state).words),
     }
 }
 
@@ -149,7 +167,7 @@ fn turned(carry: Option<bool>) -> Option<bool>
 }
 
 /// The state after DE and HL are exchanged.
-fn exchanged_pairs(state: State) -> State
+fn exchanged_pairs(state: Known) -> Known
     ensures { result ≡ exchanged_pairs state }
 {
     let copy = match state.copy {
@@ -159,7 +177,7 @@ fn exchanged_pairs(state: State) -> State
         Register::L => Register::E,
         other => other,
     };
-    State {
+    Known {
         de: state.hl,
         hl: state.de,
         copy,
@@ -168,7 +186,7 @@ fn exchanged_pairs(state: State) -> State
 }
 
 /// The words that the pair of LDAX or STAX may be.
-pub fn index_words(state: State, pair: IndexPair) -> Span
+pub fn index_words(state: Known, pair: IndexPair) -> Span
     ensures { result ≡ index_words state pair }
 {
     match pair {
@@ -178,7 +196,7 @@ pub fn index_words(state: State, pair: IndexPair) -> Span
 }
 
 /// The state after POP takes a word into a pair.
-fn popped_to(pair: StackPair, word: PairSpan, state: State) -> State
+fn popped_to(pair: StackPair, word: PairSpan, state: Known) -> Known
     ensures { result ≡ popped_to pair word state }
 {
     match pair {
@@ -192,7 +210,7 @@ fn popped_to(pair: StackPair, word: PairSpan, state: State) -> State
 }
 
 /// What the word that PUSH pushes may be; PSW is A and the flags.
-fn pushed_pair(state: State, pair: StackPair) -> PairSpan
+pub fn pushed_pair(state: Known, pair: StackPair) -> PairSpan
     ensures { result ≡ pushed_pair state pair }
 {
     match pair {
@@ -203,9 +221,9 @@ fn pushed_pair(state: State, pair: StackPair) -> PairSpan
     }
 }
 
-/// The state after an instruction, as to registers and flags.
-fn registers_after(code: &[Option<u8>], instr: Instr, state: State) -> State
-    ensures { result ≡ registers_after code.now instr state }
+/// What is known of registers and flags after an instruction.
+fn registers_after(code: &[Option<u8>], instr: Instr, top: StackTop, state: Known) -> Known
+    ensures { result ≡ registers_after code.now instr top state }
 {
     match instr {
         Instr::Mov(to, from) => moved(to, from, state),
@@ -225,8 +243,8 @@ fn registers_after(code: &[Option<u8>], instr: Instr, state: State) -> State
         Instr::Inx(pair) => state.with_span(pair, state.pair(pair).next()),
         Instr::Dcx(pair) => state.with_span(pair, state.pair(pair).previous()),
         Instr::Dad(pair) => state
-            .with_span(Pair::Hl, state.hl.plus(state.pair(pair)))
-            .with_carry(added_carry(state, pair)),
+            .with_span(Pair::Hl, state.hl.plus(summand(pair, top.pointer, state)))
+            .with_carry(added_carry(pair, top.pointer, state)),
         Instr::Operate(operation, operand) => after_operation(
             operation,
             matches!(operand, Operand::Register(Register::A)),
@@ -256,8 +274,8 @@ fn registers_after(code: &[Option<u8>], instr: Instr, state: State) -> State
             .with_byte(Register::H, loaded_at(code, state.cells, ahead(address, 1)))
             .with_byte(Register::L, loaded_at(code, state.cells, address)),
         Instr::Xchg => exchanged_pairs(state),
-        Instr::Pop(pair) => popped_to(pair, state.words.first.unwrap_or(PairSpan::ANY), state),
-        Instr::Xthl => state.with_span(Pair::Hl, state.words.first.unwrap_or(PairSpan::ANY)),
+        Instr::Pop(pair) => popped_to(pair, top.word, state),
+        Instr::Xthl => state.with_span(Pair::Hl, top.word),
         Instr::Store(_)
         | Instr::MviMemory(_)
         | Instr::Jmp(_)
@@ -304,11 +322,11 @@ fn words_after(instr: Instr, taken: bool, next: u16, state: State) -> Words
     ensures { result ≡ words_after instr taken next state }
 {
     match instr {
-        Instr::Push(pair) => state.words.pushed(Some(pushed_pair(state, pair))),
+        Instr::Push(pair) => state.words.pushed(Some(pushed_pair(state.known, pair))),
         Instr::Pop(_) | Instr::Ret => state.words.popped(),
         Instr::ReturnIf(_) => returned(taken, state.words),
         Instr::Xthl => Words {
-            first: Some(state.hl),
+            first: Some(state.known.hl),
             ..state.words
         },
         Instr::Call(_) | Instr::CallIf(_, _) | Instr::Rst(_) => called(taken, next, state.words),
@@ -318,20 +336,34 @@ fn words_after(instr: Instr, taken: bool, next: u16, state: State) -> Words
     }
 }
 
-/// What is known after an instruction, given what is known before it, the bytes of code by address, and whether its call or return is
-/// taken; `next` is the address after it.
+/// What is known of registers, flags and memory after an instruction, given what is known before it, of the top of the stack, and the
+/// bytes of code by address.
 ///
-/// What comes from memory is known of code and of the state's cells. Sums and counts are followed until some of them wrap and others don't.
-pub fn state_after(code: &[Option<u8>], instr: Instr, taken: bool, next: u16, state: State) -> State
-    ensures { result ≡ state_after code.now instr taken next state }
+/// What comes from memory is known of code and of the cells. Sums and counts are followed until some of them wrap and others don't.
+pub fn known_after(code: &[Option<u8>], instr: Instr, top: StackTop, state: Known) -> Known
+    ensures { result ≡ known_after code.now instr top state }
 {
-    let after = registers_after(code, instr, state);
+    let after = registers_after(code, instr, top, state);
     let stored = stored_bytes(code, instr, state);
-    State {
-        words: words_after(instr, taken, next, state),
+    Known {
         cells: state.cells.after(stored.0).after(stored.1),
         source: source_after(instr, state, stored, after.source),
         set: state.set,
         ..after
+    }
+}
+
+/// What is known after an instruction, given what is known before it, the bytes of code by address, and whether its call or return is
+/// taken; `next` is the address after it.
+pub fn state_after(code: &[Option<u8>], instr: Instr, taken: bool, next: u16, state: State) -> State
+    ensures { result ≡ state_after code.now instr taken next state }
+{
+    let top = StackTop {
+        pointer: None,
+        word: state.words.first.unwrap_or(PairSpan::ANY),
+    };
+    State {
+        known: known_after(code, instr, top, state.known),
+        words: words_after(instr, taken, next, state),
     }
 }

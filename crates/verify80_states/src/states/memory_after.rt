@@ -4,7 +4,7 @@ ghost use Rattle.std.specs.Prelude.{◌≡◌};
 ghost use Rattle.verify80_states.specs.Following.{address_after, is_steady, one_byte, only_address, source_after, stored_bytes};
 
 use crate::states::following::{index_words, loaded};
-use crate::states::state::State;
+use crate::states::known::Known;
 use crate::states::variables::Variable;
 use decode80::{Instr, Register, ahead};
 use verify80_spans::{ByteSpan, Span};
@@ -28,7 +28,7 @@ fn one_byte(at: Span, bytes: ByteSpan) -> (Option<StoredByte>, Option<StoredByte
 pub fn stored_bytes(
     code: &[Option<u8>],
     instr: Instr,
-    state: State,
+    state: Known,
 ) -> (Option<StoredByte>, Option<StoredByte>)
     ensures { result ≡ stored_bytes code.now instr state }
 {
@@ -75,7 +75,7 @@ fn address_after(stored: Option<StoredByte>, address: Option<u16>) -> Option<u16
 /// what was known before it, unless A is written.
 pub(crate) fn source_after(
     instr: Instr,
-    state: State,
+    state: Known,
     stored: (Option<StoredByte>, Option<StoredByte>),
     left: Option<u16>,
 ) -> Option<u16>
@@ -89,7 +89,7 @@ pub(crate) fn source_after(
 }
 
 /// Whether each byte that an instruction stores where a variable may be is one of the variable's bytes.
-pub(crate) fn is_steady(code: &[Option<u8>], instr: Instr, state: State, variable: Variable) -> bool
+pub(crate) fn is_steady(code: &[Option<u8>], instr: Instr, state: Known, variable: Variable) -> bool
     ensures { result ≡ is_steady code.now instr state variable }
 {
     let (first, second) = stored_bytes(code, instr, state);

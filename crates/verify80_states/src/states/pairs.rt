@@ -12,7 +12,7 @@ pub struct PairSpan {
 impl PairSpan {
     ghost use Rattle.std.specs.Prelude.{◌≡◌, ◌↔◌, true};
     ghost use Rattle.verify80_spans.specs.Span.{high_of};
-    ghost use Rattle.verify80_states.specs.State.{pair_of_words, pair_of_halves, cut_high, cut_low, next_pair, previous_pair, sum_pair, IsPairInside};
+    ghost use Rattle.verify80_states.specs.Known.{pair_of_words, pair_of_halves, cut_high, cut_low, next_pair, previous_pair, sum_pair, IsPairInside};
 
     /// A pair of which nothing is known.
     pub const ANY: PairSpan = PairSpan {

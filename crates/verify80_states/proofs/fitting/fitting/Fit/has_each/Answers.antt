@@ -1,9 +1,9 @@
-use Rattle.verify80_states.proofs.Names.{refl, arith, below_more, subst, ◌≤◌, byte_alone, cut, Has}
+use Rattle.verify80_states.proofs.Names.{refl, arith, below_more, subst, ◌≤◌, byte_alone, cut_state, Has}
 use Rattle.verify80_states.proofs.fitting.fitting.Fit.has_each.Goals as goal
 
 pub loop-number-preserved : goal.loop-number-preserved
 loop-number-preserved c byte from less =
-    below_more (λ k. c.args.state.a.first ≤ k → Has c.args.self.now.variables.now c.args.self.now.table.now c.args.to (cut c.args.state (byte_alone k))) c.loop-number.number (λ k less from. c.loop-number.invariant k from less)
+    below_more (λ k. c.args.state.known.a.first ≤ k → Has c.args.self.now.variables.now c.args.self.now.table.now c.args.to (cut_state c.args.state (byte_alone k))) c.loop-number.number (λ k less from. c.loop-number.invariant k from less)
     (λ from. subst (λ s. Has c.args.self.now.variables.now c.args.self.now.table.now c.args.to s) (cc (c.cut.ensures, c.alone.ensures)) (c.if-not-has.ensures refl)) byte less from
 
 pub returns : goal.returns

@@ -1,5 +1,5 @@
 use Rattle.verify80_states.proofs.Names.{rules, refl}
-use Rattle.verify80_states.proofs.states.state.State.is_inside.Goals as goal
+use Rattle.verify80_states.proofs.states.known.Known.is_inside.Goals as goal
 
 pub returns-then-are_inside : goal.returns-then-are_inside
 returns-then-are_inside c is = record {
@@ -9,7 +9,6 @@ returns-then-are_inside c is = record {
   carry = search rules;
   sign = search rules;
   compared = search rules;
-  words = search rules;
   cells = c.are_inside-then-are_inside.ensures is;
   source = search rules;
   set = c.if-not-is_set_inside.ensures refl;
