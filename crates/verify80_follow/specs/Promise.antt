@@ -47,7 +47,7 @@ pub record KnowsWorld (image : Located) (table : List FollowedState) (set : Bool
   pub there : slice_get table place ≡ Some state
   pub at : state.at ≡ w.machine.cpu.pc
   pub known : HoldsKnown state.known w.machine
-  pub stack : IfSome (stack_of state) (λ bytes. HoldsStack (bounds_of image) bytes w.machine × (set ≡ true))
+  pub stack : IfSome (stack_of state) (λ bytes. HoldsStack (bounds_of image) bytes w.machine.cpu.sp w.machine.memory × (set ≡ true))
   pub bytes : HoldsBytes w.machine
   pub whole : length w.machine.memory ≡ 65536
   pub code : HasCode image w.machine.memory

@@ -6,7 +6,7 @@ use Rattle.decode80.specs.{declared.instr.Instr.Instr, Fetch.ahead}
 use Rattle.decode80.specs.declared.instr.Instr.TheVariants.{Lxi, Inx, Dcx, Sphl, Push, Pop, Xthl, Call, CallIf, Ret, ReturnIf, Rst}
 use Rattle.decode80.specs.declared.pair.Pair.TheVariants.{Sp}
 use Rattle.image80.specs.{Regions.top_of, Image.Located}
-use Rattle.machine80.specs.{Cpu.word, Effects.byte_in, Step.Machine}
+use Rattle.machine80.specs.{Cpu.word, Effects.byte_in}
 use Rattle.verify80.specs.Boards.{uses_sp}
 use Rattle.verify80_spans.specs.declared.byte_span.ByteSpan.{ByteSpan}
 use Rattle.verify80_spans.specs.Span.{ByteWithin, IsByteInside, any_byte, byte_alone, is_alone, is_byte_alone, high_of}
@@ -27,11 +27,11 @@ bounds_of image = record { top = top_of image.regions; length = image.regions.st
 abbrev pub pointer_at : StackBounds → (count : ℕ) → ℕ
 pointer_at bounds count = (bounds.top + 65536 - count) % 65536
 
--- the stack of a machine has these bytes, from the stack pointer to its top
-pub record HoldsStack (bounds : StackBounds) (bytes : List ByteSpan) (m : Machine) : Type 0 where
-  pub pointer : m.cpu.sp ≡ pointer_at bounds (length bytes)
+-- the stack has these bytes, from the stack pointer to its top
+pub record HoldsStack (bounds : StackBounds) (bytes : List ByteSpan) (sp : ℕ) (memory : List ℕ) : Type 0 where
+  pub pointer : sp ≡ pointer_at bounds (length bytes)
   pub within : length bytes ≤ bounds.length
-  pub each : HoldsFrom m.memory m.cpu.sp bytes
+  pub each : HoldsFrom memory sp bytes
 
 -- what is known of the stack at the stack pointer; nothing, as long as that isn't set
 abbrev pub word_on : List ByteSpan → PairSpan

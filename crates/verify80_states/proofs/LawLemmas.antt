@@ -2,7 +2,7 @@
 use Rattle.verify80_states.proofs.Names.{◌≡◌, ◌<◌, ℕ, Bool, true, List, [], Option, None, Some, length, slice_index, refl, subst, sym, ap, ◌∙◌, same_Some, In, Out, Hlt, Instr, Condition, HasOperandInRange, Areas, in_code, in_data, holds_of, stored, stores, Machine, guard, proceeded, Known, StackTop, Variable, HasBytes, HoldsBytes, IsWord, ReadsCode, known_after, given, HoldsKnown, HoldsTop, IsKnownInside, IsQuietKnown, ByteWithin, byte_alone, cut, HoldsSet}
 use Rattle.verify80.specs.Boards.{unguarded}
 use Rattle.verify80_states.specs.Laws.{IsFollowedBy, LeavesKnown, KnownHolds}
-use Rattle.verify80_states.proofs.{MemoryLemmas.Ground, RegisterBytes.accumulator_written, StepBytes.changed_bytes, StepBytes.stored_are_bytes, StepBytes.stored_length, StepBytes.stores_bytes, SpanLemmas.alone_within, VariableLemmas.none_named, GivenLemmas.cut_known, GivenLemmas.given_holds, InsideLemmas.known_around, StoredLemmas.are_stored, StoredLemmas.code_kept, KeepLemmas.nothing_known_holds}
+use Rattle.verify80_states.proofs.{MemoryLemmas.Ground, RegisterBytes.accumulator_written, StepBytes.changed_bytes, ByteLemmas.stored_are_bytes, ByteLemmas.stored_length, StepBytes.stores_bytes, SpanLemmas.alone_within, VariableLemmas.none_named, GivenLemmas.cut_known, GivenLemmas.given_holds, InsideLemmas.known_around, StoredLemmas.are_stored, StoredLemmas.code_kept, KeepLemmas.nothing_known_holds}
 use Rattle.verify80_states.specs.Following.{stored_bytes}
 use Rattle.verify80_states.proofs.StepLemmas.{known_brought, known_taken, known_proceeds}
 
@@ -12,7 +12,7 @@ module _ (regions : Areas) (ground : Ground regions) (code : List (Option ℕ)) 
     known = known_brought code m port byte next m.inputs top s bytes.registers small holds;
     bytes = record { registers = accumulator_written m.cpu.registers byte m.cpu.registers.flags small bytes.registers; memory = bytes.memory; inputs = bytes.inputs };
     whole = whole;
-    code = λ address here. refl;
+    same_code = λ address here. refl;
   }
 
   taken : (port next : ℕ) → IsFollowedBy regions code (Out port) top s m (record m { cpu = record m.cpu { pc = next } })
@@ -20,7 +20,7 @@ module _ (regions : Areas) (ground : Ground regions) (code : List (Option ℕ)) 
     known = known_taken code m port next m.outputs top s holds;
     bytes = record { registers = bytes.registers; memory = bytes.memory; inputs = bytes.inputs };
     whole = whole;
-    code = λ address here. refl;
+    same_code = λ address here. refl;
   }
 
   goes_on : (i : Instr) (next : ℕ) → HasOperandInRange i → IsWord next → guard regions i m.cpu ≡ None → IsFollowedBy regions code i top s m (proceeded i next m)
@@ -31,7 +31,7 @@ module _ (regions : Areas) (ground : Ground regions) (code : List (Option ℕ)) 
         known = known_proceeds regions ground code m i next top s small bytes whole reads are tops pass memory holds;
         bytes = record { registers = changed_bytes i m.memory m.cpu small bytes.memory r; memory = memory; inputs = bytes.inputs };
         whole = stored_length (stores i next m.memory m.cpu) m.memory ∙ whole;
-        code = λ address here. code_kept regions ground (stored_bytes code i s).0 (stored_bytes code i s).1 (stores i next m.memory m.cpu) m.memory address
+        same_code = λ address here. code_kept regions ground (stored_bytes code i s).0 (stored_bytes code i s).1 (stores i next m.memory m.cpu) m.memory address
             (are_stored regions code m.memory i next m.cpu s reads bytes.memory pass small r holds.registers holds.cells) here;
       }
 

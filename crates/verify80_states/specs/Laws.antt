@@ -15,7 +15,7 @@ pub record IsFollowedBy (regions : Areas) (code : List (Option ℕ)) (instr : In
   pub known : HoldsKnown (known_after code instr top s) after
   pub bytes : HoldsBytes after
   pub whole : length after.memory ≡ 65536
-  pub code : (address : ℕ) → in_code regions address ≡ true → slice_index after.memory address ≡ slice_index m.memory address
+  pub same_code : (address : ℕ) → in_code regions address ≡ true → slice_index after.memory address ≡ slice_index m.memory address
 
 -- an instruction that the guard would let pass is followed
 abbrev pub InstructionsAreFollowed : Type 0

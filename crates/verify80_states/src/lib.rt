@@ -31,8 +31,8 @@ mod states;
 
 pub use bytes::bytes_stay_bytes;
 pub use fitting::{
-    APART, CallReturns, Placed, anything, code_bytes, entry_at, fits, fitting_states_hold, is_marked,
-    targets_at,
+    APART, CallReturns, Placed, anything, code_bytes, entry_at, fits, fitting_states_hold,
+    is_marked, targets_at,
 };
 pub use quiet::{first_outside_data, is_quiet, mark_quiet};
 pub use states::{
