@@ -1,5 +1,5 @@
 -- Registers and flags at each kind of instruction.
-use Rattle.verify80_states.proofs.Names.{◌≡◌, ◌<◌, ◌==◌, [], ℕ, ◌+◌, ◌-◌, ◌*◌, ◌/◌, ◌%◌, Bool, true, false, not, List, Option, None, Some, nat_lt, bit_and, bit_or, bit_xor, refl, arith, sym, ap, nat_tests, and_self, or_self, xor_self, Register, Pair, IndexPair, IndexBc, IndexDe, A, H, L, Bc, De, Hl, Sp, StackBc, StackDe, StackHl, Psw, Instr, Operation, Operand, Mov, Load, Mvi, Lxi, Dad, Inx, Dcx, Inr, InrMemory, Dcr, DcrMemory, Operate, Pop, Ldax, Lhld, Lda, Rotate, Daa, Cma, Stc, Cmc, Xthl, Xchg, In, Subtract, And, ExclusiveOr, Or, Compare, InRegister, Memory, Immediate, Left, Right, LeftThroughCarry, RightThroughCarry, HasOperandInRange, Areas, Registers, Cpu, flags_from, byte_in, operand_of, changed, decimal_answer, word, register_of, with_register, hl_of, pair_of, with_pair, index_pair_of, Span, ByteSpan, Outcome, PairSpan, Known, Cells, HasBytes, AreBytes, ReadsCode, HoldsCells, Within, ByteWithin, any_byte, word_alone, byte_alone, is_alone, is_byte_alone, next_byte, previous_byte, operated, rotated, complemented, uncarried, HoldsPair, HoldsRegisters, HoldsWord, HoldsWords, Compares, any_pair, pair_of_words, next_pair, previous_pair, sum_pair, compared_with, byte_of, span_of, with_byte, with_span, known_pair, loaded_at, loaded, moved, counted, resulted, tested, is_accumulator, operand_bytes, after_operation, added_carry, turned, exchanged, index_words, registers_after, cond_both, subst, StackTop, IfSome, summand, sum_carries, with_any_flags}
+use Rattle.verify80_states.proofs.Names.{◌≡◌, ◌<◌, ◌==◌, ℕ, ◌+◌, ◌-◌, ◌*◌, ◌/◌, ◌%◌, Bool, true, false, not, List, Option, None, Some, nat_lt, bit_and, bit_or, bit_xor, refl, arith, sym, ap, nat_tests, and_self, or_self, xor_self, Register, Pair, IndexPair, IndexBc, IndexDe, A, H, L, Bc, De, Hl, Sp, StackBc, StackDe, StackHl, Psw, Instr, Operation, Operand, Mov, Load, Mvi, Lxi, Dad, Inx, Dcx, Inr, InrMemory, Dcr, DcrMemory, Operate, Pop, Ldax, Lhld, Lda, Rotate, Daa, Cma, Stc, Cmc, Xthl, Xchg, In, Subtract, And, ExclusiveOr, Or, Compare, InRegister, Memory, Immediate, Left, Right, LeftThroughCarry, RightThroughCarry, HasOperandInRange, Areas, Registers, Cpu, flags_from, byte_in, operand_of, changed, decimal_answer, word, register_of, with_register, hl_of, pair_of, with_pair, index_pair_of, Span, ByteSpan, Outcome, PairSpan, Known, Cells, HasBytes, AreBytes, ReadsCode, HoldsCells, Within, ByteWithin, any_byte, word_alone, byte_alone, is_alone, is_byte_alone, next_byte, previous_byte, operated, rotated, complemented, uncarried, HoldsPair, HoldsRegisters, HoldsWord, Compares, any_pair, pair_of_words, next_pair, previous_pair, sum_pair, compared_with, byte_of, span_of, with_byte, with_span, known_pair, loaded_at, loaded, moved, counted, resulted, tested, is_accumulator, operand_bytes, after_operation, added_carry, turned, exchanged, index_words, registers_after, cond_both, subst, StackTop, IfSome, summand, sum_carries, with_any_flags}
 use Rattle.verify80_spans.specs.Span.{IsKnown, high_of}
 use Rattle.decode80.specs.{Fetch.ahead, Fetch.behind}
 use Rattle.machine80.specs.{Flags.bit_of, Flags.flags_of_result}

@@ -5,7 +5,6 @@ use Rattle.std.specs.Prelude.{◌≡◌, ◌<◌, ◌==◌, ◌⊎◌, ℕ, Bool
 use Rattle.decode80.specs.{declared.register.Register.Register, declared.pair.Pair.Pair, Fetch.ahead}
 use Rattle.decode80.specs.declared.register.Register.TheVariants.{A, B, C, D, E, H, L}
 use Rattle.decode80.specs.declared.pair.Pair.TheVariants.{Bc, De, Hl, Sp}
-use Rattle.image80.specs.{Range.in_range, Regions.Areas, Regions.top_of}
 use Rattle.machine80.specs.{declared.flags.Flags.Flags, declared.registers.Registers.Registers, Cpu.word, Cpu.register_of, Effects.byte_in, Step.Machine}
 use Rattle.verify80_spans.specs.{declared.span.Span.Span, declared.byte_span.ByteSpan.ByteSpan, declared.byte_span.Outcome.Outcome}
 use Rattle.verify80_states.specs.{declared.states.cells.Cells.Cells, declared.states.pairs.PairSpan.PairSpan, declared.states.known.Known.Known, declared.states.following.StackTop.StackTop, declared.states.variables.Variable.Variable, Variables.is_bit}
