@@ -4,3 +4,4 @@ mod FetchLemmas
 mod GuardLemmas
 mod StackSteps
 mod FollowLemmas
+mod FitLemmas

@@ -1,5 +1,5 @@
 -- Where the bytes of the stack lie, and what holds of them when others are stored, pushed or popped.
-use Rattle.std.specs.Prelude.{◌≡◌, ◌≢◌, ◌≤◌, ◌<◌, ℕ, zero, suc, ◌+◌, ◌-◌, ◌/◌, ◌%◌, Bool, true, false, List, [], ◌∷◌, ◌++◌, Option, None, Some, IfSome, All, drop, length, nat_le, nat_lt, replicate, slice_index, slice_set, slice_get}
+use Rattle.std.specs.Prelude.{◌≡◌, ◌≢◌, ◌≤◌, ◌<◌, ℕ, zero, suc, ◌+◌, ◌-◌, ◌/◌, ◌%◌, ◌&&◌, Bool, true, false, List, [], ◌∷◌, ◌++◌, Option, None, Some, IfSome, All, drop, length, nat_le, nat_lt, replicate, slice_index, slice_set, slice_get}
 use Rattle.std.proofs.Common.{arith, ap, refl, subst, sym, ◌∙◌, get_or-set_other}
 use Rattle.std.proofs.lemmas.{Bool.Decides.nat_tests, List.length-append, List.length-drop, List.length-replicate, List.get_or-set_same, List.length-set}
 use Rattle.decode80.specs.Fetch.{ahead, behind}
@@ -30,7 +30,7 @@ byte_at (x ∷ xs) zero bytes = All-head IsByte x xs bytes
 byte_at (x ∷ xs) (suc i) bytes = byte_at xs i (All-tail IsByte x xs bytes)
 
 -- the bytes of a memory
-any_within : (n : ℕ) → n < 256 → ByteWithin any_byte n
+pub any_within : (n : ℕ) → n < 256 → ByteWithin any_byte n
 any_within n small = record { above = omega arith; below = omega (arith, small) }
 
 if_holds : {A : Type 0} (test : Bool) (x : A) (P : A → Type 0) → (test ≡ true → P x) → IfSome (if_true test x) P
@@ -107,7 +107,7 @@ module _ (regions : Areas) (ground : Ground regions) where
           (
             subst (λ n. ByteWithin high n) (sym other) second,
             stays_from bytes (ahead (ahead sp 1) 1) m m' (sp + 2) two_up (omega (arith, room))
-            (λ some. let here = is ∙ pointer_is (length bytes + 2) (omega arith) room in let up = two_up ∙ pointer_is (length bytes) some (omega (arith, room)) in omega (arith, here, up, some, room)) same holds,
+                (λ some. let here = is ∙ pointer_is (length bytes + 2) (omega arith) room in let up = two_up ∙ pointer_is (length bytes) some (omega (arith, room)) in omega (arith, here, up, some, room)) same holds,
           ),
         );
       }
@@ -165,8 +165,8 @@ module _ (regions : Areas) (ground : Ground regions) where
             (ap (λ n. ahead n (length bytes - c)) holds.pointer ∙ sym (meets_at (length bytes) c holds.within few) ∙ ap (λ n. ahead n (c - length bytes)) (sym at) ∙ ap (λ k. ahead pointer k) (sym (length-replicate (c - length bytes) any_byte)))
             (from_drop (length bytes - c) bytes sp m (subst (λ n. n < 65536) (sym holds.pointer) (pointer_is_word (length bytes))) holds.each));
       }) where
-    abbrev c : ℕ
-    c = count_above bounds pointer
+        c : ℕ
+        c = count_above bounds pointer
 
-    at : pointer ≡ pointer_at bounds c
-    at = counted_at pointer small
+        at : pointer ≡ pointer_at bounds c
+        at = counted_at pointer small

@@ -57,7 +57,19 @@ below_apart : (sp : ℕ) → behind sp 1 ≢ behind sp 2
 unfolding behind
 below_apart sp = λ e. absurd (omega (arith, e))
 
+next_up : (n : ℕ) → n + 1 < 65536 → ahead n 1 ≡ n + 1
+unfolding ahead
+next_up n few = omega (arith, few)
+
+back_up : (n : ℕ) → n < 65536 → ahead (behind n 1) 1 ≡ n
+unfolding ahead behind
+back_up n few = omega (arith, few)
+
 module _ (regions : Areas) (ground : Ground regions) where
+  one_below : (n : ℕ) → n + 1 ≤ regions.stack.length → behind (pointer_at (bounds regions ground) n) 1 ≡ pointer_at (bounds regions ground) (suc n)
+  unfolding behind
+  one_below n few = let ends = ground.stack_ends in let short = ground.stack_short in omega (arith, few, ends, short)
+
   abbrev Stands : List ByteSpan → (sp : ℕ) → List ℕ → Type 0
   Stands bytes sp m = HoldsStack (bounds regions ground) bytes sp m
 
@@ -78,8 +90,8 @@ module _ (regions : Areas) (ground : Ground regions) where
         let read = two_read m (behind sp 1) (behind sp 2) h l whole (behind_word sp 1) (behind_word sp 2) (below_apart sp) in
         let small : sp < 65536 = subst (λ n. n < 65536) (sym holds.pointer) (pointer_is_word regions ground (length bytes)) in
         two_put regions ground low high bytes (behind sp 2) m (stored m (push_bytes sp h l)) l h room at read.1 (ap (slice_index (stored m (push_bytes sp h l))) (up_one sp) ∙ read.0) second first
-            (λ a there above. two_apart m a (behind sp 1) (behind sp 2) h l (λ e. absurd (omega (arith, e, above, at_is, one_is, room))) (λ e. absurd (omega (arith, e, above))))
-            (subst (λ n. HoldsFrom m n bytes) (sym (up_two sp small)) holds.each))
+        (λ a there above. two_apart m a (behind sp 1) (behind sp 2) h l (λ e. absurd (omega (arith, e, above, at_is, one_is, room))) (λ e. absurd (omega (arith, e, above))))
+        (subst (λ n. HoldsFrom m n bytes) (sym (up_two sp small)) holds.each))
 
     calls : (taken : Bool) (next : ℕ) (t : Bool) → t ≡ taken → StandsIf (called_on taken regions.stack.length next bytes) (if t then behind sp 2 else sp) (stored m (if t then push_bytes sp (next / 256) (next % 256) else []))
     calls true next true same = pushes (byte_alone (next / 256)) (byte_alone (next % 256)) (next / 256) (next % 256) (alone_inside (next / 256)) (alone_inside (next % 256))
@@ -112,10 +124,6 @@ module _ (regions : Areas) (ground : Ground regions) where
       two_put regions ground low high bytes sp m (stored m ((sp, l) ∷ (ahead sp 1, h) ∷ [])) l h room (holds.pointer ∙ ap (λ n. pointer_at (bounds regions ground) n) (omega arith)) read.0 read.1 second first
       (λ a there above. two_apart m a sp (ahead sp 1) l h (λ e. absurd (omega (arith, e, above))) (λ e. absurd (omega (arith, e, above, up))))
       holds.each.1.1
-    where
-      next_up : (n : ℕ) → n + 1 < 65536 → ahead n 1 ≡ n + 1
-      unfolding ahead
-      next_up n few = omega (arith, few)
 
   shortens : (m : List ℕ) (sp : ℕ) (bytes : List ByteSpan) → Stands bytes sp m → StandsIf (without_one bytes) (ahead sp 1) m
   shortens m sp [] holds = tt
@@ -131,14 +139,6 @@ module _ (regions : Areas) (ground : Ground regions) where
         within = omega (arith, room);
         each = (any_within (byte_in m (behind sp 1)) (byte_at m (behind sp 1) held), subst (λ n. HoldsFrom m n bytes) (sym (back_up sp small)) holds.each);
       })
-    where
-      one_below : (n : ℕ) → n + 1 ≤ regions.stack.length → behind (pointer_at (bounds regions ground) n) 1 ≡ pointer_at (bounds regions ground) (suc n)
-      unfolding behind
-      one_below n few = let ends = ground.stack_ends in let short = ground.stack_short in omega (arith, few, ends, short)
-
-      back_up : (n : ℕ) → n < 65536 → ahead (behind n 1) 1 ≡ n
-      unfolding ahead behind
-      back_up n few = omega (arith, few)
 
   sets : (m : List ℕ) (sp : ℕ) (bytes : List ByteSpan) (words : Span) (pointer : ℕ) (b : Bool) → is_alone words ≡ b → Within words pointer → pointer < 65536 → HasBytes m → Stands bytes sp m → StandsIf (moved_if b (bounds regions ground) words.first bytes) pointer m
   sets m sp bytes words pointer true alone inside small held holds =

@@ -24,7 +24,7 @@ pub record Has (table : List FollowedState) (to : ℕ) (known : Known) (stack : 
   pub there : slice_get table place ≡ Some state
   pub at : state.at ≡ to
   pub inside : IsKnownInside [] known state.known
-  pub stack : IsStackInside stack (stack_of state)
+  pub stacked : IsStackInside stack (stack_of state)
 
 -- states at an address that together say no more than this: one of them, or one for each byte that A may be
 pub record Covers (table : List FollowedState) (to : ℕ) (known : Known) (stack : Option (List ByteSpan)) : Type 0 where
@@ -48,27 +48,32 @@ pub record IsBehindCall (image : Located) (to : ℕ) : Type 0 where
 abbrev pub IsWay : Located → List Way → (at to : ℕ) → Type 0
 IsWay image ways at to = IsBehindCall image to ⊎ Contains ways (record { at = at; to = to })
 
+-- the same of what is left of a stack, if something is, which has no more bytes than these
+pub record CoversStack (table : List FollowedState) (bytes to : ℕ) (known : Known) (after : Option (Option (List ByteSpan))) : Type 0 where
+  pub stack : Option (List ByteSpan)
+  pub is : after ≡ Some stack
+  pub depth : IfSome stack (λ left. length left ≤ bytes)
+  pub covers : Covers table to known stack
+
 -- what an instruction makes of what is left of a state, if something is, is covered where it leads
-module _ (image : Located) (code : List (Option ℕ)) (ways : List Way) (table : List FollowedState) (s : FollowedState) (found : Fetched) where
-  pub record CoversThen (taken : Bool) (to : ℕ) (known : Known) : Type 0 where
-    pub stack : Option (List ByteSpan)
-    pub is : stack_then (bounds_of image) found.instr taken found.next known (stack_of s) ≡ Some stack
-    pub covers : Covers table to (known_after code found.instr (top_of_stack (bounds_of image) (stack_of s)) known) stack
+module _ (image : Located) (code : List (Option ℕ)) (ways : List Way) (table : List FollowedState) (bytes : ℕ) (s : FollowedState) (found : Fetched) where
+  abbrev pub CoversThen : (taken : Bool) → (to : ℕ) → Known → Type 0
+  CoversThen taken to known = CoversStack table bytes to (known_after code found.instr (top_of_stack (bounds_of image) (stack_of s)) known) (stack_then (bounds_of image) found.instr taken found.next known (stack_of s))
 
   abbrev pub LeadsTo : (taken : Bool) → (to : ℕ) → Option Known → Type 0
   LeadsTo taken to left = IfSome left (λ known. CoversThen taken to known)
 
   -- a return that is taken goes where the state knows
   pub record ReturnsTo (known : Known) : Type 0 where
-    pub bytes : List ByteSpan
-    pub stack : stack_of s ≡ Some bytes
+    pub stacked : List ByteSpan
+    pub stack : stack_of s ≡ Some stacked
     pub to : ℕ
-    pub is : return_address bytes ≡ Some to
+    pub is : return_address stacked ≡ Some to
     pub way : IsWay image ways s.at to
     pub leads : CoversThen true to known
 
-  abbrev pub Returns : Option Known → Type 0
-  Returns left = IfSome left (λ known. ReturnsTo known)
+  abbrev pub ReturnsLeft : Option Known → Type 0
+  ReturnsLeft left = IfSome left (λ known. ReturnsTo known)
 
   -- a PCHL goes to each declared target that HL may be; if none are declared, HL is known
   pub record JumpsByNumber : Type 0 where
@@ -86,8 +91,8 @@ module _ (image : Located) (code : List (Option ℕ)) (ways : List Way) (table :
   FollowsBy JumpsToHl = JumpsBy (is_declared image.regions s.at)
   FollowsBy (Calls to) = LeadsTo true to (Some s.known)
   FollowsBy (CallsIf condition to) = LeadsTo true to (given condition true s.known) × LeadsTo false found.next (given condition false s.known)
-  FollowsBy Returns = Returns (Some s.known)
-  FollowsBy (ReturnsIf condition) = Returns (given condition true s.known) × LeadsTo false found.next (given condition false s.known)
+  FollowsBy Returns = ReturnsLeft (Some s.known)
+  FollowsBy (ReturnsIf condition) = ReturnsLeft (given condition true s.known) × LeadsTo false found.next (given condition false s.known)
   FollowsBy Halts = Unit {0}
   FollowsBy w = LeadsTo false found.next (Some s.known)
 
@@ -101,7 +106,7 @@ pub record IsExecuted (image : Located) (at : ℕ) (found : Fetched) : Type 0 wh
 pub record StateFollows (image : Located) (quiet : ℕ → Bool) (code : List (Option ℕ)) (ways : List Way) (table : List FollowedState) (bytes : ℕ) (s : FollowedState) : Type 0 where
   pub found : Fetched
   pub executed : IsExecuted image s.at found
-  pub follows : FollowsBy image code ways table s found (flow found.instr)
+  pub follows : FollowsBy image code ways table bytes s found (flow found.instr)
   pub depth : IfSome (stack_of s) (λ stack. length stack ≤ bytes)
   pub knows : IsQuietKnown quiet s.known
 

@@ -11,19 +11,6 @@ use Rattle.verify80_states.specs.{Bytes.HoldsBytes, Known.HoldsKnown, QuietBoard
 use Rattle.verify80_follow.specs.declared.{followed.FollowedState.FollowedState, followed.Way.Way}
 use Rattle.verify80_follow.specs.{Stack.HoldsStack, Stack.bounds_of, Follows.Follows, Follows.IsWay, Follows.stack_of}
 
--- What is known of each world of a board, by whatever means: of the first one, of one that devices have disturbed, and of one after an instruction;
--- and what it says of a world. A table of states that follows a program is one such knowledge.
-pub record Invariant (image : Located) (quiet : ℕ → Bool) (listed : ℕ → Type 0) (start : Machine) (began : Bool) (Knows : (set : Bool) → World → Type 0) (Keeps : World → Type 0) : Type 0 where
-  pub begun : Knows began (world_of start)
-  pub disturbs : (set : Bool) (w v : World) → Knows set w → (by : Disturbs image.regions (respected_pointer image.regions set w) w v) →
-      StaysQuiet quiet w.machine.memory by.memory → Knows set v
-  pub executes : (before : Bool) (w v : World) → Knows before w → (by : Executes image.regions listed w v) → Knows (before || sets_sp by.found.instr) v
-  pub keeps : (set : Bool) (w : World) → Knows set w → Keeps w
-
-abbrev pub InvariantsAreKept : Type 1
-InvariantsAreKept = (image : Located) (quiet : ℕ → Bool) (listed : ℕ → Type 0) (start : Machine) (began : Bool) (Knows : (set : Bool) → World → Type 0) (Keeps : World → Type 0) →
-    Invariant image quiet listed start began Knows Keeps → (w : World) (set : Bool) → OnQuietBoard image.regions quiet listed start began set w → Keeps w
-
 -- what is promised of each world: its next instruction is fetched inside code, and is the image's; it stores directly to data alone; a return that is
 -- taken, and a PCHL without declared targets, goes behind a call or by a listed way; as stack it touches only a given number of bytes just below the
 -- stack's top; if it is EI, the byte behind it is a HLT in the code; and unless it is HLT, the run goes on, whatever byte comes in

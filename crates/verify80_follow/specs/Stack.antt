@@ -15,7 +15,7 @@ use Rattle.verify80_follow.specs.declared.stack.StackAfter.TheVariants.{Refused,
 use Rattle.verify80_states.specs.{declared.states.known.Known.Known, declared.states.following.StackTop.StackTop, declared.states.pairs.PairSpan.PairSpan, Known.any_pair, Known.pair_of_halves, Following.pushed_pair}
 
 -- the bytes of a memory from an address on are among these
-pub HoldsFrom : (memory : List ℕ) → (at : ℕ) → List ByteSpan → Type 0
+abbrev pub HoldsFrom : (memory : List ℕ) → (at : ℕ) → List ByteSpan → Type 0
 HoldsFrom memory at [] = Unit {0}
 HoldsFrom memory at (byte ∷ bytes) = ByteWithin byte (byte_in memory at) × HoldsFrom memory (ahead at 1) bytes
 
@@ -43,19 +43,14 @@ top_of_stack bounds None = record { pointer = None; word = any_pair }
 top_of_stack bounds (Some bytes) = record { pointer = Some (pointer_at bounds (length bytes)); word = word_on bytes }
 
 -- where a return goes, if that is known
-abbrev pub word_if : (alone : Bool) → (high low : ℕ) → Option ℕ
-word_if true high low = Some (word high low)
-word_if false high low = None
-
-abbrev pub return_address : List ByteSpan → Option ℕ
-return_address (low ∷ high ∷ bytes) = word_if (is_byte_alone low && is_byte_alone high) high.first low.first
-return_address bytes = None
-
--- two bytes are pushed, if there is room for them; popped, if they are there; and exchanged for others
 abbrev pub if_true : {A : Type 0} → Bool → A → Option A
 if_true true x = Some x
 if_true false x = None
 
+abbrev pub return_address : List ByteSpan → Option ℕ
+return_address bytes = if_true (is_alone (word_on bytes).words) (word_on bytes).words.first
+
+-- two bytes are pushed, if there is room for them; popped, if they are there; and exchanged for others
 abbrev pub pushed_onto : (room : ℕ) → (high low : ByteSpan) → List ByteSpan → Option (List ByteSpan)
 pushed_onto room high low bytes = if_true (nat_le (length bytes + 2) room) (low ∷ high ∷ bytes)
 

@@ -1,13 +1,13 @@
 //! Whether a table of states follows an image.
 
-ghost use Rattle.std.specs.Prelude.{◌≡◌, ◌≤◌, ℕ, Bool, true, All, Contains, IfOk, IfSome, length};
+ghost use Rattle.std.specs.Prelude.{◌≡◌, ◌≤◌, ℕ, Bool, false, true, All, Contains, IfOk, IfSome, length};
 ghost use Rattle.std.specs.Option.{option_map};
 ghost use Rattle.image80.specs.{Image.memory_of, Regions.AreRegions, Regions.in_data};
 ghost use Rattle.verify80_spans.specs.Span.{Within, ByteWithin, byte_alone};
 ghost use Rattle.verify80_states.specs.{Known.cut, Following.known_after, Marks.is_marked, Steps.AreCodeBytes};
-ghost use Rattle.verify80_follow.specs.Follows.{Covers, CoversThen, FollowsBy, Has, IsBehindCall, IsWay, JumpsBy, JumpsByNumber, LeadsTo, Returns, ReturnsTo, StateFollows, Follows, is_call};
+ghost use Rattle.verify80_follow.specs.Follows.{Covers, CoversStack, CoversThen, FollowsBy, Has, IsBehindCall, IsWay, JumpsBy, JumpsByNumber, LeadsTo, ReturnsLeft, ReturnsTo, StateFollows, Follows, is_call};
 ghost use Rattle.verify80_follow.specs.Promise.{PromiseOfFollowed};
-ghost use Rattle.verify80_follow.specs.Stack.{bounds_of};
+ghost use Rattle.verify80_follow.specs.Stack.{after_of, bounds_of};
 ghost use Rattle.decode80.specs.{Facts.flow, declared.flow.Flow.TheVariants.JumpsToHl};
 ghost use Rattle.verify80.specs.Looking.{is_declared};
 
@@ -55,7 +55,7 @@ struct Fit<'a> {
 impl Fit<'_> {
     /// Whether a hint names a place of the table with a state at `to` that says no more than this.
     fn has(&self, hint: u32, to: u16, known: Known, stack: Option<&[ByteSpan]>) -> bool
-        ensures { result ≡ true → Has self.now.table.now to known (option_map (λ bytes. bytes.now) stack) }
+        ensures { result ≡ true → Has self.now.table.now to known (option_map (λ bytes. bytes.now) stack.entry) }
     {
         let Some(place) = self.hints.get(hint as usize) else {
             return false;
@@ -72,14 +72,14 @@ impl Fit<'_> {
 
     /// Whether a hint names states at `to` that together say no more than this: one, or one for each byte that A may be.
     fn covers(&self, hint: u32, to: u16, known: Known, stack: Option<&[ByteSpan]>) -> bool
-        ensures { result ≡ true → Covers self.now.table.now to known (option_map (λ bytes. bytes.now) stack) }
+        ensures { result ≡ true → Covers self.now.table.now to known (option_map (λ bytes. bytes.now) stack.entry) }
     {
         self.has(hint, to, known, stack) || self.has_each(hint, to, known, stack)
     }
 
     /// Whether a hint names a state at `to` for each byte that A may be, which says no more than this with that byte in A.
     fn has_each(&self, hint: u32, to: u16, known: Known, stack: Option<&[ByteSpan]>) -> bool
-        ensures { result ≡ true → (byte : ℕ) → ByteWithin known.a byte → Has self.now.table.now to (cut known (byte_alone byte)) (option_map (λ bytes. bytes.now) stack) }
+        ensures { result ≡ true → (byte : ℕ) → ByteWithin known.a byte → Has self.now.table.now to (cut known (byte_alone byte)) (option_map (λ bytes. bytes.now) stack.entry) }
     {
         let Some(first) = self.hints.get(hint as usize) else {
             return false;
@@ -109,17 +109,27 @@ impl Fit<'_> {
         to: u16,
         known: Known,
     ) -> Result<bool, AllocError>
-        ensures { IfOk result (λ covers. covers ≡ true → CoversThen self.now.program.now self.now.code.now self.now.table.now state.now found taken to known) }
+        ensures { IfOk result (λ covers. covers ≡ true → CoversThen self.now.program.now self.now.code.now self.now.ways.now self.now.table.now self.now.bytes state.now found taken to known) }
     {
         let bounds = self.bounds();
         let top = top_of_stack(bounds, state.bytes());
         let after = known_after(self.code, found.instr, top, known);
         let stack = stack_then(alloc, bounds, found, taken, known, state.bytes())?;
-        Ok(match &stack {
+        let covers = self.covers_stack(hint, to, after, &stack);
+        Ok(covers)
+    }
+
+    /// Whether a hint names states at `to` that together say no more than this with what is left of a stack, which isn't too deep.
+    fn covers_stack(&self, hint: u32, to: u16, known: Known, stack: &StackAfter) -> bool
+        ensures { result ≡ true → CoversStack self.now.table.now self.now.bytes to known (after_of stack.now) }
+    {
+        match stack {
             StackAfter::Refused => false,
-            StackAfter::Unset => self.covers(hint, to, after, None),
-            StackAfter::Set(bytes) => self.covers(hint, to, after, Some(bytes)),
-        })
+            StackAfter::Unset => self.covers(hint, to, known, None),
+            StackAfter::Set(bytes) => {
+                is_within(Some(bytes), self.bytes) && self.covers(hint, to, known, Some(bytes))
+            }
+        }
     }
 
     /// The stack's end and length.
@@ -143,7 +153,7 @@ impl Fit<'_> {
         to: u16,
         left: Option<Known>,
     ) -> Result<bool, AllocError>
-        ensures { IfOk result (λ leads. leads ≡ true → LeadsTo self.now.program.now self.now.code.now self.now.table.now state.now found taken to left) }
+        ensures { IfOk result (λ leads. leads ≡ true → LeadsTo self.now.program.now self.now.code.now self.now.ways.now self.now.table.now self.now.bytes state.now found taken to left) }
     {
         match left {
             None => Ok(true),
@@ -191,7 +201,7 @@ impl Fit<'_> {
         found: Fetched,
         left: Option<Known>,
     ) -> Result<bool, AllocError>
-        ensures { IfOk result (λ returns. returns ≡ true → Returns self.now.program.now self.now.code.now self.now.ways.now self.now.table.now state.now found left) }
+        ensures { IfOk result (λ returns. returns ≡ true → ReturnsLeft self.now.program.now self.now.code.now self.now.ways.now self.now.table.now self.now.bytes state.now found left) }
     {
         let Some(known) = left else {
             return Ok(true);
@@ -211,7 +221,7 @@ impl Fit<'_> {
         state: &FollowedState,
         found: Fetched,
     ) -> Result<bool, AllocError>
-        ensures { IfOk result (λ jumps. jumps ≡ true → JumpsByNumber self.now.program.now self.now.code.now self.now.ways.now self.now.table.now state.now found) }
+        ensures { IfOk result (λ jumps. jumps ≡ true → JumpsByNumber self.now.program.now self.now.code.now self.now.ways.now self.now.table.now self.now.bytes state.now found) }
     {
         let words = state.known.hl.words;
         if !words.is_alone() || !self.is_way(state.hint.saturating_add(1), state.at, words.first) {
@@ -235,7 +245,7 @@ impl Fit<'_> {
         state: &FollowedState,
         found: Fetched,
     ) -> Result<bool, AllocError>
-        ensures { IfOk result (λ jumps. jumps ≡ true → JumpsBy self.now.program.now self.now.code.now self.now.ways.now self.now.table.now state.now found true) }
+        ensures { IfOk result (λ jumps. jumps ≡ true → JumpsBy self.now.program.now self.now.code.now self.now.ways.now self.now.table.now self.now.bytes state.now found true) }
     {
         let targets = self.program.targets(state.at);
         for place in 0..targets.len() {
@@ -255,7 +265,7 @@ impl Fit<'_> {
         place: usize,
         to: u16,
     ) -> Result<bool, AllocError>
-        ensures { IfOk result (λ covers. covers ≡ true → Within state.now.known.hl.words to → CoversThen self.now.program.now self.now.code.now self.now.table.now state.now found false to state.now.known) }
+        ensures { IfOk result (λ covers. covers ≡ true → Within state.now.known.hl.words to → CoversThen self.now.program.now self.now.code.now self.now.ways.now self.now.table.now self.now.bytes state.now found false to state.now.known) }
     {
         let words = state.known.hl.words;
         let hint = state
@@ -267,16 +277,16 @@ impl Fit<'_> {
         self.covers_then(alloc, state, found, hint, false, to, state.known)
     }
 
-    /// Whether what an instruction makes of a state is covered wherever it leads; `is_declared` says whether targets are declared for a PCHL.
+    /// Whether what an instruction makes of a state is covered wherever it leads; `by_targets` says whether targets are declared for a PCHL.
     fn follows_by(
         &self,
         alloc: Global,
         state: &FollowedState,
         found: Fetched,
-        is_declared: bool,
+        by_targets: bool,
     ) -> Result<bool, AllocError>
-        requires declared { flow found.instr ≡ JumpsToHl → is_declared self.now.program.now.regions state.now.at ≡ is_declared }
-        ensures { IfOk result (λ follows. follows ≡ true → FollowsBy self.now.program.now self.now.code.now self.now.ways.now self.now.table.now state.now found (flow found.instr)) }
+        requires declared { flow found.instr ≡ JumpsToHl → is_declared self.now.program.now.regions state.now.at ≡ by_targets }
+        ensures { IfOk result (λ follows. follows ≡ true → FollowsBy self.now.program.now self.now.code.now self.now.ways.now self.now.table.now self.now.bytes state.now found (flow found.instr)) }
     {
         let known = state.known;
         let next = found.next;
@@ -322,7 +332,7 @@ impl Fit<'_> {
                     given(condition, false, known),
                 )
             }
-            Flow::JumpsToHl if is_declared => self.jumps_to_each(alloc, state, found),
+            Flow::JumpsToHl if by_targets => self.jumps_to_each(alloc, state, found),
             Flow::JumpsToHl => self.jumps_by_number(alloc, state, found),
             Flow::Returns => self.returns_to(alloc, state, found, Some(known)),
             Flow::ReturnsIf(condition) => {
@@ -387,7 +397,7 @@ fn is_call(flow: Flow) -> bool
 
 /// Whether no more bytes are on the stack than `most`.
 fn is_within(bytes: Option<&[ByteSpan]>, most: u16) -> bool
-    ensures { result ≡ true → IfSome (option_map (λ bytes. bytes.now) bytes) (λ stack. length stack ≤ most) }
+    ensures { result ≡ true → IfSome (option_map (λ bytes. bytes.now) bytes.entry) (λ stack. length stack ≤ most) }
 {
     match bytes {
         None => true,

@@ -49,7 +49,7 @@ fn word_on(bytes: &[ByteSpan]) -> PairSpan
 
 /// What is known of the stack at SP.
 pub fn top_of_stack(bounds: StackBounds, bytes: Option<&[ByteSpan]>) -> StackTop
-    ensures { result ≡ top_of_stack bounds (option_map (λ bytes. bytes.now) bytes) }
+    ensures { result ≡ top_of_stack bounds (option_map (λ bytes. bytes.now) bytes.entry) }
 {
     match bytes {
         None => StackTop {
@@ -67,13 +67,8 @@ pub fn top_of_stack(bounds: StackBounds, bytes: Option<&[ByteSpan]>) -> StackTop
 pub fn return_address(bytes: &[ByteSpan]) -> Option<u16>
     ensures { result ≡ return_address bytes.now }
 {
-    if bytes.len() < 2 {
-        return None;
-    }
-    let [low, high] = [bytes[0], bytes[1]];
-    (low.is_alone() && high.is_alone()).then_some(
-        256 * u16::from(high.first) + u16::from(low.first),
-    )
+    let words = word_on(bytes).words;
+    words.is_alone().then_some(words.first)
 }
 
 /// Bytes, and others behind them.
@@ -197,7 +192,8 @@ fn called_on(
     ensures { IfOk result (λ after. option_map (λ b. b.items) after ≡ called_on taken room next bytes.now) }
 {
     if taken {
-        let [high, low] = [next / 256, next % 256].map(|half| ByteSpan::alone(half as u8));
+        let high = ByteSpan::alone((next / 256) as u8);
+        let low = ByteSpan::alone((next % 256) as u8);
         pushed_onto(alloc, room, high, low, bytes)
     } else {
         Ok(Some(chained(alloc, &[], bytes)?))
@@ -302,7 +298,7 @@ pub fn stack_then(
     known: Known,
     bytes: Option<&[ByteSpan]>,
 ) -> Result<StackAfter, AllocError>
-    ensures { IfOk result (λ after. after_of after ≡ stack_then bounds found.instr taken found.next known (option_map (λ bytes. bytes.now) bytes)) }
+    ensures { IfOk result (λ after. after_of after ≡ stack_then bounds found.instr taken found.next known (option_map (λ bytes. bytes.now) bytes.entry)) }
 {
     match bytes {
         None => set_stack(alloc, bounds, found.instr),
@@ -322,7 +318,7 @@ fn are_bytes_inside(inner: &[ByteSpan], outer: &[ByteSpan]) -> bool
 
 /// Whether what is known of a stack says all that something else does.
 pub(crate) fn is_stack_inside(inner: Option<&[ByteSpan]>, outer: Option<&[ByteSpan]>) -> bool
-    ensures { result ≡ true → IsStackInside (option_map (λ bytes. bytes.now) inner) (option_map (λ bytes. bytes.now) outer) }
+    ensures { result ≡ true → IsStackInside (option_map (λ bytes. bytes.now) inner.entry) (option_map (λ bytes. bytes.now) outer.entry) }
 {
     match (inner, outer) {
         (None, None) => true,

@@ -13,3 +13,4 @@ pub mod FittingTable
 pub mod Runs
 pub mod Laws
 pub mod QuietBoards
+pub mod Invariants

@@ -1,0 +1,519 @@
+-- A table that follows a program is an invariant of each board's worlds: one of its states holds of the first one, of one that devices have disturbed,
+-- and of one after an instruction.
+use Rattle.std.specs.Prelude.{◌≡◌, ◌≢◌, ◌⊎◌, ◌≤◌, ◌<◌, ◌==◌, ◌||◌, ℕ, zero, suc, ◌+◌, ◌*◌, ◌-◌, ◌/◌, ◌%◌, Bool, true, false, not, List, [], ◌∷◌, Option, None, Some, Ok, IfSome, All, Contains, length, slice_get, slice_index, is_some, nat_eq, ◌&&◌, if◌then◌else◌}
+use Rattle.std.specs.{List.list_any, Option.option_map, Option.option_map_or}
+use Rattle.std.proofs.Common.{get_or, ap, arith, inl, inr, refl, subst, sym, true≢false, ◌∙◌}
+use Rattle.std.proofs.lemmas.{Option.get_or_from_slice_get, Option.slice_get_within, Bool.and_parts, Bool.eqb-true, Bool.Decides.nat_tests, Map.Views.Contains-from_any}
+use Rattle.std.proofs.lemmas.List.Elements.{All-nil}
+use Rattle.decode80.specs.{Spelling.HasOperandInRange, Facts.flow, Fetch.FetchReadsCodeAlone, Fetch.ahead, Fetch.direct_bytes, declared.condition.Condition.Condition, declared.fetching.Fetched.Fetched, declared.flow.Flow.Flow, declared.instr.Instr.Instr}
+use Rattle.decode80.specs.declared.flow.Flow.TheVariants.{Jumps, JumpsIf, JumpsToHl, Calls, CallsIf, Returns, ReturnsIf, Halts}
+use Rattle.decode80.specs.declared.instr.Instr.TheVariants.{Call, CallIf, Dad, Dcx, Ei, Hlt, In, Inx, Lxi, Out, Pchl, Pop, Push, Ret, ReturnIf, Rst, Sphl, Xthl}
+use Rattle.decode80.specs.declared.pair.Pair.TheVariants.{Sp}
+use Rattle.image80.specs.{Range.in_range, Regions.AreRegions, Regions.Areas, Regions.in_code, Regions.in_data, Regions.targets_at, Regions.top_of, Image.Located, Image.memory_of}
+use Rattle.machine80.specs.{Cpu.hl_of, Cpu.word, Flags.flags_byte, Flags.bit_of, Flags.holds as holds_of, Effects.byte_in, Effects.changed, Effects.goes_to, Effects.pointed_bytes, Effects.stack_bytes, Effects.stored, Effects.stores, Effects.target, Effects.touched_by, Effects.word_in, Run.world_of, declared.cpu.Cpu.Cpu, declared.flags.Flags.Flags}
+use Rattle.machine80.specs.Step.{Machine, fetch, guard, leads_outside, proceeded}
+use Rattle.machine80.specs.World.{IsJustBelow, World, is_return_taken, places_after, returns}
+use Rattle.verify80.specs.Boards.{Anywhere, Disturbs, Executes, IsFollowed, StaysInside, fetched_anywhere, respected_pointer, sets_sp, unguarded, uses_sp, with_memory, LeavesProgram}
+use Rattle.verify80.specs.{LookLaws.fetch_at, Looking.declared_targets, Looking.halt_follows, Looking.is_declared}
+use Rattle.decode80.specs.Spelling.{opcode}
+use Rattle.verify80_spans.specs.declared.byte_span.ByteSpan.{ByteSpan}
+use Rattle.verify80_spans.specs.Span.{Within, ByteWithin, any_byte, byte_alone, is_alone, is_byte_alone}
+use Rattle.verify80_states.specs.{declared.states.known.Known.Known, declared.states.following.StackTop.StackTop, Bytes.AreBytes, Bytes.FetchedOperandsAreBounded, Bytes.HasBytes, Bytes.HoldsBytes, Bytes.IsBounded, Following.known_after, Given.given, QuietBoards.OnQuietBoard, QuietBoards.StaysQuiet, Steps.AreCodeBytes, Steps.HasCode, Steps.ReadsCode, Steps.is_taken}
+use Rattle.verify80_states.specs.Known.{HoldsKnown, HoldsPair, HoldsTop, IsKnownInside, IsQuietKnown, any_pair, cut, nothing_known, pair_of_halves}
+use Rattle.verify80_states.specs.{Cells.IsQuietCell, declared.states.cells.Cell.Cell}
+use Rattle.verify80_states.specs.Laws.{ConditionsLeaveKnown, InstructionsAreFollowed, IsFollowedBy, KnownHolds, KnownStaysQuiet, LeavesKnown, WhatHoldsOfBytes}
+use Rattle.verify80_states.specs.Invariants.{Invariant, invariant_is_kept}
+use Rattle.verify80_follow.specs.declared.{followed.FollowedState.FollowedState, followed.Way.Way}
+use Rattle.verify80_follow.specs.Stack.{AreBytesInside, HoldsFrom, HoldsStack, IsStackInside, bounds_of, if_true, moved_to, pointer_at, return_address, set_stack, stack_after, stack_then, top_of_stack, word_on}
+use Rattle.verify80_follow.specs.Follows.{Covers, CoversThen, Follows, FollowsBy, Has, IsExecuted, IsWay, JumpsBy, JumpsByNumber, LeadsTo, ReturnsLeft, ReturnsTo, StateFollows, stack_of}
+use Rattle.verify80_follow.specs.Promise.{FollowedProgramsKeepThePromise, KeepsFollowed, KnowsWorld, PromiseOfFollowed}
+use Rattle.verify80_follow.proofs.{GroundLemmas.Ground, FetchLemmas.anywhere_of, FetchLemmas.fetched_here, FetchLemmas.inside_of, StackSteps.stack_holds}
+use Rattle.verify80_follow.proofs.GuardLemmas.{Touches, all_of_list, passes_guard, touched}
+use Rattle.verify80_follow.proofs.StackLemmas.{any_within, bounds, byte_at, moved_holds, pointer_is, pointer_is_word, stays_from}
+
+-- small things
+one_of : {A : Type 0} (P : A → Type 0) (xs : List A) (k : ℕ) (x : A) → All P xs → slice_get xs k ≡ Some x → P x
+one_of P xs k x each there = subst P (get_or_from_slice_get xs k x x there) (each k x (slice_get_within xs k x there))
+
+same_some : {A : Type 0} (x y : A) → Some x ≡ Some y → x ≡ y
+same_some x y is = cc
+
+or_true : (b : Bool) → (b || true) ≡ true
+or_true true = refl
+or_true false = refl
+
+bit_is_small : (b : Bool) → bit_of b < 2
+unfolding bit_of
+bit_is_small true = omega arith
+bit_is_small false = omega arith
+
+flags_are_byte : (f : Flags) → flags_byte f < 256
+unfolding flags_byte
+flags_are_byte f =
+    let s = bit_is_small f.sign in
+    let z = bit_is_small f.zero in
+    let a = bit_is_small f.auxiliary in
+    let p = bit_is_small f.parity in
+    let c = bit_is_small f.carry in
+    omega (arith, s, z, a, p, c)
+
+-- what an unguarded step leaves, IN and OUT too
+record Leaves (i : Instr) (next : ℕ) (m after : Machine) : Type 0 where
+  sp : after.cpu.sp ≡ (changed i m.memory m.cpu).sp
+  memory : after.memory ≡ stored m.memory (stores i next m.memory m.cpu)
+  pc : after.cpu.pc ≡ target i next m.memory m.cpu
+
+leaves : (i : Instr) (byte next : ℕ) (m after : Machine) → unguarded i byte next m ≡ Some after → Leaves i next m after
+leaves Hlt byte next m after is = cc
+leaves (In port) byte next m after is = subst (λ (n : Machine). Leaves (In port) next m n) (same_some _ _ is) (record { sp = refl; memory = refl; pc = refl })
+leaves (Out port) byte next m after is = subst (λ (n : Machine). Leaves (Out port) next m n) (same_some _ _ is) (record { sp = refl; memory = refl; pc = refl })
+leaves i byte next m after is = subst (λ (n : Machine). Leaves i next m n) (same_some _ _ is) (record { sp = refl; memory = refl; pc = refl })
+
+-- an instruction that is no HLT leads on
+goes_on : (i : Instr) (byte next : ℕ) (m : Machine) → i ≢ Hlt → (after : Machine) × (unguarded i byte next m ≡ Some after)
+goes_on Hlt byte next m on = absurd (on refl)
+goes_on (In port) byte next m on = (record m { cpu = record m.cpu { registers = record m.cpu.registers { a = byte }; pc = next } }, refl)
+goes_on (Out port) byte next m on = (record m { cpu = record m.cpu { pc = next } }, refl)
+goes_on i byte next m on = (proceeded i next m, refl)
+
+no_halt : (i : Instr) (byte next : ℕ) (m after : Machine) → unguarded i byte next m ≡ Some after → flow i ≢ Halts
+no_halt Hlt byte next m after is = λ e. cc
+no_halt i byte next m after is = λ e. cc
+
+pub is_pchl : (i : Instr) → flow i ≡ JumpsToHl → i ≡ Pchl
+is_pchl Pchl is = refl
+is_pchl i is = cc
+
+-- bytes of a stack that are around others hold too
+from_around : (a b : List ByteSpan) (at : ℕ) (m : List ℕ) → AreBytesInside a b → HoldsFrom m at a → HoldsFrom m at b
+from_around [] [] at m inside holds = tt
+from_around [] (q ∷ b) at m inside holds = absurd (let long = inside.long in omega (arith, long))
+from_around (p ∷ a) [] at m inside holds = absurd (let long = inside.long in omega (arith, long))
+from_around (p ∷ a) (q ∷ b) at m inside holds =
+    let here = inside.each 0 p q refl refl in
+    let above = here.above in let below = here.below in let low = holds.0.above in let high = holds.0.below in
+    let long = inside.long in
+    (record { above = omega (arith, above, low); below = omega (arith, below, high) }, from_around a b (ahead at 1) m (record { long = omega (arith, long); each = λ k x y. inside.each (suc k) x y }) holds.1)
+
+stack_around : (image : Located) (Q : Type 0) (inner outer : Option (List ByteSpan)) (sp : ℕ) (m : List ℕ) → IsStackInside inner outer → IfSome inner (λ bytes. HoldsStack (bounds_of image) bytes sp m × Q) → IfSome outer (λ bytes. HoldsStack (bounds_of image) bytes sp m × Q)
+stack_around image Q None None sp m inside holds = tt
+stack_around image Q None (Some b) sp m inside holds = absurd inside
+stack_around image Q (Some a) None sp m inside holds = absurd inside
+stack_around image Q (Some a) (Some b) sp m inside holds =
+    let long = inside.long in
+    let within = holds.0.within in
+    (record { pointer = holds.0.pointer ∙ ap (λ n. pointer_at (bounds_of image) n) long; within = omega (arith, long, within); each = from_around a b sp m inside holds.0.each }, holds.1)
+
+-- what is known of quiet addresses is known of data
+quieter : (quiet other : ℕ → Bool) (s : Known) → ((at : ℕ) → quiet at ≡ true → other at ≡ true) → IsQuietKnown quiet s → IsQuietKnown other s
+quieter quiet other s more are = record { cells = λ k d inside. cell (get_or s.cells.each k d) (are.cells k d inside).either; source = source s.source are.source } where
+  cell : (c : Cell) → (c.bytes ≡ any_byte) ⊎ (quiet c.at ≡ true) → IsQuietCell other c
+  cell c (inl any) = record { either = inl any }
+  cell c (inr is) = record { either = inr (more c.at is) }
+
+  source : (o : Option ℕ) → IfSome o (λ at. quiet at ≡ true) → IfSome o (λ at. other at ≡ true)
+  source None is = tt
+  source (Some at) is = more at is
+
+-- what is known of the top of the stack
+word_holds : (bytes : List ByteSpan) (sp : ℕ) (m : List ℕ) → HasBytes m → HoldsFrom m sp bytes → HoldsPair (word_on bytes) (byte_in m (ahead sp 1)) (byte_in m sp)
+word_holds [] sp m held holds = any_word sp m held
+  where
+    any_word : (sp : ℕ) (m : List ℕ) → HasBytes m → HoldsPair any_pair (byte_in m (ahead sp 1)) (byte_in m sp)
+    any_word sp m held = let low = byte_at m sp held in let high = byte_at m (ahead sp 1) held in record { words = record { above = omega arith; below = omega (arith, low, high) }; low = any_within (byte_in m sp) low }
+word_holds (low ∷ []) sp m held holds = let l = byte_at m sp held in let h = byte_at m (ahead sp 1) held in record { words = record { above = omega arith; below = omega (arith, l, h) }; low = any_within (byte_in m sp) l }
+word_holds (low ∷ high ∷ bytes) sp m held holds =
+    let l = holds.0 in
+    let h = holds.1.0 in
+    let la = l.above in let lb = l.below in let ha = h.above in let hb = h.below in
+    record { words = record { above = omega (arith, la, ha); below = omega (arith, lb, hb) }; low = l }
+
+top_holds : (image : Located) (Q : Type 0) (stack : Option (List ByteSpan)) (m : Machine) → HasBytes m.memory → IfSome stack (λ bytes. HoldsStack (bounds_of image) bytes m.cpu.sp m.memory × Q) → HoldsTop (top_of_stack (bounds_of image) stack) m
+top_holds image Q None m held holds = record { pointer = tt; word = word_holds [] m.cpu.sp m.memory held tt }
+top_holds image Q (Some bytes) m held holds = record { pointer = (holds.0.pointer, omega arith); word = word_holds bytes m.cpu.sp m.memory held holds.0.each }
+
+-- where a return goes that is known
+returns_where : (bytes : List ByteSpan) (to sp : ℕ) (m : List ℕ) → HasBytes m → return_address bytes ≡ Some to → HoldsFrom m sp bytes → to ≡ word_in m sp
+returns_where bytes to sp m held is holds = by (is_alone (word_on bytes).words) refl is where
+  inside : Within (word_on bytes).words (word_in m sp)
+  inside = (word_holds bytes sp m held holds).words
+
+  by : (b : Bool) → is_alone (word_on bytes).words ≡ b → if_true b (word_on bytes).words.first ≡ Some to → to ≡ word_in m sp
+  by true alone is = let above = inside.above in let below = inside.below in let same : (word_on bytes).words.first ≡ word_in m sp = grind (arith, nat_tests) in sym (same_some _ _ is) ∙ same
+  by false alone is = cc
+
+-- the stack after an instruction, as long as the pointer isn't set
+record Unset (image : Located) (i : Instr) (set : Bool) (stack : Option (List ByteSpan)) (cpu : Cpu) (sp : ℕ) (memory : List ℕ) : Type 0 where
+  touched : stack_bytes i cpu ≡ []
+  now : IfSome stack (λ bytes. HoldsStack (bounds_of image) bytes sp memory × ((set || sets_sp i) ≡ true))
+
+module _ (image : Located) (ground : Ground image.regions) (set : Bool) where
+  moved_now : (o : Option (List ByteSpan)) (stack : Option (List ByteSpan)) (sp : ℕ) (m : List ℕ) → option_map (λ bytes. Some bytes) o ≡ Some stack → IfSome o (λ bytes. HoldsStack (bounds_of image) bytes sp m) → IfSome stack (λ bytes. HoldsStack (bounds_of image) bytes sp m × ((set || true) ≡ true))
+  moved_now None stack sp m is holds = cc
+  moved_now (Some bytes) stack sp m is holds = subst (λ (o : Option (List ByteSpan)). IfSome o (λ b. HoldsStack (bounds_of image) b sp m × ((set || true) ≡ true))) (same_some _ _ is) (holds, or_true set)
+
+  stays_unset : (i : Instr) (stack : Option (List ByteSpan)) (sp : ℕ) (m : List ℕ) → Some None ≡ Some stack → IfSome stack (λ bytes. HoldsStack (bounds_of image) bytes sp m × ((set || sets_sp i) ≡ true))
+  stays_unset i stack sp m is = subst (λ (o : Option (List ByteSpan)). IfSome o (λ b. HoldsStack (bounds_of image) b sp m × ((set || sets_sp i) ≡ true))) (same_some _ _ is) tt
+
+  empty_holds : (m : List ℕ) → HoldsStack (bounds_of image) [] (pointer_at (bounds_of image) 0) m
+  empty_holds m = record { pointer = refl; within = omega arith; each = tt }
+
+  unset_after : (i : Instr) (stack : Option (List ByteSpan)) (next : ℕ) (cpu : Cpu) (m : List ℕ) → HasBytes m → HasOperandInRange i → set_stack (bounds_of image) i ≡ Some stack →
+      Unset image i set stack cpu (changed i m cpu).sp (stored m (stores i next m cpu))
+  unset_after (Lxi Sp n) stack next cpu m held small is = record { touched = refl; now = moved_now (moved_to (bounds_of image) n []) stack n m is (moved_holds image.regions ground n [] (pointer_at (bounds_of image) 0) m small held (empty_holds m)) }
+  unset_after (Dad Sp) stack next cpu m held small is = cc
+  unset_after (Inx Sp) stack next cpu m held small is = cc
+  unset_after (Dcx Sp) stack next cpu m held small is = cc
+  unset_after Sphl stack next cpu m held small is = cc
+  unset_after (Push pair) stack next cpu m held small is = cc
+  unset_after (Pop pair) stack next cpu m held small is = cc
+  unset_after Xthl stack next cpu m held small is = cc
+  unset_after (Call w) stack next cpu m held small is = cc
+  unset_after (CallIf c w) stack next cpu m held small is = cc
+  unset_after Ret stack next cpu m held small is = cc
+  unset_after (ReturnIf c) stack next cpu m held small is = cc
+  unset_after (Rst n) stack next cpu m held small is = cc
+  unset_after i stack next cpu m held small is = record { touched = refl; now = stays_unset i stack _ _ is }
+
+-- a return that is taken goes to the word on top of the stack
+return_target : (w : Flow) (next : ℕ) (memory : List ℕ) (cpu : Cpu) → is_return_taken w cpu.registers.flags ≡ true → goes_to w next memory cpu ≡ word_in memory cpu.sp
+return_target Returns next memory cpu taken = refl
+return_target (ReturnsIf condition) next memory cpu taken = rw taken refl
+return_target w next memory cpu taken = absurd (true≢false (sym taken))
+
+-- PCHL goes to a declared target
+declared_jump : (targets : Option (List ℕ)) (to : ℕ) → is_some targets ≡ true → leads_outside targets to ≡ false → Contains (option_map_or (λ ts. ts) targets []) to
+declared_jump None to some inside = cc
+declared_jump (Some targets) to some inside = by (list_any (λ target. target == to) targets) refl inside where
+  by : (b : Bool) → list_any (λ target. target == to) targets ≡ b → not b ≡ false → Contains targets to
+  by true e inside = Contains-from_any {eq = λ x y. y == x} (λ x y same. sym (eqb-true y x same)) to targets e
+  by false e inside = cc
+
+-- the laws of the crates below that are cited
+pub record Laws : Type 0 where
+  pub instructions : InstructionsAreFollowed
+  pub conditions : ConditionsLeaveKnown
+  pub holds : WhatHoldsOfBytes
+  pub quiet : KnownStaysQuiet
+  pub reads : FetchReadsCodeAlone
+  pub bounded : FetchedOperandsAreBounded
+
+module _ (laws : Laws) (image : Located) (quiet : ℕ → Bool) (ways : List Way) (table : List FollowedState) (bytes : ℕ) (rules : AreRegions image.regions) (ground : Ground image.regions)
+    (quiet_data : (at : ℕ) → quiet at ≡ true → in_data image.regions at ≡ true) (fits : Follows image quiet ways table bytes) (few : bytes ≤ image.regions.stack.length) where
+  abbrev Knows : Bool → World → Type 0
+  Knows set w = KnowsWorld image table set w
+
+  -- what the table has at an address, holding of a machine, is known of it
+  enters : (set : Bool) (w : World) (known : Known) (stack : Option (List ByteSpan)) → Has table w.machine.cpu.pc known stack → HoldsKnown known w.machine → IfSome stack (λ b. HoldsStack (bounds_of image) b w.machine.cpu.sp w.machine.memory × (set ≡ true)) →
+      HoldsBytes w.machine → length w.machine.memory ≡ 65536 → HasCode image w.machine.memory → Knows set w
+  enters set w known stack has holds stands held whole code = record {
+    place = has.place;
+    state = has.state;
+    there = has.there;
+    at = has.at;
+    known = (laws.holds w.machine held).around known has.state.known has.inside holds;
+    stack = stack_around image (set ≡ true) stack (stack_of has.state) w.machine.cpu.sp w.machine.memory has.stacked stands;
+    bytes = held;
+    whole = whole;
+    code = code;
+  }
+
+  begun : (start : Machine) → start.cpu.pc ≡ image.start → length start.memory ≡ 65536 → HasCode image start.memory → HoldsBytes start → Knows false (world_of start)
+  begun start pc whole code held = enters false (world_of start) nothing_known None (subst (λ n. Has table n nothing_known None) (sym pc) fits.start) (laws.holds start held).nothing tt held whole code
+
+  -- what devices write leaves what is known
+  entry_of : (set : Bool) (w : World) (k : Knows set w) → StateFollows image quiet fits.code ways table bytes k.state
+  entry_of set w k = one_of (λ s. StateFollows image quiet fits.code ways table bytes s) table k.place k.state fits.states k.there
+
+  stack_disturbed : (set : Bool) (w : World) (memory : List ℕ) (stack : Option (List ByteSpan)) → (leaves : LeavesProgram image.regions (respected_pointer image.regions set w) w.machine.memory memory) →
+      IfSome stack (λ b. HoldsStack (bounds_of image) b w.machine.cpu.sp w.machine.memory × (set ≡ true)) → IfSome stack (λ b. HoldsStack (bounds_of image) b w.machine.cpu.sp memory × (set ≡ true))
+  stack_disturbed set w memory None leaves stands = tt
+  stack_disturbed set w memory (Some []) leaves stands = (record { pointer = stands.0.pointer; within = stands.0.within; each = tt }, stands.1)
+  stack_disturbed set w memory (Some (b ∷ bs)) leaves stands =
+      let is = stands.0.pointer ∙ pointer_is image.regions ground (suc (length bs)) (omega arith) stands.0.within in
+      let within = stands.0.within in
+      let ends = ground.stack_ends in
+      let short = ground.stack_short in
+      let respected : LeavesProgram image.regions w.machine.cpu.sp w.machine.memory memory = subst (λ s. LeavesProgram image.regions (respected_pointer image.regions s w) w.machine.memory memory) stands.1 leaves in (
+        record {
+          pointer = stands.0.pointer;
+          within = stands.0.within;
+          each = stays_from image.regions ground (b ∷ bs) w.machine.cpu.sp w.machine.memory memory w.machine.cpu.sp stands.0.pointer stands.0.within (λ some. omega arith)
+              (λ a there above. respected.pushed a (record { in_stack = there; above = above; filled = λ e. absurd (omega (arith, e, is, within, ends, short)) })) stands.0.each;
+        },
+        stands.1,
+      )
+
+  disturbs : (set : Bool) (w v : World) → Knows set w → (by : Disturbs image.regions (respected_pointer image.regions set w) w v) → StaysQuiet quiet w.machine.memory by.memory → Knows set v
+  disturbs set w v k by stays = subst (λ (u : World). Knows set u) (sym by.is) (record {
+    place = k.place;
+    state = k.state;
+    there = k.there;
+    at = k.at;
+    known = laws.quiet quiet w.machine by.memory k.state.known stays by.leaves.bytes (entry_of set w k).knows k.known;
+    stack = stack_disturbed set w by.memory (stack_of k.state) by.leaves k.stack;
+    bytes = record { registers = k.bytes.registers; memory = by.leaves.bytes; inputs = k.bytes.inputs };
+    whole = by.leaves.size ∙ k.whole;
+    code = λ address here. by.leaves.code address here ∙ k.code address here;
+  })
+
+  -- a world of which one state is known
+  module _ (set : Bool) (w : World) (k : KnowsWorld image table set w) where
+    abbrev m : Machine
+    m = w.machine
+
+    entry : StateFollows image quiet fits.code ways table bytes k.state
+    entry = entry_of set w k
+
+    abbrev found : Fetched
+    found = entry.found
+
+    fetched : fetch_at image.regions m.memory m.cpu.pc ≡ Ok found
+    fetched = subst (λ n. fetch_at image.regions m.memory n ≡ Ok found) k.at (fetched_here laws.reads image m.memory k.state.at found k.code entry.executed.fetched)
+
+    anywhere : fetched_anywhere m.memory m.cpu.pc ≡ Some found
+    anywhere = anywhere_of image.regions m.memory m.cpu.pc found fetched
+
+    bounded : IsBounded found
+    bounded = laws.bounded image.regions m.memory m.cpu.pc found k.bytes.memory (inside_of image.regions m.memory m.cpu.pc found fetched)
+
+    direct : All (λ a. in_data image.regions a ≡ true) (direct_bytes found.instr)
+    direct = all_of_list (in_data image.regions) (direct_bytes found.instr) entry.executed.stores
+
+    reads : ReadsCode fits.code m.memory
+    reads = λ at byte is. let known = fits.are_code at byte is in k.code at known.0 ∙ known.1
+
+    are_data : (known : Known) → IsQuietKnown quiet known → IsQuietKnown (in_data image.regions) known
+    are_data known are = quieter quiet (in_data image.regions) known quiet_data are
+
+    -- the way that the instruction takes
+    record Taken : Type 0 where
+      taken : Bool
+      to : ℕ
+      known : Known
+      covers : CoversThen image fits.code ways table bytes k.state found taken to known
+      is : is_taken (flow found.instr) m.cpu.registers.flags ≡ taken
+      holds : HoldsKnown known m
+      are : IsQuietKnown quiet known
+      goes : goes_to (flow found.instr) found.next m.memory m.cpu ≡ to
+
+    -- the stack of the state after it, given that what is pointed to is data
+    record Stacked (known : Known) (taken : Bool) (stack : Option (List ByteSpan)) : Type 0 where
+      touches : All (Touches image.regions ground bytes) (stack_bytes found.instr m.cpu)
+      now : All (λ a. in_data image.regions a ≡ true) (pointed_bytes found.instr m.cpu.registers) → IfSome stack (λ b. HoldsStack (bounds_of image) b (changed found.instr m.memory m.cpu).sp (stored m.memory (stores found.instr found.next m.memory m.cpu)) × ((set || sets_sp found.instr) ≡ true))
+
+    untouched : (xs : List ℕ) → xs ≡ [] → All (Touches image.regions ground bytes) xs
+    untouched xs is = subst (λ (l : List ℕ). All (Touches image.regions ground bytes) l) (sym is) (All-nil (Touches image.regions ground bytes))
+
+    stacked_by : (known : Known) (taken : Bool) (before stack : Option (List ByteSpan)) → HoldsKnown known m → is_taken (flow found.instr) m.cpu.registers.flags ≡ taken → IfSome before (λ b. HoldsStack (bounds_of image) b m.cpu.sp m.memory × (set ≡ true)) →
+        IfSome before (λ b. length b ≤ bytes) → IfSome stack (λ b. length b ≤ bytes) → stack_then (bounds_of image) found.instr taken found.next known before ≡ Some stack → Stacked known taken stack
+    stacked_by known taken None stack holds same stands deep deeper is =
+        let unset = unset_after image ground set found.instr stack found.next m.cpu m.memory k.bytes.memory bounded.operand is in
+        record { touches = untouched (stack_bytes found.instr m.cpu) unset.touched; now = λ pointed. unset.now }
+    stacked_by known taken (Some b) stack holds same stands deep deeper is = by (stack_after (bounds_of image) found.instr taken found.next known b) refl stack is deeper where
+      by : (o : Option (List ByteSpan)) → stack_after (bounds_of image) found.instr taken found.next known b ≡ o → (after : Option (List ByteSpan)) → option_map (λ x. Some x) o ≡ Some after → IfSome after (λ x. length x ≤ bytes) → Stacked known taken after
+      by None is_none after none deep_after = cc
+      by (Some after_bytes) is_some after same_after deep_after =
+          let eq : Some after_bytes ≡ after = same_some _ _ same_after in
+          let deep_here : length after_bytes ≤ bytes = subst (λ (o : Option (List ByteSpan)). IfSome o (λ x. length x ≤ bytes)) (sym eq) deep_after in
+          let of_taken : stack_after (bounds_of image) found.instr (is_taken (flow found.instr) m.cpu.registers.flags) found.next known b ≡ Some after_bytes =
+          subst (λ t. stack_after (bounds_of image) found.instr t found.next known b ≡ Some after_bytes) (sym same) is_some in
+          record {
+            touches = touched image.regions ground found.instr found.next bytes m.cpu known b after_bytes m.memory stands.0 deep deep_here of_taken;
+            now = λ pointed.
+                let so = stack_holds image.regions ground found.instr found.next m.cpu m.memory known b k.whole k.bytes.memory k.bytes.registers (flags_are_byte m.cpu.registers.flags) bounded.operand holds.registers direct pointed stands.0 in
+                let here = subst (λ (o : Option (List ByteSpan)). IfSome o (λ x. HoldsStack (bounds_of image) x (changed found.instr m.memory m.cpu).sp (stored m.memory (stores found.instr found.next m.memory m.cpu)))) of_taken so in
+                subst (λ (o : Option (List ByteSpan)). IfSome o (λ x. HoldsStack (bounds_of image) x (changed found.instr m.memory m.cpu).sp (stored m.memory (stores found.instr found.next m.memory m.cpu)) × ((set || sets_sp found.instr) ≡ true))) eq
+                (here, subst (λ s. (s || sets_sp found.instr) ≡ true) (sym stands.1) refl);
+          }
+
+    stands : (t : Taken) → Stacked t.known t.taken t.covers.stack
+    stands t = stacked_by t.known t.taken (stack_of k.state) t.covers.stack t.holds t.is k.stack entry.depth t.covers.depth t.covers.is
+
+    -- the instruction is followed on that way
+    module _ (byte : ℕ) (after : Machine) (small : byte < 256) (inside : StaysInside image.regions m found.instr) (goes : unguarded found.instr byte found.next m ≡ Some after) (places : List ℕ) where
+      abbrev v : World
+      v = record { machine = after; places = places }
+
+      abbrev left : Leaves found.instr found.next m after
+      left = leaves found.instr byte found.next m after goes
+
+      on_stack_bytes : (xs : List ℕ) → All (Touches image.regions ground bytes) xs → All (λ a. in_range image.regions.stack a ≡ true) xs
+      on_stack_bytes xs each = λ k d within. (each k d within).there
+
+      lands : Taken → Knows (set || sets_sp found.instr) v
+      lands t = by t.covers.covers.either where
+        guarded : guard image.regions found.instr m.cpu ≡ None
+        guarded = passes_guard image.regions found.instr m.cpu (on_stack_bytes (stack_bytes found.instr m.cpu) (stands t).touches) direct inside.stores
+
+        followed : IsFollowedBy image.regions fits.code found.instr (top_of_stack (bounds_of image) (stack_of k.state)) t.known m after
+        followed = laws.instructions image.regions fits.code found.instr byte found.next (top_of_stack (bounds_of image) (stack_of k.state)) t.known m after rules bounded.operand bounded.next small k.bytes k.whole reads (are_data t.known t.are)
+            (top_holds image (set ≡ true) (stack_of k.state) m k.bytes.memory k.stack) t.holds guarded goes
+
+        now : Known
+        now = known_after fits.code found.instr (top_of_stack (bounds_of image) (stack_of k.state)) t.known
+
+        stack_now : IfSome t.covers.stack (λ b. HoldsStack (bounds_of image) b after.cpu.sp after.memory × ((set || sets_sp found.instr) ≡ true))
+        stack_now = subst (λ n. IfSome t.covers.stack (λ b. HoldsStack (bounds_of image) b n after.memory × ((set || sets_sp found.instr) ≡ true))) (sym left.sp)
+            (subst (λ (l : List ℕ). IfSome t.covers.stack (λ b. HoldsStack (bounds_of image) b (changed found.instr m.memory m.cpu).sp l × ((set || sets_sp found.instr) ≡ true))) (sym left.memory) ((stands t).now inside.stores))
+
+        there : after.cpu.pc ≡ t.to
+        there = left.pc ∙ t.goes
+
+        with_has : (known : Known) → HoldsKnown known after → Has table t.to known t.covers.stack → Knows (set || sets_sp found.instr) v
+        with_has known holds has = enters (set || sets_sp found.instr) v known t.covers.stack (subst (λ n. Has table n known t.covers.stack) (sym there) has) holds stack_now followed.bytes followed.whole (λ address here. followed.same_code address here ∙ k.code address here)
+
+        by : Has table t.to now t.covers.stack ⊎ ((byte : ℕ) → ByteWithin now.a byte → Has table t.to (cut now (byte_alone byte)) t.covers.stack) → Knows (set || sets_sp found.instr) v
+        by (inl has) = with_has now followed.known has
+        by (inr each) =
+            let a = after.cpu.registers.a in
+            with_has (cut now (byte_alone a)) ((laws.holds after followed.bytes).cuts now a followed.known refl) (each a followed.known.registers.a)
+
+    -- which way that is
+    always : (taken : Bool) (to : ℕ) → CoversThen image fits.code ways table bytes k.state found taken to k.state.known → is_taken (flow found.instr) m.cpu.registers.flags ≡ taken → goes_to (flow found.instr) found.next m.memory m.cpu ≡ to → Taken
+    always taken to covers is goes = record { taken = taken; to = to; known = k.state.known; covers = covers; is = is; holds = k.known; are = entry.knows; goes = goes }
+
+    if_given : (condition : Condition) (b : Bool) (to : ℕ) → holds_of condition m.cpu.registers.flags ≡ b → LeadsTo image fits.code ways table bytes k.state found b to (given condition b k.state.known) → is_taken (flow found.instr) m.cpu.registers.flags ≡ b →
+        goes_to (flow found.instr) found.next m.memory m.cpu ≡ to → Taken
+    if_given condition b to is leads taken goes =
+        let left = laws.conditions quiet condition b k.state.known m k.bytes k.known entry.knows is in
+        record { taken = b; to = to; known = left.left; covers = subst (λ (o : Option Known). LeadsTo image fits.code ways table bytes k.state found b to o) left.is leads; is = taken; holds = left.holds; are = left.are; goes = goes }
+
+    -- a return that is taken
+    returned_to : (known : Known) (back : ReturnsTo image fits.code ways table bytes k.state found known) → back.to ≡ word_in m.memory m.cpu.sp
+    returned_to known back = returns_where back.stacked back.to m.cpu.sp m.memory k.bytes.memory back.is here where
+      here : HoldsFrom m.memory m.cpu.sp back.stacked
+      here = (subst (λ (o : Option (List ByteSpan)). IfSome o (λ b. HoldsStack (bounds_of image) b m.cpu.sp m.memory × (set ≡ true))) back.stack k.stack).0.each
+
+    record Back (condition_holds : Bool) : Type 0 where
+      known : Known
+      back : ReturnsTo image fits.code ways table bytes k.state found known
+      holds : HoldsKnown known m
+      are : IsQuietKnown quiet known
+
+    back_given : (condition : Condition) → holds_of condition m.cpu.registers.flags ≡ true → ReturnsLeft image fits.code ways table bytes k.state found (given condition true k.state.known) → Back true
+    back_given condition is left_back =
+        let left = laws.conditions quiet condition true k.state.known m k.bytes k.known entry.knows is in
+        record { known = left.left; back = subst (λ (o : Option Known). ReturnsLeft image fits.code ways table bytes k.state found o) left.is left_back; holds = left.holds; are = left.are }
+
+    by_back : (b : Back true) → is_taken (flow found.instr) m.cpu.registers.flags ≡ true → goes_to (flow found.instr) found.next m.memory m.cpu ≡ word_in m.memory m.cpu.sp → Taken
+    by_back b is goes = record { taken = true; to = b.back.to; known = b.known; covers = b.back.leads; is = is; holds = b.holds; are = b.are; goes = goes ∙ sym (returned_to b.known b.back) }
+
+    -- HL goes where it is known to be, or to a declared target
+    by_hl : (declared : Bool) → is_declared image.regions k.state.at ≡ declared → JumpsBy image fits.code ways table bytes k.state found declared → (flow found.instr ≡ JumpsToHl) → (found.instr ≡ Pchl → leads_outside (targets_at image.regions m.cpu.pc) (hl_of m.cpu.registers) ≡ false) → Taken
+    by_hl false is jumps flows inside =
+        let above = k.known.registers.hl.words.above in
+        let below = k.known.registers.hl.words.below in
+        let alone = jumps.alone in
+        let same : k.state.known.hl.words.first ≡ hl_of m.cpu.registers = grind (arith, nat_tests) in
+        always false k.state.known.hl.words.first jumps.leads (ap (λ (f : Flow). is_taken f m.cpu.registers.flags) flows) (ap (λ (f : Flow). goes_to f found.next m.memory m.cpu) flows ∙ sym same)
+    by_hl true is jumps flows inside =
+        let hl = hl_of m.cpu.registers in
+        let target = declared_jump (targets_at image.regions k.state.at) hl is (subst (λ n. leads_outside (targets_at image.regions n) hl ≡ false) (sym k.at) (inside (is_pchl found.instr flows))) in
+        always false hl (jumps hl target k.known.registers.hl.words) (ap (λ (f : Flow). is_taken f m.cpu.registers.flags) flows) (ap (λ (f : Flow). goes_to f found.next m.memory m.cpu) flows)
+
+    abbrev JumpsInside : Type 0
+    JumpsInside = found.instr ≡ Pchl → leads_outside (targets_at image.regions m.cpu.pc) (hl_of m.cpu.registers) ≡ false
+
+    way_of : (f : Flow) → flow found.instr ≡ f → f ≢ Halts → JumpsInside → FollowsBy image fits.code ways table bytes k.state found f → Taken
+    way_of (Jumps to) is on inside follows = always false to follows (ap (λ (f : Flow). is_taken f m.cpu.registers.flags) is) (ap (λ (f : Flow). goes_to f found.next m.memory m.cpu) is)
+    way_of (JumpsIf condition to) is on inside follows = by (holds_of condition m.cpu.registers.flags) refl where
+      by : (b : Bool) → holds_of condition m.cpu.registers.flags ≡ b → Taken
+      by true holds = if_given condition true to holds follows.0 (ap (λ (f : Flow). is_taken f m.cpu.registers.flags) is ∙ holds) (ap (λ (f : Flow). goes_to f found.next m.memory m.cpu) is ∙ ap (λ (b : Bool). if b then to else found.next) holds)
+      by false holds = if_given condition false found.next holds follows.1 (ap (λ (f : Flow). is_taken f m.cpu.registers.flags) is ∙ holds) (ap (λ (f : Flow). goes_to f found.next m.memory m.cpu) is ∙ ap (λ (b : Bool). if b then to else found.next) holds)
+    way_of JumpsToHl is on inside follows = by_hl (is_declared image.regions k.state.at) refl follows is inside
+    way_of (Calls to) is on inside follows = always true to follows (ap (λ (f : Flow). is_taken f m.cpu.registers.flags) is) (ap (λ (f : Flow). goes_to f found.next m.memory m.cpu) is)
+    way_of (CallsIf condition to) is on inside follows = by (holds_of condition m.cpu.registers.flags) refl where
+      by : (b : Bool) → holds_of condition m.cpu.registers.flags ≡ b → Taken
+      by true holds = if_given condition true to holds follows.0 (ap (λ (f : Flow). is_taken f m.cpu.registers.flags) is ∙ holds) (ap (λ (f : Flow). goes_to f found.next m.memory m.cpu) is ∙ ap (λ (b : Bool). if b then to else found.next) holds)
+      by false holds = if_given condition false found.next holds follows.1 (ap (λ (f : Flow). is_taken f m.cpu.registers.flags) is ∙ holds) (ap (λ (f : Flow). goes_to f found.next m.memory m.cpu) is ∙ ap (λ (b : Bool). if b then to else found.next) holds)
+    way_of Returns is on inside follows = by_back (record { known = k.state.known; back = follows; holds = k.known; are = entry.knows }) (ap (λ (f : Flow). is_taken f m.cpu.registers.flags) is) (ap (λ (f : Flow). goes_to f found.next m.memory m.cpu) is)
+    way_of (ReturnsIf condition) is on inside follows = by (holds_of condition m.cpu.registers.flags) refl where
+      by : (b : Bool) → holds_of condition m.cpu.registers.flags ≡ b → Taken
+      by true holds = by_back (back_given condition holds follows.0) (ap (λ (f : Flow). is_taken f m.cpu.registers.flags) is ∙ holds) (ap (λ (f : Flow). goes_to f found.next m.memory m.cpu) is ∙ ap (λ (b : Bool). if b then word_in m.memory m.cpu.sp else found.next) holds)
+      by false holds = if_given condition false found.next holds follows.1 (ap (λ (f : Flow). is_taken f m.cpu.registers.flags) is ∙ holds) (ap (λ (f : Flow). goes_to f found.next m.memory m.cpu) is ∙ ap (λ (b : Bool). if b then word_in m.memory m.cpu.sp else found.next) holds)
+    way_of Halts is on inside follows = absurd (on refl)
+    way_of f is on inside follows = always false found.next follows (ap (λ (f : Flow). is_taken f m.cpu.registers.flags) is) (ap (λ (f : Flow). goes_to f found.next m.memory m.cpu) is)
+
+    -- what is promised
+    abbrev Behind : ℕ → Type 0
+    Behind to = IsWay image ways m.cpu.pc to
+
+    back_way : (b : Back true) → Behind (word_in m.memory m.cpu.sp)
+    back_way b = subst (λ n. IsWay image ways n (word_in m.memory m.cpu.sp)) k.at (subst (λ n. IsWay image ways k.state.at n) (returned_to b.known b.back) b.back.way)
+
+    returning_by : (f : Flow) → FollowsBy image fits.code ways table bytes k.state found f → is_return_taken f m.cpu.registers.flags ≡ true → Behind (word_in m.memory m.cpu.sp)
+    returning_by Returns follows taken = back_way (record { known = k.state.known; back = follows; holds = k.known; are = entry.knows })
+    returning_by (ReturnsIf condition) follows taken = back_way (back_given condition taken follows.0)
+    returning_by f follows taken = absurd (true≢false (sym taken))
+
+    jumping_by : (declared : Bool) → is_declared image.regions k.state.at ≡ declared → JumpsBy image fits.code ways table bytes k.state found declared → targets_at image.regions k.state.at ≡ None → Behind (hl_of m.cpu.registers)
+    jumping_by false is jumps none =
+        let above = k.known.registers.hl.words.above in
+        let below = k.known.registers.hl.words.below in
+        let alone = jumps.alone in
+        let same : k.state.known.hl.words.first ≡ hl_of m.cpu.registers = grind (arith, nat_tests) in
+        subst (λ n. IsWay image ways n (hl_of m.cpu.registers)) k.at (subst (λ n. IsWay image ways k.state.at n) same jumps.way)
+    jumping_by true is jumps none = absurd (let no : is_declared image.regions k.state.at ≡ false = ap (λ (o : Option (List ℕ)). is_some o) none in true≢false (sym is ∙ no))
+
+    jumping : found.instr ≡ Pchl → targets_at image.regions m.cpu.pc ≡ None → Behind (hl_of m.cpu.registers)
+    jumping is none =
+        jumping_by (is_declared image.regions k.state.at) refl (subst (λ (f : Flow). FollowsBy image fits.code ways table bytes k.state found f) (ap (λ (i : Instr). flow i) is) entry.follows) (subst (λ n. targets_at image.regions n ≡ None) (sym k.at) none)
+
+    just_below : (xs : List ℕ) → All (Touches image.regions ground bytes) xs → All (λ a. IsJustBelow (top_of image.regions) bytes a) xs
+    just_below xs each = λ k d within. (each k d within).below
+
+    stack_by : (f : Flow) → flow found.instr ≡ f → FollowsBy image fits.code ways table bytes k.state found f → All (λ a. IsJustBelow (top_of image.regions) bytes a) (stack_bytes found.instr m.cpu)
+    stack_by Halts is follows = subst (λ (l : List ℕ). All (λ a. IsJustBelow (top_of image.regions) bytes a) l) (sym (ap (λ (f : Flow). touched_by f m.cpu) is)) (All-nil (λ a. IsJustBelow (top_of image.regions) bytes a))
+    stack_by JumpsToHl is follows = subst (λ (l : List ℕ). All (λ a. IsJustBelow (top_of image.regions) bytes a) l) (sym (ap (λ (f : Flow). touched_by f m.cpu) is)) (All-nil (λ a. IsJustBelow (top_of image.regions) bytes a))
+    stack_by f is follows = just_below (stack_bytes found.instr m.cpu) (stands (way_of f is (λ e. cc) (λ e. absurd (let jumps : flow found.instr ≡ JumpsToHl = ap (λ (i : Instr). flow i) e in cc)) follows)).touches
+
+    halts : found.instr ≡ Ei → halt_follows image.regions m.memory m.cpu.pc ≡ true
+    halts is = subst (λ n. halt_follows image.regions m.memory n ≡ true) k.at (halt_here k.state.at (entry.executed.halts is)) where
+      halt_by : (b : Bool) (at : ℕ) → in_code image.regions (ahead at 1) ≡ b → (b && nat_eq (slice_index (memory_of image.chunks) (ahead at 1)) (opcode Hlt)) ≡ true → (b && nat_eq (slice_index m.memory (ahead at 1)) (opcode Hlt)) ≡ true
+      halt_by true at there h = subst (λ n. nat_eq n (opcode Hlt) ≡ true) (sym (k.code (ahead at 1) there)) h
+      halt_by false at there h = cc
+
+      halt_here : (at : ℕ) → halt_follows image.regions (memory_of image.chunks) at ≡ true → halt_follows image.regions m.memory at ≡ true
+      halt_here at h = halt_by (in_code image.regions (ahead at 1)) at refl h
+
+    keeps : KeepsFollowed image Anywhere bytes ways w
+    keeps = record {
+      found = found;
+      anywhere = anywhere;
+      of_image = inside_of image.regions (memory_of image.chunks) m.cpu.pc found (subst (λ n. fetch_at image.regions (memory_of image.chunks) n ≡ Ok found) k.at entry.executed.fetched);
+      direct = direct;
+      returning = λ taken. subst (λ n. IsWay image ways m.cpu.pc n) (sym (return_target (flow found.instr) found.next m.memory m.cpu taken)) (returning_by (flow found.instr) entry.follows taken);
+      jumping = jumping;
+      stack = stack_by (flow found.instr) refl entry.follows;
+      halts = halts;
+      goes_on = λ on inside byte small.
+          let l = goes_on found.instr byte found.next m on in
+          record {
+            next = record { machine = l.0; places = places_after found.instr found.next m.cpu.registers.flags w.places };
+            step = record { found = found; byte = byte; after = l.0; fetched = anywhere; small = small; inside = inside; goes = l.1; is = refl };
+            brought = refl;
+          };
+    }
+
+    executes_found : (v : World) (by : Executes image.regions Anywhere w v) → by.found ≡ found → Knows (set || sets_sp by.found.instr) v
+    executes_found v by same = subst (λ (f : Fetched). Knows (set || sets_sp f.instr) v) (sym same)
+        (subst (λ (u : World). Knows (set || sets_sp found.instr) u) (sym by.is)
+        (lands by.byte by.after by.small inside goes (places_after by.found.instr by.found.next m.cpu.registers.flags w.places)
+        (way_of (flow found.instr) refl (no_halt found.instr by.byte found.next m by.after goes) inside.jumps entry.follows))) where
+          inside : StaysInside image.regions m found.instr
+          inside = subst (λ (f : Fetched). StaysInside image.regions m f.instr) same (by.inside tt)
+
+          goes : unguarded found.instr by.byte found.next m ≡ Some by.after
+          goes = subst (λ (f : Fetched). unguarded f.instr by.byte f.next m ≡ Some by.after) same by.goes
+
+  executes : (before : Bool) (w v : World) → Knows before w → (by : Executes image.regions Anywhere w v) → Knows (before || sets_sp by.found.instr) v
+  executes before w v k by = executes_found before w k v by (same_some _ _ (sym by.fetched ∙ anywhere before w k))
+
+  pub promise_is_kept : PromiseOfFollowed image quiet ways bytes
+  promise_is_kept start pc whole code held w set on =
+      invariant_is_kept image quiet Anywhere start false Knows (λ v. KeepsFollowed image Anywhere bytes ways v)
+      (record { begun = begun start pc whole code held; disturbs = disturbs; executes = executes; keeps = λ s v k. keeps s v k }) w set on
+
+pub promise : Laws → ((regions : Areas) → AreRegions regions → Ground regions) → FollowedProgramsKeepThePromise
+promise laws ground image quiet ways table bytes rules quiet_data fits few = promise_is_kept laws image quiet ways table bytes rules (ground image.regions rules) quiet_data fits few
