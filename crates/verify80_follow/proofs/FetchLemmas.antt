@@ -2,7 +2,7 @@
 use Rattle.std.specs.Prelude.{◌≡◌, ℕ, ◌+◌, Bool, true, false, ◌&&◌, List, [], ◌∷◌, Option, None, Some, Result, Ok, Err, nat_le, slice_index, if◌then◌else◌}
 use Rattle.std.specs.List.{list_all, range_with_len}
 use Rattle.std.specs.Result.{result_ok}
-use Rattle.std.proofs.Common.{ap, refl, sym, ◌∙◌}
+use Rattle.std.proofs.Common.{ap, refl, ◌∙◌}
 use Rattle.decode80.specs.{Decoded.decoded, declared.instr.Instr.Instr, declared.fetching.Fetched.Fetched, declared.fetching.FetchFault.FetchFault, declared.fetching.FetchFault.TheVariants.Outside}
 use Rattle.decode80.specs.Fetch.{FetchReadsCodeAlone, admitted_if_used, ahead, all_code, fetch as fetch_in}
 use Rattle.image80.specs.{Regions.Areas, Regions.in_code, Image.Located, Image.memory_of}

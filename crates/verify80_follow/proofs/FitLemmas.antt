@@ -1,13 +1,13 @@
 -- What a look at an address says of the instruction there.
-use Rattle.std.specs.Prelude.{◌≡◌, ◌↔◌, ℕ, Bool, true, false, List, [], ◌∷◌, zero, suc, Contains, Some, Result, Ok, Err, IfOk, slice_get}
-use Rattle.std.proofs.Common.{ap, arith, refl, ◌∙◌}
-use Rattle.decode80.specs.{Facts.flow, Fetch.fetch as fetch_in, declared.fetching.Fetched.Fetched}
+use Rattle.std.specs.Prelude.{◌≡◌, ℕ, true, false, List, [], ◌∷◌, zero, suc, Contains, Some, Result, Ok, Err, IfOk, slice_get}
+use Rattle.std.proofs.Common.{ap, arith, ◌∙◌}
+use Rattle.decode80.specs.{Facts.flow, declared.fetching.Fetched.Fetched}
 use Rattle.decode80.specs.declared.flow.Flow.TheVariants.{JumpsToHl}
 use Rattle.decode80.specs.declared.instr.Instr.TheVariants.{Pchl}
 use Rattle.frames80.specs.declared.code.LookFault.TheVariants.{Pchl as PchlUndeclared}
 use Rattle.image80.specs.{Image.Located, Image.memory_of}
 use Rattle.verify80.specs.{Looking.is_declared, Looking.look_at, Looking.stores_in_data}
-use Rattle.verify80.specs.LookLaws.{IsAdmitted, IsPchlUndeclared, LooksAnswerFaultsThatHold, LooksFindWhatIsAdmitted, fetch_at}
+use Rattle.verify80.specs.LookLaws.{IsPchlUndeclared, LooksAnswerFaultsThatHold, LooksFindWhatIsAdmitted, fetch_at}
 use Rattle.verify80_follow.specs.Follows.{IsExecuted}
 use Rattle.verify80_follow.proofs.FollowLemmas.{is_pchl}
 

@@ -1,35 +1,35 @@
 -- A table that follows a program is an invariant of each board's worlds: one of its states holds of the first one, of one that devices have disturbed,
 -- and of one after an instruction.
-use Rattle.std.specs.Prelude.{◌≡◌, ◌≢◌, ◌⊎◌, ◌≤◌, ◌<◌, ◌==◌, ◌||◌, ℕ, zero, suc, ◌+◌, ◌*◌, ◌-◌, ◌/◌, ◌%◌, Bool, true, false, not, List, [], ◌∷◌, Option, None, Some, Ok, IfSome, All, Contains, length, slice_get, slice_index, is_some, nat_eq, ◌&&◌, if◌then◌else◌}
+use Rattle.std.specs.Prelude.{◌≡◌, ◌≢◌, ◌⊎◌, ◌≤◌, ◌<◌, ◌==◌, ◌||◌, ℕ, suc, Bool, true, false, not, List, [], ◌∷◌, Option, None, Some, Ok, IfSome, All, Contains, length, slice_get, slice_index, is_some, nat_eq, ◌&&◌, if◌then◌else◌}
 use Rattle.std.specs.{List.list_any, Option.option_map, Option.option_map_or}
 use Rattle.std.proofs.Common.{get_or, ap, arith, inl, inr, refl, subst, sym, true≢false, ◌∙◌}
-use Rattle.std.proofs.lemmas.{Option.get_or_from_slice_get, Option.slice_get_within, Bool.and_parts, Bool.eqb-true, Bool.Decides.nat_tests, Map.Views.Contains-from_any}
+use Rattle.std.proofs.lemmas.{Option.get_or_from_slice_get, Option.slice_get_within, Bool.eqb-true, Bool.Decides.nat_tests, Map.Views.Contains-from_any}
 use Rattle.std.proofs.lemmas.List.Elements.{All-nil}
 use Rattle.decode80.specs.{Spelling.HasOperandInRange, Facts.flow, Fetch.FetchReadsCodeAlone, Fetch.ahead, Fetch.direct_bytes, declared.condition.Condition.Condition, declared.fetching.Fetched.Fetched, declared.flow.Flow.Flow, declared.instr.Instr.Instr}
 use Rattle.decode80.specs.declared.flow.Flow.TheVariants.{Jumps, JumpsIf, JumpsToHl, Calls, CallsIf, Returns, ReturnsIf, Halts}
 use Rattle.decode80.specs.declared.instr.Instr.TheVariants.{Call, CallIf, Dad, Dcx, Ei, Hlt, In, Inx, Lxi, Out, Pchl, Pop, Push, Ret, ReturnIf, Rst, Sphl, Xthl}
 use Rattle.decode80.specs.declared.pair.Pair.TheVariants.{Sp}
 use Rattle.image80.specs.{Range.in_range, Regions.AreRegions, Regions.Areas, Regions.in_code, Regions.in_data, Regions.targets_at, Regions.top_of, Image.Located, Image.memory_of}
-use Rattle.machine80.specs.{Cpu.hl_of, Cpu.word, Flags.flags_byte, Flags.bit_of, Flags.holds as holds_of, Effects.byte_in, Effects.changed, Effects.goes_to, Effects.pointed_bytes, Effects.stack_bytes, Effects.stored, Effects.stores, Effects.target, Effects.touched_by, Effects.word_in, Run.world_of, declared.cpu.Cpu.Cpu, declared.flags.Flags.Flags}
-use Rattle.machine80.specs.Step.{Machine, fetch, guard, leads_outside, proceeded}
-use Rattle.machine80.specs.World.{IsJustBelow, World, is_return_taken, places_after, returns}
-use Rattle.verify80.specs.Boards.{Anywhere, Disturbs, Executes, IsFollowed, StaysInside, fetched_anywhere, respected_pointer, sets_sp, unguarded, uses_sp, with_memory, LeavesProgram}
-use Rattle.verify80.specs.{LookLaws.fetch_at, Looking.declared_targets, Looking.halt_follows, Looking.is_declared}
+use Rattle.machine80.specs.{Cpu.hl_of, Flags.flags_byte, Flags.bit_of, Flags.holds as holds_of, Effects.byte_in, Effects.changed, Effects.goes_to, Effects.pointed_bytes, Effects.stack_bytes, Effects.stored, Effects.stores, Effects.target, Effects.touched_by, Effects.word_in, Run.world_of, declared.cpu.Cpu.Cpu, declared.flags.Flags.Flags}
+use Rattle.machine80.specs.Step.{Machine, guard, leads_outside, proceeded}
+use Rattle.machine80.specs.World.{IsJustBelow, World, is_return_taken, places_after}
+use Rattle.verify80.specs.Boards.{Anywhere, Disturbs, Executes, StaysInside, fetched_anywhere, respected_pointer, sets_sp, unguarded, LeavesProgram}
+use Rattle.verify80.specs.{LookLaws.fetch_at, Looking.halt_follows, Looking.is_declared}
 use Rattle.decode80.specs.Spelling.{opcode}
 use Rattle.verify80_spans.specs.declared.byte_span.ByteSpan.{ByteSpan}
-use Rattle.verify80_spans.specs.Span.{Within, ByteWithin, any_byte, byte_alone, is_alone, is_byte_alone}
-use Rattle.verify80_states.specs.{declared.states.known.Known.Known, declared.states.following.StackTop.StackTop, Bytes.AreBytes, Bytes.FetchedOperandsAreBounded, Bytes.HasBytes, Bytes.HoldsBytes, Bytes.IsBounded, Following.known_after, Given.given, QuietBoards.OnQuietBoard, QuietBoards.StaysQuiet, Steps.AreCodeBytes, Steps.HasCode, Steps.ReadsCode, Steps.is_taken}
-use Rattle.verify80_states.specs.Known.{HoldsKnown, HoldsPair, HoldsTop, IsKnownInside, IsQuietKnown, any_pair, cut, nothing_known, pair_of_halves}
+use Rattle.verify80_spans.specs.Span.{Within, ByteWithin, any_byte, byte_alone, is_alone}
+use Rattle.verify80_states.specs.{declared.states.known.Known.Known, Bytes.FetchedOperandsAreBounded, Bytes.HasBytes, Bytes.HoldsBytes, Bytes.IsBounded, Following.known_after, Given.given, QuietBoards.StaysQuiet, Steps.HasCode, Steps.ReadsCode, Steps.is_taken}
+use Rattle.verify80_states.specs.Known.{HoldsKnown, HoldsPair, HoldsTop, IsQuietKnown, any_pair, cut, nothing_known}
 use Rattle.verify80_states.specs.{Cells.IsQuietCell, declared.states.cells.Cell.Cell}
-use Rattle.verify80_states.specs.Laws.{ConditionsLeaveKnown, InstructionsAreFollowed, IsFollowedBy, KnownHolds, KnownStaysQuiet, LeavesKnown, WhatHoldsOfBytes}
-use Rattle.verify80_states.specs.Invariants.{Invariant, invariant_is_kept}
+use Rattle.verify80_states.specs.Laws.{ConditionsLeaveKnown, InstructionsAreFollowed, IsFollowedBy, KnownStaysQuiet, WhatHoldsOfBytes}
+use Rattle.verify80_states.specs.Invariants.{invariant_is_kept}
 use Rattle.verify80_follow.specs.declared.{followed.FollowedState.FollowedState, followed.Way.Way}
 use Rattle.verify80_follow.specs.Stack.{AreBytesInside, HoldsFrom, HoldsStack, IsStackInside, bounds_of, if_true, moved_to, pointer_at, return_address, set_stack, stack_after, stack_then, top_of_stack, word_on}
-use Rattle.verify80_follow.specs.Follows.{Covers, CoversThen, Follows, FollowsBy, Has, IsExecuted, IsWay, JumpsBy, JumpsByNumber, LeadsTo, ReturnsLeft, ReturnsTo, StateFollows, stack_of}
+use Rattle.verify80_follow.specs.Follows.{CoversThen, Follows, FollowsBy, Has, IsWay, JumpsBy, LeadsTo, ReturnsLeft, ReturnsTo, StateFollows, stack_of}
 use Rattle.verify80_follow.specs.Promise.{FollowedProgramsKeepThePromise, KeepsFollowed, KnowsWorld, PromiseOfFollowed}
 use Rattle.verify80_follow.proofs.{GroundLemmas.Ground, FetchLemmas.anywhere_of, FetchLemmas.fetched_here, FetchLemmas.inside_of, StackSteps.stack_holds}
 use Rattle.verify80_follow.proofs.GuardLemmas.{Touches, all_of_list, passes_guard, touched}
-use Rattle.verify80_follow.proofs.StackLemmas.{any_within, bounds, byte_at, moved_holds, pointer_is, pointer_is_word, stays_from}
+use Rattle.verify80_follow.proofs.StackLemmas.{any_within, byte_at, moved_holds, pointer_is, stays_from}
 
 -- small things
 one_of : {A : Type 0} (P : A → Type 0) (xs : List A) (k : ℕ) (x : A) → All P xs → slice_get xs k ≡ Some x → P x

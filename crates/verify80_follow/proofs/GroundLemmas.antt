@@ -1,5 +1,5 @@
 -- The rules of regions: code, data and stack share no address, and the stack is in memory.
-use Rattle.std.specs.Prelude.{◌≡◌, ◌≤◌, ◌<◌, ◌+◌, ℕ, true, false, List, [], ◌∷◌, Contains}
+use Rattle.std.specs.Prelude.{◌≡◌, ◌≤◌, ◌<◌, ◌+◌, ℕ, true, false, [], ◌∷◌}
 use Rattle.std.proofs.lemmas.List.Elements.{All-contains, Contains-append_left, Contains-append_right, Contains-push}
 use Rattle.image80.specs.{Range.IsInMemory, Range.in_range, Regions.AreRegions, Regions.Areas, Regions.all_ranges, Regions.in_code, Regions.in_data}
 

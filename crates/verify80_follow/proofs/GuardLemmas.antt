@@ -1,20 +1,19 @@
 -- What the guard of an instruction says, and the bytes of the stack that it touches.
-use Rattle.std.specs.Prelude.{◌≡◌, ◌≤◌, ◌<◌, ℕ, zero, suc, ◌+◌, ◌-◌, ◌%◌, Bool, true, false, not, List, [], ◌∷◌, Option, None, Some, IfSome, All, find, length, nat_le, if◌then◌else◌}
+use Rattle.std.specs.Prelude.{◌≡◌, ◌≤◌, ◌<◌, ℕ, suc, ◌+◌, ◌-◌, Bool, true, false, List, [], ◌∷◌, Option, None, Some, IfSome, All, length, nat_le, if◌then◌else◌}
 use Rattle.std.specs.List.{list_all}
-use Rattle.std.proofs.Common.{ap, arith, refl, subst, sym, ◌∙◌, true≢false}
+use Rattle.std.proofs.Common.{ap, arith, refl, subst, sym, ◌∙◌}
 use Rattle.std.proofs.lemmas.{Bool.Decides.nat_tests, Bool.and_parts}
 use Rattle.std.proofs.lemmas.List.Elements.{All-cons, All-head, All-nil, All-tail}
 use Rattle.decode80.specs.{Facts.flow, Fetch.ahead, Fetch.behind, Fetch.direct_bytes, declared.instr.Instr.Instr}
 use Rattle.decode80.specs.declared.instr.Instr.TheVariants.{Push, Pop, Xthl, Call, CallIf, Ret, ReturnIf, Rst}
 use Rattle.image80.specs.{Range.in_range, Regions.Areas, Regions.in_data, Regions.top_of}
-use Rattle.machine80.specs.{Flags.holds as holds_of, Effects.pointed_bytes, Effects.stack_bytes, declared.cpu.Cpu.Cpu, declared.end.End.End, declared.end.End.TheVariants.Direct, declared.end.End.TheVariants.Stack, declared.end.End.TheVariants.StoreOutside, World.IsJustBelow}
+use Rattle.machine80.specs.{Flags.holds as holds_of, Effects.pointed_bytes, Effects.stack_bytes, declared.cpu.Cpu.Cpu, declared.end.End.TheVariants.Direct, declared.end.End.TheVariants.Stack, declared.end.End.TheVariants.StoreOutside, World.IsJustBelow}
 use Rattle.machine80.specs.Step.{ends_at, first_outside, guard}
-use Rattle.verify80.specs.Looking.{stores_in_data}
 use Rattle.verify80_spans.specs.declared.byte_span.ByteSpan.{ByteSpan}
 use Rattle.verify80_states.specs.{declared.states.known.Known.Known, Steps.is_taken}
 use Rattle.verify80_follow.specs.Stack.{HoldsStack, called_on, exchanged_on, if_true, pointer_at, popped_from, pushed_onto, returned_from, stack_after}
 use Rattle.verify80_follow.proofs.GroundLemmas.{Ground}
-use Rattle.verify80_follow.proofs.StackLemmas.{bounds, next_pointer, on_stack, pointer_below, pointer_is}
+use Rattle.verify80_follow.proofs.StackLemmas.{bounds, next_pointer, on_stack, pointer_below}
 
 -- nothing is outside if each is inside
 none_outside : (inside : ℕ → Bool) (xs : List ℕ) → All (λ x. inside x ≡ true) xs → first_outside inside xs ≡ None

@@ -1,16 +1,16 @@
 -- Where the bytes of the stack lie, and what holds of them when others are stored, pushed or popped.
-use Rattle.std.specs.Prelude.{◌≡◌, ◌≢◌, ◌≤◌, ◌<◌, ℕ, zero, suc, ◌+◌, ◌-◌, ◌/◌, ◌%◌, ◌&&◌, Bool, true, false, List, [], ◌∷◌, ◌++◌, Option, None, Some, IfSome, All, drop, length, nat_le, nat_lt, replicate, slice_index, slice_set, slice_get}
-use Rattle.std.proofs.Common.{arith, ap, refl, subst, sym, ◌∙◌, get_or-set_other}
-use Rattle.std.proofs.lemmas.{Bool.Decides.nat_tests, List.length-append, List.length-drop, List.length-replicate, List.get_or-set_same, List.length-set}
+use Rattle.std.specs.Prelude.{◌≡◌, ◌≤◌, ◌<◌, ℕ, zero, suc, ◌+◌, ◌-◌, ◌&&◌, Bool, true, false, List, [], ◌∷◌, ◌++◌, IfSome, drop, length, nat_le, nat_lt, replicate, slice_index}
+use Rattle.std.proofs.Common.{arith, ap, refl, subst, sym, ◌∙◌}
+use Rattle.std.proofs.lemmas.{Bool.Decides.nat_tests, List.length-append, List.length-drop, List.length-replicate}
 use Rattle.decode80.specs.Fetch.{ahead, behind}
 use Rattle.image80.specs.{Range.in_range, Regions.Areas, Regions.top_of}
-use Rattle.machine80.specs.{Cpu.word, Effects.byte_in}
+use Rattle.machine80.specs.{Effects.byte_in}
 use Rattle.verify80_spans.specs.declared.byte_span.ByteSpan.{ByteSpan}
-use Rattle.verify80_spans.specs.Span.{ByteWithin, any_byte, byte_alone}
+use Rattle.verify80_spans.specs.Span.{ByteWithin, any_byte}
 use Rattle.std.proofs.lemmas.List.Elements.{All-head, All-tail}
 use Rattle.verify80_states.specs.Bytes.{HasBytes, IsByte}
 use Rattle.verify80_follow.specs.declared.stack.StackBounds.{StackBounds}
-use Rattle.verify80_follow.specs.Stack.{HoldsFrom, HoldsStack, AreBytesInside, count_above, if_true, moved_to, pointer_at, resized}
+use Rattle.verify80_follow.specs.Stack.{HoldsFrom, HoldsStack, count_above, if_true, moved_to, pointer_at, resized}
 use Rattle.verify80_follow.proofs.GroundLemmas.{Ground}
 
 -- a range has the addresses from its first on

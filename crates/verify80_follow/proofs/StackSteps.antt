@@ -1,20 +1,20 @@
 -- The stack after each kind of instruction.
-use Rattle.std.specs.Prelude.{◌≡◌, ◌≢◌, ◌≤◌, ◌<◌, ℕ, zero, suc, ◌+◌, ◌/◌, ◌%◌, Bool, true, false, List, [], ◌∷◌, Option, None, Some, IfSome, All, length, nat_le, slice_index, slice_set, if◌then◌else◌}
+use Rattle.std.specs.Prelude.{◌≡◌, ◌≢◌, ◌≤◌, ◌<◌, ℕ, suc, ◌+◌, ◌/◌, ◌%◌, Bool, true, false, List, [], ◌∷◌, Option, IfSome, All, length, nat_le, slice_index, slice_set, if◌then◌else◌}
 use Rattle.std.proofs.Common.{arith, ap, refl, subst, sym, ◌∙◌, get_or-set_other, true≢false}
 use Rattle.std.proofs.lemmas.{Bool.Decides.nat_tests, List.get_or-set_same, List.length-set}
 use Rattle.std.proofs.lemmas.List.Elements.{All-head, All-tail}
 use Rattle.decode80.specs.{Facts.flow, Fetch.ahead, Fetch.behind, Fetch.direct_bytes, Spelling.HasOperandInRange, declared.instr.Instr.Instr, declared.pair.StackPair.StackPair}
-use Rattle.decode80.specs.declared.instr.Instr.TheVariants.{Store, MviMemory, InrMemory, DcrMemory, Stax, Sta, Shld, Lxi, Inx, Dcx, Sphl, Push, Pop, Xthl, Call, CallIf, Ret, ReturnIf, Rst, In, Out, Hlt}
+use Rattle.decode80.specs.declared.instr.Instr.TheVariants.{Store, MviMemory, InrMemory, DcrMemory, Stax, Sta, Shld, Lxi, Inx, Dcx, Sphl, Push, Pop, Xthl, Call, CallIf, Ret, ReturnIf, Rst}
 use Rattle.decode80.specs.declared.pair.Pair.TheVariants.{Sp}
 use Rattle.decode80.specs.declared.pair.StackPair.TheVariants.{Bc as StackBc, De as StackDe, Hl as StackHl, Psw}
-use Rattle.image80.specs.{Range.in_range, Regions.Areas, Regions.in_data, Regions.top_of}
+use Rattle.image80.specs.{Range.in_range, Regions.Areas, Regions.in_data}
 use Rattle.machine80.specs.{Cpu.high_of, Cpu.low_of, Cpu.hl_of, Cpu.word, Flags.holds as holds_of, Flags.flags_byte, Effects.byte_in, Effects.changed, Effects.pointed_bytes, Effects.push_bytes, Effects.stored, Effects.stores, declared.cpu.Cpu.Cpu, declared.registers.Registers.Registers}
 use Rattle.verify80_spans.specs.declared.{byte_span.ByteSpan.ByteSpan, span.Span.Span}
 use Rattle.verify80_spans.specs.Span.{Within, ByteWithin, any_byte, byte_alone, is_alone, high_of as high_bytes}
-use Rattle.verify80_states.specs.{declared.states.known.Known.Known, Bytes.AreBytes, Bytes.HasBytes, Known.HoldsPair, Known.HoldsRegisters, Following.pushed_pair, Steps.is_taken}
-use Rattle.verify80_follow.specs.Stack.{HoldsFrom, HoldsStack, called_on, exchanged_on, if_true, moved_if, moved_to, pointer_at, popped_from, pushed_onto, returned_from, stack_after, with_one, without_one}
+use Rattle.verify80_states.specs.{declared.states.known.Known.Known, Bytes.AreBytes, Bytes.HasBytes, Known.HoldsRegisters, Following.pushed_pair, Steps.is_taken}
+use Rattle.verify80_follow.specs.Stack.{HoldsFrom, HoldsStack, called_on, exchanged_on, moved_if, moved_to, pointer_at, popped_from, pushed_onto, returned_from, stack_after, with_one, without_one}
 use Rattle.verify80_follow.proofs.GroundLemmas.{Ground}
-use Rattle.verify80_follow.proofs.StackLemmas.{any_within, bounds, byte_at, if_true_holds, moved_holds, one_popped, pointer_below, pointer_is, pointer_is_word, range_high, range_low, stack_stays, stays_from, two_popped, two_put, any_from}
+use Rattle.verify80_follow.proofs.StackLemmas.{any_within, bounds, byte_at, if_true_holds, moved_holds, one_popped, pointer_below, pointer_is, pointer_is_word, stack_stays, two_popped, two_put}
 
 -- a word that is stored and read
 two_read : (m : List ℕ) (a b x y : ℕ) → length m ≡ 65536 → a < 65536 → b < 65536 → a ≢ b → (slice_index (slice_set (slice_set m a x) b y) a ≡ x) × (slice_index (slice_set (slice_set m a x) b y) b ≡ y)

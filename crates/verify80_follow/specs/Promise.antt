@@ -1,13 +1,13 @@
 -- What is promised of a program that a table follows, on every board whose devices leave quiet memory alone. (This project's own; what a board is and
 -- does stands in verify80, specs/Boards.)
-use Rattle.std.specs.Prelude.{◌≡◌, ◌≢◌, ◌≤◌, ◌<◌, ◌||◌, ℕ, Bool, true, false, List, All, Option, None, Some, IfSome, length, slice_get, slice_index}
+use Rattle.std.specs.Prelude.{◌≡◌, ◌≢◌, ◌≤◌, ◌<◌, ℕ, Bool, true, false, List, All, None, Some, IfSome, length, slice_get}
 use Rattle.decode80.specs.{declared.fetching.Fetched.Fetched, Fetch.direct_bytes}
 use Rattle.decode80.specs.declared.instr.Instr.TheVariants.{Ei, Hlt, Pchl}
-use Rattle.image80.specs.{Regions.Areas, Regions.AreRegions, Regions.in_code, Regions.in_data, Regions.targets_at, Regions.top_of, Image.Located, Image.memory_of}
-use Rattle.machine80.specs.{Cpu.hl_of, Effects.stack_bytes, Effects.target, Run.world_of, Step.Machine, Step.fetch, World.World, World.returns, World.IsJustBelow}
+use Rattle.image80.specs.{Regions.AreRegions, Regions.in_data, Regions.targets_at, Regions.top_of, Image.Located, Image.memory_of}
+use Rattle.machine80.specs.{Cpu.hl_of, Effects.stack_bytes, Effects.target, Step.Machine, Step.fetch, World.World, World.returns, World.IsJustBelow}
 use Rattle.verify80.specs.Looking.{halt_follows}
-use Rattle.verify80.specs.Boards.{Disturbs, Executes, IsFollowed, StaysInside, Anywhere, fetched_anywhere, respected_pointer, sets_sp}
-use Rattle.verify80_states.specs.{Bytes.HoldsBytes, Known.HoldsKnown, QuietBoards.OnQuietBoard, QuietBoards.StaysQuiet, Steps.HasCode}
+use Rattle.verify80.specs.Boards.{IsFollowed, StaysInside, Anywhere, fetched_anywhere}
+use Rattle.verify80_states.specs.{Bytes.HoldsBytes, Known.HoldsKnown, QuietBoards.OnQuietBoard, Steps.HasCode}
 use Rattle.verify80_follow.specs.declared.{followed.FollowedState.FollowedState, followed.Way.Way}
 use Rattle.verify80_follow.specs.{Stack.HoldsStack, Stack.bounds_of, Follows.Follows, Follows.IsWay, Follows.stack_of}
 

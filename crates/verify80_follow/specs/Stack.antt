@@ -1,15 +1,15 @@
 -- The stack, byte by byte from the stack pointer to its top, and what becomes of it at each instruction. (Intel 8080 Microcomputer Systems User's
 -- Manual, chapter 4: what is pushed and popped. That the bytes are followed by spans is this project's own.)
-use Rattle.std.specs.Prelude.{◌≡◌, ◌≤◌, ◌<◌, ◌==◌, ◌&&◌, ℕ, ◌+◌, ◌-◌, ◌/◌, ◌%◌, Bool, true, false, List, [], ◌∷◌, ◌++◌, Option, None, Some, IfSome, drop, length, map, nat_le, replicate, slice_get, if◌then◌else◌}
+use Rattle.std.specs.Prelude.{◌≡◌, ◌≤◌, ℕ, ◌+◌, ◌-◌, ◌/◌, ◌%◌, Bool, true, false, List, [], ◌∷◌, ◌++◌, Option, None, Some, drop, length, nat_le, replicate, slice_get, if◌then◌else◌}
 use Rattle.std.specs.Option.{option_map}
 use Rattle.decode80.specs.{declared.instr.Instr.Instr, Fetch.ahead}
 use Rattle.decode80.specs.declared.instr.Instr.TheVariants.{Lxi, Inx, Dcx, Sphl, Push, Pop, Xthl, Call, CallIf, Ret, ReturnIf, Rst}
 use Rattle.decode80.specs.declared.pair.Pair.TheVariants.{Sp}
 use Rattle.image80.specs.{Regions.top_of, Image.Located}
-use Rattle.machine80.specs.{Cpu.word, Effects.byte_in}
+use Rattle.machine80.specs.{Effects.byte_in}
 use Rattle.verify80.specs.Boards.{uses_sp}
 use Rattle.verify80_spans.specs.declared.byte_span.ByteSpan.{ByteSpan}
-use Rattle.verify80_spans.specs.Span.{ByteWithin, IsByteInside, any_byte, byte_alone, is_alone, is_byte_alone, high_of}
+use Rattle.verify80_spans.specs.Span.{ByteWithin, IsByteInside, any_byte, byte_alone, is_alone, high_of}
 use Rattle.verify80_follow.specs.declared.{stack.StackAfter.StackAfter, stack.StackBounds.StackBounds}
 use Rattle.verify80_follow.specs.declared.stack.StackAfter.TheVariants.{Refused, Unset, Set}
 use Rattle.verify80_states.specs.{declared.states.known.Known.Known, declared.states.following.StackTop.StackTop, declared.states.pairs.PairSpan.PairSpan, Known.any_pair, Known.pair_of_halves, Following.pushed_pair}

@@ -1,5 +1,5 @@
 -- What is known of the worlds of a board. (This project's own.)
-use Rattle.std.specs.Prelude.{◌≡◌, ◌||◌, ℕ, Bool, true}
+use Rattle.std.specs.Prelude.{◌||◌, ℕ, Bool}
 use Rattle.std.proofs.Common.{subst, sym}
 use Rattle.image80.specs.Image.{Located}
 use Rattle.machine80.specs.{Step.Machine, World.World, Run.world_of}

@@ -5,11 +5,13 @@ pub returns : goal.returns
 returns c =
     let apart = c.code_data_and_stack_are_apart.ensures in
     let known = c.known_is_followed.ensures in
-    record { promise = promise (record {
-      instructions = known.instructions;
-      conditions = known.conditions;
-      holds = known.holds;
-      quiet = known.quiet;
-      reads = c.fetch_reads_code_alone.ensures;
-      bounded = c.bytes_stay_bytes.ensures.operands;
-    }) (ground_of apart.code_or_data apart.code_or_stack apart.data_or_stack); }
+    record {
+      promise = promise (record {
+        instructions = known.instructions;
+        conditions = known.conditions;
+        holds = known.holds;
+        quiet = known.quiet;
+        reads = c.fetch_reads_code_alone.ensures;
+        bounded = c.bytes_stay_bytes.ensures.operands;
+      }) (ground_of apart.code_or_data apart.code_or_stack apart.data_or_stack);
+    }

@@ -1,4 +1,4 @@
-use Rattle.std.specs.Prelude.{◌≡◌, ◌<◌, ℕ, Contains, List, Some, false, length, slice_get}
+use Rattle.std.specs.Prelude.{◌≡◌, ℕ, Contains, List, Some, false, slice_get}
 use Rattle.std.proofs.Common.{arith, below_more, subst, sym}
 use Rattle.std.proofs.lemmas.Option.{get_or_from_slice_get}
 use Rattle.verify80_spans.specs.Span.{Within}

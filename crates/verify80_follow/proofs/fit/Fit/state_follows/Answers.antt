@@ -1,4 +1,4 @@
-use Rattle.std.specs.Prelude.{◌≡◌, ◌≤◌, Bool, List, Option, Err, true, IfSome, length}
+use Rattle.std.specs.Prelude.{◌≡◌, ◌≤◌, List, Option, Err, true, IfSome, length}
 use Rattle.frames80.specs.declared.code.LookFault.{LookFault}
 use Rattle.std.proofs.Common.{ap, refl, subst, sym, ◌∙◌}
 use Rattle.decode80.specs.Facts.{flow}
