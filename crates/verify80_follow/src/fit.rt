@@ -421,7 +421,7 @@ pub fn follows(
     requires rules { AreRegions image.now.regions }
     requires code { AreCodeBytes image.now code.now }
     requires quiet { (at : ℕ) → is_marked quiet.now at ≡ true → in_data image.now.regions at ≡ true }
-    ensures { IfOk result (λ follows. follows ≡ true → PromiseOfFollowed image.now (is_marked quiet.now) table.now.ways.items table.now.bytes) }
+    ensures promise { IfOk result (λ follows. follows ≡ true → PromiseOfFollowed image.now (is_marked quiet.now) table.now.ways.items table.now.bytes) }
 {
     followed_programs_keep_the_promise();
     let program = ImageCode::new(alloc, image)?;

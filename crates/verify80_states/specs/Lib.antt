@@ -13,4 +13,5 @@ pub mod FittingTable
 pub mod Runs
 pub mod Laws
 pub mod QuietBoards
+-- what crates above cite in their proofs: no public contract cites it
 pub mod Invariants

@@ -19,12 +19,14 @@ returns c =
     let same : c.in_ok-program.program ≡ image = c.in_ok-program.ensures in
     let within = c.if-table-stack.false in
     let stack = c.stack.ensures in
-    ok_maps c.all_follow.result (λ f. f ≡ true → All (λ s. StateFollows c.in_ok-program.program quiet c.args.code.now ways states bytes s) states)
-    (λ f. f ≡ true → PromiseOfFollowed image quiet c.args.table.now.ways.items bytes)
-    (λ f follow is. subst (λ (l : List Way). PromiseOfFollowed image quiet l bytes) c.deref-3.ensures.value
-    (c.followed_programs_keep_the_promise.ensures.promise image quiet ways states bytes c.requires.rules c.requires.quiet (record {
-      code = c.args.code.now;
-      are_code = c.requires.code;
-      start = subst (λ (i : Located). Has states i.start nothing_known None) same (subst (λ (n : ℕ). Has states n nothing_known None) c.start.ensures (c.if-not-has.ensures refl));
-      states = subst (λ (i : Located). All (λ s. StateFollows i quiet c.args.code.now ways states bytes s) states) same (follow is);
-    }) (subst (λ (i : Located). bytes ≤ i.regions.stack.length) same (grind (arith, nat_tests, within, stack))))) c.all_follow.ensures
+    record {
+      promise = ok_maps c.all_follow.result (λ f. f ≡ true → All (λ s. StateFollows c.in_ok-program.program quiet c.args.code.now ways states bytes s) states)
+          (λ f. f ≡ true → PromiseOfFollowed image quiet c.args.table.now.ways.items bytes)
+          (λ f follow is. subst (λ (l : List Way). PromiseOfFollowed image quiet l bytes) c.deref-3.ensures.value
+          (c.followed_programs_keep_the_promise.ensures.promise image quiet ways states bytes c.requires.rules c.requires.quiet (record {
+            code = c.args.code.now;
+            are_code = c.requires.code;
+            start = subst (λ (i : Located). Has states i.start nothing_known None) same (subst (λ (n : ℕ). Has states n nothing_known None) c.start.ensures (c.if-not-has.ensures refl));
+            states = subst (λ (i : Located). All (λ s. StateFollows i quiet c.args.code.now ways states bytes s) states) same (follow is);
+          }) (subst (λ (i : Located). bytes ≤ i.regions.stack.length) same (grind (arith, nat_tests, within, stack))))) c.all_follow.ensures;
+    }
