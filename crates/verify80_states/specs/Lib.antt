@@ -13,5 +13,5 @@ pub mod FittingTable
 pub mod Runs
 pub mod Laws
 pub mod QuietBoards
--- what crates above cite in their proofs: no public contract cites it
+-- what the crate's own functions promise one another: no public contract cites these
 pub mod Invariants
