@@ -3,7 +3,7 @@
 use crate::nodes::Nodes;
 use std::alloc::{AllocError, Global};
 use std::mem;
-use verify80_needs::{PARTS, Units, sum_of};
+use verify80_needs::{PARTS, Units, part_of, sum_of};
 
 impl Nodes {
     /// Joins states at an address: they are no longer distinguished by those parts that distinguish the most of them, as many as it takes
@@ -40,40 +40,60 @@ impl Nodes {
         before: Units,
         places: &[u32],
     ) -> Result<Units, AllocError> {
+        let most = self.most(true);
+        if most <= 1 {
+            return Ok(Units::ALL);
+        }
+        let mut sums = Vec::new(alloc);
+        for place in places {
+            if let Some(node) = self.nodes.get(*place as usize) {
+                sums.push(sum_of(0, node.placed.state, before))?;
+            }
+        }
         let mut counted = Vec::new(alloc);
         for number in 0..PARTS {
-            let part = Units::of_bit(number);
-            if !before.intersects(part) {
-                let count = self.count_distinct(alloc, places, Units::ALL.difference(part))?;
-                counted.push((count, PARTS - number))?;
+            if !before.intersects(Units::of_bit(number)) {
+                let parts = self.parts_of(alloc, places, number)?;
+                counted.push((count_distinct(alloc, &parts)?, PARTS - number))?;
             }
         }
         counted.sort_unstable();
         let mut joined = before;
         for (_, above) in counted.iter().rev() {
-            joined = joined.union(Units::of_bit(PARTS.saturating_sub(*above)));
-            if self.count_distinct(alloc, places, joined)? < self.most(true) {
+            let number = PARTS.saturating_sub(*above);
+            joined = joined.union(Units::of_bit(number));
+            let parts = self.parts_of(alloc, places, number)?;
+            for (sum, part) in sums.iter_mut().zip(parts.iter()) {
+                *sum = sum.wrapping_sub(*part);
+            }
+            if count_distinct(alloc, &sums)? < most {
                 return Ok(joined);
             }
         }
         Ok(Units::ALL)
     }
 
-    /// How many of the states at these places are distinguished if these parts are joined.
-    fn count_distinct(
+    /// The numbers of one part of the states at these places.
+    fn parts_of(
         &self,
         alloc: Global,
         places: &[u32],
-        joined: Units,
-    ) -> Result<usize, AllocError> {
-        let mut sums = Vec::new(alloc);
+        number: usize,
+    ) -> Result<Vec<u64>, AllocError> {
+        let mut parts = Vec::with_capacity(alloc, places.len())?;
         for place in places {
             if let Some(node) = self.nodes.get(*place as usize) {
-                sums.push(sum_of(0, node.placed.state, joined))?;
+                parts.push(part_of(node.placed.state, number))?;
             }
         }
-        sums.sort_unstable();
-        sums.dedup();
-        Ok(sums.len())
+        Ok(parts)
     }
+}
+
+/// How many different numbers there are.
+fn count_distinct(alloc: Global, numbers: &[u64]) -> Result<usize, AllocError> {
+    let mut numbers = Vec::from_slice(alloc, numbers)?;
+    numbers.sort_unstable();
+    numbers.dedup();
+    Ok(numbers.len())
 }
