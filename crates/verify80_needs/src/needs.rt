@@ -12,6 +12,17 @@ use verify80_states::{Known, State, entry_at, is_marked};
 /// How often the program is gone through, at most: then the rest is left as it is.
 const SWEEPS: usize = 32;
 
+/// The bytes of quiet memory that states name.
+#[derive(Clone, Copy, Debug, PartialEq, Eq)]
+pub enum Named {
+    /// Those on which a later store, jump by HL or condition depends, as far as the pointers that read them are known.
+    Needed,
+    /// Those that are read later.
+    Read,
+    /// Those that the next instruction reads or stores: what is known of the others is known by variables.
+    Next,
+}
+
 /// What is needed of a state at an address: these parts of it, and these bytes of memory.
 #[derive(Clone, Copy, Debug, PartialEq, Eq)]
 struct Need {
@@ -57,19 +68,19 @@ pub struct Needs {
     needs: Vec<Need>,
     /// By address the bytes that a state there names.
     named: Vec<Slots>,
-    /// The bytes that are to be variables: if it is local, all that are needed somewhere, ascending.
+    /// The bytes that are to be variables, ascending: all that are needed somewhere, if states name those of the next instruction alone.
     pub variables: Vec<u16>,
 }
 
 impl Needs {
-    /// What a program needs; of memory, if it is local, what the next instruction reads.
+    /// What a program needs, if its states name these bytes.
     ///
     /// # Errors
     /// `AllocError` if memory runs out.
     pub fn of(
         alloc: Global,
         program: ReachedProgram<'_>,
-        is_local: bool,
+        memory: Named,
     ) -> Result<Needs, AllocError> {
         let pointers = find_pointers(alloc, program)?;
         let places = find_places(alloc, program, &pointers)?;
@@ -77,7 +88,7 @@ impl Needs {
             program,
             pointers: &pointers,
             places: &places,
-            is_local,
+            memory,
         };
         let mut needs = vec![in alloc; Need::NONE; 65_536]?;
         let mut behind = vec![in alloc; Need::NONE; 65_536]?;
@@ -89,7 +100,7 @@ impl Needs {
         let named = (0..65_536_u32)
             .map(|at| reading.named(&needs, &behind, at as u16))
             .collect(alloc)?;
-        let variables = if is_local {
+        let variables = if memory == Named::Next {
             addresses_of(alloc, &needs)?
         } else {
             Vec::new(alloc)
@@ -121,8 +132,25 @@ impl Needs {
         reduced(placed, need.parts)
     }
 
+    /// The bytes of memory that are variables, each with the addresses where states name it: ascending.
+    ///
+    /// # Errors
+    /// `AllocError` if memory runs out.
+    pub fn readers(&self, alloc: Global) -> Result<Vec<(u16, u16)>, AllocError> {
+        let mut readers = Vec::new(alloc);
+        for number in 0..65_536_u32 {
+            for address in &self.variables {
+                if self.named(number as u16).has(*address) {
+                    readers.push((*address, number as u16))?;
+                }
+            }
+        }
+        readers.sort_unstable();
+        Ok(readers)
+    }
+
     /// The bytes of memory that a state at an address names.
-    pub fn named(&self, at: u16) -> Slots {
+    fn named(&self, at: u16) -> Slots {
         self.named
             .get(usize::from(at))
             .copied()
@@ -155,8 +183,8 @@ struct Reading<'a> {
     pointers: &'a [Option<u16>],
     /// By address the place of a byte.
     places: &'a [Option<usize>],
-    /// Whether bytes are needed by the next instruction alone.
-    is_local: bool,
+    /// The bytes that states name.
+    memory: Named,
 }
 
 impl Reading<'_> {
@@ -194,7 +222,7 @@ impl Reading<'_> {
         for to in direct.iter().flatten().chain(targets.iter()) {
             after = after.and(need_at(needs, *to));
         }
-        if self.is_local {
+        if self.memory == Named::Next {
             let stored = bytes_stored(found.instr, entry_at(self.pointers, at));
             after.slots = placed(self.places, stored, Units::ALL);
         }
@@ -216,9 +244,13 @@ impl Reading<'_> {
             Instr::InrMemory | Instr::DcrMemory => after.slots,
             _ => after.slots.without(stored),
         };
+        let known = match self.memory {
+            Named::Read => Units::ALL,
+            Named::Needed | Named::Next => after.parts,
+        };
         Need {
             parts,
-            slots: kept.and(placed(self.places, read, after.parts)),
+            slots: kept.and(placed(self.places, read, known)),
         }
     }
 

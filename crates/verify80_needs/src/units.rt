@@ -46,8 +46,6 @@ bitflags! {
 const FACTOR: u64 = 0x9E37_79B9_7F4A_7C15;
 /// How many parts there are.
 pub const PARTS: usize = 23;
-/// The number of the first of the bytes of memory.
-const FIRST_CELL: usize = 15;
 
 impl Units {
     /// The one part with this bit, counted from 0; the last part for a greater number.
@@ -161,36 +159,44 @@ fn reduced_pair(pair: PairSpan, parts: Units, high: Units, low: Units) -> PairSp
     }
 }
 
-/// A number by which a part of a state is distinguished from others: the part with this bit, counted from 0.
-pub fn part_of(state: State, number: usize) -> u64 {
+/// A number for each part of a state, by which it is distinguished from others: in the order of their bits.
+pub fn numbers_of(state: State) -> [u64; PARTS] {
     let State { known, words } = state;
-    let value = match number {
-        0 => byte_value(known.a),
-        1 => byte_value(known.bc.high()),
-        2 => byte_value(known.bc.low),
-        3 => byte_value(known.de.high()),
-        4 => byte_value(known.de.low),
-        5 => byte_value(known.hl.high()),
-        6 => byte_value(known.hl.low),
-        7 => flag_value(known.zero),
-        8 => flag_value(known.carry),
-        9 => flag_value(known.sign),
-        10 => known.compared.map_or(256, |byte| u64::from(byte)),
-        11 => word_value(words.first),
-        12 => word_value(words.second),
-        13 => word_value(words.third),
-        14 => word_value(words.fourth),
-        _ => byte_value(known.cells.each[number.saturating_sub(FIRST_CELL) % 8].bytes),
-    };
-    mixed(value, number)
+    let [first, second, third, fourth, fifth, sixth, seventh, eighth] = known.cells.each;
+    let values = [
+        byte_value(known.a),
+        byte_value(known.bc.high()),
+        byte_value(known.bc.low),
+        byte_value(known.de.high()),
+        byte_value(known.de.low),
+        byte_value(known.hl.high()),
+        byte_value(known.hl.low),
+        flag_value(known.zero),
+        flag_value(known.carry),
+        flag_value(known.sign),
+        known.compared.map_or(256, |byte| u64::from(byte)),
+        word_value(words.first),
+        word_value(words.second),
+        word_value(words.third),
+        word_value(words.fourth),
+        byte_value(first.bytes),
+        byte_value(second.bytes),
+        byte_value(third.bytes),
+        byte_value(fourth.bytes),
+        byte_value(fifth.bytes),
+        byte_value(sixth.bytes),
+        byte_value(seventh.bytes),
+        byte_value(eighth.bytes),
+    ];
+    array::from_fn(|number| mixed(values[number], number))
 }
 
 /// A sum of an address and of the parts of a state without the joined ones, by which states are distinguished.
 pub fn sum_of(at: u16, state: State, joined: Units) -> u64 {
     let mut sum = mixed(u64::from(at), PARTS);
-    for number in 0..PARTS {
+    for (number, part) in numbers_of(state).iter().enumerate() {
         if !joined.intersects(Units::of_bit(number)) {
-            sum = sum.wrapping_add(part_of(state, number));
+            sum = sum.wrapping_add(*part);
         }
     }
     sum

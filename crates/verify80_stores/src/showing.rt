@@ -18,7 +18,7 @@ use verify80_proposals::{Groups, Proposal, ReachedProgram, propose_table};
 use verify80_states::{Placed, anything, fits};
 
 /// How many tables are tried.
-const TABLES: usize = 6;
+const TABLES: usize = 8;
 
 /// What is shown of a program, in whose quiet ranges of data nobody but it writes: by address whether each table leaves the store or jump
 /// there open, and the words that a pair may be, if the instruction stores by it.
