@@ -1,5 +1,5 @@
 -- Registers and flags at each kind of instruction.
-use Rattle.verify80_states.proofs.Names.{◌≡◌, ◌<◌, ◌==◌, [], ℕ, ◌+◌, ◌-◌, ◌*◌, ◌/◌, ◌%◌, Bool, true, false, not, List, Option, None, Some, nat_lt, bit_and, bit_or, bit_xor, refl, arith, sym, ap, nat_tests, and_self, or_self, xor_self, Register, Pair, IndexPair, IndexBc, IndexDe, A, H, L, Bc, De, Hl, Sp, StackBc, StackDe, StackHl, Psw, Instr, Operation, Operand, Mov, Load, Mvi, Lxi, Dad, Inx, Dcx, Inr, InrMemory, Dcr, DcrMemory, Operate, Pop, Ldax, Lhld, Lda, Rotate, Daa, Cma, Stc, Cmc, Xthl, Xchg, In, Subtract, And, ExclusiveOr, Or, Compare, InRegister, Memory, Immediate, Left, Right, LeftThroughCarry, RightThroughCarry, HasOperandInRange, Areas, Registers, Cpu, flags_from, byte_in, operand_of, changed, decimal_answer, word, register_of, with_register, hl_of, pair_of, with_pair, index_pair_of, Span, ByteSpan, Outcome, PairSpan, Known, Cells, HasBytes, AreBytes, ReadsCode, HoldsCells, Within, ByteWithin, any_byte, word_alone, byte_alone, is_alone, is_byte_alone, next_byte, previous_byte, operated, rotated, complemented, uncarried, HoldsPair, HoldsRegisters, HoldsWord, HoldsWords, Compares, any_pair, pair_of_words, next_pair, previous_pair, sum_pair, compared_with, byte_of, span_of, with_byte, with_span, known_pair, loaded_at, loaded, moved, counted, resulted, tested, is_accumulator, operand_bytes, after_operation, added_carry, turned, exchanged, index_words, registers_after, cond_both, subst, StackTop, IfSome, summand, sum_carries}
+use Rattle.verify80_states.proofs.Names.{◌≡◌, ◌<◌, ◌==◌, [], ℕ, ◌+◌, ◌-◌, ◌*◌, ◌/◌, ◌%◌, Bool, true, false, not, List, Option, None, Some, nat_lt, bit_and, bit_or, bit_xor, refl, arith, sym, ap, nat_tests, and_self, or_self, xor_self, Register, Pair, IndexPair, IndexBc, IndexDe, A, H, L, Bc, De, Hl, Sp, StackBc, StackDe, StackHl, Psw, Instr, Operation, Operand, Mov, Load, Mvi, Lxi, Dad, Inx, Dcx, Inr, InrMemory, Dcr, DcrMemory, Operate, Pop, Ldax, Lhld, Lda, Rotate, Daa, Cma, Stc, Cmc, Xthl, Xchg, In, Subtract, And, ExclusiveOr, Or, Compare, InRegister, Memory, Immediate, Left, Right, LeftThroughCarry, RightThroughCarry, HasOperandInRange, Areas, Registers, Cpu, flags_from, byte_in, operand_of, changed, decimal_answer, word, register_of, with_register, hl_of, pair_of, with_pair, index_pair_of, Span, ByteSpan, Outcome, PairSpan, Known, Cells, HasBytes, AreBytes, ReadsCode, HoldsCells, Within, ByteWithin, any_byte, word_alone, byte_alone, is_alone, is_byte_alone, next_byte, previous_byte, operated, rotated, complemented, uncarried, HoldsPair, HoldsRegisters, HoldsWord, HoldsWords, Compares, any_pair, pair_of_words, next_pair, previous_pair, sum_pair, compared_with, byte_of, span_of, with_byte, with_span, known_pair, loaded_at, loaded, moved, counted, resulted, tested, is_accumulator, operand_bytes, after_operation, added_carry, turned, exchanged, index_words, registers_after, cond_both, subst, StackTop, IfSome, summand, sum_carries, with_any_flags}
 use Rattle.verify80_spans.specs.Span.{IsKnown, high_of}
 use Rattle.decode80.specs.{Fetch.ahead, Fetch.behind}
 use Rattle.machine80.specs.{Flags.bit_of, Flags.flags_of_result}
@@ -18,7 +18,7 @@ loaded_within code cells memory s n reads holds bytes inside = cond_both (is_alo
     (λ alone. subst (λ k. ByteWithin (loaded_at code cells k) (byte_in memory n)) (sym (word_first s n alone inside)) (read_within code cells memory n reads holds bytes))
     (λ several. any_byte_within (byte_in memory n) (memory_byte memory n bytes))
 
-popped_holds : (regions : Areas) (o : Option PairSpan) (memory : List ℕ) (sp : ℕ) → HoldsWord regions o memory sp sp → HasBytes memory → HoldsPair (known_pair o) (byte_in memory (ahead sp 1)) (byte_in memory sp)
+pub popped_holds : (regions : Areas) (o : Option PairSpan) (memory : List ℕ) (sp : ℕ) → HoldsWord regions o memory sp sp → HasBytes memory → HoldsPair (known_pair o) (byte_in memory (ahead sp 1)) (byte_in memory sp)
 popped_holds regions None memory sp holds bytes = any_pair_holds _ _ (memory_byte memory (ahead sp 1) bytes) (memory_byte memory sp bytes)
 popped_holds regions (Some pair) memory sp holds bytes = holds.within
 
@@ -140,7 +140,7 @@ through_right s a (Some true) false is inside small = cc
 through_right s a (Some false) true is inside small = cc
 
 -- the other kinds
-adjusts : (s : Known) (r : Registers) → AreBytes r → HoldsRegisters s r → (let answer = decimal_answer r.a r.flags in HoldsRegisters (registers_after [] Daa s) (record r { a = answer.value; flags = answer.flags }))
+adjusts : (s : Known) (r : Registers) → AreBytes r → HoldsRegisters s r → (let answer = decimal_answer r.a r.flags in HoldsRegisters (with_any_flags (with_byte s A any_byte)) (record r { a = answer.value; flags = answer.flags }))
 adjusts s r bytes holds =
     let byte = (decimal_answer r.a r.flags).value in
     any_flags_hold (with_byte s A any_byte) (record r { a = byte }) (decimal_answer r.a r.flags).flags

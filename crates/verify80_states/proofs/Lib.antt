@@ -22,4 +22,6 @@ mod WayLemmas
 mod CallLemmas
 mod KeepLemmas
 mod TableLemmas
+mod CodeLemmas
+mod LawLemmas
 mod Names

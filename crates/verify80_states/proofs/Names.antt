@@ -18,6 +18,7 @@ pub use Rattle.std.specs.Prelude.{All, IfSome, Bool, Contains, Err, IsSome, List
 pub use Rattle.verify80.specs.{Boards.LeavesProgram, Boards.with_memory, Looking.code_of, Looking.declared_targets, Starts.IsStart, Starts.IsWorldFrom, Starts.NeverGoesWrongFromPowerOn, Reached.AreReached, Reached.IsReached, Reached.StandsOnWalk, Reached.StaysOnWalks, Reached.found_at}
 pub use Rattle.verify80_spans.specs.Span.{ByteWithin, IsByteInside, IsInside, Within, and_of, any_byte, any_word, are_alone, below, byte_alone, carry_span, complemented, difference_of, doubled, exclusive_or_of, from, high_of as high_bytes, is_alone, is_byte_alone, joined, meet, meet_bytes, next_byte, next_span, only, operated, or_of, previous_byte, previous_span, rotated, sign_of, sum_carries, sum_of, sum_span, uncarried, without, word_alone, zero_of}
 pub use Rattle.verify80_spans.specs.{declared.byte_span.ByteSpan.ByteSpan, declared.byte_span.Outcome.Outcome, declared.span.Span.Span}
+pub use Rattle.verify80_states.specs.QuietBoards.{is_quiet}
 pub use Rattle.verify80_states.specs.Bytes.{AreBytes, BytesStayBytes, FetchedOperandsAreBounded, HasBytes, HoldsBytes, IsBounded, IsByte, IsWord, MemoryKeepsItsLength}
 pub use Rattle.verify80_states.specs.Calls.{AccountsFor, AccountsForCall, IsBehind, IsWithin, KeepsCalls, KnowsReturn, KnowsReturnIf, KnowsReturnsOf, Owes, ReturnFacts, no_returns, returns_of}
 pub use Rattle.verify80_states.specs.Cells.{AreCellsInside, AreQuietCells, HoldsCell, HoldsCells, IsCellInside, IsQuietCell, any_cell, bytes_at, bytes_of, cells_after, cut_cell, cut_cells, no_cells, stored_cell}

@@ -11,3 +11,5 @@ pub mod Fitting
 pub mod Calls
 pub mod FittingTable
 pub mod Runs
+pub mod Laws
+pub mod QuietBoards

@@ -1,6 +1,7 @@
 //! A table of states that fits a program, which all runs of the program keep to.
 
 mod calls;
+mod code;
 mod empty_table;
 mod fitting;
 mod laws;
@@ -8,6 +9,7 @@ mod marks;
 mod reached;
 
 pub use calls::CallReturns;
+pub use code::code_bytes;
 pub use empty_table::anything;
 pub use fitting::{APART, Placed, fits};
 pub use laws::fitting_states_hold;

@@ -16,22 +16,27 @@
 //! | [`APART`] | the first hint of states that tell A's bytes apart |
 //! | [`CallReturns`] | whether the procedure at each address may still return, and where to |
 //! | [`fits`] | whether a table fits an image |
+//! | [`mark_quiet`], [`is_quiet`], [`first_outside_data`] | the quiet addresses of data: those of some ranges |
+//! | [`code_bytes`] | the bytes of an image's code, by address |
 //! | [`anything`] | a table that fits each image |
+//! | [`known_is_followed`] | what is known holds after each instruction, whatever follows the stack, as a contract |
 //! | [`fitting_states_hold`] | runs keep to a table that fits, as a contract |
 //! | [`bytes_stay_bytes`] | a machine's registers and memory hold bytes, as a contract |
 #![tactic(auto)]
 
 mod bytes;
 mod fitting;
+mod quiet;
 mod states;
 
 pub use bytes::bytes_stay_bytes;
 pub use fitting::{
-    APART, CallReturns, Placed, anything, entry_at, fits, fitting_states_hold, is_marked,
-    targets_at,
+    APART, CallReturns, Placed, anything, code_bytes, entry_at, fits, fitting_states_hold,
+    is_marked, targets_at,
 };
+pub use quiet::{first_outside_data, is_quiet, mark_quiet};
 pub use states::{
     Cell, Cells, Known, PairSpan, StackTop, State, StoredByte, Variable, Words, given, index_words,
-    is_bit, known_after, pushed_pair, state_after, stored_bytes,
+    is_bit, known_after, known_is_followed, pushed_pair, state_after, stored_bytes,
 };
 pub use verify80_spans::{ByteSpan, Span};

@@ -31,7 +31,8 @@ pub use Rattle.verify80_spans.specs.declared.span.Span.{Span}
 pub use Rattle.verify80_states.specs.{Bytes.BytesStayBytes, Bytes.HasBytes, Bytes.HoldsBytes, Marks.entry_at, Marks.is_marked, Known.HoldsRegisters, Steps.AreCodeBytes, Steps.code_in}
 pub use Rattle.verify80_states.specs.Runs.{IsKept, IsKnown, KeepsTo, KeepsToCalls, RunsKeepTo}
 pub use Rattle.verify80_states.specs.declared.{fitting.fitting.Placed.Placed, states.known.Known.Known}
-pub use Rattle.verify80_stores.specs.Boards.{IsListedAt, KeepsWholePromise, OnQuietBoard, PromiseHoldsOnBoards, PromiseHoldsOnQuietBoards, StaysQuiet, begins as begins_quiet, disturbed as disturbed_quiet, executed as executed_quiet, is_quiet}
+pub use Rattle.verify80_stores.specs.Boards.{IsListedAt, KeepsWholePromise, PromiseHoldsOnBoards, PromiseHoldsOnQuietBoards}
+pub use Rattle.verify80_states.specs.QuietBoards.{OnQuietBoard, StaysQuiet, begins as begins_quiet, disturbed as disturbed_quiet, executed as executed_quiet, is_quiet}
 pub use Rattle.verify80_stores.specs.{DataReach.ReachesTo, Pointers.is_through_pair, Pointers.stores_by_pair, Causes.IsCause, Causes.IsSetBy, Causes.IsSo, Causes.writes_to, StackPointer.AreClosed, StackPointer.IsClosedAt, StackPointer.LeadsToMarked}
 pub use Rattle.verify80_stores.specs.Listing.{AreAllBelow, AreKnown, AreNotes, AreOpen, IsLeftAt, IsListed, IsNoted, IsSpanned, instr_in, is_at, is_kind, is_listed, is_of, no_note, note_at, store_at}
 pub use Rattle.verify80_stores.specs.Opening.{IsLeftOpen, StaysIn, joined, pointer_span, span_in, span_through}

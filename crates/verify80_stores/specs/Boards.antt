@@ -5,8 +5,10 @@ use Rattle.image80.specs.{Range.in_ranges, Regions.Areas, Regions.in_data, Image
 use Rattle.decode80.specs.declared.instr.Instr.TheVariants.{Pchl}
 use Rattle.machine80.specs.{Cpu.hl_of, Effects.pointed_bytes, Step.Machine, World.World, Run.world_of}
 use Rattle.verify80.specs.Looking.{declared_targets}
-use Rattle.verify80.specs.Boards.{Disturbs, Executes, KeepsPromise, KeepsToWalks, MayStart, OnBoard, respected_pointer, sets_sp}
+use Rattle.verify80.specs.Boards.{KeepsPromise, KeepsToWalks, MayStart, OnBoard}
 use Rattle.verify80_states.specs.Bytes.{HoldsBytes}
+use Rattle.verify80_states.specs.QuietBoards.{OnQuietBoard}
+pub use Rattle.verify80_states.specs.QuietBoards.{is_quiet}
 use Rattle.verify80_stores.specs.declared.stores.OpenStore.{OpenStore}
 use Rattle.verify80_stores.specs.Stores.{GoesAsListed}
 
@@ -31,23 +33,6 @@ abbrev pub PromiseHoldsOnBoards : Located → (bytes : ℕ) → List OpenStore �
 PromiseHoldsOnBoards image bytes open_stores jumps =
     (start : Machine) (began : Bool) → MayStart image began start → HoldsBytes start → (w : World) (set : Bool) →
     OnBoard image.regions (IsListedAt open_stores jumps) start began set w → KeepsWholePromise image bytes open_stores jumps w
-
--- Quiet addresses: those of data in some ranges. Nobody but the program writes there.
-abbrev pub is_quiet : Areas → List Range → (address : ℕ) → Bool
-is_quiet regions ranges address = in_data regions address && in_ranges ranges address
-
-abbrev pub StaysQuiet : (quiet : ℕ → Bool) → (old new : List ℕ) → Type 0
-StaysQuiet quiet old new = (address : ℕ) → quiet address ≡ true → slice_index new address ≡ slice_index old address
-
--- the worlds of a board whose devices leave quiet addresses as they are
-pub data OnQuietBoard (regions : Areas) (quiet : ℕ → Bool) (listed : ℕ → Type 0) (start : Machine) (began : Bool) :
-    (set : Bool) → World → Type 0 where
-  begins : (set : Bool) (v : World) → v ≡ world_of start → set ≡ began → OnQuietBoard regions quiet listed start began set v
-  disturbed : (set : Bool) (w v : World) → OnQuietBoard regions quiet listed start began set w →
-      (by : Disturbs regions (respected_pointer regions set w) w v) → StaysQuiet quiet w.machine.memory by.memory →
-      OnQuietBoard regions quiet listed start began set v
-  executed : (before set : Bool) (w v : World) → OnQuietBoard regions quiet listed start began before w →
-      (by : Executes regions listed w v) → set ≡ (before || sets_sp by.found.instr) → OnQuietBoard regions quiet listed start began set v
 
 -- the same promise on every board whose devices leave quiet addresses as they are
 abbrev pub PromiseHoldsOnQuietBoards : Located → (quiet : ℕ → Bool) → (bytes : ℕ) → List OpenStore → (jumps : List ℕ) → Type 0

@@ -6,8 +6,6 @@ ghost use Rattle.frames80.specs.Code.{Code};
 ghost use Rattle.verify80.specs.{Looking.code_of, Reached.AreReached};
 ghost use Rattle.verify80_stores.specs.Causes.{IsCause, IsSetBy, IsSo};
 
-use crate::code_bytes::code_bytes;
-use crate::quiet::{is_quiet, mark_quiet};
 use crate::reasons::{Reason, Reasons};
 use crate::stores::Stores;
 use decode80::{Fetched, IndexPair, Instr, Pair, Storing};
@@ -16,7 +14,7 @@ use std::alloc::{AllocError, Global};
 use std::fmt;
 use verify80::{Vouched, find_reached};
 use verify80_proposals::{Groups, ReachedProgram};
-use verify80_states::entry_at;
+use verify80_states::{code_bytes, entry_at, is_quiet, mark_quiet};
 
 /// What sets a pair.
 #[derive(Clone, Copy, Debug, PartialEq, Eq)]

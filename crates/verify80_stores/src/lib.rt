@@ -15,13 +15,11 @@
 #![tactic(auto)]
 
 mod causes;
-mod code_bytes;
 mod data_ends;
 mod finding;
 mod laws;
 mod lines;
 mod listing;
-mod quiet;
 mod reasons;
 mod setters;
 mod showing;
@@ -33,7 +31,6 @@ pub use causes::{Cause, Setter, find_causes};
 pub use finding::find_stores;
 pub use laws::watched_runs_go_as_listed;
 pub use lines::stores_text;
-pub use quiet::first_outside_data;
 pub use reasons::Reason;
 pub use stores::{OpenStore, Stores};
-pub use verify80_states::{Span, bytes_stay_bytes};
+pub use verify80_states::{Span, bytes_stay_bytes, first_outside_data};

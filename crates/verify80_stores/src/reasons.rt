@@ -1,13 +1,12 @@
 //! Why nothing is known of the pair of a store or a jump. This is a search, of which nothing is promised.
 
-use crate::quiet::is_quiet;
 use crate::setters::{Place, Setters};
 use crate::ways::find_marked;
 use decode80::{IndexPair, Instr, Operand, Pair};
 use image80::{Image, Range};
 use std::alloc::{AllocError, Global};
 use verify80_proposals::{Groups, ReachedProgram, crowded_states};
-use verify80_states::entry_at;
+use verify80_states::{entry_at, is_quiet};
 
 /// Why nothing is known of a pair.
 #[derive(Clone, Copy, Debug, PartialEq, Eq)]

@@ -7,15 +7,13 @@ ghost use Rattle.verify80.specs.{Looking.code_of, Reached.AreReached};
 ghost use Rattle.verify80_stores.specs.{Boards.is_quiet, Shown.AreShown, Shown.noted_by_both};
 ghost use Rattle.verify80_states.specs.{Marks.is_marked, Steps.AreCodeBytes, Runs.IsKept};
 
-use crate::code_bytes::code_bytes;
 use crate::listing::{Note, note_at, notes_of};
-use crate::quiet::mark_quiet;
 use decode80::Fetched;
 use image80::{Image, Range};
 use std::alloc::{AllocError, Global};
 use verify80::ProcRow;
 use verify80_proposals::{Groups, Proposal, ReachedProgram, propose_table};
-use verify80_states::{Placed, anything, fits};
+use verify80_states::{Placed, anything, code_bytes, fits, mark_quiet};
 
 /// How many tables are tried.
 const TABLES: usize = 8;

@@ -12,7 +12,7 @@ use std::alloc::{AllocError, Global};
 ///
 /// # Errors
 /// `AllocError` if memory runs out.
-pub(crate) fn code_bytes(alloc: Global, image: &Image) -> Result<Vec<Option<u8>>, AllocError>
+pub fn code_bytes(alloc: Global, image: &Image) -> Result<Vec<Option<u8>>, AllocError>
     ensures { IfOk result (λ code. AreCodeBytes image.now code.items) }
 {
     let map = RegionMap::new(alloc, &image.regions)?;

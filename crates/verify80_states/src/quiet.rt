@@ -3,7 +3,7 @@
 ghost use Rattle.std.specs.Prelude.{◌≡◌, ◌<◌, ℕ, None, IfOk, IfSome, map, true, false};
 ghost use Rattle.std.specs.List.{range_with_len};
 ghost use Rattle.image80.specs.{Range.in_range, Range.in_ranges, Regions.in_data};
-ghost use Rattle.verify80_stores.specs.Boards.{is_quiet};
+ghost use Rattle.verify80_states.specs.QuietBoards.{is_quiet};
 ghost use Rattle.verify80_states.specs.Marks.{is_marked};
 
 use image80::{Range, Regions};
@@ -13,7 +13,7 @@ use std::alloc::{AllocError, Global};
 ///
 /// # Errors
 /// `AllocError` if memory runs out.
-pub(crate) fn mark_quiet(
+pub fn mark_quiet(
     alloc: Global,
     regions: &Regions,
     ranges: &[Range],
@@ -34,7 +34,7 @@ fn quiet_marks(alloc: Global, regions: &Regions, ranges: &[Range]) -> Result<Vec
 }
 
 /// Whether an address is one of data and of one of the ranges.
-pub(crate) fn is_quiet(regions: &Regions, ranges: &[Range], at: u16) -> bool
+pub fn is_quiet(regions: &Regions, ranges: &[Range], at: u16) -> bool
     ensures { result ≡ is_quiet regions.now ranges.now at }
 {
     regions.in_data(at) && are_around(ranges, at)

@@ -1,0 +1,6 @@
+mod GroundLemmas
+mod StackLemmas
+mod FetchLemmas
+mod GuardLemmas
+mod StackSteps
+mod FollowLemmas

@@ -1,0 +1,113 @@
+-- A table of states that follows a program: the start is in it, and wherever an instruction leads from a state, what it makes of the state is covered
+-- there. There are no procedures: a call pushes a number, and a return goes to the number that the state knows. (This project's own.)
+use Rattle.std.specs.Prelude.{◌≡◌, ◌≤◌, ◌⊎◌, ℕ, Bool, true, false, List, [], All, Contains, Option, None, Some, Ok, IfSome, length, slice_get}
+use Rattle.std.specs.Option.{option_map}
+use Rattle.decode80.specs.{declared.fetching.Fetched.Fetched, declared.flow.Flow.Flow, Facts.flow}
+use Rattle.decode80.specs.declared.flow.Flow.TheVariants.{Jumps, JumpsIf, JumpsToHl, Calls, CallsIf, Returns, ReturnsIf, Halts}
+use Rattle.decode80.specs.declared.instr.Instr.TheVariants.{Ei}
+use Rattle.image80.specs.{Image.Located, Image.memory_of}
+use Rattle.verify80.specs.{LookLaws.fetch_at, Looking.declared_targets, Looking.halt_follows, Looking.is_declared, Looking.stores_in_data}
+use Rattle.verify80_spans.specs.declared.byte_span.ByteSpan.{ByteSpan}
+use Rattle.verify80_spans.specs.Span.{Within, ByteWithin, byte_alone, is_alone}
+use Rattle.verify80_states.specs.{declared.states.known.Known.Known, Known.IsKnownInside, Known.IsQuietKnown, Known.cut, Known.nothing_known, Given.given, Following.known_after, Steps.AreCodeBytes}
+use Rattle.verify80_follow.specs.declared.{followed.FollowedState.FollowedState, followed.Way.Way}
+use Rattle.verify80_follow.specs.Stack.{IsStackInside, bounds_of, return_address, stack_then, top_of_stack}
+
+-- the bytes of a state's stack
+abbrev pub stack_of : FollowedState → Option (List ByteSpan)
+stack_of s = option_map (λ bytes. bytes.items) s.stack
+
+-- the table has a state at an address that says no more than this
+pub record Has (table : List FollowedState) (to : ℕ) (known : Known) (stack : Option (List ByteSpan)) : Type 0 where
+  pub place : ℕ
+  pub state : FollowedState
+  pub there : slice_get table place ≡ Some state
+  pub at : state.at ≡ to
+  pub inside : IsKnownInside [] known state.known
+  pub stack : IsStackInside stack (stack_of state)
+
+-- states at an address that together say no more than this: one of them, or one for each byte that A may be
+pub record Covers (table : List FollowedState) (to : ℕ) (known : Known) (stack : Option (List ByteSpan)) : Type 0 where
+  pub either : Has table to known stack ⊎ ((byte : ℕ) → ByteWithin known.a byte → Has table to (cut known (byte_alone byte)) stack)
+
+-- whether an instruction calls
+abbrev pub is_call : Flow → Bool
+is_call (Calls to) = true
+is_call (CallsIf condition to) = true
+is_call w = false
+
+-- some address of the image's code has a call that returns to an address
+pub record IsBehindCall (image : Located) (to : ℕ) : Type 0 where
+  pub at : ℕ
+  pub found : Fetched
+  pub fetched : fetch_at image.regions (memory_of image.chunks) at ≡ Ok found
+  pub calls : is_call (flow found.instr) ≡ true
+  pub next : found.next ≡ to
+
+-- a return, or a PCHL without declared targets, goes behind a call, or its way is listed
+abbrev pub IsWay : Located → List Way → (at to : ℕ) → Type 0
+IsWay image ways at to = IsBehindCall image to ⊎ Contains ways (record { at = at; to = to })
+
+-- what an instruction makes of what is left of a state, if something is, is covered where it leads
+module _ (image : Located) (code : List (Option ℕ)) (ways : List Way) (table : List FollowedState) (s : FollowedState) (found : Fetched) where
+  pub record CoversThen (taken : Bool) (to : ℕ) (known : Known) : Type 0 where
+    pub stack : Option (List ByteSpan)
+    pub is : stack_then (bounds_of image) found.instr taken found.next known (stack_of s) ≡ Some stack
+    pub covers : Covers table to (known_after code found.instr (top_of_stack (bounds_of image) (stack_of s)) known) stack
+
+  abbrev pub LeadsTo : (taken : Bool) → (to : ℕ) → Option Known → Type 0
+  LeadsTo taken to left = IfSome left (λ known. CoversThen taken to known)
+
+  -- a return that is taken goes where the state knows
+  pub record ReturnsTo (known : Known) : Type 0 where
+    pub bytes : List ByteSpan
+    pub stack : stack_of s ≡ Some bytes
+    pub to : ℕ
+    pub is : return_address bytes ≡ Some to
+    pub way : IsWay image ways s.at to
+    pub leads : CoversThen true to known
+
+  abbrev pub Returns : Option Known → Type 0
+  Returns left = IfSome left (λ known. ReturnsTo known)
+
+  -- a PCHL goes to each declared target that HL may be; if none are declared, HL is known
+  pub record JumpsByNumber : Type 0 where
+    pub alone : is_alone s.known.hl.words ≡ true
+    pub way : IsWay image ways s.at s.known.hl.words.first
+    pub leads : CoversThen false s.known.hl.words.first s.known
+
+  abbrev pub JumpsBy : (declared : Bool) → Type 0
+  JumpsBy false = JumpsByNumber
+  JumpsBy true = (to : ℕ) → Contains (declared_targets image.regions s.at) to → Within s.known.hl.words to → CoversThen false to s.known
+
+  abbrev pub FollowsBy : Flow → Type 0
+  FollowsBy (Jumps to) = LeadsTo false to (Some s.known)
+  FollowsBy (JumpsIf condition to) = LeadsTo true to (given condition true s.known) × LeadsTo false found.next (given condition false s.known)
+  FollowsBy JumpsToHl = JumpsBy (is_declared image.regions s.at)
+  FollowsBy (Calls to) = LeadsTo true to (Some s.known)
+  FollowsBy (CallsIf condition to) = LeadsTo true to (given condition true s.known) × LeadsTo false found.next (given condition false s.known)
+  FollowsBy Returns = Returns (Some s.known)
+  FollowsBy (ReturnsIf condition) = Returns (given condition true s.known) × LeadsTo false found.next (given condition false s.known)
+  FollowsBy Halts = Unit {0}
+  FollowsBy w = LeadsTo false found.next (Some s.known)
+
+-- an instruction of the image is inside the code, stores directly to data alone, and is no EI but one that a HLT follows
+pub record IsExecuted (image : Located) (at : ℕ) (found : Fetched) : Type 0 where
+  pub fetched : fetch_at image.regions (memory_of image.chunks) at ≡ Ok found
+  pub stores : stores_in_data image.regions found.instr ≡ true
+  pub halts : found.instr ≡ Ei → halt_follows image.regions (memory_of image.chunks) at ≡ true
+
+-- a state fits the instruction at its address, which is the image's
+pub record StateFollows (image : Located) (quiet : ℕ → Bool) (code : List (Option ℕ)) (ways : List Way) (table : List FollowedState) (bytes : ℕ) (s : FollowedState) : Type 0 where
+  pub found : Fetched
+  pub executed : IsExecuted image s.at found
+  pub follows : FollowsBy image code ways table s found (flow found.instr)
+  pub depth : IfSome (stack_of s) (λ stack. length stack ≤ bytes)
+  pub knows : IsQuietKnown quiet s.known
+
+-- a table follows an image, with no more bytes on the stack than these
+pub record Follows (image : Located) (quiet : ℕ → Bool) (ways : List Way) (table : List FollowedState) (bytes : ℕ) : Type 0 where
+  pub code : List (Option ℕ)
+  pub are_code : AreCodeBytes image code
+  pub start : Has table image.start nothing_known None
+  pub states : All (λ s. StateFollows image quiet code ways table bytes s) table

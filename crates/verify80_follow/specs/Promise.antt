@@ -1,0 +1,65 @@
+-- What is promised of a program that a table follows, on every board whose devices leave quiet memory alone. (This project's own; what a board is and
+-- does stands in verify80, specs/Boards.)
+use Rattle.std.specs.Prelude.{◌≡◌, ◌≢◌, ◌≤◌, ◌<◌, ◌||◌, ℕ, Bool, true, false, List, All, Option, None, Some, IfSome, length, slice_get, slice_index}
+use Rattle.decode80.specs.{declared.fetching.Fetched.Fetched, Fetch.direct_bytes}
+use Rattle.decode80.specs.declared.instr.Instr.TheVariants.{Ei, Hlt, Pchl}
+use Rattle.image80.specs.{Regions.Areas, Regions.AreRegions, Regions.in_code, Regions.in_data, Regions.targets_at, Regions.top_of, Image.Located, Image.memory_of}
+use Rattle.machine80.specs.{Cpu.hl_of, Effects.stack_bytes, Effects.target, Run.world_of, Step.Machine, Step.fetch, World.World, World.returns, World.IsJustBelow}
+use Rattle.verify80.specs.Looking.{halt_follows}
+use Rattle.verify80.specs.Boards.{Disturbs, Executes, IsFollowed, StaysInside, Anywhere, fetched_anywhere, respected_pointer, sets_sp}
+use Rattle.verify80_states.specs.{Bytes.HoldsBytes, Known.HoldsKnown, QuietBoards.OnQuietBoard, QuietBoards.StaysQuiet, Steps.HasCode}
+use Rattle.verify80_follow.specs.declared.{followed.FollowedState.FollowedState, followed.Way.Way}
+use Rattle.verify80_follow.specs.{Stack.HoldsStack, Stack.bounds_of, Follows.Follows, Follows.IsWay, Follows.stack_of}
+
+-- What is known of each world of a board, by whatever means: of the first one, of one that devices have disturbed, and of one after an instruction;
+-- and what it says of a world. A table of states that follows a program is one such knowledge.
+pub record Invariant (image : Located) (quiet : ℕ → Bool) (listed : ℕ → Type 0) (start : Machine) (began : Bool) (Knows : (set : Bool) → World → Type 0) (Keeps : World → Type 0) : Type 0 where
+  pub begun : Knows began (world_of start)
+  pub disturbs : (set : Bool) (w v : World) → Knows set w → (by : Disturbs image.regions (respected_pointer image.regions set w) w v) →
+      StaysQuiet quiet w.machine.memory by.memory → Knows set v
+  pub executes : (before : Bool) (w v : World) → Knows before w → (by : Executes image.regions listed w v) → Knows (before || sets_sp by.found.instr) v
+  pub keeps : (set : Bool) (w : World) → Knows set w → Keeps w
+
+abbrev pub InvariantsAreKept : Type 1
+InvariantsAreKept = (image : Located) (quiet : ℕ → Bool) (listed : ℕ → Type 0) (start : Machine) (began : Bool) (Knows : (set : Bool) → World → Type 0) (Keeps : World → Type 0) →
+    Invariant image quiet listed start began Knows Keeps → (w : World) (set : Bool) → OnQuietBoard image.regions quiet listed start began set w → Keeps w
+
+-- what is promised of each world: its next instruction is fetched inside code, and is the image's; it stores directly to data alone; a return that is
+-- taken, and a PCHL without declared targets, goes behind a call or by a listed way; as stack it touches only a given number of bytes just below the
+-- stack's top; if it is EI, the byte behind it is a HLT in the code; and unless it is HLT, the run goes on, whatever byte comes in
+pub record KeepsFollowed (image : Located) (listed : ℕ → Type 0) (bytes : ℕ) (ways : List Way) (w : World) : Type 0 where
+  pub found : Fetched
+  pub anywhere : fetched_anywhere w.machine.memory w.machine.cpu.pc ≡ Some found
+  pub of_image : fetch image.regions (memory_of image.chunks) w.machine.cpu.pc ≡ Some found
+  pub direct : All (λ address. in_data image.regions address ≡ true) (direct_bytes found.instr)
+  pub returning : returns found.instr w.machine.cpu.registers.flags ≡ true →
+      IsWay image ways w.machine.cpu.pc (target found.instr found.next w.machine.memory w.machine.cpu)
+  pub jumping : found.instr ≡ Pchl → targets_at image.regions w.machine.cpu.pc ≡ None → IsWay image ways w.machine.cpu.pc (hl_of w.machine.cpu.registers)
+  pub stack : All (λ address. IsJustBelow (top_of image.regions) bytes address) (stack_bytes found.instr w.machine.cpu)
+  pub halts : found.instr ≡ Ei → halt_follows image.regions w.machine.memory w.machine.cpu.pc ≡ true
+  pub goes_on : found.instr ≢ Hlt → (listed w.machine.cpu.pc → StaysInside image.regions w.machine found.instr) →
+      (byte : ℕ) → byte < 256 → IsFollowed image.regions listed byte w
+
+-- a state of the table holds of a world; as long as SP isn't set, nothing is known of the stack
+pub record KnowsWorld (image : Located) (table : List FollowedState) (set : Bool) (w : World) : Type 0 where
+  pub place : ℕ
+  pub state : FollowedState
+  pub there : slice_get table place ≡ Some state
+  pub at : state.at ≡ w.machine.cpu.pc
+  pub known : HoldsKnown state.known w.machine
+  pub stack : IfSome (stack_of state) (λ bytes. HoldsStack (bounds_of image) bytes w.machine.cpu.sp w.machine.memory × (set ≡ true))
+  pub bytes : HoldsBytes w.machine
+  pub whole : length w.machine.memory ≡ 65536
+  pub code : HasCode image w.machine.memory
+
+-- On every board whose devices leave quiet addresses as they are, from the image's start, whatever SP, registers and flags are and memory outside the
+-- code holds: up to the first store through a pair outside data, or PCHL outside its declared targets, a program that a table follows keeps that
+-- promise.
+abbrev pub PromiseOfFollowed : Located → (quiet : ℕ → Bool) → List Way → (bytes : ℕ) → Type 0
+PromiseOfFollowed image quiet ways bytes = (start : Machine) → start.cpu.pc ≡ image.start → length start.memory ≡ 65536 → HasCode image start.memory → HoldsBytes start →
+    (w : World) (set : Bool) → OnQuietBoard image.regions quiet Anywhere start false set w → KeepsFollowed image Anywhere bytes ways w
+
+abbrev pub FollowedProgramsKeepThePromise : Type 0
+FollowedProgramsKeepThePromise = (image : Located) (quiet : ℕ → Bool) (ways : List Way) (table : List FollowedState) (bytes : ℕ) → AreRegions image.regions →
+    ((at : ℕ) → quiet at ≡ true → in_data image.regions at ≡ true) → Follows image quiet ways table bytes → bytes ≤ image.regions.stack.length →
+    PromiseOfFollowed image quiet ways bytes

@@ -1,0 +1,431 @@
+//! Whether a table of states follows an image.
+
+ghost use Rattle.std.specs.Prelude.{◌≡◌, ◌≤◌, ℕ, Bool, true, All, Contains, IfOk, IfSome, length};
+ghost use Rattle.std.specs.Option.{option_map};
+ghost use Rattle.image80.specs.{Image.memory_of, Regions.AreRegions, Regions.in_data};
+ghost use Rattle.verify80_spans.specs.Span.{Within, ByteWithin, byte_alone};
+ghost use Rattle.verify80_states.specs.{Known.cut, Following.known_after, Marks.is_marked, Steps.AreCodeBytes};
+ghost use Rattle.verify80_follow.specs.Follows.{Covers, CoversThen, FollowsBy, Has, IsBehindCall, IsWay, JumpsBy, JumpsByNumber, LeadsTo, Returns, ReturnsTo, StateFollows, Follows, is_call};
+ghost use Rattle.verify80_follow.specs.Promise.{PromiseOfFollowed};
+ghost use Rattle.verify80_follow.specs.Stack.{bounds_of};
+ghost use Rattle.decode80.specs.{Facts.flow, declared.flow.Flow.TheVariants.JumpsToHl};
+ghost use Rattle.verify80.specs.Looking.{is_declared};
+
+use crate::followed::{FollowedState, Way};
+use crate::laws::followed_programs_keep_the_promise;
+use crate::stack::{
+    StackAfter, StackBounds, is_stack_inside, return_address, stack_then, top_of_stack,
+};
+use decode80::{Fetched, Flow, behind, fetch};
+use frames80::{Code, LookFault};
+use image80::Image;
+use std::alloc::{AllocError, Global};
+use verify80::{ImageCode, looks_are_exact};
+use verify80_spans::ByteSpan;
+use verify80_states::{APART, Known, given, known_after};
+
+/// A table of states, as a search proposes it.
+#[derive(Debug, Drop)]
+pub struct Table {
+    /// The states; the first hint is that of the image's start.
+    pub states: Vec<FollowedState>,
+    /// The places of the table that the ways on from each state lead to; or, from `APART` on, where those for each byte of A begin.
+    pub hints: Vec<u32>,
+    /// Where returns, and PCHLs without declared targets, go beside the addresses behind calls.
+    pub ways: Vec<Way>,
+    /// How many bytes the stack has, at most.
+    pub bytes: u16,
+}
+
+/// A table with the program that it has to follow.
+#[derive(Clone, Copy)]
+struct Fit<'a> {
+    table: &'a [FollowedState],
+    hints: &'a [u32],
+    ways: &'a [Way],
+    bytes: u16,
+    /// The bytes of code, by address.
+    code: &'a [Option<u8>],
+    /// The image, address by address.
+    program: &'a ImageCode<'a>,
+    /// Marks of the quiet addresses.
+    quiet: &'a [bool],
+}
+
+impl Fit<'_> {
+    /// Whether a hint names a place of the table with a state at `to` that says no more than this.
+    fn has(&self, hint: u32, to: u16, known: Known, stack: Option<&[ByteSpan]>) -> bool
+        ensures { result ≡ true → Has self.now.table.now to known (option_map (λ bytes. bytes.now) stack) }
+    {
+        let Some(place) = self.hints.get(hint as usize) else {
+            return false;
+        };
+        match self.table.get(*place as usize) {
+            Some(state) => {
+                state.at == to
+                    && known.is_inside(state.known, &[])
+                    && is_stack_inside(stack, state.bytes())
+            }
+            None => false,
+        }
+    }
+
+    /// Whether a hint names states at `to` that together say no more than this: one, or one for each byte that A may be.
+    fn covers(&self, hint: u32, to: u16, known: Known, stack: Option<&[ByteSpan]>) -> bool
+        ensures { result ≡ true → Covers self.now.table.now to known (option_map (λ bytes. bytes.now) stack) }
+    {
+        self.has(hint, to, known, stack) || self.has_each(hint, to, known, stack)
+    }
+
+    /// Whether a hint names a state at `to` for each byte that A may be, which says no more than this with that byte in A.
+    fn has_each(&self, hint: u32, to: u16, known: Known, stack: Option<&[ByteSpan]>) -> bool
+        ensures { result ≡ true → (byte : ℕ) → ByteWithin known.a byte → Has self.now.table.now to (cut known (byte_alone byte)) (option_map (λ bytes. bytes.now) stack) }
+    {
+        let Some(first) = self.hints.get(hint as usize) else {
+            return false;
+        };
+        if *first < APART {
+            return false;
+        }
+        let mut next = *first - APART;
+        for number in u32::from(known.a.first)..u32::from(known.a.last) + 1 {
+            if !self.has(next, to, known.cut(ByteSpan::alone(number as u8)), stack) {
+                return false;
+            }
+            next = next.saturating_add(1);
+        }
+        true
+    }
+
+    /// Whether a hint names states at `to` that together say no more than what the instruction at a state makes of `known`, its call or
+    /// return taken or not.
+    fn covers_then(
+        &self,
+        alloc: Global,
+        state: &FollowedState,
+        found: Fetched,
+        hint: u32,
+        taken: bool,
+        to: u16,
+        known: Known,
+    ) -> Result<bool, AllocError>
+        ensures { IfOk result (λ covers. covers ≡ true → CoversThen self.now.program.now self.now.code.now self.now.table.now state.now found taken to known) }
+    {
+        let bounds = self.bounds();
+        let top = top_of_stack(bounds, state.bytes());
+        let after = known_after(self.code, found.instr, top, known);
+        let stack = stack_then(alloc, bounds, found, taken, known, state.bytes())?;
+        Ok(match &stack {
+            StackAfter::Refused => false,
+            StackAfter::Unset => self.covers(hint, to, after, None),
+            StackAfter::Set(bytes) => self.covers(hint, to, after, Some(bytes)),
+        })
+    }
+
+    /// The stack's end and length.
+    fn bounds(&self) -> StackBounds
+        ensures { result ≡ bounds_of self.now.program.now }
+    {
+        StackBounds {
+            top: self.program.top(),
+            length: self.program.stack(),
+        }
+    }
+
+    /// The same of what is left of a state; true if nothing is.
+    fn leads_to(
+        &self,
+        alloc: Global,
+        state: &FollowedState,
+        found: Fetched,
+        hint: u32,
+        taken: bool,
+        to: u16,
+        left: Option<Known>,
+    ) -> Result<bool, AllocError>
+        ensures { IfOk result (λ leads. leads ≡ true → LeadsTo self.now.program.now self.now.code.now self.now.table.now state.now found taken to left) }
+    {
+        match left {
+            None => Ok(true),
+            Some(known) => self.covers_then(alloc, state, found, hint, taken, to, known),
+        }
+    }
+
+    /// Whether the code has a call at an address that returns to another.
+    fn has_call_at(&self, at: u16, to: u16) -> bool
+        ensures { result ≡ true → IsBehindCall self.now.program.now to }
+    {
+        match fetch(at, self.program) {
+            Ok(found) => found.next == to && is_call(found.instr.flow()),
+            Err(_) => false,
+        }
+    }
+
+    /// Whether a return or PCHL at an address may go to another: there is a call before that, or a hint names the way.
+    fn is_way(&self, hint: u32, at: u16, to: u16) -> bool
+        ensures { result ≡ true → IsWay self.now.program.now self.now.ways.now at to }
+    {
+        self.has_call_at(behind(to, 3), to)
+            || self.has_call_at(behind(to, 1), to)
+            || self.is_listed(hint, at, to)
+    }
+
+    /// Whether a hint names a way in the list.
+    fn is_listed(&self, hint: u32, at: u16, to: u16) -> bool
+        ensures { result ≡ true → Contains self.now.ways.now (record { at = at; to = to }) }
+    {
+        let Some(place) = self.hints.get(hint as usize) else {
+            return false;
+        };
+        match self.ways.get(*place as usize) {
+            Some(way) => way.at == at && way.to == to,
+            None => false,
+        }
+    }
+
+    /// Whether a state knows where a return goes that is taken, may go there, and is covered there.
+    fn returns_to(
+        &self,
+        alloc: Global,
+        state: &FollowedState,
+        found: Fetched,
+        left: Option<Known>,
+    ) -> Result<bool, AllocError>
+        ensures { IfOk result (λ returns. returns ≡ true → Returns self.now.program.now self.now.code.now self.now.ways.now self.now.table.now state.now found left) }
+    {
+        let Some(known) = left else {
+            return Ok(true);
+        };
+        match state.bytes().and_then(return_address) {
+            Some(to) if self.is_way(state.hint.saturating_add(1), state.at, to) => {
+                self.covers_then(alloc, state, found, state.hint, true, to, known)
+            }
+            _ => Ok(false),
+        }
+    }
+
+    /// Whether a PCHL without declared targets goes where HL is known to be, may go there, and the state is covered there.
+    fn jumps_by_number(
+        &self,
+        alloc: Global,
+        state: &FollowedState,
+        found: Fetched,
+    ) -> Result<bool, AllocError>
+        ensures { IfOk result (λ jumps. jumps ≡ true → JumpsByNumber self.now.program.now self.now.code.now self.now.ways.now self.now.table.now state.now found) }
+    {
+        let words = state.known.hl.words;
+        if !words.is_alone() || !self.is_way(state.hint.saturating_add(1), state.at, words.first) {
+            return Ok(false);
+        }
+        self.covers_then(
+            alloc,
+            state,
+            found,
+            state.hint,
+            false,
+            words.first,
+            state.known,
+        )
+    }
+
+    /// Whether a PCHL is covered at each of its declared targets that HL may be.
+    fn jumps_to_each(
+        &self,
+        alloc: Global,
+        state: &FollowedState,
+        found: Fetched,
+    ) -> Result<bool, AllocError>
+        ensures { IfOk result (λ jumps. jumps ≡ true → JumpsBy self.now.program.now self.now.code.now self.now.ways.now self.now.table.now state.now found true) }
+    {
+        let targets = self.program.targets(state.at);
+        for place in 0..targets.len() {
+            if !self.covers_target(alloc, state, found, place, targets[place])? {
+                return Ok(false);
+            }
+        }
+        Ok(true)
+    }
+
+    /// Whether HL can't be the target at a place of a PCHL's targets, or the state is covered there.
+    fn covers_target(
+        &self,
+        alloc: Global,
+        state: &FollowedState,
+        found: Fetched,
+        place: usize,
+        to: u16,
+    ) -> Result<bool, AllocError>
+        ensures { IfOk result (λ covers. covers ≡ true → Within state.now.known.hl.words to → CoversThen self.now.program.now self.now.code.now self.now.table.now state.now found false to state.now.known) }
+    {
+        let words = state.known.hl.words;
+        let hint = state
+            .hint
+            .saturating_add(u32::try_from(place).unwrap_or(u32::MAX));
+        if !(words.first <= to && to <= words.last) {
+            return Ok(true);
+        }
+        self.covers_then(alloc, state, found, hint, false, to, state.known)
+    }
+
+    /// Whether what an instruction makes of a state is covered wherever it leads; `is_declared` says whether targets are declared for a PCHL.
+    fn follows_by(
+        &self,
+        alloc: Global,
+        state: &FollowedState,
+        found: Fetched,
+        is_declared: bool,
+    ) -> Result<bool, AllocError>
+        requires declared { flow found.instr ≡ JumpsToHl → is_declared self.now.program.now.regions state.now.at ≡ is_declared }
+        ensures { IfOk result (λ follows. follows ≡ true → FollowsBy self.now.program.now self.now.code.now self.now.ways.now self.now.table.now state.now found (flow found.instr)) }
+    {
+        let known = state.known;
+        let next = found.next;
+        let second = state.hint.saturating_add(1);
+        match found.instr.flow() {
+            Flow::Jumps(to) => self.leads_to(
+                alloc,
+                state,
+                found,
+                state.hint,
+                false,
+                to,
+                Some(known),
+            ),
+            Flow::Calls(to) => self.leads_to(
+                alloc,
+                state,
+                found,
+                state.hint,
+                true,
+                to,
+                Some(known),
+            ),
+            Flow::JumpsIf(condition, to) | Flow::CallsIf(condition, to) => {
+                if !self.leads_to(
+                    alloc,
+                    state,
+                    found,
+                    state.hint,
+                    true,
+                    to,
+                    given(condition, true, known),
+                )? {
+                    return Ok(false);
+                }
+                self.leads_to(
+                    alloc,
+                    state,
+                    found,
+                    second,
+                    false,
+                    next,
+                    given(condition, false, known),
+                )
+            }
+            Flow::JumpsToHl if is_declared => self.jumps_to_each(alloc, state, found),
+            Flow::JumpsToHl => self.jumps_by_number(alloc, state, found),
+            Flow::Returns => self.returns_to(alloc, state, found, Some(known)),
+            Flow::ReturnsIf(condition) => {
+                if !self.returns_to(alloc, state, found, given(condition, true, known))? {
+                    return Ok(false);
+                }
+                let third = state.hint.saturating_add(2);
+                self.leads_to(
+                    alloc,
+                    state,
+                    found,
+                    third,
+                    false,
+                    next,
+                    given(condition, false, known),
+                )
+            }
+            Flow::Halts => Ok(true),
+            Flow::Continues | Flow::Pushes | Flow::Pops | Flow::Exchanges => {
+                self.leads_to(alloc, state, found, state.hint, false, next, Some(known))
+            }
+        }
+    }
+
+    /// Whether a state fits the instruction at its address.
+    fn state_follows(&self, alloc: Global, state: &FollowedState) -> Result<bool, AllocError>
+        ensures { IfOk result (λ follows. follows ≡ true → StateFollows self.now.program.now (is_marked self.now.quiet.now) self.now.code.now self.now.ways.now self.now.table.now self.now.bytes state.now) }
+    {
+        looks_are_exact();
+        if !state.known.is_quiet(self.quiet) || !is_within(state.bytes(), self.bytes) {
+            return Ok(false);
+        }
+        match self.program.look(state.at) {
+            Ok(found) => self.follows_by(alloc, state, found, true),
+            Err(LookFault::Pchl) => match fetch(state.at, self.program) {
+                Ok(found) => self.follows_by(alloc, state, found, false),
+                Err(_) => Ok(false),
+            },
+            Err(_) => Ok(false),
+        }
+    }
+
+    /// Whether each state of the table fits.
+    fn all_follow(&self, alloc: Global) -> Result<bool, AllocError>
+        ensures { IfOk result (λ follow. follow ≡ true → All (λ s. StateFollows self.now.program.now (is_marked self.now.quiet.now) self.now.code.now self.now.ways.now self.now.table.now self.now.bytes s) self.now.table.now) }
+    {
+        for place in 0..self.table.len() {
+            if !self.state_follows(alloc, &self.table[place])? {
+                return Ok(false);
+            }
+        }
+        Ok(true)
+    }
+}
+
+/// Whether an instruction calls.
+fn is_call(flow: Flow) -> bool
+    ensures { result ≡ is_call flow }
+{
+    matches!(flow, Flow::Calls(_) | Flow::CallsIf(_, _))
+}
+
+/// Whether no more bytes are on the stack than `most`.
+fn is_within(bytes: Option<&[ByteSpan]>, most: u16) -> bool
+    ensures { result ≡ true → IfSome (option_map (λ bytes. bytes.now) bytes) (λ stack. length stack ≤ most) }
+{
+    match bytes {
+        None => true,
+        Some(bytes) => bytes.len() <= usize::from(most),
+    }
+}
+
+/// Whether a table follows an image, so that every run of the image on a board that leaves quiet memory alone keeps the promise.
+///
+/// `code` has the image's code by address, and `quiet` marks the quiet addresses.
+///
+/// # Errors
+/// `AllocError` if memory runs out.
+pub fn follows(
+    alloc: Global,
+    image: &Image,
+    table: &Table,
+    code: &[Option<u8>],
+    quiet: &[bool],
+) -> Result<bool, AllocError>
+    requires rules { AreRegions image.now.regions }
+    requires code { AreCodeBytes image.now code.now }
+    requires quiet { (at : ℕ) → is_marked quiet.now at ≡ true → in_data image.now.regions at ≡ true }
+    ensures { IfOk result (λ follows. follows ≡ true → PromiseOfFollowed image.now (is_marked quiet.now) table.now.ways.items table.now.bytes) }
+{
+    followed_programs_keep_the_promise();
+    let program = ImageCode::new(alloc, image)?;
+    let fit = Fit {
+        table: &table.states,
+        hints: &table.hints,
+        ways: &table.ways,
+        bytes: table.bytes,
+        code,
+        program: &program,
+        quiet,
+    };
+    if table.bytes > program.stack() || !fit.has(0, program.start(), Known::ANY, None) {
+        return Ok(false);
+    }
+    fit.all_follow(alloc)
+}

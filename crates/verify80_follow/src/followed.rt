@@ -1,0 +1,40 @@
+//! What is known at an address, with the whole stack.
+
+use verify80_spans::ByteSpan;
+use verify80_states::Known;
+
+/// What is known of a machine before the instruction at an address.
+#[derive(Debug, Drop)]
+pub struct FollowedState {
+    pub at: u16,
+    pub known: Known,
+    /// What each byte of the stack may be, from SP up to the stack's top; `None` as long as SP isn't set.
+    pub stack: Option<Vec<ByteSpan>>,
+    /// Where the state's hints begin: one for each way on, which names a state that says no more, or one such state for each byte of A;
+    /// and behind that of a return, or of a PCHL without declared targets, the place of its way in the list of ways.
+    pub hint: u32,
+}
+
+/// Where a return, or a PCHL without declared targets, may go.
+#[derive(Clone, Copy, Debug, PartialEq, Eq, PartialOrd, Ord)]
+pub struct Way {
+    /// The address of the return or PCHL.
+    pub at: u16,
+    pub to: u16,
+}
+
+impl FollowedState {
+    ghost use Rattle.std.specs.Prelude.{◌≡◌};
+    ghost use Rattle.std.specs.Option.{option_map};
+    ghost use Rattle.verify80_follow.specs.Follows.{stack_of};
+
+    /// The bytes of the stack; `None` as long as SP isn't set.
+    pub fn bytes(&self) -> Option<&[ByteSpan]>
+        ensures { option_map (λ bytes. bytes.now) result ≡ stack_of self.now }
+    {
+        match &self.stack {
+            Some(bytes) => Some(bytes),
+            None => None,
+        }
+    }
+}

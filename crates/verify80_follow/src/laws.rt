@@ -1,0 +1,20 @@
+//! What a table that follows a program says of its runs. The function does nothing of its own: its contract is the law.
+
+ghost use Rattle.verify80_follow.specs.Promise.{FollowedProgramsKeepThePromise, InvariantsAreKept};
+
+use decode80::{fetch_reads_code_alone, spelling_laws};
+use image80::laws::code_data_and_stack_are_apart;
+use verify80_states::{bytes_stay_bytes, known_is_followed};
+
+/// A program that a table of states follows keeps its promise on every board whose devices leave quiet memory alone: the states are one
+/// invariant of the board's worlds, and each invariant is kept.
+pub fn followed_programs_keep_the_promise()
+    ensures kept { InvariantsAreKept }
+    ensures promise { FollowedProgramsKeepThePromise }
+{
+    known_is_followed();
+    bytes_stay_bytes();
+    code_data_and_stack_are_apart();
+    spelling_laws();
+    fetch_reads_code_alone();
+}

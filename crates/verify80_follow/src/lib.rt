@@ -1,0 +1,22 @@
+//! Programs that are followed by what is known of each byte of the stack: where they return to, and how deep the stack gets.
+//!
+//! Proved: a program that a table of states follows keeps its promise on every board whose devices leave quiet memory alone.
+//!
+//! | Item | What it is |
+//! |---|---|
+//! | [`FollowedState`] | what is known of a machine at an address, with its stack: a table is a list of these |
+//! | [`Way`] | where a return, or a PCHL without declared targets, goes beside the addresses behind calls |
+//! | [`StackBounds`], [`stack_then`], [`StackAfter`], [`top_of_stack`], [`return_address`] | what becomes of the stack, and what is known of it at SP |
+//! | [`Table`], [`follows`] | whether a table follows an image |
+//! | [`followed_programs_keep_the_promise`] | the promise, as a contract |
+#![tactic(auto)]
+
+mod fit;
+mod followed;
+mod laws;
+mod stack;
+
+pub use fit::{Table, follows};
+pub use followed::{FollowedState, Way};
+pub use laws::followed_programs_keep_the_promise;
+pub use stack::{StackAfter, StackBounds, return_address, stack_then, top_of_stack};

@@ -1,6 +1,0 @@
-use Rattle.verify80_stores.proofs.Names.{◌≡◌, Bool, List, true, subst, is_marked, is_quiet}
-use Rattle.verify80_stores.proofs.AddressLemmas.{marked_by}
-use Rattle.verify80_stores.proofs.quiet.mark_quiet.Goals as goal
-
-pub returns : goal.returns
-returns c at marked = marked_by (is_quiet c.args.regions.now c.args.ranges.now) at (subst (λ (m : List Bool). is_marked m at ≡ true) c.in_ok-marks.ensures marked)
