@@ -45,9 +45,8 @@ pub fn parts_before(instr: Instr, need: Units) -> Units {
         Storing::Nowhere | Storing::Byte(_) | Storing::Word(_) => Units::NONE,
     };
     let decided = match facts.flow {
-        Flow::JumpsIf(condition, _)
-        | Flow::CallsIf(condition, _)
-        | Flow::ReturnsIf(condition) => Units::of_condition(condition),
+        Flow::JumpsIf(condition, _) | Flow::CallsIf(condition, _) | Flow::ReturnsIf(condition) =>
+            Units::of_condition(condition),
         Flow::JumpsToHl => Units::HL,
         _ => Units::NONE,
     };

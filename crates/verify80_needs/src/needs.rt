@@ -97,9 +97,10 @@ impl Needs {
                 break;
             }
         }
-        let named = (0..65_536_u32)
-            .map(|at| reading.named(&needs, &behind, at as u16))
-            .collect(alloc)?;
+        let mut named = Vec::with_capacity(alloc, 65_536)?;
+        for at in 0..65_536_u32 {
+            named.push(reading.named(&needs, &behind, at as u16))?;
+        }
         let variables = if memory == Named::Next {
             addresses_of(alloc, &needs)?
         } else {

@@ -63,7 +63,8 @@ impl Variables {
             if let (Some(variable), Some(growths)) = (
                 self.list.get(number),
                 self.growths.get(number),
-            ) && variable.at == cell.at
+            )
+                && variable.at == cell.at
                 && *growths > 0
                 && cell.bytes.is_inside(variable.bytes)
             {

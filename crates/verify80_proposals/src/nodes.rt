@@ -2,7 +2,9 @@
 
 use std::alloc::{AllocError, Global};
 use std::collections::HashMap;
-use verify80_needs::{Landmarks, Named, Needs, ReachedProgram, Units, Variables, sum_of, widened_cells};
+use verify80_needs::{
+    Landmarks, Named, Needs, ReachedProgram, Units, Variables, sum_of, widened_cells,
+};
 use verify80_states::{Placed, State, StoredByte};
 
 /// The place of no state.
