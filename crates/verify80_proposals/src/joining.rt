@@ -53,7 +53,8 @@ impl Nodes<'_> {
             }
         }
         let mut joined = before;
-        for number in &parts_by_count(alloc, before, &parts)? {
+        let order = parts_by_count(alloc, before, &parts)?;
+        for number in &order {
             joined = joined.union(Units::of_bit(*number));
             for (sum, numbers) in sums.iter_mut().zip(parts.iter()) {
                 *sum = sum.wrapping_sub(numbers.get(*number).copied().unwrap_or(0));
@@ -75,7 +76,10 @@ fn parts_by_count(
     let mut counted = Vec::new(alloc);
     for number in 0..PARTS {
         if !joined.intersects(Units::of_bit(number)) {
-            let values = states.iter().map(|numbers| numbers[number]).collect(alloc)?;
+            let mut values = Vec::with_capacity(alloc, states.len())?;
+            for numbers in states {
+                values.push(numbers[number])?;
+            }
             counted.push((count_distinct(alloc, &values)?, PARTS - number))?;
         }
     }
@@ -88,7 +92,7 @@ fn parts_by_count(
 }
 
 /// How many different numbers there are.
-fn count_distinct(alloc: Global, numbers: &Vec<u64>) -> Result<usize, AllocError> {
+fn count_distinct(alloc: Global, numbers: &[u64]) -> Result<usize, AllocError> {
     let mut numbers = Vec::from_slice(alloc, numbers)?;
     numbers.sort_unstable();
     numbers.dedup();

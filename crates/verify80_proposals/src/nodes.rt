@@ -250,12 +250,10 @@ impl<'a> Nodes<'a> {
             .map_or(0, |group| group.places.len());
         self.note_followed(at, count);
         for number in 0..count {
-            let Some(place) = self
-                .groups
-                .get(usize::from(at))
-                .and_then(|group| group.places.get(number))
-                .copied()
-            else {
+            let Some(group) = self.groups.get(usize::from(at)) else {
+                break;
+            };
+            let Some(place) = group.places.get(number).copied() else {
                 break;
             };
             if let Some(node) = self.nodes.get_mut(place as usize) {
