@@ -8,7 +8,24 @@ use decode80::{
 /// The parts that are needed before an instruction, given those that are needed after it: also the pair by which it stores, and that by
 /// which it is decided where it goes.
 pub fn parts_before(instr: Instr, need: Units) -> Units {
-    let before = match instr {
+    let facts = instr.facts();
+    let pointer = match facts.storing {
+        Storing::ThroughHl => Units::HL,
+        Storing::Through(pair) => Units::of_index_pair(pair),
+        Storing::Nowhere | Storing::Byte(_) | Storing::Word(_) => Units::NONE,
+    };
+    let decided = match facts.flow {
+        Flow::JumpsIf(condition, _) | Flow::CallsIf(condition, _) | Flow::ReturnsIf(condition) =>
+            Units::of_condition(condition),
+        Flow::JumpsToHl => Units::HL,
+        _ => Units::NONE,
+    };
+    parts_moved(instr, need).union(pointer).union(decided)
+}
+
+/// The parts before an instruction from which those come that are needed after it.
+fn parts_moved(instr: Instr, need: Units) -> Units {
+    match instr {
         Instr::Xchg => moved(
             need,
             &[
@@ -37,20 +54,7 @@ pub fn parts_before(instr: Instr, need: Units) -> Units {
                 rest
             }
         }
-    };
-    let facts = instr.facts();
-    let pointer = match facts.storing {
-        Storing::ThroughHl => Units::HL,
-        Storing::Through(pair) => Units::of_index_pair(pair),
-        Storing::Nowhere | Storing::Byte(_) | Storing::Word(_) => Units::NONE,
-    };
-    let decided = match facts.flow {
-        Flow::JumpsIf(condition, _) | Flow::CallsIf(condition, _) | Flow::ReturnsIf(condition) =>
-            Units::of_condition(condition),
-        Flow::JumpsToHl => Units::HL,
-        _ => Units::NONE,
-    };
-    before.union(pointer).union(decided)
+    }
 }
 
 /// What is needed before parts are copied, each from the first to the second of a couple.
