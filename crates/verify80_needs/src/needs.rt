@@ -165,10 +165,13 @@ fn addresses_of(alloc: Global, needs: &[Need]) -> Result<Vec<u16>, AllocError> {
     for need in needs {
         need.slots.mark(&mut marks);
     }
-    (0..65_536_u32)
-        .map(|at| at as u16)
-        .filter(|at| is_marked(&marks, *at))
-        .collect(alloc)
+    let mut addresses = Vec::new(alloc);
+    for number in 0..65_536_u32 {
+        if is_marked(&marks, number as u16) {
+            addresses.push(number as u16)?;
+        }
+    }
+    Ok(addresses)
 }
 
 /// What is needed at an address so far.
