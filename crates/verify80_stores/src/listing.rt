@@ -88,10 +88,8 @@ fn is_at(kind: Kind, reached: &[Option<Fetched>], at: u16) -> bool
 
 /// Whether a register-indirect store or a PCHL is reached.
 pub(crate) fn has_any(reached: &[Option<Fetched>]) -> bool {
-    reached
-        .iter()
-        .flatten()
-        .any(|found| Kind::Store.has(found.instr) || Kind::Jump.has(found.instr))
+    reached.iter().flatten().any(|found| Kind::Store.has(found.instr)
+        || Kind::Jump.has(found.instr))
 }
 
 /// Whether an instruction of a kind is reached at an address, and is open, if that is asked for.
