@@ -93,6 +93,7 @@ test: need-rt need-python3
 	@tests/generated/stored $(PROGRAM)
 	@tests/generated/boards $(PROGRAM)
 	@tests/generated/manners $(PROGRAM)
+	@tests/generated/firmware_shown $(PROGRAM)
 	@tests/commands/replaced $(PROGRAM)
 	@tests/commands/completion $(PROGRAM)
 	@tests/commands/fault_page
@@ -114,6 +115,7 @@ commands: need-python3 build
 	@tests/generated/stored $(PROGRAM)
 	@tests/generated/boards $(PROGRAM)
 	@tests/generated/manners $(PROGRAM)
+	@tests/generated/firmware_shown $(PROGRAM)
 	@tests/commands/replaced $(PROGRAM)
 	@tests/commands/completion $(PROGRAM)
 	@tests/commands/fault_page

@@ -2,6 +2,7 @@
 
 use crate::program::ReachedProgram;
 use decode80::{Instr, Operand};
+use image80::RegionMap;
 use std::alloc::{AllocError, Global};
 use std::array;
 use verify80_states::{ByteSpan, Cell, Cells, Known, PairSpan, Span, State, Words};
@@ -11,7 +12,8 @@ const JOINS: u32 = 4;
 /// How often it then grows from landmark to landmark, before it grows to any word: once for each page of memory and some more.
 const STEPS: u32 = 300;
 
-/// The numbers at which growing spans begin, and before which they end: pages, and bytes that the program names. Both lists are ascending.
+/// The numbers at which growing spans begin, and before which they end: ends of data, of pages, and what the program names. Both lists
+/// are ascending.
 #[derive(Drop)]
 pub struct Landmarks {
     words: Vec<u16>,
@@ -24,21 +26,26 @@ impl Landmarks {
     /// # Errors
     /// `AllocError` if memory runs out.
     pub fn new(alloc: Global, program: ReachedProgram<'_>) -> Result<Landmarks, AllocError> {
+        let map = RegionMap::new(alloc, program.regions)?;
+        let mut words = Vec::new(alloc);
         let mut bytes = Vec::new(alloc);
         for number in 0..65_536_u32 {
-            if let Some(
-                Instr::Operate(_, Operand::Immediate(byte))
-                | Instr::Mvi(_, byte)
-                | Instr::MviMemory(byte),
-            ) = program.instr(number as u16)
-            {
-                bytes.push(u16::from(byte))?;
-                bytes.push(u16::from(byte) + 1)?;
+            let at = number as u16;
+            if at % 256 == 0 || map.is_data(at) != map.is_data(at.wrapping_sub(1)) {
+                words.push(at)?;
+            }
+            match program.instr(at) {
+                Some(Instr::Lxi(_, word)) => push_named(&mut words, word)?,
+                Some(
+                    Instr::Operate(_, Operand::Immediate(byte))
+                    | Instr::Mvi(_, byte)
+                    | Instr::MviMemory(byte),
+                ) => push_named(&mut bytes, u16::from(byte))?,
+                _ => {}
             }
         }
+        words.sort_unstable();
         bytes.sort_unstable();
-        bytes.dedup();
-        let words = (0..256_u16).map(|page| 256 * page).collect(alloc)?;
         Ok(Landmarks { words, bytes })
     }
 
@@ -113,6 +120,13 @@ impl Landmarks {
     ) -> Option<PairSpan> {
         Some(self.grown_pair(old?, new?, growths))
     }
+}
+
+/// Appends a number that the program names, at which spans begin, or before which they end; and the next one.
+fn push_named(landmarks: &mut Vec<u16>, named: u16) -> Result<(), AllocError> {
+    landmarks.push(named)?;
+    landmarks.push(named.saturating_add(1))?;
+    Ok(())
 }
 
 /// A span of bytes as one of words.

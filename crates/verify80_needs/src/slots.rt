@@ -1,8 +1,9 @@
 //! The bytes of memory that a state may know, at each address: each has a place among eight, in all states the same.
 
 use crate::program::{ReachedProgram, mark};
+use crate::units::Units;
 use crate::variables::Variables;
-use decode80::{Fetched, Flow, Instr, Operand, Pair, Storing};
+use decode80::{Fetched, Flow, Instr, Operand, Pair};
 use std::alloc::{AllocError, Global};
 use std::array;
 use verify80_spans::ByteSpan;
@@ -26,10 +27,10 @@ impl Slots {
         address != NOWHERE && self.0.contains(&address)
     }
 
-    /// These slots without these addresses.
-    pub fn without(self, addresses: [Option<u16>; 2]) -> Slots {
+    /// These slots without the addresses of these bytes.
+    pub fn without(self, bytes: Bytes) -> Slots {
         Slots(
-            self.0.map(|slot| if addresses.contains(&Some(slot)) {
+            self.0.map(|slot| if bytes.iter().flatten().any(|byte| byte.0 == slot) {
                 NOWHERE
             } else {
                 slot
@@ -42,10 +43,20 @@ impl Slots {
         Slots(array::from_fn(|place| self.0[place].min(other.0[place])))
     }
 
-    /// The cells of these addresses, from cells or else from variables. What is known of other addresses is forgotten.
-    pub fn placed_cells(self, cells: Cells, variables: &Variables, set: u64) -> Cells {
+    /// The cells of these addresses. What is known of those that are needed comes from cells or else from variables.
+    pub fn placed_cells(
+        self,
+        needed: Slots,
+        cells: Cells,
+        variables: &Variables,
+        set: u64,
+    ) -> Cells {
         let each = array::from_fn(|place| match (self.0[place], cells.each[place]) {
             (NOWHERE, _) => Cell::ANY,
+            (at, _) if at != needed.0[place] => Cell {
+                at,
+                bytes: ByteSpan::ANY,
+            },
             (at, cell) if cell.at == at && cell.bytes != ByteSpan::ANY => cell,
             (at, _) => Cell {
                 at,
@@ -54,27 +65,53 @@ impl Slots {
         });
         Cells { each }
     }
-}
 
-/// The bytes of memory that an instruction reads by name or through HL, given the word that HL is known to be.
-pub fn bytes_read(instr: Instr, pointer: Option<u16>) -> [Option<u16>; 2] {
-    match instr {
-        Instr::Lhld(address) => [Some(address), Some(address.wrapping_add(1))],
-        Instr::Lda(address) => [Some(address), None],
-        Instr::Load(_) | Instr::InrMemory | Instr::DcrMemory | Instr::Operate(_, Operand::Memory) =>
-            [pointer, None],
-        _ => [None, None],
+    /// Marks these addresses.
+    pub fn mark(self, marks: &mut [bool]) {
+        for at in &self.0 {
+            if *at != NOWHERE {
+                mark(marks, *at);
+            }
+        }
     }
 }
 
-/// The bytes of memory that an instruction stores by name or through HL, given the word that HL is known to be.
-pub fn bytes_stored(instr: Instr, pointer: Option<u16>) -> [Option<u16>; 2] {
-    match instr.storing() {
-        Storing::Word(address) => [Some(address), Some(address.wrapping_add(1))],
-        Storing::Byte(address) => [Some(address), None],
-        Storing::ThroughHl => [pointer, None],
-        Storing::Nowhere | Storing::Through(_) => [None, None],
-    }
+/// Bytes of memory that an instruction reads, or stores, by name or through HL: of each its address, and the parts of a state to which it
+/// goes, or from which it comes.
+pub type Bytes = [Option<(u16, Units)>; 2];
+
+/// The bytes that an instruction reads, given the word that HL is known to be.
+pub fn bytes_read(instr: Instr, pointer: Option<u16>) -> Bytes {
+    let (address, parts) = match instr {
+        Instr::Lhld(address) => {
+            let next = address.wrapping_add(1);
+            return [Some((address, Units::L)), Some((next, Units::H))];
+        }
+        Instr::Lda(address) => (Some(address), Units::A.union(Units::TEST)),
+        Instr::Load(to) => (pointer, Units::of(to)),
+        Instr::InrMemory | Instr::DcrMemory => (pointer, Units::ZERO.union(Units::SIGN)),
+        Instr::Operate(_, Operand::Memory) => (
+            pointer,
+            Units::A.union(Units::CARRY).union(Units::COUNTED),
+        ),
+        _ => (None, Units::NONE),
+    };
+    [address.map(|address| (address, parts)), None]
+}
+
+/// The bytes that an instruction stores, given the word that HL is known to be.
+pub fn bytes_stored(instr: Instr, pointer: Option<u16>) -> Bytes {
+    let (address, parts) = match instr {
+        Instr::Shld(address) => {
+            let next = address.wrapping_add(1);
+            return [Some((address, Units::L)), Some((next, Units::H))];
+        }
+        Instr::Sta(address) => (Some(address), Units::A),
+        Instr::Store(register) => (pointer, Units::of(register)),
+        Instr::MviMemory(_) | Instr::InrMemory | Instr::DcrMemory => (pointer, Units::HL),
+        _ => (None, Units::NONE),
+    };
+    [address.map(|address| (address, parts)), None]
 }
 
 /// By address the place, in turn, of each quiet byte that the program reads by name or through a known pointer; `None` for others.
@@ -90,7 +127,7 @@ pub fn find_places(
     for number in 0..65_536_u32 {
         let at = number as u16;
         if let Some(instr) = program.instr(at) {
-            for address in bytes_read(instr, entry_at(pointers, at)).iter().flatten() {
+            for (address, _) in bytes_read(instr, entry_at(pointers, at)).iter().flatten() {
                 mark(&mut is_read, *address);
             }
         }
@@ -106,11 +143,12 @@ pub fn find_places(
     Ok(places)
 }
 
-/// The addresses that have a place, each at it.
-pub fn placed(places: &[Option<usize>], addresses: [Option<u16>; 2]) -> Slots {
+/// The addresses of bytes that have a place, each at it, if they go to one of these parts.
+pub fn placed(places: &[Option<usize>], bytes: Bytes, parts: Units) -> Slots {
     let Slots(mut slots) = Slots::NONE;
-    for address in addresses.iter().flatten() {
-        if let Some(place) = entry_at(places, *address)
+    for (address, to) in bytes.iter().flatten() {
+        if parts.intersects(*to)
+            && let Some(place) = entry_at(places, *address)
             && let Some(slot) = slots.get_mut(place)
         {
             *slot = *address;

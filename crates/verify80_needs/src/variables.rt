@@ -2,7 +2,7 @@
 
 use crate::landmarks::Landmarks;
 use std::alloc::{AllocError, Global};
-use verify80_spans::ByteSpan;
+use verify80_spans::{ByteSpan, Span};
 use verify80_states::{Known, Variable, is_bit};
 
 /// How many variables a program has, at most: a state has a bit for each.
@@ -17,7 +17,7 @@ pub struct Variables {
 }
 
 impl Variables {
-    /// A variable for each of these addresses, of the first 64.
+    /// A variable for each of these addresses, which are ascending: of the first 64.
     ///
     /// # Errors
     /// `AllocError` if memory runs out.
@@ -38,14 +38,16 @@ impl Variables {
         &self.list
     }
 
+    /// The number of the first variable from an address on.
+    fn first_from(&self, at: u16) -> usize {
+        self.list.partition_point(|variable| variable.at < at)
+    }
+
     /// The bytes that may be at an address: those of the variable there, if its bit is set, otherwise any.
     pub fn bytes_at(&self, set: u64, at: u16) -> ByteSpan {
-        match self.list.iter().position(|variable| variable.at == at) {
-            Some(number) if is_bit(set, number) => {
-                self.list
-                    .get(number)
-                    .map_or(ByteSpan::ANY, |variable| variable.bytes)
-            }
+        let number = self.first_from(at);
+        match self.list.get(number) {
+            Some(variable) if variable.at == at && is_bit(set, number) => variable.bytes,
             _ => ByteSpan::ANY,
         }
     }
@@ -53,21 +55,35 @@ impl Variables {
     /// A bit for each variable that has one of its bytes in a state: by the state's bits, or by its cells.
     pub fn set_in(&self, state: Known) -> u64 {
         let mut set = state.set;
-        let mut bit = 1_u64;
-        for (variable, growths) in self.list.iter().zip(self.growths.iter()) {
-            if *growths > 0 && state.cells.bytes_at(variable.at).is_inside(variable.bytes) {
-                set = set | bit;
+        if self.list.is_empty() {
+            return set;
+        }
+        for cell in &state.cells.each {
+            let number = self.first_from(cell.at);
+            if let (Some(variable), Some(growths)) = (
+                self.list.get(number),
+                self.growths.get(number),
+            )
+                && variable.at == cell.at
+                && *growths > 0
+                && cell.bytes.is_inside(variable.bytes)
+            {
+                set = set | bit_of(number);
             }
-            bit = bit.wrapping_mul(2);
         }
         set
     }
 
-    /// Notes that one of these bytes is stored at an address, and says whether the span of a variable has grown by that.
-    pub fn grow(&mut self, landmarks: &Landmarks, at: u16, bytes: ByteSpan) -> bool {
-        let Some(number) = self.list.iter().position(|variable| variable.at == at) else {
-            return false;
-        };
+    /// The numbers of the variables in a span of addresses: the first one, and the one behind the last.
+    pub fn numbers_in(&self, span: Span) -> (usize, usize) {
+        let end = self
+            .list
+            .partition_point(|variable| variable.at <= span.last);
+        (self.first_from(span.first), end)
+    }
+
+    /// Notes that one of these bytes may be stored at the variable with a number, and answers its address if its span has grown by that.
+    pub fn grow(&mut self, landmarks: &Landmarks, number: usize, bytes: ByteSpan) -> Option<u16> {
         match (self.list.get_mut(number), self.growths.get_mut(number)) {
             (Some(variable), Some(growths)) if *growths == 0 || !bytes.is_inside(variable.bytes) =>
                 {
@@ -77,9 +93,14 @@ impl Variables {
                         landmarks.grown_bytes(variable.bytes, bytes, *growths)
                     };
                     *growths = growths.saturating_add(1);
-                    true
+                    Some(variable.at)
                 }
-            _ => false,
+            _ => None,
         }
     }
+}
+
+/// The bit of the variable with a number.
+fn bit_of(number: usize) -> u64 {
+    1 << number.min(63)
 }

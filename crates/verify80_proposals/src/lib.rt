@@ -2,9 +2,10 @@
 //!
 //! Proved: nothing rests on it.
 //!
-//! States are followed from the start, several at an address: a loop with constant bounds is walked through. Of memory a state names only
-//! bytes that may be read later (`verify80_needs`). Where an address has too many states, they are no longer distinguished by those
-//! registers that distinguish the most of them: such states are joined, and joined spans grow to landmarks before they grow to any word.
+//! States are followed from the start, several at an address: a loop with constant bounds is walked through. A state says only what a later
+//! store, jump or condition may depend on (`verify80_needs`). Where an address has too many states, they are no longer distinguished by
+//! those parts that distinguish the most of them: such states are joined, and joined spans grow to landmarks before they grow to any word.
+//! How many are too many, each procedure decides for itself, by the ways that were followed in it.
 //!
 //! | Item | What it is |
 //! |---|---|

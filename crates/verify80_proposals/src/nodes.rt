@@ -2,16 +2,35 @@
 
 use std::alloc::{AllocError, Global};
 use std::collections::HashMap;
-use verify80_needs::{Landmarks, Needs, Units, Variables, sum_of, widened_cells};
-use verify80_spans::ByteSpan;
+use verify80_needs::{
+    Landmarks, Named, Needs, ReachedProgram, Units, Variables, sum_of, widened_cells,
+};
 use verify80_states::{Placed, State, StoredByte};
 
 /// The place of no state.
 pub(crate) const NOWHERE: u32 = u32::MAX;
+/// How many states an address has, at most: a loop of 4,096 turns is walked through.
+const MOST: usize = 4352;
 /// How many states an address has, at most, once some of them are no longer distinguished.
 const JOINED: usize = 256;
+/// How many states an address has, at most, once its procedure has had its ways.
+const FEWER: usize = 32;
 /// How many states there are in all before each address has one.
 const MANY: usize = 200_000;
+
+/// What a search may cost.
+#[derive(Clone, Copy)]
+pub(crate) struct Limits {
+    /// How many ways are followed in a procedure before its addresses have fewer states; with twice as many each has one, and with three
+    /// times as many its spans grow at once to any word.
+    pub procedure: usize,
+    /// How many ways are followed in all.
+    pub all: usize,
+    /// How many ways are followed after that, when each address has one state.
+    pub late: usize,
+    /// The bytes of memory that states name.
+    pub memory: Named,
+}
 
 /// A number as a place of a list of states.
 pub(crate) fn place_of(number: usize) -> u32 {
@@ -42,7 +61,10 @@ pub(crate) struct Group {
 
 /// The states that are known so far, and those from which others have still to be followed.
 #[derive(Drop)]
-pub(crate) struct Nodes {
+pub(crate) struct Nodes<'a> {
+    /// By address the number of its group.
+    numbers: &'a [u16],
+    limits: Limits,
     /// All states, with those that were taken in.
     pub(crate) nodes: Vec<Node>,
     /// The states of each address.
@@ -51,30 +73,35 @@ pub(crate) struct Nodes {
     by_sum: HashMap<u64, u32>,
     pub(crate) waiting: Vec<u32>,
     needs: Needs,
-    pub(crate) landmarks: Landmarks,
+    landmarks: Landmarks,
     pub(crate) variables: Variables,
+    /// Each variable's address, with an address at which states name it: ascending.
+    readers: Vec<(u16, u16)>,
     /// The place of the first state, and the places to which the ways of each state lead; or, from `APART` on, where the places for each byte
     /// of A begin.
     pub(crate) hints: Vec<u32>,
     /// The parts by which states are never distinguished.
     pub(crate) never: Units,
+    /// By number how many ways were followed in each group.
+    spent: Vec<usize>,
+    /// How many ways were followed, since each address has one state if it has.
+    pub(crate) followed: usize,
     /// Whether each address has one state from now on, and spans grow at once to any word.
     pub(crate) is_late: bool,
-    /// How many states an address has, at most.
-    most: usize,
 }
 
-impl Nodes {
-    /// A table without states, for at most `most` of them at an address.
+impl<'a> Nodes<'a> {
+    /// A table without states.
     ///
     /// # Errors
     /// `AllocError` if memory runs out.
     pub fn new(
         alloc: Global,
-        needs: Needs,
-        landmarks: Landmarks,
-        most: usize,
-    ) -> Result<Nodes, AllocError> {
+        program: ReachedProgram<'_>,
+        numbers: &'a [u16],
+        limits: Limits,
+    ) -> Result<Nodes<'a>, AllocError> {
+        let needs = Needs::of(alloc, program, limits.memory)?;
         let variables = Variables::new(alloc, &needs.variables)?;
         let never = if variables.list().is_empty() {
             Units::NONE
@@ -86,17 +113,21 @@ impl Nodes {
             joined: never,
         });
         Ok(Nodes {
+            numbers,
+            limits,
             nodes: Vec::new(alloc),
             groups: groups.collect(alloc)?,
             by_sum: HashMap::new(alloc),
             waiting: Vec::new(alloc),
+            readers: needs.readers(alloc)?,
             needs,
-            landmarks,
+            landmarks: Landmarks::new(alloc, program)?,
             variables,
             hints: vec![in alloc; 0; 1]?,
             never,
+            spent: vec![in alloc; 0; 65_536]?,
+            followed: 0,
             is_late: false,
-            most,
         })
     }
 
@@ -111,6 +142,16 @@ impl Nodes {
         Ok(())
     }
 
+    /// Notes how many ways were followed from an address.
+    pub fn note_followed(&mut self, at: u16, ways: usize) {
+        self.followed = self.followed.saturating_add(ways);
+        if let Some(number) = self.numbers.get(usize::from(at))
+            && let Some(spent) = self.spent.get_mut(usize::from(*number))
+        {
+            *spent = spent.saturating_add(ways);
+        }
+    }
+
     /// The place of a state at an address that says no more than this one: one that is there, or one that is made.
     ///
     /// # Errors
@@ -121,37 +162,47 @@ impl Nodes {
             return Ok(NOWHERE);
         };
         let (count, joined) = (group.places.len(), group.joined);
-        if let Some(place) = self.by_sum.get(&sum_of(at, state, joined))
+        let sum = sum_of(at, state, joined);
+        if let Some(place) = self.by_sum.get(&sum)
             && let Some(node) = self.nodes.get(*place as usize)
             && state.is_inside(node.placed.state, self.variables.list())
         {
             return Ok(*place);
         }
-        if count >= self.most(joined != self.never) && joined != Units::ALL {
+        if count >= self.most(at, joined != self.never) && joined != Units::ALL {
             self.join_some(alloc, at)?;
+            return self.put(at, state);
         }
-        self.put(at, state)
+        self.put_as(at, sum, state)
     }
 
     /// Puts a state at its address: into the one that differs from it in joined parts alone, or as one of its own. Answers the place.
     pub fn put(&mut self, at: u16, state: State) -> Result<u32, AllocError> {
-        let Some(group) = self.groups.get_mut(usize::from(at)) else {
-            return Ok(NOWHERE);
-        };
-        let sum = sum_of(at, state, group.joined);
+        let joined = self
+            .groups
+            .get(usize::from(at))
+            .map_or(Units::ALL, |group| group.joined);
+        self.put_as(at, sum_of(at, state, joined), state)
+    }
+
+    /// Puts a state with this sum at its address. Answers the place.
+    fn put_as(&mut self, at: u16, sum: u64, state: State) -> Result<u32, AllocError> {
         let place = match self.by_sum.get(&sum) {
             Some(place) => *place,
             None => place_of(self.nodes.len()),
         };
+        let growths = if self.grows_at_once(at) { u32::MAX } else { 0 };
         match self.nodes.get_mut(place as usize) {
             Some(node) => {
-                let growths = if self.is_late { u32::MAX } else { node.growths };
+                let growths = growths.max(node.growths);
                 node.placed.state = self.landmarks.grown(node.placed.state, state, growths);
                 node.growths = node.growths.saturating_add(1);
             }
             None => {
                 self.by_sum.insert(sum, place)?;
-                group.places.push(place)?;
+                if let Some(group) = self.groups.get_mut(usize::from(at)) {
+                    group.places.push(place)?;
+                }
                 self.nodes.push(Node {
                     placed: Placed {
                         at,
@@ -168,32 +219,80 @@ impl Nodes {
         Ok(place)
     }
 
-    /// Notes that a byte is stored: a variable grows, and so do the states that name it.
+    /// Notes that a byte is stored: each variable where that may be grows, and so do the states that name it.
     pub fn note_stored(&mut self, stored: StoredByte) -> Result<(), AllocError> {
-        let address = stored.at.first;
-        if !stored.at.is_alone() || !self.variables.grow(&self.landmarks, address, stored.bytes) {
-            return Ok(());
+        let numbers = self.variables.numbers_in(stored.at);
+        for number in numbers.0..numbers.1 {
+            if let Some(address) = self.variables.grow(&self.landmarks, number, stored.bytes) {
+                self.widen(address)?;
+            }
         }
-        for number in 0..self.nodes.len() {
-            if let Some(node) = self.nodes.get_mut(number) {
+        Ok(())
+    }
+
+    /// Widens the states that name a variable.
+    fn widen(&mut self, address: u16) -> Result<(), AllocError> {
+        let first = self.readers.partition_point(|reader| reader.0 < address);
+        let end = self.readers.partition_point(|reader| reader.0 <= address);
+        for number in first..end {
+            if let Some((_, at)) = self.readers.get(number).copied() {
+                self.widen_at(at, address)?;
+            }
+        }
+        Ok(())
+    }
+
+    /// Widens the states at an address that name a variable. Each counts as a way.
+    fn widen_at(&mut self, at: u16, address: u16) -> Result<(), AllocError> {
+        let count = self
+            .groups
+            .get(usize::from(at))
+            .map_or(0, |group| group.places.len());
+        self.note_followed(at, count);
+        for number in 0..count {
+            let Some(group) = self.groups.get(usize::from(at)) else {
+                break;
+            };
+            let Some(place) = group.places.get(number).copied() else {
+                break;
+            };
+            if let Some(node) = self.nodes.get_mut(place as usize) {
                 let known = &mut node.placed.state.known;
                 let bytes = self.variables.bytes_at(known.set, address);
                 let cells = widened_cells(known.cells, address, bytes);
-                if bytes != ByteSpan::ANY && cells != known.cells {
+                if cells != known.cells {
                     known.cells = cells;
-                    self.wait(place_of(number))?;
+                    self.wait(place)?;
                 }
             }
         }
         Ok(())
     }
 
-    /// How many states an address has now, at most; `is_joined` says whether some of them are no longer distinguished.
-    pub fn most(&self, is_joined: bool) -> usize {
-        match self.nodes.len() {
-            count if self.is_late || count >= MANY => 1,
-            _ if is_joined => JOINED.min(self.most),
-            _ => self.most,
+    /// How often the procedure at an address has had its ways.
+    fn spent_at(&self, at: u16) -> usize {
+        match self.numbers.get(usize::from(at)) {
+            Some(number) => {
+                let spent = self.spent.get(usize::from(*number)).copied().unwrap_or(0);
+                spent / self.limits.procedure.max(1)
+            }
+            None => 0,
         }
+    }
+
+    /// How many states an address has now, at most; `is_joined` says whether some of them are no longer distinguished.
+    pub fn most(&self, at: u16, is_joined: bool) -> usize {
+        match self.spent_at(at) {
+            _ if self.is_late || self.nodes.len() >= MANY => 1,
+            0 if is_joined => JOINED,
+            0 => MOST,
+            1 => FEWER,
+            _ => 1,
+        }
+    }
+
+    /// Whether spans at an address grow at once to any word.
+    fn grows_at_once(&self, at: u16) -> bool {
+        self.is_late || self.spent_at(at) > 2
     }
 }

@@ -1,26 +1,23 @@
 //! Tables of states are proposed, one after the other.
 
 use crate::groups::Groups;
-use crate::proposing::{Limits, Proposal, propose};
+use crate::nodes::Limits;
+use crate::proposing::{Proposal, propose};
 use std::alloc::{AllocError, Global};
-use verify80_needs::ReachedProgram;
+use verify80_needs::{Named, ReachedProgram};
 
-/// How many states an address has, at most: a loop of 4,096 turns is walked through.
-const MOST_STATES: usize = 4352;
-/// How many states an address has, at most, in one trial after the other.
-const STATES: [usize; 2] = [MOST_STATES, 32];
 /// How often it is tried which procedures know where they return to.
 const TRIALS: usize = 3;
-/// How many ways are followed for a number of states if calls are distinguished, each as often as its state grows.
-const TRIAL_WAYS: usize = 120_000;
-/// How many ways are followed if calls aren't distinguished, before the search hurries.
-const WAYS: usize = 400_000;
+/// How many ways are followed in a procedure and in all if calls are distinguished, each as often as its state grows.
+const TRIAL_WAYS: (usize, usize) = (120_000, 240_000);
+/// How many ways are followed in a procedure and in all if calls aren't distinguished, before the search hurries.
+const WAYS: (usize, usize) = (200_000, 400_000);
 /// How many ways are followed then, at most.
 const LATE_WAYS: usize = 1_000_000;
 
-/// The table with a number from 0 to 5: 0 with calls distinguished, 1 with calls joined, 2 and 3 these two as if no address were quiet,
-/// 4 and 5 these two with variables. `None` if too many ways would have to be followed; for 0, 2 and 4 also if no calls can be
-/// distinguished; for 2 to 5 also if no address is quiet.
+/// The table with a number from 0 to 7: 0 with calls distinguished, 1 with calls joined, 2 and 3 these two as if no address were quiet,
+/// 4 and 5 these two with variables, 6 and 7 these two with all bytes of memory that are read later. `None` if too many ways would have to
+/// be followed; for 0, 2, 4 and 6 also if no calls can be distinguished; for 2 to 7 also if no address is quiet.
 ///
 /// # Errors
 /// `AllocError` only if memory runs out.
@@ -34,14 +31,21 @@ pub fn propose_table(
         quiet: &[],
         ..program
     };
-    match number {
-        0 => propose_distinguished(alloc, program, groups, false),
-        1 => propose_joined(alloc, program, groups, false),
-        _ if !program.quiet.contains(&true) => Ok(None),
-        2 => propose_distinguished(alloc, unquiet, groups, false),
-        3 => propose_joined(alloc, unquiet, groups, false),
-        4 => propose_distinguished(alloc, program, groups, true),
-        _ => propose_joined(alloc, program, groups, true),
+    let (joins, program, memory) = match number {
+        0 => (false, program, Named::Needed),
+        1 => (true, program, Named::Needed),
+        _ if !program.quiet.contains(&true) => return Ok(None),
+        2 => (false, unquiet, Named::Needed),
+        3 => (true, unquiet, Named::Needed),
+        4 => (false, program, Named::Next),
+        5 => (true, program, Named::Next),
+        6 => (false, program, Named::Read),
+        _ => (true, program, Named::Read),
+    };
+    if joins {
+        propose_joined(alloc, program, groups, memory)
+    } else {
+        propose_distinguished(alloc, program, groups, memory)
     }
 }
 
@@ -70,26 +74,24 @@ fn propose_distinguished(
     alloc: Global,
     program: ReachedProgram<'_>,
     groups: &Groups,
-    keeps_variables: bool,
+    memory: Named,
 ) -> Result<Option<Proposal>, AllocError> {
-    for states in STATES {
-        let mut limits = Limits {
-            states,
-            ways: TRIAL_WAYS,
-            late_ways: 0,
-            keeps_variables,
+    let mut limits = Limits {
+        procedure: TRIAL_WAYS.0,
+        all: TRIAL_WAYS.1,
+        late: 0,
+        memory,
+    };
+    let mut knows = groups.marks_of_called(alloc)?;
+    for _ in 0..TRIALS {
+        if !knows.contains(&true) {
+            break;
+        }
+        let Some(proposal) = propose(alloc, program, groups, &knows, &mut limits)? else {
+            break;
         };
-        let mut knows = groups.marks_of_called(alloc)?;
-        for _ in 0..TRIALS {
-            if !knows.contains(&true) {
-                break;
-            }
-            let Some(proposal) = propose(alloc, program, groups, &knows, &mut limits)? else {
-                break;
-            };
-            if !groups.take_marks(program, &proposal.table, &mut knows) {
-                return Ok(Some(proposal));
-            }
+        if !groups.take_marks(program, &proposal.table, &mut knows) {
+            return Ok(Some(proposal));
         }
     }
     Ok(None)
@@ -100,13 +102,13 @@ fn propose_joined(
     alloc: Global,
     program: ReachedProgram<'_>,
     groups: &Groups,
-    keeps_variables: bool,
+    memory: Named,
 ) -> Result<Option<Proposal>, AllocError> {
     let mut limits = Limits {
-        states: MOST_STATES,
-        ways: WAYS,
-        late_ways: LATE_WAYS,
-        keeps_variables,
+        procedure: WAYS.0,
+        all: WAYS.1,
+        late: LATE_WAYS,
+        memory,
     };
     propose(alloc, program, groups, &[], &mut limits)
 }

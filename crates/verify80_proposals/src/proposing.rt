@@ -1,10 +1,10 @@
 //! A table of states is proposed.
 
 use crate::groups::Groups;
-use crate::nodes::{NOWHERE, Nodes, place_of};
+use crate::nodes::{Limits, NOWHERE, Nodes, place_of};
 use decode80::{Instr, Operand, Operation};
 use std::alloc::{AllocError, Global};
-use verify80_needs::{Landmarks, Needs, ReachedProgram};
+use verify80_needs::ReachedProgram;
 use verify80_spans::ByteSpan;
 use verify80_states::{APART, CallReturns, Known, Placed, State, Variable, stored_bytes};
 
@@ -22,19 +22,6 @@ pub struct Proposal {
 
 /// How many bytes of A are distinguished, at most.
 const MOST_APART: usize = 16;
-
-/// What a search may cost.
-#[derive(Clone, Copy)]
-pub(crate) struct Limits {
-    /// How many states an address has, at most.
-    pub states: usize,
-    /// How many ways may still be followed from states, each as often as the state grows.
-    pub ways: usize,
-    /// How many ways may be followed after that, when each address has one state.
-    pub late_ways: usize,
-    /// Whether bytes of memory are variables.
-    pub keeps_variables: bool,
-}
 
 /// What is known at each address that the program may reach, if the marked groups know where they return to. `None` if more ways would have
 /// to be followed than the limits say, which become narrower.
@@ -57,71 +44,71 @@ pub(crate) fn propose(
         groups: &groups.numbers,
         ..program
     };
-    let needs = Needs::of(alloc, grouped, limits.keeps_variables)?;
-    let mut nodes = Nodes::new(alloc, needs, Landmarks::new(alloc, program)?, limits.states)?;
+    let mut nodes = Nodes::new(alloc, grouped, &groups.numbers, *limits)?;
     nodes.enter(alloc, program.start, State::ANY)?;
-    if !nodes.follow_all(alloc, grouped, &mut limits.ways)? {
+    if !nodes.follow_all(alloc, grouped, limits.all)? {
+        nodes.followed = 0;
         nodes.is_late = true;
-        if !nodes.follow_all(alloc, grouped, &mut limits.late_ways)? {
+        if !nodes.follow_all(alloc, grouped, limits.late)? {
             return Ok(None);
         }
     }
+    limits.all = limits.all.saturating_sub(nodes.followed);
     Ok(Some(nodes.into_proposal(alloc, returns)?))
 }
 
-impl Nodes {
-    /// Follows states until none waits, but no more ways than are left, and says whether none waits.
+impl Nodes<'_> {
+    /// Follows states until none waits, but no more ways than `most`, and says whether none waits.
     fn follow_all(
         &mut self,
         alloc: Global,
         program: ReachedProgram<'_>,
-        left: &mut usize,
+        most: usize,
     ) -> Result<bool, AllocError> {
-        for _ in 0..*left {
+        for _ in 0..most {
             let Some(place) = self.waiting.pop() else {
                 return Ok(true);
             };
-            let ways = self.follow(alloc, program, place)?;
-            *left = left.saturating_sub(ways);
-            if *left == 0 {
+            self.follow(alloc, program, place)?;
+            if self.followed >= most {
                 break;
             }
         }
         Ok(false)
     }
 
-    /// Enters what each way makes of a state, notes where, and answers how many ways there are. Of a state that was taken in none is
-    /// followed.
+    /// Enters what each way makes of a state, notes where, and counts the ways. Of a state that was taken in none is followed.
     fn follow(
         &mut self,
         alloc: Global,
         program: ReachedProgram<'_>,
         place: u32,
-    ) -> Result<usize, AllocError> {
+    ) -> Result<(), AllocError> {
         let Some(node) = self.nodes.get_mut(place as usize) else {
-            return Ok(0);
+            return Ok(());
         };
         node.is_waiting = false;
         let Placed { at, state, hint } = node.placed;
         let found = match program.at(at) {
             Some(found) if node.taken_by == place => found,
-            _ => return Ok(0),
+            _ => return Ok(()),
         };
-        let mut followed = program.count_ways(at, found.instr);
+        let ways = program.count_ways(at, found.instr);
         let mut first = hint as usize;
         if hint == NOWHERE {
             first = self.hints.len();
             node.placed.hint = place_of(first);
-            self.hints.resize(first.saturating_add(followed), NOWHERE)?;
+            self.hints.resize(first.saturating_add(ways), NOWHERE)?;
         }
         let (one, other) = stored_bytes(program.code, found.instr, state.known);
         for stored in [one, other].into_iter().flatten() {
             self.note_stored(stored)?;
         }
-        for number in 0..followed {
+        self.note_followed(at, ways);
+        for number in 0..ways {
             let to = match program.way(at, found, state, number) {
                 Some((to, after)) if distinguishes(found.instr, state.known, after.known) => {
-                    followed = followed.saturating_add(MOST_APART);
+                    self.note_followed(at, MOST_APART);
                     self.enter_apart(alloc, to, after)?
                 }
                 Some((to, after)) => self.enter(alloc, to, after)?,
@@ -131,7 +118,7 @@ impl Nodes {
                 *hint = to;
             }
         }
-        Ok(followed)
+        Ok(())
     }
 
     /// Enters a state for each byte of A. The hint says where among the hints their places begin.

@@ -86,6 +86,12 @@ fn is_at(kind: Kind, reached: &[Option<Fetched>], at: u16) -> bool
     entry_at(reached, at).is_some_and(|found| kind.has(found.instr))
 }
 
+/// Whether a register-indirect store or a PCHL is reached.
+pub(crate) fn has_any(reached: &[Option<Fetched>]) -> bool {
+    reached.iter().flatten().any(|found| Kind::Store.has(found.instr)
+        || Kind::Jump.has(found.instr))
+}
+
 /// Whether an instruction of a kind is reached at an address, and is open, if that is asked for.
 fn is_listed(
     kind: Kind,

@@ -7,7 +7,7 @@ ghost use Rattle.verify80.specs.{Looking.code_of, Reached.AreReached};
 ghost use Rattle.verify80_stores.specs.{Boards.is_quiet, Shown.AreShown, Shown.noted_by_both};
 ghost use Rattle.verify80_states.specs.{Marks.is_marked, Steps.AreCodeBytes, Runs.IsKept};
 
-use crate::listing::{Note, note_at, notes_of};
+use crate::listing::{Note, has_any, note_at, notes_of};
 use decode80::Fetched;
 use image80::{Image, Range};
 use std::alloc::{AllocError, Global};
@@ -16,12 +16,13 @@ use verify80_proposals::{Groups, Proposal, ReachedProgram, propose_table};
 use verify80_states::{Placed, anything, code_bytes, fits, mark_quiet};
 
 /// How many tables are tried.
-const TABLES: usize = 6;
+const TABLES: usize = 8;
 
 /// What is shown of a program, in whose quiet ranges of data nobody but it writes: by address whether each table leaves the store or jump
 /// there open, and the words that a pair may be, if the instruction stores by it.
 ///
-/// A table is tried only if those before left something open. The spans are those of the first that fits.
+/// A table is tried only if those before left something open, and none if there is nothing to show. The spans are those of the first that
+/// fits.
 ///
 /// # Errors
 /// `AllocError` if memory runs out.
@@ -41,9 +42,10 @@ pub(crate) fn show(
     let marks = mark_quiet(alloc, &image.regions, quiet)?;
     let program = ReachedProgram::new(image, reached, &code, &marks);
     let groups = Groups::new(alloc, program, rows)?;
+    let is_searched = has_any(reached);
     let mut shown = None;
     for number in 0..TABLES {
-        if is_open(&shown) {
+        if is_searched && is_open(&shown) {
             let found = propose_table(alloc, program, &groups, number)?;
             shown = show_more(alloc, image, reached, quiet, &code, &marks, found, shown)?;
         }
