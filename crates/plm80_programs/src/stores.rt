@@ -2,7 +2,7 @@
 
 ghost use Rattle.std.specs.Prelude.{◌≡◌, false, [], IfErr, IfOk, IfSome};
 ghost use Rattle.image80.specs.Regions.{in_data};
-ghost use Rattle.plm80_console.specs.{Answer.Gives, Answer.IsAnswered, Answer.prints, Journal.OnlyReports};
+ghost use Rattle.plm80_console.specs.{Answer.Gives, Answer.GivesUp, Answer.IsAnswered, Answer.IsGivenUp, Answer.prints, Journal.and_reported};
 ghost use Rattle.plm80_names.specs.Arguments.{program_paths};
 ghost use Rattle.plm80_programs.specs.Printed.{AnswersStores, ListsStores, PrintsStores, stores_lines};
 ghost use Rattle.plm80_programs.specs.{Arguments.AreStoresArguments, Status.stores_status};
@@ -10,7 +10,7 @@ ghost use Rattle.plm80_programs.specs.{Arguments.AreStoresArguments, Status.stor
 use clap::ArgMatches;
 use image80::{Image, Range, Regions};
 use loader80::Vouched;
-use plm80_console::laws::reading_leaves_files_alone;
+use plm80_console::laws::faults_follow_reading;
 use plm80_console::{
     Answer, Argument, Console, Kind, Reported, Syntax, argument_values, ranges_of,
 };
@@ -93,9 +93,10 @@ pub fn list_stores<C: Console>(
 ) -> Result<u8, Reported>
     ensures done { let asked = arguments.now in IfOk result (Gives (AnswersStores asked) (program_paths asked.files)
         (C.journal console.old) (C.journal console.new)) }
-    ensures fault { IfErr result (λ _. OnlyReports (C.journal console.old) (C.journal console.new)) }
+    ensures fault { IfErr result (λ _. GivesUp (AnswersStores arguments.now) (program_paths arguments.now.files)
+        (C.journal console.old) (C.journal console.new)) }
 {
-    reading_leaves_files_alone();
+    faults_follow_reading();
     let quiet = ranges_of(console, QUIET, &arguments.quiet)?;
     let files = arguments.files;
     let (image, names) = files.read(console)?;
@@ -114,7 +115,7 @@ fn print_stores<C: Console>(
     quiet: &[Range],
 ) -> Result<u8, Reported>
     ensures done { IfOk result (IsAnswered (PrintsStores quiet.now image names.now) (C.journal console.old) (C.journal console.new)) }
-    ensures fault { IfErr result (λ _. OnlyReports (C.journal console.old) (C.journal console.new)) }
+    ensures fault { IfErr result (λ _. IsGivenUp (PrintsStores quiet.now image names.now) (C.journal console.old) (C.journal console.new)) }
 {
     require_data(console, &image.regions, texts, quiet)?;
     match judged(console.alloc(), image, names, quiet, console.explains()) {
@@ -135,7 +136,7 @@ fn require_data<C: Console>(
     quiet: &[Range],
 ) -> Result<(), Reported>
     ensures unchanged { IfOk result (λ _. C.journal console.new ≡ C.journal console.old) }
-    ensures fault { IfErr result (λ _. OnlyReports (C.journal console.old) (C.journal console.new)) }
+    ensures fault { IfErr result (λ _. C.journal console.new ≡ and_reported (C.journal console.old)) }
 {
     match first_no_data(regions, texts, quiet) {
         Some((text, at)) => {
@@ -180,8 +181,7 @@ fn judged(
     quiet: &[Range],
     explains: bool,
 ) -> Result<ListedStores, AllocError>
-    ensures stores { IfOk result (λ listed. PrintsStores quiet.now image names.now listed.answer) }
-    ensures no_file { IfOk result (λ listed. listed.answer.files ≡ []) }
+    ensures { IfOk result (λ listed. PrintsStores quiet.now image names.now listed.answer) }
 {
     match judge(alloc, image, names)? {
         Verdict::Accepted(vouched) => stores_of(alloc, &vouched, names, quiet, explains),
@@ -207,8 +207,7 @@ fn stores_of(
     quiet: &[Range],
     explains: bool,
 ) -> Result<ListedStores, AllocError>
-    ensures stores { IfOk result (λ listed. ListsStores quiet.now names.now vouched.now listed.answer) }
-    ensures no_file { IfOk result (λ listed. listed.answer.files ≡ []) }
+    ensures { IfOk result (λ listed. ListsStores quiet.now names.now vouched.now listed.answer) }
 {
     let stores = find_stores(alloc, vouched, quiet)?;
     listed(alloc, vouched, names, quiet, explains, &stores)

@@ -1,9 +1,9 @@
 use Rattle.plm80_objects.proofs.Names.{[], ◌∷◌, refl, ◌∙◌, ap, Journal, and_read, file_value, MapsFile, PrintsMap}
-use Rattle.plm80_objects.proofs.{GivenLemmas.gives, ReadLemmas.of_program}
+use Rattle.plm80_objects.proofs.{GivenLemmas.gives_or_gives_up, ReadLemmas.of_program}
 use Rattle.plm80_objects.proofs.map.map_file.Goals as goal
 
-pub returns-in-Ok-clause-done : goal.returns-in-Ok-clause-done
-returns-in-Ok-clause-done g c =
+pub returns-in-Ok : goal.returns-in-Ok
+returns-in-Ok g c =
     let asked = c.args.arguments in
     let read = c.in_ok-modules.ensures.read in
     let file = file_value asked.object.now read.0 in
@@ -15,5 +15,6 @@ returns-in-Ok-clause-done g c =
           c.index-program.ensures (record { none = c.in-Ok.ensures.none; is_map = c.in-Ok.ensures.map; answer_is = c.in-Ok.ensures.printed });
     } in
     let journal = read.1 ∙ ap (λ (j : Journal). and_read j asked.object.now read.0) c.in_ok-options.ensures.unchanged in
-    gives (MapsFile asked) (asked.object.now ∷ []) (g.C.Console.journal c.args.console.now) (g.C.Console.journal c.read_program.new.console) (g.C.Console.journal c.give.new.self) (file ∷ []) refl
-    journal c.in-Ok.answer c.give.result answers c.give.ensures.given
+    let both = gives_or_gives_up (MapsFile asked) (asked.object.now ∷ []) (g.C.Console.journal c.args.console.now) (g.C.Console.journal c.read_program.new.console) (g.C.Console.journal c.give.new.self) (file ∷ []) refl
+    journal c.in-Ok.answer c.give.result answers c.give.ensures.given c.give.ensures.fault in
+    record { done = both.0; fault = both.1 }
