@@ -9,6 +9,10 @@ use Rattle.plm80_console.specs.Answer.GivesUp.{before, within}
 use Rattle.plm80_console.specs.Journal.OnlyReports.{read as read_it}
 use Rattle.plm80_names.specs.Verdict.AnswersVerdict.{accepted, refused}
 
+pub err_from : {A E P : Type 0} (r : Result A E) → P → IfErr r (λ _. P)
+err_from (Ok x) p = tt
+err_from (Err e) p = p
+
 -- a fault behind files that were read
 pub reported_after : (old between new : Journal) (files : List FileValue) (paths : List (List ℕ)) → paths_of files ≡ paths
     → between ≡ and_read_files old files → new ≡ and_reported between → OnlyReports paths old new
@@ -196,6 +200,10 @@ module _ {paths : RunFiles} {old between : Journal} {image : Located} {publics :
     (read : IsRunRead paths old between image publics inputs) (new : Journal) where
   abbrev files_read : List FileValue
   files_read = file_value paths.program.image.now read.file ∷ file_value paths.program.regions.now read.text ∷ file_value paths.inputs.now read.spelling ∷ []
+
+  -- a fault behind them
+  pub run_reported : {Answers : List FileValue → AnswerValue → Type 0} → new ≡ and_reported between → GivesUp Answers (run_paths paths) old new
+  run_reported is = before (reported_after old between new files_read (run_paths paths) refl read.journal is)
 
   module _ (Answers : List (ℕ × ℕ) → List Public → Voucher → AnswerValue → Type 0) where
     abbrev RunVerdict : AnswerValue → Type 0

@@ -7,7 +7,7 @@ pub use Rattle.loader80.specs.{Sends.Answers, Sends.Sends, Session.Says, Texts.T
 pub use Rattle.loader80.specs.{declared.replies.Outcome.Outcome, declared.running.Ended.Ended}
 pub use Rattle.loader80_text.specs.{Words.word_of, declared.inputs.repeated.Repeated.Repeated}
 pub use Rattle.loader80_trace.specs.{Traces.AppendsFront, Traces.last_number, declared.limits.Limits.Limits, declared.limits.Span.Span}
-pub use Rattle.machine80.specs.{Run.IsRun, Step.Machine, Step.with_ports, World.World, declared.end.End.End}
+pub use Rattle.machine80.specs.{Ports.PortLists, Run.IsRun, Step.Machine, Step.with_ports, World.World, declared.end.End.End}
 pub use Rattle.omf_model.specs.declared.symbols.Public.{Public}
 pub use Rattle.plm80_console.specs.Answer.{AnswerValue, GaveUp, Gives, GivesUp, IsAnswered, IsGiven, IsGivenUp, StopsWriting, and_files, and_given}
 pub use Rattle.plm80_console.specs.Answer.{behind_file, prints}
@@ -28,12 +28,13 @@ pub use Rattle.plm80_programs.specs.Running.{ending, trace_ending, trace_lines, 
 pub use Rattle.plm80_programs.specs.{Status.notes_status, Status.stores_status, Suggest.AnswersAdvice, Written.AnswersRegions}
 pub use Rattle.plm80_programs.specs.{declared.cases.FoundCase.FoundCase, declared.helpers.run_arguments.RunFiles.RunFiles}
 pub use Rattle.plm80_programs.specs.{declared.stores.ListedStores.ListedStores}
-pub use Rattle.std.proofs.Common.{ap, append-nil, append_assoc, arith, get_or, refl, rules, subst, sym, ◌∙◌}
-pub use Rattle.std.proofs.lemmas.List.{drop_more, map-append, map_more, take-append-drop}
+pub use Rattle.std.proofs.Common.{ap, append-nil, append_assoc, arith, get_or, inl, inr, refl, rules, subst, sym, ◌∙◌}
+pub use Rattle.std.proofs.lemmas.List.{drop_more, map-append, map_more, take-append-drop, take_all}
+pub use Rattle.std.proofs.Math.Seq.{take-append_seam}
 pub use Rattle.std.proofs.lemmas.List.Elements.{All-nil, All-push, filter-append, filter_map-append}
 pub use Rattle.std.proofs.lemmas.Result.{IfErr-weaker, IfOk-weaker}
 pub use Rattle.std.proofs.{KnownBytes.Appends-nil, KnownBytes.Appends-trans, Math.Nat.min-eq_left, lemmas.Grind.flat_map-append}
-pub use Rattle.std.specs.Prelude.{All, Bool, Err, IfErr, IfOk, IfSome, IsOkAnd, List, None, Ok, OnOk, Option, Result, Some, [], codes, drop}
+pub use Rattle.std.specs.Prelude.{All, Bool, Err, IfErr, IfOk, IfSome, IsOkAnd, List, None, Ok, OnErr, OnOk, Option, Result, Some, [], codes, drop}
 pub use Rattle.std.specs.Prelude.{false, filter, filter_map, if◌then◌else◌, length, map, min, suc, take, true, unwrap_or, zero, ℕ, ◌++◌}
 pub use Rattle.std.specs.Prelude.{◌+◌, ◌-◌, ◌<◌, ◌∷◌, ◌≡◌, ◌≢◌, ◌≤◌}
 pub use Rattle.std.specs.{Borrow.Bor, Io.KnownBytes.Appends, List.cons_option, List.flat_map, List.range_with_len}

@@ -6,6 +6,7 @@ use Rattle.plm80_programs.proofs.Names.{Machine, World, Ended, Voucher, Limits, 
 use Rattle.plm80_programs.proofs.Names.{AnswerValue, GaveUp, IsAnswered, IsGiven, IsGivenUp, StopsPrinting, StopsWriting, and_files}
 use Rattle.plm80_programs.proofs.Names.{Journal, and_printed, and_reported, last_lines, with_memory}
 use Rattle.plm80_programs.proofs.Names.{start_of, trace_ending, trace_lines}
+use Rattle.plm80_programs.proofs.Names.{◌++◌, EndsRun, IsFirstOf, PortLists, WatchesRun, flat_map, output_line, stack_line, with_ports}
 use Rattle.plm80_programs.proofs.PrintLemmas.{nothing_printed}
 use Rattle.loader80_trace.specs.Traces.{run_lines}
 use Rattle.plm80_console.specs.Answer.GaveUp.{printing, starting, writing}
@@ -54,6 +55,41 @@ ending_first (Some path) memory program publics ended = refl
 pub trace_first : (program : Voucher) (publics : List Public) (ended : Option Ended) → (trace_ending program publics ended).first ≡ []
 trace_first program publics None = refl
 trace_first program publics (Some ended) = refl
+
+-- what is printed before the last line of a run that ended so
+abbrev pub run_text : (inputs : List (ℕ × ℕ)) (limits : Limits) (last : ℕ) (publics : List Public) (program : Voucher) (ended : Ended)
+    (outputs : List (ℕ × ℕ)) → List ℕ
+run_text inputs limits last publics program ended outputs =
+    (stack_line program.stack_bytes ++ flat_map output_line outputs) ++ last_lines inputs limits last publics program ended
+
+-- ---- a run that ended so
+
+module _ (inputs : List (ℕ × ℕ)) (limits : Limits) (last : ℕ) (dump : Option (List ℕ)) (publics : List Public) (program : Voucher)
+    (ended : Ended) (memory : List ℕ) (ports : PortLists)
+    (run : IsRun program.image.regions (Some limits.outputs) (start_of program inputs) limits.steps ended.steps
+    (with_ports ended.cpu memory ports) ended.end) where
+  pub watched_run : WatchesRun inputs limits last dump publics program (run_text inputs limits last publics program ended ports.outputs) ended
+      (with_memory dump memory (ending program publics ended))
+  watched_run = record {
+    front = stack_line program.stack_bytes ++ flat_map output_line ports.outputs;
+    transcript = record { last = with_ports ended.cpu memory ports; run = run; at = refl; spells = refl };
+    text_is = refl;
+    answer_is = refl;
+  }
+
+  -- what is printed first of it
+  pub first_of_run : IsFirstOf (EndsRun inputs limits last dump publics program) (run_text inputs limits last publics program ended ports.outputs)
+  first_of_run = (
+    record (with_memory dump memory (ending program publics ended)) { first = run_text inputs limits last publics program ended ports.outputs },
+    record {
+      text = run_text inputs limits last publics program ended ports.outputs;
+      ended = ended;
+      behind = with_memory dump memory (ending program publics ended);
+      watched = watched_run;
+      answer_is = refl;
+    },
+    refl,
+  )
 
 -- ---- journals
 

@@ -4,7 +4,7 @@ ghost use Rattle.std.specs.Prelude.{◌≡◌, ◌<◌, ◌≤◌, ◌++◌, ℕ
 ghost use Rattle.std.specs.{Io.KnownBytes.Appends, List.flat_map};
 ghost use Rattle.machine80.specs.{Run.IsRun, Step.with_ports};
 ghost use Rattle.loader80.specs.TranscriptText.{output_line, stack_line};
-ghost use Rattle.plm80_console.specs.Answer.{GaveUp, Gives, GivesUp, IsAnswered, IsGiven, IsGivenUp};
+ghost use Rattle.plm80_console.specs.Answer.{Gives, GivesUp, IsAnswered, IsGiven, IsGivenUp};
 ghost use Rattle.plm80_programs.specs.Running.{AnswersRun, EndsRun, WatchesRun, last_lines, start_of, with_memory};
 ghost use Rattle.loader80_trace.specs.Traces.{AppendsFront};
 ghost use Rattle.plm80_programs.specs.{Arguments.dump_path, Arguments.run_paths, Fronts.IsFirstOf, Fronts.LeavesFront};
@@ -92,7 +92,7 @@ fn print_run<C: Console>(
 /// Writes the memory of a run that was watched, if a file is named, prints the last line of its transcript, and returns the exit status.
 fn end_run<C: Console>(console: &mut C, watched: Watched<'_>) -> Result<u8, Reported>
     ensures given { IfOk result (IsGiven watched.entry.answer (C.journal console.old) (C.journal console.new)) }
-    ensures fault { IfErr result (λ _. GaveUp watched.entry.answer (C.journal console.old) (C.journal console.new)) }
+    ensures fault { IfErr result (λ _. IsGivenUp (λ answer. answer ≡ watched.entry.answer) (C.journal console.old) (C.journal console.new)) }
 {
     let Watched { ended, answer } = watched;
     let status = console.give(answer)?;

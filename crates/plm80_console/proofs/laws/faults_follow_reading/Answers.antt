@@ -10,12 +10,12 @@ read_behind old [] further = refl
 read_behind old (file ∷ files) further = read_behind (and_read old file.path file.bytes) files further
 
 -- their paths, and those of files that weren't read
-paths_behind : (files further : List FileValue) (unread rest : List (List ℕ))
-    → paths_of files ++ ((paths_of further ++ unread) ++ rest) ≡ paths_of (files ++ further) ++ (unread ++ rest)
-paths_behind files further unread rest =
-    ap (λ (ps : List (List ℕ)). paths_of files ++ ps) (append_assoc (paths_of further) unread rest)
-    ∙ sym (append_assoc (paths_of files) (paths_of further) (unread ++ rest))
-    ∙ ap (λ (ps : List (List ℕ)). ps ++ (unread ++ rest)) (sym (map-append (λ (file : FileValue). file.path) files further))
+paths_behind : (files further : List FileValue) (left rest : List (List ℕ))
+    → paths_of files ++ ((paths_of further ++ left) ++ rest) ≡ paths_of (files ++ further) ++ (left ++ rest)
+paths_behind files further left rest =
+    ap (λ (ps : List (List ℕ)). paths_of files ++ ps) (append_assoc (paths_of further) left rest)
+    ∙ sym (append_assoc (paths_of files) (paths_of further) (left ++ rest))
+    ∙ ap (λ (ps : List (List ℕ)). ps ++ (left ++ rest)) (sym (map-append (λ (file : FileValue). file.path) files further))
 
 follow : FaultsFollowReading
 follow old between new files paths further rest are were_read (unread is) = read files (further ++ rest) are (is ∙ ap and_reported were_read)

@@ -4,5 +4,5 @@ use Rattle.plm80_programs.proofs.cases.suggest_for_files.Goals as goal
 pub returns : goal.returns
 returns g c =
     let both = cases_or_gives_up c.in_ok-image.ensures.read (g.C.Console.journal c.suggest.new.console) (cases_path c.args.arguments)
-    c.suggest.result c.reading_leaves_files_alone.ensures.faults (c.suggest.ensures.done, c.suggest.ensures.fault) in
+    c.suggest.result c.suggest.ensures.done c.suggest.ensures.fault in
     record { done = both.0; fault = both.1 }

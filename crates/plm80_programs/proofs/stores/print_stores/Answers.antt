@@ -1,4 +1,6 @@
-use Rattle.plm80_programs.proofs.Names.{subst, Journal, IsGiven}
+use Rattle.plm80_programs.proofs.Names.{subst, GaveUp, Journal, IsGiven}
+use Rattle.plm80_console.specs.Answer.IsGivenUp.{within}
+use Rattle.plm80_programs.proofs.GivenLemmas.{err_from}
 use Rattle.plm80_programs.proofs.stores.print_stores.Goals as goal
 
 pub returns-in_ok-status-in-Ok-clause-done : goal.returns-in_ok-status-in-Ok-clause-done
@@ -6,7 +8,15 @@ returns-in_ok-status-in-Ok-clause-done g c =
     let answer = c.in-Ok.field-0.answer in
     record {
       answer = answer;
-      answers = c.in-Ok.ensures.stores;
+      answers = c.in-Ok.ensures;
       given = subst (λ (j : Journal). IsGiven answer j (g.C.Console.journal c.give.new.self) c.in_ok-status-in-Ok.status)
           c.in_ok-require_data.ensures.unchanged c.in_ok-status-in-Ok.ensures.given;
     }
+
+pub returns-in_err-status-in-Ok-clause-fault : goal.returns-in_err-status-in-Ok-clause-fault
+returns-in_err-status-in-Ok-clause-fault g c =
+    let answer = c.in-Ok.field-0.answer in
+    err_from c.from_residual-in_err-status-in-Ok.result
+    (within answer c.in-Ok.ensures
+    (subst (λ (j : Journal). GaveUp answer j (g.C.Console.journal c.give.new.self)) c.in_ok-require_data.ensures.unchanged
+    c.in_err-status-in-Ok.ensures.fault))
