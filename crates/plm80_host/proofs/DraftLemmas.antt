@@ -1,5 +1,5 @@
 -- Files of which one couldn't be written.
-use Rattle.std.proofs.Common.{◌≡◌, ℕ, Bool, true, false, ◌&&◌, not, cond, List, [], ◌∷◌, Result, Ok, Err, IfErr, ◌×◌, refl, ◌∙◌, ap, inl, inr, subst}
+use Rattle.std.proofs.Common.{◌≡◌, ℕ, Bool, true, false, ◌&&◌, if◌then◌else◌, not, List, [], ◌∷◌, Result, Ok, Err, IfErr, refl, ◌∙◌, ap, inl, inr, subst}
 use Rattle.plm80_console.specs.{Answer.StopsWriting, Answer.and_files, Journal.FileValue, Journal.Journal, Journal.and_reported, Journal.and_unwritten}
 use Rattle.plm80_console.specs.{Journal.and_written, Journal.file_value, Replaced.NotSettled, Replaced.new_file_value}
 use Rattle.plm80_console.specs.declared.new_file.NewFile.{NewFile}
@@ -57,8 +57,11 @@ in_reverse first second old new (inr later) = record {
   journal = later.2 ∙ ap (λ (j : Journal). and_written j second.path.now second.bytes.now) later.1.1;
 }
 
+abbrev ordered_by : (swapped : Bool) (first second : Draft) → Draft × Draft
+ordered_by swapped first second = if swapped then (second, first) else (first, second)
+
 by_order : (swapped : Bool) (first second : Draft) (old new : Journal)
-    → NotBothSettled (cond swapped (second, first) (first, second)).0.file (cond swapped (second, first) (first, second)).1.file old new
+    → NotBothSettled (ordered_by swapped first second).0.file (ordered_by swapped first second).1.file old new
     → StopsWriting (both_values first.file second.file) old new
 by_order true first second old new fault = in_reverse first.file second.file old new fault
 by_order false first second old new fault = in_turn first.file second.file old new fault
