@@ -8,7 +8,7 @@ returns-in_ok-status-in-Ok-clause-done g c =
     let answer = c.in-Ok.field-0.answer in
     record {
       answer = answer;
-      answers = c.in-Ok.ensures;
+      answers = record { data = c.in_ok-require_data.ensures.data; verdict = c.in-Ok.ensures };
       given = subst (λ (j : Journal). IsGiven answer j (g.C.Console.journal c.give.new.self) c.in_ok-status-in-Ok.status)
           c.in_ok-require_data.ensures.unchanged c.in_ok-status-in-Ok.ensures.given;
     }
@@ -17,6 +17,6 @@ pub returns-in_err-status-in-Ok-clause-fault : goal.returns-in_err-status-in-Ok-
 returns-in_err-status-in-Ok-clause-fault g c =
     let answer = c.in-Ok.field-0.answer in
     err_from c.from_residual-in_err-status-in-Ok.result
-    (within answer c.in-Ok.ensures
+    (within answer (record { data = c.in_ok-require_data.ensures.data; verdict = c.in-Ok.ensures })
     (subst (λ (j : Journal). GaveUp answer j (g.C.Console.journal c.give.new.self)) c.in_ok-require_data.ensures.unchanged
     c.in_err-status-in-Ok.ensures.fault))
