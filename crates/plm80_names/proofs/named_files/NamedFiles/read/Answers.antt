@@ -3,7 +3,7 @@ use Rattle.omf_model.specs.declared.symbols.Public.{Public}
 use Rattle.image80.specs.{Image.Located, RegionsText.Spells}
 use Rattle.image80_file.specs.ImageFile.{SpellsImage, without_regions}
 use Rattle.plm80_console.specs.Journal.{Journal, OnlyReports, and_read, and_reported, file_value}
-use Rattle.plm80_console.specs.Journal.OnlyReports.{read}
+use Rattle.plm80_console.specs.Journal.OnlyReports.{read as read_it}
 use Rattle.plm80_names.specs.{Printed.AreNamesOf, Verdict.IsProgramRead, declared.named_files.NamedFiles.NamedFiles}
 use Rattle.plm80_names.proofs.named_files.NamedFiles.read.Goals as goal
 
@@ -34,7 +34,7 @@ behind_both : {A E : Type 0} (r : Result A E) (image regions file text : List �
     → IfErr r (λ _. OnlyReports (image ∷ regions ∷ []) old new)
 behind_both (Ok x) image regions file text old between new were is = tt
 behind_both (Err e) image regions file text old between new were is =
-    read (file_value image file ∷ file_value regions text ∷ []) [] refl (is ∙ ap and_reported were)
+    read_it (file_value image file ∷ file_value regions text ∷ []) [] refl (is ∙ ap and_reported were)
 
 pub returns-clause-fault : goal.returns-clause-fault
 returns-clause-fault g c =
