@@ -46,12 +46,12 @@ one_read path_of xs i d old between new Have More bytes before after made below 
 -- the paths of files, those that were read before the next one and those behind it
 paths_at : {A : Type 0} (path_of : A → List ℕ) (xs : List A) (i : ℕ) (d : A) → i < length xs
     → map path_of xs ≡ map path_of (take i xs) ++ (path_of (get_or xs i d) ∷ map path_of (drop (i + 1) xs))
-paths_at path_of xs i d below =
-    ap (map path_of) (sym (take-append-drop (i + 1) xs) ∙ ap (λ (ys : List _). ys ++ drop (i + 1) xs) (take_more xs i d below)
+paths_at {A = A} path_of xs i d below =
+    ap (map path_of) (sym (take-append-drop (i + 1) xs) ∙ ap (λ (ys : List A). ys ++ drop (i + 1) xs) (take_more xs i d below)
     ∙ append_assoc (take i xs) (get_or xs i d ∷ []) (drop (i + 1) xs))
     ∙ map-append path_of (take i xs) (get_or xs i d ∷ drop (i + 1) xs)
 
-module _ {A X : Type 0} {path_of : A → List ℕ} {xs : List A} {i : ℕ} {Have : List FileValue → X → Type 0} {old between new : Journal} {x : X}
+module _ {A X : Type 0} (path_of : A → List ℕ) (xs : List A) (i : ℕ) {Have : List FileValue → X → Type 0} {old between new : Journal} {x : X}
     (so_far : AreRead Have (map path_of (take i xs)) old between x) where
   -- a fault before the next one is read
   pub faults_before : new ≡ and_reported between → OnlyReports (map path_of xs) old new
@@ -62,9 +62,9 @@ module _ {A X : Type 0} {path_of : A → List ℕ} {xs : List A} {i : ℕ} {Have
       (is ∙ ap and_reported so_far.journal)
 
   -- a fault as it is read, or behind that
-  pub faults_at : {d : A} → i < length xs → FaultsFollowReading → OnlyReports (path_of (get_or xs i d) ∷ []) between new
+  pub faults_at : (d : A) → i < length xs → FaultsFollowReading → OnlyReports (path_of (get_or xs i d) ∷ []) between new
       → OnlyReports (map path_of xs) old new
-  faults_at {d = d} below follow only =
+  faults_at d below follow only =
       follow old between new so_far.files (map path_of xs) (path_of (get_or xs i d) ∷ []) (map path_of (drop (i + 1) xs))
       (paths_at path_of xs i d below
       ∙ ap (λ (ps : List (List ℕ)). ps ++ (path_of (get_or xs i d) ∷ map path_of (drop (i + 1) xs))) (sym so_far.paths_are))

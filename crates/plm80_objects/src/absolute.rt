@@ -3,7 +3,7 @@
 ghost use Rattle.std.specs.Prelude.{◌≡◌, ◌||◌, ◌++◌, ◌∷◌, ℕ, [], length, IfOk, IfErr, OnOk};
 ghost use Rattle.rom80.specs.Rom.{chunks_of, is_among, is_covered};
 ghost use Rattle.plm80_console.specs.Journal.{OnlyReports, and_reported};
-ghost use Rattle.plm80_objects.specs.Absolute.{AreDumpsRead, AreRomFiles, GivesDumps, GivesUpDumps, IsRomFile, WritesImage};
+ghost use Rattle.plm80_objects.specs.Absolute.{AreDumpsRead, AreRomFiles, GivesDumps, GivesUpDumps, IsRomFile, WritesImage, rom_paths};
 ghost use Rattle.plm80_objects.specs.{Arguments.AreAbsoluteArguments, RomFaults.IsRefusedWith};
 
 use crate::extract::FIRST;

@@ -10,12 +10,12 @@ loop-path-init g c =
 pub returns-in_err-read-clause-fault : goal.returns-in_err-read-clause-fault
 returns-in_err-read-clause-fault g c =
     err_from c.from_residual.result
-    (faults_at {path_of = text_of} c.loop-path.invariant c.loop-path-test.true c.faults_follow_reading.ensures c.in_err-read.ensures.fault)
+    (faults_at text_of c.args.paths.now c.loop-path.path-index c.loop-path.invariant _ c.loop-path-test.true c.faults_follow_reading.ensures c.in_err-read.ensures.fault)
 
 pub returns-in_err-append_modules-clause-fault : goal.returns-in_err-append_modules-clause-fault
 returns-in_err-append_modules-clause-fault g c =
     err_from c.from_residual-in_err-append_modules.result
-    (faults_at {path_of = text_of} c.loop-path.invariant c.loop-path-test.true c.faults_follow_reading.ensures
+    (faults_at text_of c.args.paths.now c.loop-path.path-index c.loop-path.invariant _ c.loop-path-test.true c.faults_follow_reading.ensures
     (read_then_reported _ c.in_ok-read.ensures.read.0 (g.C.Console.journal c.loop-path.console) (g.C.Console.journal c.read_modules.new.console)
     (g.C.Console.journal c.append_modules.new.console) c.in_ok-read.ensures.read.1 c.in_err-append_modules.ensures.fault))
 

@@ -11,11 +11,11 @@ loop-path-init g c =
 pub returns-in_err-file-clause-fault : goal.returns-in_err-file-clause-fault
 returns-in_err-file-clause-fault g c =
     err_from c.from_residual.result
-    (faults_at {path_of = text_of} c.loop-path.invariant c.loop-path-test.true c.faults_follow_reading.ensures c.in_err-file.ensures.fault)
+    (faults_at text_of c.args.paths.now c.loop-path.path-index c.loop-path.invariant _ c.loop-path-test.true c.faults_follow_reading.ensures c.in_err-file.ensures.fault)
 
 pub returns-in-Err-clause-fault : goal.returns-in-Err-clause-fault
 returns-in-Err-clause-fault g c =
-    faults_at {path_of = text_of} c.loop-path.invariant c.loop-path-test.true c.faults_follow_reading.ensures
+    faults_at text_of c.args.paths.now c.loop-path.path-index c.loop-path.invariant _ c.loop-path-test.true c.faults_follow_reading.ensures
     (read_then_reported _ c.in_ok-file.ensures.read.0 (g.C.Console.journal c.loop-path.console) (g.C.Console.journal c.read_link_file.new.console)
     (g.C.Console.journal c.report_memory.new.self) c.in_ok-file.ensures.read.1 c.report_memory.ensures)
 

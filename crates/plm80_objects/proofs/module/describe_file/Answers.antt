@@ -1,5 +1,6 @@
 use Rattle.plm80_objects.proofs.Names.{List, [], ◌∷◌, refl, subst, IfOk, IfOk-weaker, ModuleValue, file_value, AnswersModules, DescribesModules}
 use Rattle.plm80_objects.proofs.GivenLemmas.{both_if_made}
+use Rattle.plm80_console.specs.Answer.GivesUp.{before}
 use Rattle.plm80_objects.proofs.module.describe_file.Goals as goal
 
 pub returns-in-Ok : goal.returns-in-Ok
@@ -16,3 +17,6 @@ returns-in-Ok g c =
     (subst (λ (ms : List ModuleValue). IfOk made (DescribesModules ms)) c.deref.ensures.value c.describe_modules-answer.ensures))
     c.give_if_made.ensures.given c.give_if_made.ensures.fault in
     record { done = both.0; fault = both.1 }
+
+pub returns-in-Err-clause-fault : goal.returns-in-Err-clause-fault
+returns-in-Err-clause-fault g c = before c.in-Err.ensures.fault
