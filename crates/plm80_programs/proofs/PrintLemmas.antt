@@ -1,6 +1,6 @@
 -- What was written to an output that was taken back.
 use Rattle.plm80_programs.proofs.Names.{◌<◌, AppendsFront, Answers, GaveUp, AnswerValue, IsGivenUp, LeavesFront, StopsPrinting, and_reported, append-nil}
-use Rattle.plm80_programs.proofs.Names.{length, take, drop, take-append-drop, take-append_seam, inl, inr}
+use Rattle.plm80_programs.proofs.Names.{arith, length, take, drop, take-append-drop, take-append_seam, inl, inr}
 use Rattle.plm80_programs.proofs.Names.{◌≡◌, ℕ, List, [], Option, None, Some, Result, Ok, Err, refl, Appends, ◌∙◌, ap, subst}
 use Rattle.plm80_programs.proofs.Names.{sym, Outcome, SessionFault, Read, Write, Image, Regions, Inputs, Refused, TooLong, Sends, Says}
 use Rattle.plm80_programs.proofs.Names.{Texts, Limits, IsAnswered}

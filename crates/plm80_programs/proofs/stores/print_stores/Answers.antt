@@ -6,7 +6,7 @@ use Rattle.plm80_programs.proofs.stores.print_stores.Goals as goal
 
 -- the same image, seen as a value
 all_data : (quiet : List Range) (inside value : Located) → inside ≡ value → All (IsAllData inside.regions) quiet → All (IsAllData value.regions) quiet
-all_data quiet inside value same data = subst (λ (i : Located). All (IsAllData i.regions) quiet) same data
+all_data quiet inside value same are = subst (λ (i : Located). All (IsAllData i.regions) quiet) same are
 
 pub returns-in_ok-status-in-Ok-clause-done : goal.returns-in_ok-status-in-Ok-clause-done
 returns-in_ok-status-in-Ok-clause-done g c =
@@ -26,8 +26,8 @@ returns-in_err-status-in-Ok-clause-fault g c =
     let answer = c.in-Ok.field-0.answer in
     err_from c.from_residual-in_err-status-in-Ok.result
     (within answer (record {
-        are_data = all_data c.args.quiet.now _ _ c.image.view_is c.in_ok-require_data.ensures.are_data;
-        verdict = c.in-Ok.ensures;
-      })
+      are_data = all_data c.args.quiet.now _ _ c.image.view_is c.in_ok-require_data.ensures.are_data;
+      verdict = c.in-Ok.ensures;
+    })
     (subst (λ (j : Journal). GaveUp answer j (g.C.Console.journal c.give.new.self)) c.in_ok-require_data.ensures.unchanged
     c.in_err-status-in-Ok.ensures.fault))

@@ -44,8 +44,8 @@ returns-in-Err-TooLong-clause-fault g c =
     ∙ ap (λ (j : Journal). and_read j asked.image.now bytes) (c.in_ok-ram.ensures.unchanged ∙ c.in_ok-rom.ensures.unchanged))
     c.report.ensures)
 
-pub returns-in-Err-Memory-clause-fault : goal.returns-in-Err-Memory-clause-fault
-returns-in-Err-Memory-clause-fault g c =
+pub returns-clause-fault : goal.returns-clause-fault
+returns-clause-fault g c =
     let asked = c.args.arguments.now in
     let bytes = c.in_ok-image.ensures.image.0 in
     before

@@ -32,8 +32,8 @@ returns-in-Ok-Refused g c =
     c.give.ensures.given c.give.ensures.fault) in
     record { done = both.0; fault = both.1 }
 
-pub returns-in-Err-clause-fault : goal.returns-in-Err-clause-fault
-returns-in-Err-clause-fault g c = run_reported c.in_ok-program.ensures.read (g.C.Console.journal c.report_memory.new.self) c.report_memory.ensures
+pub returns-clause-fault : goal.returns-clause-fault
+returns-clause-fault g c = run_reported c.in_ok-program.ensures.read (g.C.Console.journal c.report_memory.new.self) c.report_memory.ensures
 
 pub returns-in_err-program-clause-fault : goal.returns-in_err-program-clause-fault
 returns-in_err-program-clause-fault g c =
