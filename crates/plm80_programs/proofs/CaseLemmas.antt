@@ -151,4 +151,3 @@ module _ (image : Located) (reached taken : List Bool) where
           subst (λ (l : List ℕ). AppendsFront old new l) (sym (cases_more shown.cases (cons_option found.case [])))
               (front_of_second old now new (cases_text shown.cases) (cases_text (cons_option found.case [])) shown.written part),
         )
-

@@ -2,11 +2,11 @@
 use Rattle.plm80_programs.proofs.Names.{◌≡◌, ℕ, List, [], ◌∷◌, Option, Result, Ok, Err, IfOk, IfErr, IsOkAnd, refl, subst, IfErr-weaker}
 use Rattle.plm80_programs.proofs.Names.{IfOk-weaker, Public, Located, Voucher, AnswerValue, GaveUp, Gives, GivesUp, IsAnswered, IsGiven}
 use Rattle.plm80_programs.proofs.Names.{IsGivenUp, paths_of, prints, FileValue, Journal, OnlyReports, and_read_files, and_reported, file_value}
-use Rattle.plm80_programs.proofs.Names.{PrintsCasesInPart, AnswersCasesInPart, append-nil, sym, ◌∙◌, ap, AnswersProgram, AnswersVerdict, IsAccepted, IsProgramRead, IsRefusal}
+use Rattle.plm80_programs.proofs.Names.{PrintsCasesInPart, AnswersCasesInPart, append-nil, append_assoc, ◌++◌, sym, ◌∙◌, ap, AnswersProgram, AnswersVerdict, IsAccepted, IsProgramRead, IsRefusal}
 use Rattle.plm80_programs.proofs.Names.{Bool, false, RunFiles, run_paths, AnswersCases, PrintsCases, AnswersRun, IsRunRead}
 use Rattle.plm80_console.specs.Answer.IsGivenUp.{before as before_it, within as within_it}
 use Rattle.plm80_console.specs.Answer.GivesUp.{before, within}
-use Rattle.plm80_console.specs.Journal.OnlyReports.{read as read_it}
+use Rattle.plm80_console.specs.Journal.OnlyReports.{read as read_it, unread as nothing_read}
 use Rattle.plm80_names.specs.Verdict.AnswersVerdict.{accepted, refused}
 
 pub err_from : {A E P : Type 0} (r : Result A E) → P → IfErr r (λ _. P)
@@ -18,6 +18,14 @@ pub reported_after : (old between new : Journal) (files : List FileValue) (paths
     → between ≡ and_read_files old files → new ≡ and_reported between → OnlyReports paths old new
 reported_after old between new files paths named were is =
     read_it files [] (sym (append-nil (paths_of files) ∙ named)) (is ∙ ap and_reported were)
+
+-- further files, which weren't read
+pub more_paths : {paths : List (List ℕ)} {old new : Journal} (further : List (List ℕ)) → OnlyReports paths old new
+    → OnlyReports (paths ++ further) old new
+more_paths further (nothing_read is) = nothing_read is
+more_paths further (read_it files rest first is) =
+    read_it files (rest ++ further)
+    (ap (λ (ps : List (List ℕ)). ps ++ further) first ∙ append_assoc (paths_of files) rest further) is
 
 -- nothing at all came before
 pub reports_same : {A E : Type 0} {paths : List (List ℕ)} {old between new : Journal} (r : Result A E) → between ≡ old

@@ -1,6 +1,6 @@
 -- What was written to an output that was taken back.
 use Rattle.plm80_programs.proofs.Names.{◌<◌, AppendsFront, Answers, GaveUp, AnswerValue, IsGivenUp, LeavesFront, StopsPrinting, and_reported, append-nil}
-use Rattle.plm80_programs.proofs.Names.{length, take, drop, take-append-drop, take-append_seam, inl, inr}
+use Rattle.plm80_programs.proofs.Names.{arith, length, take, drop, take-append-drop, take-append_seam, inl, inr}
 use Rattle.plm80_programs.proofs.Names.{◌≡◌, ℕ, List, [], Option, None, Some, Result, Ok, Err, refl, Appends, ◌∙◌, ap, subst}
 use Rattle.plm80_programs.proofs.Names.{sym, Outcome, SessionFault, Read, Write, Image, Regions, Inputs, Refused, TooLong, Sends, Says}
 use Rattle.plm80_programs.proofs.Names.{Texts, Limits, IsAnswered}
@@ -69,7 +69,10 @@ session_given limits texts said before after old between new status empty same s
     record {
       answer = prints all.0 status;
       answers = record { said = said; says = all.1; status_is = is; no_file = refl };
-      given = record { journal = printed before after all.0 old between new empty same all.2 taken; status_is = refl };
+      given = record {
+        journal = printed before after all.0 old between new empty same all.2 taken ∙ ap (λ (j : Journal). and_printed j all.0) (sym (nothing_printed old));
+        status_is = refl;
+      };
     }
 
 -- ---- a session that was given up
@@ -87,9 +90,9 @@ whole_answer limits texts (Err (Read n)) text count answers part = absurd (no_pa
 whole_answer limits texts (Err (TooLong n)) text count answers part = absurd (no_part text count answers.1 part)
 whole_answer limits texts (Err Memory) text count answers part = absurd (no_part text count answers part)
 whole_answer limits texts (Err Write) text count answers part = absurd answers.1
-whole_answer limits texts (Err (Regions f)) text count answers part = absurd (no_part text count answers.1.1.1 part)
-whole_answer limits texts (Err (Image f)) text count answers part = absurd (no_part text count answers.1.1.1.1 part)
-whole_answer limits texts (Err (Inputs n)) text count answers part = absurd (no_part text count answers.1.1.1 part)
+whole_answer limits texts (Err (Regions f)) text count answers part = absurd (no_part text count answers.1.2 part)
+whole_answer limits texts (Err (Image f)) text count answers part = absurd (no_part text count answers.1.3 part)
+whole_answer limits texts (Err (Inputs n)) text count answers part = absurd (no_part text count answers.1.2 part)
 
 -- nothing was sent
 sent_none : (limits : Limits) (texts : Texts) (said : Result Outcome SessionFault) (fault : SessionFault) (before after : Option (List ℕ))
@@ -98,18 +101,22 @@ sent_none : (limits : Limits) (texts : Texts) (said : Result Outcome SessionFaul
 sent_none limits texts (Ok o) fault before after is sends = absurd cc
 sent_none limits texts (Err (Refused r)) fault before after is sends = absurd cc
 sent_none limits texts (Err Write) fault before after is sends =
-    inr (sends.text, whole_answer limits texts sends.answer sends.text sends.count sends.answers sends.part, record {
-      front = take sends.count sends.text;
-      rest = drop sends.count sends.text;
-      parts = sym (take-append-drop sends.count sends.text);
-      appended = sends.appended;
-    })
+    inr (
+      sends.text,
+      whole_answer limits texts sends.answer sends.text sends.count sends.answers sends.part,
+      record {
+        front = take sends.count sends.text;
+        rest = drop sends.count sends.text;
+        parts = sym (take-append-drop sends.count sends.text);
+        appended = sends.appended;
+      },
+    )
 sent_none limits texts (Err (Read n)) fault before after is sends = inl (subst (Appends before after) sends.answers.1 sends.appended)
 sent_none limits texts (Err (TooLong n)) fault before after is sends = inl (subst (Appends before after) sends.answers.1 sends.appended)
 sent_none limits texts (Err Memory) fault before after is sends = inl (subst (Appends before after) sends.answers sends.appended)
-sent_none limits texts (Err (Regions f)) fault before after is sends = inl (subst (Appends before after) sends.answers.1.1.1 sends.appended)
-sent_none limits texts (Err (Image f)) fault before after is sends = inl (subst (Appends before after) sends.answers.1.1.1.1 sends.appended)
-sent_none limits texts (Err (Inputs n)) fault before after is sends = inl (subst (Appends before after) sends.answers.1.1.1 sends.appended)
+sent_none limits texts (Err (Regions f)) fault before after is sends = inl (subst (Appends before after) sends.answers.1.2 sends.appended)
+sent_none limits texts (Err (Image f)) fault before after is sends = inl (subst (Appends before after) sends.answers.1.3 sends.appended)
+sent_none limits texts (Err (Inputs n)) fault before after is sends = inl (subst (Appends before after) sends.answers.1.2 sends.appended)
 
 pub session_given_up : (limits : Limits) (texts : Texts) (said : Result Outcome SessionFault) (fault : SessionFault) (before after : Option (List ℕ))
     (old lent between new : Journal) → before ≡ Some [] → lent ≡ old → Sends limits.outputs limits.steps texts said before after

@@ -1,5 +1,5 @@
 -- Runs that are watched, and their exit statuses.
-use Rattle.plm80_programs.proofs.Names.{◌≡◌, ℕ, ◌+◌, ◌-◌, ◌≤◌, zero, suc, min, false, List, [], Option, None, Some, Result}
+use Rattle.plm80_programs.proofs.Names.{◌≡◌, ℕ, ◌+◌, ◌-◌, ◌≤◌, zero, suc, min, false, List, [], ◌∷◌, Option, None, Some, Result}
 use Rattle.plm80_programs.proofs.Names.{IfErr, IfOk, refl, ◌∙◌, ap, arith, length, subst, sym, take, take_all, min-eq_left}
 use Rattle.plm80_programs.proofs.Names.{IfErr-weaker, IfOk-weaker, Public, Areas, End, IsRun}
 use Rattle.plm80_programs.proofs.Names.{Machine, World, Ended, Voucher, Limits, Span, last_number, ending}
@@ -93,9 +93,10 @@ module _ (inputs : List (ℕ × ℕ)) (limits : Limits) (last : ℕ) (dump : Opt
 
 -- ---- journals
 
-take_nil : (n : ℕ) → take n [] ≡ []
-take_nil zero = refl
-take_nil (suc n) = refl
+take_none : (n : ℕ) (bytes : List ℕ) → bytes ≡ [] → take n bytes ≡ []
+take_none zero bytes none = refl
+take_none (suc n) [] none = refl
+take_none (suc n) (byte ∷ bytes) none = absurd cc
 
 -- an answer that is one of these with lines before it
 module _ (Part : AnswerValue → Type 0) (answer : AnswerValue) (old between new : Journal) (lines : List ℕ) (none : answer.first ≡ [])
@@ -125,7 +126,7 @@ module _ (Part : AnswerValue → Type 0) (answer : AnswerValue) (old between new
 
   gave_up_behind : GaveUp answer between new → GaveUp (record answer { first = lines }) old new
   gave_up_behind (starting stops) =
-      let nothing : take stops.0 answer.first ≡ [] = ap (take stops.0) none ∙ take_nil stops.0 in
+      let nothing : take stops.0 answer.first ≡ [] = take_none stops.0 answer.first none in
       starting (stopped_behind (stops.1 ∙ ap (λ (l : List ℕ). and_reported (and_printed between l)) nothing
       ∙ ap and_reported (nothing_printed between)))
   gave_up_behind (writing stops) = writing (subst (λ (j : Journal). StopsWriting answer.files j new) begins stops)

@@ -87,7 +87,7 @@ IsAllData regions range = (at : ℕ) → at < 65536 → in_range range at ≡ tr
 
 -- the quiet ranges are data; the stores are listed, or the refusal
 pub record PrintsStores (quiet : List Range) (image : Located) (publics : List Public) (answer : AnswerValue) : Type 0 where
-  pub data : All (IsAllData image.regions) quiet
+  pub are_data : All (IsAllData image.regions) quiet
   pub verdict : AnswersVerdict (ListsStores quiet publics) image publics answer
 
 -- the same of two files, with the ranges that the options write

@@ -133,7 +133,7 @@ fn require_data<C: Console>(
     regions: &Regions,
     quiet: &[Range],
 ) -> Result<(), Reported>
-    ensures data { OnOk result (All (IsAllData regions.now) quiet.now) }
+    ensures are_data { OnOk result (All (IsAllData regions.now) quiet.now) }
     ensures unchanged { IfOk result (λ _. C.journal console.new ≡ C.journal console.old) }
     ensures fault { IfErr result (λ _. C.journal console.new ≡ and_reported (C.journal console.old)) }
 {

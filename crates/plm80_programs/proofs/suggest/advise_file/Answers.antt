@@ -1,6 +1,8 @@
 use Rattle.plm80_programs.proofs.Names.{[], ◌∷◌, refl, ◌∙◌, ap, Journal, and_read, file_value, AnswersAdvice}
 use Rattle.plm80_programs.proofs.GivenLemmas.{gives_or_gives_up, reported_after}
 use Rattle.plm80_console.specs.Answer.GivesUp.{before}
+use Rattle.plm80_programs.proofs.GivenLemmas.{err_from}
+use Rattle.plm80_programs.proofs.Names.{subst, OnlyReports}
 use Rattle.plm80_programs.proofs.suggest.advise_file.Goals as goal
 
 pub returns-in-Ok : goal.returns-in-Ok
@@ -42,8 +44,8 @@ returns-in-Err-TooLong-clause-fault g c =
     ∙ ap (λ (j : Journal). and_read j asked.image.now bytes) (c.in_ok-ram.ensures.unchanged ∙ c.in_ok-rom.ensures.unchanged))
     c.report.ensures)
 
-pub returns-in-Err-Memory-clause-fault : goal.returns-in-Err-Memory-clause-fault
-returns-in-Err-Memory-clause-fault g c =
+pub returns-clause-fault : goal.returns-clause-fault
+returns-clause-fault g c =
     let asked = c.args.arguments.now in
     let bytes = c.in_ok-image.ensures.image.0 in
     before
@@ -52,3 +54,10 @@ returns-in-Err-Memory-clause-fault g c =
     (c.in_ok-image.ensures.image.2
     ∙ ap (λ (j : Journal). and_read j asked.image.now bytes) (c.in_ok-ram.ensures.unchanged ∙ c.in_ok-rom.ensures.unchanged))
     c.report_memory.ensures)
+
+pub returns-in_err-image-clause-fault : goal.returns-in_err-image-clause-fault
+returns-in_err-image-clause-fault g c =
+    err_from c.from_residual-in_err-image.result
+    (before
+    (subst (λ (j : Journal). OnlyReports (c.args.arguments.now.image.now ∷ []) j (g.C.Console.journal c.bare_image.new.console))
+    (c.in_ok-ram.ensures.unchanged ∙ c.in_ok-rom.ensures.unchanged) c.in_err-image.ensures.fault))

@@ -1,5 +1,7 @@
 use Rattle.plm80_programs.proofs.GivenLemmas.{run_accepted, run_accepted_given_up, run_refused, run_reported}
 use Rattle.plm80_programs.proofs.Names.{subst, IsVerdict, TracesPart, TracesRun}
+use Rattle.plm80_programs.proofs.GivenLemmas.{err_from}
+use Rattle.plm80_console.specs.Answer.GivesUp.{before}
 use Rattle.plm80_programs.proofs.trace.trace_within.Goals as goal
 
 pub returns-in-Ok-Accepted : goal.returns-in-Ok-Accepted
@@ -26,5 +28,9 @@ returns-in-Ok-Refused g c =
           c.prints.result c.give.result is c.prints.ensures c.give.ensures.given c.give.ensures.fault).1;
     }
 
-pub returns-in-Err-clause-fault : goal.returns-in-Err-clause-fault
-returns-in-Err-clause-fault g c = run_reported c.in_ok-program.ensures.read (g.C.Console.journal c.report_memory.new.self) c.report_memory.ensures
+pub returns-clause-fault : goal.returns-clause-fault
+returns-clause-fault g c = run_reported c.in_ok-program.ensures.read (g.C.Console.journal c.report_memory.new.self) c.report_memory.ensures
+
+pub returns-in_err-program-clause-fault : goal.returns-in_err-program-clause-fault
+returns-in_err-program-clause-fault g c =
+    err_from c.from_residual.result (before c.in_err-program.ensures.fault)

@@ -1,5 +1,7 @@
 use Rattle.plm80_programs.proofs.Names.{refl, run_paths, AnswersSession, AnswersTexts, run_files, texts_of}
 use Rattle.plm80_programs.proofs.GivenLemmas.{part_gives_or_gives_up}
+use Rattle.plm80_programs.proofs.GivenLemmas.{err_from}
+use Rattle.plm80_console.specs.Answer.GivesUp.{before}
 use Rattle.plm80_programs.proofs.helpers.session_files.run_session.Goals as goal
 
 pub returns : goal.returns
@@ -17,3 +19,7 @@ returns g c =
       answers = answers;
     }) c.print_session-given.result (c.print_session-given.ensures.done, c.print_session-given.ensures.fault) in
     record { done = both.0; fault = both.1 }
+
+pub returns-in_err-texts-clause-fault : goal.returns-in_err-texts-clause-fault
+returns-in_err-texts-clause-fault g c =
+    err_from c.from_residual.result (before c.in_err-texts.ensures.fault)

@@ -1,6 +1,8 @@
 use Rattle.plm80_programs.proofs.Names.{ℕ, List, subst, IsVerdict, AnswersVerdict, EndsRun, dump_path}
 use Rattle.plm80_programs.proofs.GivenLemmas.{answered_of, given_or_given_up, run_or_gives_up, run_reported}
 use Rattle.plm80_names.specs.Verdict.AnswersVerdict.{accepted, refused}
+use Rattle.plm80_programs.proofs.GivenLemmas.{err_from}
+use Rattle.plm80_console.specs.Answer.GivesUp.{before}
 use Rattle.plm80_programs.proofs.helpers.watching.watch_run.Goals as goal
 
 pub returns-in-Ok-Accepted : goal.returns-in-Ok-Accepted
@@ -30,5 +32,9 @@ returns-in-Ok-Refused g c =
     c.give.ensures.given c.give.ensures.fault) in
     record { done = both.0; fault = both.1 }
 
-pub returns-in-Err-clause-fault : goal.returns-in-Err-clause-fault
-returns-in-Err-clause-fault g c = run_reported c.in_ok-program.ensures.read (g.C.Console.journal c.report_memory.new.self) c.report_memory.ensures
+pub returns-clause-fault : goal.returns-clause-fault
+returns-clause-fault g c = run_reported c.in_ok-program.ensures.read (g.C.Console.journal c.report_memory.new.self) c.report_memory.ensures
+
+pub returns-in_err-program-clause-fault : goal.returns-in_err-program-clause-fault
+returns-in_err-program-clause-fault g c =
+    err_from c.from_residual.result (before c.in_err-program.ensures.fault)
