@@ -1,1 +1,2 @@
 mod ApartLemmas
+mod BundleLemmas

@@ -3,7 +3,7 @@ use Rattle.std.specs.Prelude.{◌≡◌, ◌⊎◌, ℕ, Bool, true, false, List
 use Rattle.std.specs.Str.{bytes_eq}
 use Rattle.clap.specs.Matches.{found_of, subcommand_name_of}
 use Rattle.clap.specs.{declared.parser.matches.ArgMatches.ArgMatches, Simple.subcommand_rows_of, Walk.rows_of}
-use Rattle.plm80_console.specs.Journal.{Journal, OnlyReports, and_reported}
+use Rattle.plm80_console.specs.Journal.{Journal, and_reported}
 use Rattle.plm80_console.specs.{Answer.Gives, Answer.GivesUp, Arguments.argument_text}
 use Rattle.plm80_names.specs.{Arguments.AreNamedFiles, Arguments.asks_names, Arguments.program_paths, Verdict.AnswersProgram}
 use Rattle.plm80_objects.specs.Absolute.{ExtractsFile, GivesDumps, GivesUpDumps}
@@ -12,8 +12,8 @@ use Rattle.plm80_objects.specs.Modules.{AnswersModules, DescribesModules, GivesU
 use Rattle.plm80_objects.specs.{Compare.ComparesFiles, Find.FindsModules, Link.LinksFiles}
 use Rattle.plm80_programs.specs.Arguments.{AreCallsArguments, AreCasesArguments, AreCoverArguments, AreExplainArguments, AreListArguments, AreRegionsArguments, AreRunArguments, AreStoresArguments, AreTraceArguments, cases_path, run_paths}
 use Rattle.plm80_programs.specs.Printed.{AnswersStores, PrintsCalls, PrintsListing, PrintsReport}
-use Rattle.plm80_programs.specs.Running.{CoversFiles, RunsFiles, TracesFiles}
-use Rattle.plm80_programs.specs.{Cases.AnswersCases, InputWords.AnswersWords, InputWords.AreInputsArguments, Explanations.PrintsExplanation}
+use Rattle.plm80_programs.specs.Running.{CoversFiles, RunsFiles, TracesFiles, TracesFilesInPart}
+use Rattle.plm80_programs.specs.{Cases.AnswersCases, Cases.AnswersCasesInPart, InputWords.AnswersWords, InputWords.AreInputsArguments, Explanations.PrintsExplanation}
 use Rattle.plm80_programs.specs.{Suggest.AnswersAdvice, Suggest.AreSuggestArguments, Written.AnswersRegions}
 use Rattle.plm80.specs.{Apart.AreApartIn, declared.commands.arguments.Request.Request}
 use Rattle.plm80.specs.declared.commands.arguments.Request.TheVariants as request
@@ -98,18 +98,29 @@ IsPerformed (request.Module arguments) old new status = Gives (AnswersModules De
 IsPerformed (request.Find arguments) old new status = Gives (FindsModules arguments) (arguments.dump.now ∷ map (λ path. path.now) arguments.files.items) old new status
 IsPerformed (request.Suggest arguments) old new status = Gives (AnswersAdvice arguments) (arguments.image.now ∷ []) old new status
 
--- it isn't: a fault was reported. Twelve commands have written no file; the nine that write files may have written some of their answer's
+-- it isn't: a fault was reported, once, and what was written and printed before is part of its answer
 abbrev pub IsFailed : Request → (old new : Journal) → Type 0
 IsFailed (request.Link arguments) old new = GivesUp (LinksFiles arguments) (map (λ path. path.now) arguments.files.items) old new
 IsFailed (request.Locate arguments) old new = GivesUp (LocatesFile arguments) (arguments.object.now ∷ []) old new
 IsFailed (request.Run arguments) old new = GivesUp (RunsFiles arguments) (run_paths arguments.files) old new
+IsFailed (request.List arguments) old new = GivesUp (AnswersProgram (PrintsListing arguments.reached) (asks_names arguments.files)) (program_paths arguments.files) old new
+IsFailed (request.Check files) old new = GivesUp (AnswersProgram PrintsReport (asks_names files)) (program_paths files) old new
+IsFailed (request.Explain arguments) old new = GivesUp (AnswersProgram (PrintsExplanation arguments.all) (asks_names arguments.files)) (program_paths arguments.files) old new
 IsFailed (request.Library arguments) old new = GivesUpLibrary arguments old new
 IsFailed (request.Regions arguments) old new = GivesUp (AnswersRegions arguments.new.now) (arguments.old.now ∷ []) old new
-IsFailed (request.Cases arguments) old new = GivesUp (AnswersCases (cases_path arguments)) (arguments.image.now ∷ arguments.regions.now ∷ []) old new
+IsFailed (request.Cases arguments) old new = GivesUp (AnswersCasesInPart (cases_path arguments)) (arguments.image.now ∷ arguments.regions.now ∷ []) old new
+IsFailed (request.Map arguments) old new = GivesUp (MapsFile arguments) (arguments.object.now ∷ []) old new
 IsFailed (request.Extract arguments) old new = GivesUp (ExtractsFile arguments) (arguments.image.now ∷ []) old new
 IsFailed (request.Absolute arguments) old new = GivesUpDumps arguments old new
+IsFailed (request.Stores arguments) old new = GivesUp (AnswersStores arguments) (program_paths arguments.files) old new
+IsFailed (request.Compare arguments) old new = GivesUp (ComparesFiles arguments) (arguments.image.now ∷ arguments.dump.now ∷ []) old new
 IsFailed (request.Inputs arguments) old new = GivesUp (AnswersWords arguments) ([]) old new
-IsFailed _ old new = OnlyReports old new
+IsFailed (request.Calls arguments) old new = GivesUp (AnswersProgram (PrintsCalls arguments.dot) (asks_names arguments.files)) (program_paths arguments.files) old new
+IsFailed (request.Trace arguments) old new = GivesUp (TracesFilesInPart arguments) (run_paths arguments.files) old new
+IsFailed (request.Cover arguments) old new = GivesUp (CoversFiles arguments) (run_paths arguments.files) old new
+IsFailed (request.Module arguments) old new = GivesUp (AnswersModules DescribesModules) (arguments.object.now ∷ []) old new
+IsFailed (request.Find arguments) old new = GivesUp (FindsModules arguments) (arguments.dump.now ∷ map (λ path. path.now) arguments.files.items) old new
+IsFailed (request.Suggest arguments) old new = GivesUp (AnswersAdvice arguments) (arguments.image.now ∷ []) old new
 
 -- one of both, with the exit status
 abbrev pub IsDone : Request → (old new : Journal) → (status : ℕ) → Type 0

@@ -11,8 +11,7 @@
 ghost use Rattle.std.specs.Prelude.{◌≡◌, ◌<◌, ◌≤◌, true, false, length, IfErr, IfOk};
 ghost use Rattle.std.specs.Process.{exit_status};
 ghost use Rattle.loader80_text.specs.{Bundle.BundleSends, Bundle.bundle_limit, BundleText.bundle_texts};
-ghost use Rattle.plm80_console.specs.Journal.{OnlyReports};
-ghost use Rattle.plm80.specs.Bundles.{GivesBundle, IsBundleDone, bundle_status};
+ghost use Rattle.plm80.specs.Bundles.{GivesBundle, GivesUpBundle, IsBundleDone, bundle_status};
 ghost use Rattle.plm80.specs.Requests.{IsCommandDone, asks_bundle};
 
 mod bundle_words;
@@ -97,7 +96,7 @@ fn run_bundle<C: Console>(console: &mut C, why: bool) -> ExitCode
 /// Runs the bundle on standard input, prints its transcript, and gives the exit status.
 fn transcribe<C: Console>(console: &mut C) -> Result<u8, Reported>
     ensures done { IfOk result (GivesBundle (C.journal console.old) (C.journal console.new)) }
-    ensures fault { IfErr result (λ _. OnlyReports (C.journal console.old) (C.journal console.new)) }
+    ensures fault { IfErr result (λ _. GivesUpBundle (C.journal console.old) (C.journal console.new)) }
 {
     let text = console.read_input(BUNDLE_LIMIT)?;
     let mut output = console.output();

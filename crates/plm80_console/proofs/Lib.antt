@@ -1,3 +1,4 @@
+mod JournalLemmas
 mod NumberLemmas
 mod PieceLemmas
 mod SharedLemmas

@@ -1,6 +1,6 @@
 -- What a run did with the world outside: with files, standard input, standard output and standard error.
 -- (Which of it a command owes is this project's own.)
-use Rattle.std.specs.Prelude.{◌≡◌, ◌⊎◌, ℕ, ◌+◌, ◌<◌, List, [], ◌∷◌, ◌++◌, Option, IfSome, length, take, drop}
+use Rattle.std.specs.Prelude.{◌≡◌, ℕ, ◌+◌, Bool, List, [], ◌∷◌, ◌++◌, Option, IfSome, length, map, take}
 
 -- a file: its path, and all of its bytes
 pub record FileValue : Type 0 where
@@ -11,21 +11,25 @@ pub record FileValue : Type 0 where
 abbrev pub file_value : (path bytes : List ℕ) → FileValue
 file_value path bytes = record { path = path; bytes = bytes }
 
--- Files that were read whole, in order; all bytes of standard input, if they were read; files that were written whole, in order; bytes
--- that were printed on standard output; how many lines of faults were printed on standard error; the paths of files that may have
--- neither their old bytes nor their new ones, since writing them in place failed; and the paths under which copies of files were kept,
--- each with how many files had been written before it.
+abbrev pub paths_of : List FileValue → List (List ℕ)
+paths_of files = map (λ (file : FileValue). file.path) files
+
+-- Files that were read whole, in order; all bytes of standard input, if they were read; files that were written whole, in order, each with
+-- how many bytes had been printed before it; bytes that were printed on standard output; how many lines of faults were printed on standard
+-- error; the paths of files that were to be written and weren't, each with whether it may have neither its old bytes nor its new ones,
+-- since writing it in place failed; and the paths under which copies of files were kept, each with how many files had been written
+-- before it.
 pub record Journal : Type 0 where
   pub read : List FileValue
   pub input : List ℕ
-  pub written : List FileValue
+  pub written : List (FileValue × ℕ)
   pub printed : List ℕ
   pub reported : ℕ
-  pub spoiled : List (List ℕ)
+  pub unwritten : List (List ℕ × Bool)
   pub copies : List (List ℕ × ℕ)
 
 abbrev pub nothing_done : Journal
-nothing_done = record { read = []; input = []; written = []; printed = []; reported = 0; spoiled = []; copies = [] }
+nothing_done = record { read = []; input = []; written = []; printed = []; reported = 0; unwritten = []; copies = [] }
 
 -- ---- one thing more
 
@@ -36,7 +40,7 @@ abbrev pub and_input : Journal → (bytes : List ℕ) → Journal
 and_input journal bytes = record journal { input = journal.input ++ bytes }
 
 abbrev pub and_written : Journal → (path bytes : List ℕ) → Journal
-and_written journal path bytes = record journal { written = journal.written ++ file_value path bytes ∷ [] }
+and_written journal path bytes = record journal { written = journal.written ++ (file_value path bytes, length journal.printed) ∷ [] }
 
 abbrev pub and_printed : Journal → (bytes : List ℕ) → Journal
 and_printed journal bytes = record journal { printed = journal.printed ++ bytes }
@@ -44,8 +48,8 @@ and_printed journal bytes = record journal { printed = journal.printed ++ bytes 
 abbrev pub and_reported : Journal → Journal
 and_reported journal = record journal { reported = journal.reported + 1 }
 
-abbrev pub and_spoiled : Journal → (path : List ℕ) → Journal
-and_spoiled journal path = record journal { spoiled = journal.spoiled ++ path ∷ [] }
+abbrev pub and_unwritten : Journal → (path : List ℕ) → (spoiled : Bool) → Journal
+and_unwritten journal path spoiled = record journal { unwritten = journal.unwritten ++ (path, spoiled) ∷ [] }
 
 abbrev pub and_copied : Journal → (path : List ℕ) → Journal
 and_copied journal path = record journal { copies = journal.copies ++ (path, length journal.written) ∷ [] }
@@ -61,13 +65,13 @@ and_read_files journal (file ∷ files) = and_read_files (and_read journal file.
 
 -- ---- faults
 
--- A fault was reported, and no file was written, spoiled or copied.
-pub record OnlyReports (old new : Journal) : Type 0 where
-  pub reported : old.reported < new.reported
-  pub written : new.written ≡ old.written
-  pub spoiled : new.spoiled ≡ old.spoiled
-  pub copies : new.copies ≡ old.copies
+-- A fault was reported, once: before a file was read, or behind the first of the files of these paths, which were read in their order.
+-- Nothing else was done: nothing was printed, and no file was written or tried.
+pub data OnlyReports (paths : List (List ℕ)) (old new : Journal) : Type 0 where
+  unread : new ≡ and_reported old → OnlyReports paths old new
+  read : (files : List FileValue) (rest : List (List ℕ)) → paths ≡ paths_of files ++ rest
+      → new ≡ and_reported (and_read_files old files) → OnlyReports paths old new
 
--- none of these was added, the first, the last, or all (of two at most)
-abbrev pub AddsSome : {A : Type 0} → List A → (old new : List A) → Type 0
-AddsSome items old new = ((new ≡ old) ⊎ (new ≡ old ++ take 1 items)) ⊎ ((new ≡ old ++ drop 1 items) ⊎ (new ≡ old ++ items))
+-- A fault was reported, once, behind a front part of these bytes, which was printed.
+abbrev pub StopsPrinting : (bytes : List ℕ) → (old new : Journal) → Type 0
+StopsPrinting bytes old new = (count : ℕ) × (new ≡ and_reported (and_printed old (take count bytes)))

@@ -1,8 +1,8 @@
 -- What becomes of a file that is replaced, and of a copy of the old one.
 -- (When a copy is kept, and under which names, is this project's own.)
-use Rattle.std.specs.Prelude.{◌≡◌, ◌⊎◌, ℕ, ◌<◌, ◌==◌, if◌then◌else◌, List, [], ◌∷◌, ◌++◌, codes}
+use Rattle.std.specs.Prelude.{◌≡◌, ◌⊎◌, ℕ, ◌==◌, Bool, if◌then◌else◌, List, ◌++◌, codes}
 use Rattle.std.specs.Fmt.{decimal}
-use Rattle.plm80_console.specs.Journal.{FileValue, Journal, and_copied, and_written, file_value}
+use Rattle.plm80_console.specs.Journal.{FileValue, Journal, and_copied, and_reported, and_unwritten, and_written, file_value}
 use Rattle.plm80_console.specs.declared.new_file.NewFile.{NewFile}
 
 abbrev pub new_file_value : NewFile → FileValue
@@ -10,13 +10,9 @@ new_file_value file = file_value file.path.now file.bytes.now
 
 -- ---- a file that isn't brought to its place, which is reported
 
--- nothing was read or written; the file was spoiled, or not
-pub record NotSettled (path : List ℕ) (old new : Journal) : Type 0 where
-  pub reported : old.reported < new.reported
-  pub read : new.read ≡ old.read
-  pub written : new.written ≡ old.written
-  pub spoiled : (new.spoiled ≡ old.spoiled) ⊎ (new.spoiled ≡ old.spoiled ++ path ∷ [])
-  pub copies : new.copies ≡ old.copies
+-- the file of this path was tried, and spoiled or not; nothing else was done
+abbrev pub NotSettled : (path : List ℕ) → (old new : Journal) → Type 0
+NotSettled path old new = (spoiled : Bool) × (new ≡ and_reported (and_unwritten old path spoiled))
 
 -- ---- copies of old files
 
@@ -32,7 +28,7 @@ IsKept path old new = (new ≡ old) ⊎ ((number : ℕ) × (new ≡ and_copied o
 abbrev pub IsReplacedKeeping : (path bytes : List ℕ) → (old new : Journal) → Type 0
 IsReplacedKeeping path bytes old new = (between : Journal) × IsKept path old between × (new ≡ and_written between path bytes)
 
--- it wasn't, which was reported, and nothing was written
+-- it wasn't, which was reported, once; nothing else was done but that the copy may have been kept before
 pub record GaveUpKeeping (path : List ℕ) (old new : Journal) : Type 0 where
   pub between : Journal
   pub kept : IsKept path old between

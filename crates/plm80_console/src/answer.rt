@@ -33,11 +33,12 @@ pub struct Answer<'a> {
 }
 
 impl<'a> Model for Answer<'a> {
+    ghost use Rattle.std.specs.Prelude.{[]};
     ghost use Rattle.plm80_console.specs.Answer.{AnswerValue, files_of};
 
     ghost Value = { AnswerValue };
 
-    ghost view = { λ a. record { files = files_of a.files; lines = a.lines.items; status = a.status } };
+    ghost view = { λ a. record { first = []; files = files_of a.files; lines = a.lines.items; status = a.status } };
 }
 
 impl<'a> Answer<'a> {

@@ -2,9 +2,9 @@
 
 ghost use Rattle.std.specs.Prelude.{◌≡◌, ◌<◌, ◌≤◌, ◌∷◌, ℕ, List, [], Ok, Some, IfErr, IfOk, IfSome, IsOkAnd, vec_len};
 ghost use Rattle.stream80.specs.WholeText.{text_limit};
-ghost use Rattle.plm80_console.specs.Answer.{GaveUp, IsGiven, IsGivenUp, and_files, files_of};
-ghost use Rattle.plm80_console.specs.Replaced.{GaveUpKeeping, IsReplacedKeeping, new_file_value};
-ghost use Rattle.plm80_console.specs.Journal.{IsTakenBack, Journal, OnlyReports, and_input, and_printed, and_read, and_reported, and_written, file_value};
+ghost use Rattle.plm80_console.specs.Answer.{GaveUp, IsGiven, IsGivenUp, StopsWriting, and_files, files_of};
+ghost use Rattle.plm80_console.specs.Replaced.{GaveUpKeeping, IsReplacedKeeping, NotSettled, new_file_value};
+ghost use Rattle.plm80_console.specs.Journal.{IsTakenBack, Journal, StopsPrinting, and_input, and_printed, and_read, and_reported, and_written};
 
 use crate::answer::{Answer, WrittenFiles};
 use crate::failure_words::FailureWords;
@@ -36,7 +36,7 @@ pub trait Console {
     fn read(&mut self, path: &str) -> Result<Vec<u8>, Reported>
         ensures read { IfOk result (λ bytes. journal self.new ≡ and_read (journal self.old) path.now bytes.items) }
         ensures within { IfOk result (λ bytes. vec_len bytes ≤ text_limit) }
-        ensures fault { IfErr result (λ _. OnlyReports (journal self.old) (journal self.new)) };
+        ensures fault { IfErr result (λ _. journal self.new ≡ and_reported (journal self.old)) };
 
     /// Reads standard input whole, which is a bundle: at a terminal it is said that one is read. A fault that is reported: it can't be
     /// read, it has more than `limit` bytes, or memory ran out.
@@ -44,27 +44,27 @@ pub trait Console {
         requires { limit < usize.MAX }
         ensures read { IfOk result (λ bytes. journal self.new ≡ and_input (journal self.old) bytes.items) }
         ensures within { IfOk result (λ bytes. vec_len bytes ≤ limit) }
-        ensures fault { IfErr result (λ _. OnlyReports (journal self.old) (journal self.new)) };
+        ensures fault { IfErr result (λ _. journal self.new ≡ and_reported (journal self.old)) };
 
     /// Reads the file of this path, and hands all of its bytes to the feed, in pieces of 512 bytes at most. A fault of the system, too
     /// many bytes and out of memory are reported; a fault of the bytes is kept by the feed.
     fn read_in_pieces<F: TakePieces>(&mut self, path: &str, feed: &mut F) -> Result<(), Reported>
         ensures read { IfOk result (λ _. (bytes : List ℕ) × (journal self.new ≡ and_read (journal self.old) path.now bytes)
             × (F.has_taken feed.old [] → F.has_taken feed.new bytes)) }
-        ensures fault { IfErr result (λ _. OnlyReports (journal self.old) (journal self.new)) };
+        ensures fault { IfErr result (λ _. journal self.new ≡ and_reported (journal self.old)) };
 
     /// Replaces the file of this path by one with these bytes, or makes it. After a fault, which is reported, the file is as it was, unless
     /// it was written in place: then it may be spoiled.
     fn replace(&mut self, path: &str, bytes: &[u8]) -> Result<(), Reported>
         ensures written { IfOk result (λ _. journal self.new ≡ and_written (journal self.old) path.now bytes.now) }
-        ensures fault { IfErr result (λ _. GaveUp (file_value path.now bytes.now ∷ []) (journal self.old) (journal self.new)) };
+        ensures fault { IfErr result (λ _. NotSettled path.now (journal self.old) (journal self.new)) };
 
     /// Replaces two files, or makes them. Neither is changed before both are written, unless both are written in place. After a fault,
     /// which is reported, one of them may have been replaced.
     fn replace_both(&mut self, first: NewFile<'_>, second: NewFile<'_>) -> Result<(), Reported>
         ensures written { IfOk result (λ _. journal self.new ≡ and_written (and_written (journal self.old) first.entry.path.now
             first.entry.bytes.now) second.entry.path.now second.entry.bytes.now) }
-        ensures fault { IfErr result (λ _. GaveUp (new_file_value first.entry ∷ new_file_value second.entry ∷ [])
+        ensures fault { IfErr result (λ _. StopsWriting (new_file_value first.entry ∷ new_file_value second.entry ∷ [])
             (journal self.old) (journal self.new)) };
 
     /// Replaces the file of this path by one with these bytes. If the path names an object file now, a copy of it is kept beside the path
@@ -143,7 +143,7 @@ pub trait Console {
     fn read_file<'a>(&mut self, path: &'a str) -> Result<ReadFile<'a>, Reported>
         ensures path { IfOk result (λ file. file.path.now ≡ path.now) }
         ensures read { IfOk result (λ file. journal self.new ≡ and_read (journal self.old) path.now file.bytes.items) }
-        ensures fault { IfErr result (λ _. OnlyReports (journal self.old) (journal self.new)) }
+        ensures fault { IfErr result (λ _. journal self.new ≡ and_reported (journal self.old)) }
     {
         let bytes = self.read(path)?;
         Ok(ReadFile { path, bytes })
@@ -152,8 +152,7 @@ pub trait Console {
     /// Prints bytes on standard output. If it doesn't take them all, that is reported.
     fn print(&mut self, bytes: &[u8]) -> Result<(), Reported>
         ensures printed { IfOk result (λ _. journal self.new ≡ and_printed (journal self.old) bytes.now) }
-        ensures fault { IfErr result (λ _. OnlyReports (journal self.old) (journal self.new)) }
-        ensures read { IfErr result (λ _. (journal self.new).read ≡ (journal self.old).read) }
+        ensures fault { IfErr result (λ _. StopsPrinting bytes.now (journal self.old) (journal self.new)) }
     {
         let mut output = self.output();
         let answer = write_all(&mut output, bytes);
@@ -167,7 +166,7 @@ pub trait Console {
     /// Writes the files of a command, in their order. At the first fault, which is reported, no further file is written.
     fn write_files(&mut self, files: &WrittenFiles<'_>) -> Result<(), Reported>
         ensures written { IfOk result (λ _. journal self.new ≡ and_files (journal self.old) (files_of files.now)) }
-        ensures fault { IfErr result (λ _. GaveUp (files_of files.now) (journal self.old) (journal self.new)) }
+        ensures fault { IfErr result (λ _. StopsWriting (files_of files.now) (journal self.old) (journal self.new)) }
     {
         match files {
             WrittenFiles::Nothing => Ok(()),
@@ -180,8 +179,7 @@ pub trait Console {
     /// rest isn't done.
     fn give(&mut self, answer: Answer<'_>) -> Result<u8, Reported>
         ensures given { IfOk result (IsGiven answer.entry (journal self.old) (journal self.new)) }
-        ensures fault { IfErr result (λ _. GaveUp answer.entry.files (journal self.old) (journal self.new)) }
-        ensures no_file { answer.entry.files ≡ [] → IfErr result (λ _. OnlyReports (journal self.old) (journal self.new)) }
+        ensures fault { IfErr result (λ _. GaveUp answer.entry (journal self.old) (journal self.new)) }
     {
         let Answer {
             files,
@@ -197,7 +195,6 @@ pub trait Console {
     fn give_if_made(&mut self, answer: Result<Answer<'_>, AllocError>) -> Result<u8, Reported>
         ensures given { IfOk result (λ status. IsOkAnd answer.entry (λ made. IsGiven made (journal self.old) (journal self.new) status)) }
         ensures fault { IfErr result (λ _. IsGivenUp (λ made. answer.entry ≡ Ok made) (journal self.old) (journal self.new)) }
-        ensures no_file { IfOk answer.entry (λ made. made.files ≡ []) → IfErr result (λ _. OnlyReports (journal self.old) (journal self.new)) }
     {
         match answer {
             Ok(answer) => self.give(answer),

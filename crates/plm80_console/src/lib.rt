@@ -13,7 +13,7 @@
 //! | [`FailureWords`] | why the system failed, in words |
 //! | [`TakePieces`] | what takes the pieces of a file |
 //! | [`OneLine`] | a text that stays in its line |
-//! | [`laws`] | reading leaves files alone, as a contract |
+//! | [`laws`] | a fault behind files that were read, as a contract |
 #![tactic(auto)]
 
 mod answer;

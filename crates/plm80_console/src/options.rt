@@ -3,7 +3,7 @@
 ghost use Rattle.std.specs.Prelude.{◌≡◌, unwrap_or, option_map, IfErr, IfOk, IfSome, IsSomeAnd, OnErr};
 ghost use Rattle.clap.specs.Matches.{first_value, found_of};
 ghost use Rattle.plm80_console.specs.NumberText.{IsByteText, IsCountText, IsLengthText, IsWordText, count_value, word_value};
-ghost use Rattle.plm80_console.specs.{Arguments.argument_text, Journal.OnlyReports, Journal.and_reported};
+ghost use Rattle.plm80_console.specs.{Arguments.argument_text, Journal.and_reported};
 
 use crate::argument_texts::argument_text;
 use crate::console::Console;
@@ -74,7 +74,7 @@ impl<'a> OptionText<'a> {
         ensures word { let text = self.entry.text.now in IfOk result (λ word. IsWordText text × (word ≡ word_value text)) }
         ensures fault { OnErr result (IsWordText self.entry.text.now → ⊥) }
         ensures unchanged { IfOk result (λ _. C.journal console.new ≡ C.journal console.old) }
-        ensures failed { IfErr result (λ _. OnlyReports (C.journal console.old) (C.journal console.new)) }
+        ensures failed { IfErr result (λ _. C.journal console.new ≡ and_reported (C.journal console.old)) }
     {
         match word_of_digits(self.text) {
             Some(word) => Ok(word),
@@ -91,7 +91,7 @@ impl<'a> OptionText<'a> {
         ensures text { IfOk result (λ word. IfSome option.entry (λ given. IsWordText given.text.now)) }
         ensures fault { OnErr result (IsSomeAnd option.entry (λ given. IsWordText given.text.now → ⊥)) }
         ensures unchanged { IfOk result (λ _. C.journal console.new ≡ C.journal console.old) }
-        ensures failed { IfErr result (λ _. OnlyReports (C.journal console.old) (C.journal console.new)) }
+        ensures failed { IfErr result (λ _. C.journal console.new ≡ and_reported (C.journal console.old)) }
     {
         match option {
             Some(option) => Ok(Some(option.word(console)?)),
@@ -104,7 +104,7 @@ impl<'a> OptionText<'a> {
         ensures length { let text = self.entry.text.now in IfOk result (λ length. IsLengthText text × (length ≡ word_value text)) }
         ensures fault { OnErr result (IsLengthText self.entry.text.now → ⊥) }
         ensures unchanged { IfOk result (λ _. C.journal console.new ≡ C.journal console.old) }
-        ensures failed { IfErr result (λ _. OnlyReports (C.journal console.old) (C.journal console.new)) }
+        ensures failed { IfErr result (λ _. C.journal console.new ≡ and_reported (C.journal console.old)) }
     {
         match length_of_digits(self.text) {
             Some(length) => Ok(length),
@@ -117,7 +117,7 @@ impl<'a> OptionText<'a> {
         ensures byte { let text = self.entry.text.now in IfOk result (λ byte. IsByteText text × (byte ≡ word_value text)) }
         ensures fault { OnErr result (IsByteText self.entry.text.now → ⊥) }
         ensures unchanged { IfOk result (λ _. C.journal console.new ≡ C.journal console.old) }
-        ensures failed { IfErr result (λ _. OnlyReports (C.journal console.old) (C.journal console.new)) }
+        ensures failed { IfErr result (λ _. C.journal console.new ≡ and_reported (C.journal console.old)) }
     {
         match byte_of_digits(self.text) {
             Some(byte) => Ok(byte),
@@ -130,7 +130,7 @@ impl<'a> OptionText<'a> {
         ensures count { let text = self.entry.text.now in IfOk result (λ count. IsCountText text × (count ≡ count_value text)) }
         ensures fault { OnErr result (IsCountText self.entry.text.now → ⊥) }
         ensures unchanged { IfOk result (λ _. C.journal console.new ≡ C.journal console.old) }
-        ensures failed { IfErr result (λ _. OnlyReports (C.journal console.old) (C.journal console.new)) }
+        ensures failed { IfErr result (λ _. C.journal console.new ≡ and_reported (C.journal console.old)) }
     {
         match count_of_digits(self.text) {
             Some(count) => Ok(count),
@@ -145,7 +145,7 @@ impl<'a> OptionText<'a> {
     pub fn module_name<C: Console>(self, console: &mut C) -> Result<Name, Reported>
         ensures name { IfOk result (λ name. name ≡ self.entry.text.now) }
         ensures unchanged { IfOk result (λ _. C.journal console.new ≡ C.journal console.old) }
-        ensures failed { IfErr result (λ _. OnlyReports (C.journal console.old) (C.journal console.new)) }
+        ensures failed { IfErr result (λ _. C.journal console.new ≡ and_reported (C.journal console.old)) }
     {
         match Name::new(console.alloc(), self.text.as_bytes()) {
             Ok(name) => Ok(name),

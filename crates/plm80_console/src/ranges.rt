@@ -1,7 +1,7 @@
 //! Ranges of addresses that options name.
 
 ghost use Rattle.std.specs.Prelude.{◌≡◌, map, IfErr, IfOk, IfSome};
-ghost use Rattle.plm80_console.specs.{Journal.OnlyReports, Ranges.AreRangesOf, Ranges.IsRangeText};
+ghost use Rattle.plm80_console.specs.{Journal.and_reported, Ranges.AreRangesOf, Ranges.IsRangeText};
 
 use crate::console::Console;
 use crate::number_text::word_of_digits;
@@ -18,7 +18,7 @@ pub fn ranges_of<C: Console>(
 ) -> Result<Vec<Range>, Reported>
     ensures ranges { IfOk result (λ ranges. AreRangesOf (map (λ value. value.now) values.now) ranges.items) }
     ensures unchanged { IfOk result (λ _. C.journal console.new ≡ C.journal console.old) }
-    ensures fault { IfErr result (λ _. OnlyReports (C.journal console.old) (C.journal console.new)) }
+    ensures fault { IfErr result (λ _. C.journal console.new ≡ and_reported (C.journal console.old)) }
 {
     let mut ranges = Vec::new(console.alloc());
     for value in values {

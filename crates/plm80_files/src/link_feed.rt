@@ -1,6 +1,6 @@
 //! The files that `link` takes: object files and libraries, by their first byte.
 
-ghost use Rattle.std.specs.Prelude.{List, ℕ, IfOk, IfErr};
+ghost use Rattle.std.specs.Prelude.{◌∷◌, List, [], ℕ, IfOk, IfErr};
 ghost use Rattle.plm80_console.specs.Journal.{OnlyReports};
 ghost use Rattle.plm80_files.specs.LinkFiles.{FaultsEither, HasTakenEither, IsLinkFileRead, SpellsEither};
 
@@ -89,7 +89,7 @@ impl LinkFeed {
 /// Reads the file of this path, in pieces, as an object file or as a library, by its first byte. A fault is reported.
 pub fn read_link_file<C: Console>(console: &mut C, path: &str) -> Result<LinkFile, Reported>
     ensures read { IfOk result (IsLinkFileRead path.now (C.journal console.old) (C.journal console.new)) }
-    ensures fault { IfErr result (λ _. OnlyReports (C.journal console.old) (C.journal console.new)) }
+    ensures fault { IfErr result (λ _. OnlyReports (path.now ∷ []) (C.journal console.old) (C.journal console.new)) }
 {
     let mut feed = LinkFeed::Empty(console.alloc());
     console.read_in_pieces(path, &mut feed)?;

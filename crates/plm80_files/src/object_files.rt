@@ -1,7 +1,7 @@
 //! The modules of object files, for the commands that take them.
 
-ghost use Rattle.std.specs.Prelude.{◌≡◌, ◌++◌, [], IfErr, IfOk, OnOk};
-ghost use Rattle.plm80_console.specs.Journal.{OnlyReports};
+ghost use Rattle.std.specs.Prelude.{◌≡◌, ◌∷◌, ◌++◌, [], IfErr, IfOk, OnOk};
+ghost use Rattle.plm80_console.specs.Journal.{OnlyReports, and_reported};
 ghost use Rattle.plm80_files.specs.LinkFiles.{AreModulesRead};
 
 use crate::file_fault::FileFault;
@@ -13,7 +13,7 @@ use plm80_console::{Console, Reported};
 /// a fault. A fault is reported.
 pub fn read_modules<C: Console>(console: &mut C, path: &str) -> Result<Vec<Module>, Reported>
     ensures read { IfOk result (λ modules. AreModulesRead path.now (C.journal console.old) (C.journal console.new) modules.items) }
-    ensures fault { IfErr result (λ _. OnlyReports (C.journal console.old) (C.journal console.new)) }
+    ensures fault { IfErr result (λ _. OnlyReports (path.now ∷ []) (C.journal console.old) (C.journal console.new)) }
 {
     let mut feed = FileFeed::new(console.alloc());
     console.read_in_pieces(path, &mut feed)?;
@@ -35,7 +35,7 @@ pub fn append_modules<C: Console>(
     ensures appended { OnOk result (modules.new.items ≡ modules.old.items ++ read.old.items) }
     ensures taken { OnOk result (read.new.items ≡ []) }
     ensures unchanged { IfOk result (λ _. C.journal console.new ≡ C.journal console.old) }
-    ensures fault { IfErr result (λ _. OnlyReports (C.journal console.old) (C.journal console.new)) }
+    ensures fault { IfErr result (λ _. C.journal console.new ≡ and_reported (C.journal console.old)) }
 {
     match modules.append(read) {
         Ok(()) => Ok(()),

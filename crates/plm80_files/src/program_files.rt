@@ -31,7 +31,7 @@ pub const REGIONS: Argument<'static> = Argument {
 pub fn regions_of<C: Console>(console: &mut C, path: &str, text: &[u8]) -> Result<Regions, Reported>
     ensures regions { IfOk result (Spells text.now) }
     ensures unchanged { IfOk result (λ _. C.journal console.new ≡ C.journal console.old) }
-    ensures fault { IfErr result (λ _. OnlyReports (C.journal console.old) (C.journal console.new)) }
+    ensures fault { IfErr result (λ _. C.journal console.new ≡ and_reported (C.journal console.old)) }
 {
     match read_regions(console.alloc(), text) {
         Ok(regions) => Ok(regions),
@@ -70,7 +70,7 @@ pub fn image_of<C: Console>(
     ensures image { IfOk result (λ image. SpellsImage bytes.now (without_regions image)) }
     ensures regions { IfOk result (λ image. image.regions ≡ regions) }
     ensures unchanged { IfOk result (λ _. C.journal console.new ≡ C.journal console.old) }
-    ensures fault { IfErr result (λ _. OnlyReports (C.journal console.old) (C.journal console.new)) }
+    ensures fault { IfErr result (λ _. C.journal console.new ≡ and_reported (C.journal console.old)) }
 {
     match read_image(console.alloc(), bytes, regions) {
         Ok(image) => {

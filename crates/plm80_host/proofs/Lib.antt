@@ -1,1 +1,2 @@
-pub mod Walks
+mod DraftLemmas
+mod Walks

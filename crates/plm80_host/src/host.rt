@@ -105,6 +105,7 @@ impl<'a> Console for HostConsole<'a> {
 
     fn replace_both(&mut self, first: NewFile<'_>, second: NewFile<'_>) -> Result<(), Reported> {
         if second.path == DASH {
+            self.note(&Note::Unwritten(second.path, false));
             return Err(self.report_dash("Write"));
         }
         let first_draft = self.draft(first)?;
@@ -133,6 +134,7 @@ impl<'a> Console for HostConsole<'a> {
             }
             Err(reported) => {
                 self.drop_draft(draft);
+                self.note(&Note::Unwritten(path, false));
                 Err(reported)
             }
         }

@@ -35,8 +35,9 @@ pub enum Note<'a> {
     Printed(&'a Notes),
     /// A fault was reported.
     Reported,
-    /// The file of a path was written in part, in its place, and may have lost its bytes.
-    Spoiled(&'a str),
+    /// The file of a path was to be written and wasn't; whether it may have neither its old bytes nor its new ones, since writing it in
+    /// its place failed.
+    Unwritten(&'a str, bool),
     /// A copy of an object file was kept under a path.
     Copied(&'a str),
 }

@@ -109,19 +109,28 @@ impl<'a> HostConsole<'a> {
     pub(crate) fn draft<'f>(&mut self, file: NewFile<'f>) -> Result<Draft<'f>, Reported>
         ensures draft { IfOk result (IsDraftOf file.entry) }
         ensures unchanged { IfOk result (λ _. self.new.notes.journal ≡ self.old.notes.journal) }
-        ensures fault { IfErr result (λ _. self.new.notes.journal ≡ and_reported self.old.notes.journal) }
+        ensures fault { IfErr result (λ _. NotSettled file.entry.path.now self.old.notes.journal self.new.notes.journal) }
     {
         if file.path == DASH {
+            self.note(&Note::Unwritten(file.path, false));
             return Err(self.report_dash("Write"));
         }
         match self.try_draft(file) {
             Ok(draft) => Ok(draft),
-            Err(DraftFault::Memory) => Err(self.report_memory()),
-            Err(DraftFault::System(kind)) => Err(self.report_system(
-                file.path,
-                "Write",
-                Some(kind),
-            )),
+            Err(fault) => {
+                self.note(&Note::Unwritten(file.path, false));
+                Err(self.report_draft(file.path, fault))
+            }
+        }
+    }
+
+    /// Reports why no draft of the file of this path was made.
+    fn report_draft(&mut self, path: &str, fault: DraftFault) -> Reported
+        ensures { self.new.notes.journal ≡ and_reported self.old.notes.journal }
+    {
+        match fault {
+            DraftFault::Memory => self.report_memory(),
+            DraftFault::System(kind) => self.report_system(path, "Write", Some(kind)),
         }
     }
 
@@ -137,7 +146,7 @@ impl<'a> HostConsole<'a> {
             None => match fs::write(self.rt, file.path, file.bytes) {
                 Ok(()) => Ok(()),
                 Err(error) => {
-                    self.note(&Note::Spoiled(file.path));
+                    self.note(&Note::Unwritten(file.path, true));
                     Err(self.report_system(file.path, "Write", Some(error.kind())))
                 }
             },
@@ -147,12 +156,13 @@ impl<'a> HostConsole<'a> {
     /// Renames the file `beside` to this path. If that fails, which is reported, it is removed.
     fn move_draft(&mut self, beside: &str, path: &str) -> Result<(), Reported>
         ensures unchanged { IfOk result (λ _. self.new.notes.journal ≡ self.old.notes.journal) }
-        ensures fault { IfErr result (λ _. self.new.notes.journal ≡ and_reported self.old.notes.journal) }
+        ensures fault { IfErr result (λ _. NotSettled path.now self.old.notes.journal self.new.notes.journal) }
     {
         match fs::rename(self.rt, beside, path) {
             Ok(()) => Ok(()),
             Err(error) => {
                 let _ = fs::remove_file(self.rt, beside);
+                self.note(&Note::Unwritten(path, false));
                 Err(self.report_system(path, "Write", Some(error.kind())))
             }
         }

@@ -2,7 +2,7 @@
 
 ghost use Rattle.std.specs.Prelude.{◌≡◌, [], IfErr, IfOk};
 ghost use Rattle.image80_text.specs.NameText.{labelled_text, named_text};
-ghost use Rattle.plm80_console.specs.Journal.{OnlyReports};
+ghost use Rattle.plm80_console.specs.Journal.{and_reported};
 ghost use Rattle.plm80_names.specs.Printed.{named_end, AreNamesOf};
 
 use image80::Range;
@@ -40,7 +40,7 @@ impl Names {
     ) -> Result<Names, Reported>
         ensures names { IfOk result (AreNamesOf asked bytes.now) }
         ensures unchanged { IfOk result (λ _. C.journal console.new ≡ C.journal console.old) }
-        ensures fault { IfErr result (λ _. OnlyReports (C.journal console.old) (C.journal console.new)) }
+        ensures fault { IfErr result (λ _. C.journal console.new ≡ and_reported (C.journal console.old)) }
     {
         if !asked {
             return Ok(Names {
@@ -125,7 +125,7 @@ impl Names {
 fn names_of<C: Console>(console: &mut C, publics: Vec<Public>) -> Result<Names, Reported>
     ensures names { IfOk result (λ names. names ≡ publics.items) }
     ensures unchanged { IfOk result (λ _. C.journal console.new ≡ C.journal console.old) }
-    ensures fault { IfErr result (λ _. OnlyReports (C.journal console.old) (C.journal console.new)) }
+    ensures fault { IfErr result (λ _. C.journal console.new ≡ and_reported (C.journal console.old)) }
 {
     match PublicTable::new(console.alloc(), publics) {
         Ok(publics) => Ok(Names { publics }),

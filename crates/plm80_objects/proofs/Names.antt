@@ -4,8 +4,8 @@ pub use Rattle.image80_file.specs.ImageFile.{SpellsImage, without_regions}
 pub use Rattle.omf_model.specs.Modules.{ModuleValue}
 pub use Rattle.omf_module.specs.Spelled.{SpellsFile}
 pub use Rattle.omf_text.specs.ModuleText.{module_text}
-pub use Rattle.plm80_console.specs.Answer.{AnswerValue, GaveUp, Gives, GivesUp, IsGiven, IsGivenUp, paths_of}
-pub use Rattle.plm80_console.specs.Journal.{FileValue, Journal, OnlyReports, and_read, and_read_files, file_value}
+pub use Rattle.plm80_console.specs.Answer.{AnswerValue, GaveUp, Gives, GivesUp, IsGiven, IsGivenUp}
+pub use Rattle.plm80_console.specs.Journal.{FileValue, Journal, OnlyReports, and_read, and_read_files, and_reported, file_value, paths_of}
 pub use Rattle.plm80_console.specs.{JournalLaws.FaultsFollowReading, Ranges.AreRangesOf}
 pub use Rattle.plm80_files.specs.declared.link_feed.LinkFile.{LinkFile}
 pub use Rattle.plm80_names.specs.Printed.{AreNamesOf}
@@ -22,7 +22,7 @@ pub use Rattle.rom80_find.specs.Dump.{DumpValue, dump_of}
 pub use Rattle.std.proofs.Common.{[], add-one, ap, append_assoc, arith, drop, drop-cons, get_or, map, refl, subst, sym, take, ◌++◌, ◌∙◌}
 pub use Rattle.std.proofs.Common.{◌∷◌, ◌≡◌}
 pub use Rattle.std.proofs.Math.ListN.{replicate}
-pub use Rattle.std.proofs.lemmas.List.{append-nil, map-append, map_more, take_all, take_more}
+pub use Rattle.std.proofs.lemmas.List.{append-nil, map-append, map_more, take-append-drop, take_all, take_more}
 pub use Rattle.std.proofs.lemmas.{Bool.cond-true, Result.IfErr-weaker, Result.IfOk-weaker, Slice.Zip.all_zipped_more}
 pub use Rattle.std.specs.Prelude.{Bool, Err, IfErr, IfOk, IsOkAnd, List, Ok, Result, codes, is_ok, length, not}
 pub use Rattle.std.specs.Prelude.{slice_index_or, suc, true, zero, ℕ, ◌&&◌, ◌+◌, ◌-◌, ◌<◌}

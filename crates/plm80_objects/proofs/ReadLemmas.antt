@@ -3,7 +3,8 @@ use Rattle.plm80_objects.proofs.Names.{◌≡◌, ℕ, ◌+◌, ◌<◌, List, [
 use Rattle.plm80_objects.proofs.Names.{arith, get_or, subst, sym, append-nil, append_assoc, map-append, map_more, take_more, ModuleValue, SpellsFile}
 use Rattle.plm80_objects.proofs.Names.{PlacedBytes, chunks_of, AnswerValue, paths_of, FileValue, Journal, and_read, and_read_files}
 use Rattle.plm80_objects.proofs.Names.{file_value, FaultsFollowReading, OnlyReports, RomFile, AreDumpsRead, chunks_from, rom_paths}
-use Rattle.plm80_objects.proofs.Names.{AnswersModules, OfProgram, AreRead}
+use Rattle.plm80_objects.proofs.Names.{AnswersModules, OfProgram, AreRead, and_reported, take-append-drop}
+use Rattle.plm80_console.specs.Journal.OnlyReports.{read as read_it}
 
 abbrev pub text_of : Bor (List ℕ) → List ℕ
 text_of text = text.now
@@ -42,14 +43,46 @@ one_read path_of xs i d old between new Have More bytes before after made below 
       journal = one ∙ ap (λ (j : Journal). and_read j file.path bytes) read.journal ∙ read_more old read.files file.path bytes;
     }
 
--- a fault behind files that were read
-pub faults_behind : {X : Type 0} {Have : List FileValue → X → Type 0} {paths : List (List ℕ)} {old between new : Journal} {x : X}
-    → AreRead Have paths old between x → FaultsFollowReading → OnlyReports between new → OnlyReports old new
-faults_behind {old = old} {between = between} {new = new} read follow only = follow old between new read.files read.journal only
+-- the paths of files, those that were read before the next one and those behind it
+paths_at : {A : Type 0} (path_of : A → List ℕ) (xs : List A) (i : ℕ) (d : A) → i < length xs
+    → map path_of xs ≡ map path_of (take i xs) ++ (path_of (get_or xs i d) ∷ map path_of (drop (i + 1) xs))
+paths_at {A = A} path_of xs i d below =
+    ap (map path_of) (sym (take-append-drop (i + 1) xs) ∙ ap (λ (ys : List A). ys ++ drop (i + 1) xs) (take_more xs i d below)
+    ∙ append_assoc (take i xs) (get_or xs i d ∷ []) (drop (i + 1) xs))
+    ∙ map-append path_of (take i xs) (get_or xs i d ∷ drop (i + 1) xs)
+
+module _ {A X : Type 0} (path_of : A → List ℕ) (xs : List A) (i : ℕ) {Have : List FileValue → X → Type 0} {old between new : Journal} {x : X}
+    (so_far : AreRead Have (map path_of (take i xs)) old between x) where
+  -- a fault before the next one is read
+  pub faults_before : new ≡ and_reported between → OnlyReports (map path_of xs) old new
+  faults_before is =
+      read_it so_far.files (map path_of (drop i xs))
+      (ap (map path_of) (sym (take-append-drop i xs)) ∙ map-append path_of (take i xs) (drop i xs)
+      ∙ ap (λ (ps : List (List ℕ)). ps ++ map path_of (drop i xs)) (sym so_far.paths_are))
+      (is ∙ ap and_reported so_far.journal)
+
+  -- a fault as it is read, or behind that
+  pub faults_at : (d : A) → i < length xs → FaultsFollowReading → OnlyReports (path_of (get_or xs i d) ∷ []) between new
+      → OnlyReports (map path_of xs) old new
+  faults_at d below follow only =
+      follow old between new so_far.files (map path_of xs) (path_of (get_or xs i d) ∷ []) (map path_of (drop (i + 1) xs))
+      (paths_at path_of xs i d below
+      ∙ ap (λ (ps : List (List ℕ)). ps ++ (path_of (get_or xs i d) ∷ map path_of (drop (i + 1) xs))) (sym so_far.paths_are))
+      so_far.journal only
+
+-- a fault behind all files
+pub all_read : {X : Type 0} {Have : List FileValue → X → Type 0} {paths : List (List ℕ)} {old between new : Journal} {x : X}
+    → AreRead Have paths old between x → new ≡ and_reported between → OnlyReports paths old new
+all_read read is = read_it read.files [] (sym (append-nil (paths_of read.files) ∙ read.paths_are)) (is ∙ ap and_reported read.journal)
+
+-- a fault behind a file that was read
+pub read_then_reported : (path bytes : List ℕ) (old between new : Journal) → between ≡ and_read old path bytes → new ≡ and_reported between
+    → OnlyReports (path ∷ []) old new
+read_then_reported path bytes old between new were is = read_it (file_value path bytes ∷ []) [] refl (is ∙ ap and_reported were)
 
 -- ---- dumps
 
-abbrev rom_path : RomFile → List ℕ
+abbrev pub rom_path : RomFile → List ℕ
 rom_path rom = rom.path.now
 
 chunks_more : (roms : List RomFile) (files : List FileValue) (rom : RomFile) (file : FileValue) → paths_of files ≡ rom_paths roms

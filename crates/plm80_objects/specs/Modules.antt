@@ -85,9 +85,9 @@ pub record WritesLibrary (arguments : LibraryArguments) (old new : Journal) (sta
   pub replaced : IsReplacedKeeping arguments.library.now (library_bytes modules) between new
   pub status_is : status ≡ 0
 
--- No library was written, which was reported: nothing was written at all; or the files were read, and then the library's path may be
+-- No library was written, which was reported: nothing was tried; or the files were read, and then the library's path was tried, and may be
 -- spoiled, or a copy kept.
 pub data GivesUpLibrary (arguments : LibraryArguments) (old new : Journal) : Type 0 where
-  before : OnlyReports old new → GivesUpLibrary arguments old new
+  before : OnlyReports (library_paths arguments) old new → GivesUpLibrary arguments old new
   within : (between : Journal) (modules : List ModuleValue) → AreAllRead (library_paths arguments) old between modules
       → GaveUpKeeping arguments.library.now between new → GivesUpLibrary arguments old new

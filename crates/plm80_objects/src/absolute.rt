@@ -2,8 +2,8 @@
 
 ghost use Rattle.std.specs.Prelude.{◌≡◌, ◌||◌, ◌++◌, ◌∷◌, ℕ, [], length, IfOk, IfErr, OnOk};
 ghost use Rattle.rom80.specs.Rom.{chunks_of, is_among, is_covered};
-ghost use Rattle.plm80_console.specs.Journal.{OnlyReports};
-ghost use Rattle.plm80_objects.specs.Absolute.{AreDumpsRead, AreRomFiles, GivesDumps, GivesUpDumps, IsRomFile, WritesImage};
+ghost use Rattle.plm80_console.specs.Journal.{OnlyReports, and_reported};
+ghost use Rattle.plm80_objects.specs.Absolute.{AreDumpsRead, AreRomFiles, GivesDumps, GivesUpDumps, IsRomFile, WritesImage, rom_paths};
 ghost use Rattle.plm80_objects.specs.{Arguments.AreAbsoluteArguments, RomFaults.IsRefusedWith};
 
 use crate::extract::FIRST;
@@ -12,7 +12,7 @@ use crate::helpers::rom_faults::report_rom_fault;
 use clap::ArgMatches;
 use image80_file::write_image;
 use omf_core::Name;
-use plm80_console::laws::reading_leaves_files_alone;
+use plm80_console::laws::faults_follow_reading;
 use plm80_console::{
     Answer, Argument, Console, FaultOf, Kind, OptionText, ReadFile, Reported, Syntax,
     argument_text, argument_values, word_of_digits,
@@ -133,7 +133,6 @@ fn write_dumps<C: Console>(
     ensures done { IfOk result (GivesDumps arguments.now (C.journal console.old) (C.journal console.new)) }
     ensures fault { IfErr result (λ _. GivesUpDumps arguments.now (C.journal console.old) (C.journal console.new)) }
 {
-    reading_leaves_files_alone();
     let start = arguments.start.word(console)?;
     let files = files_of(console, arguments)?;
     let name = arguments.name.module_name(console)?;
@@ -155,7 +154,7 @@ fn files_of<'a, C: Console>(
     ensures files { let asked = arguments.now in
         IfOk result (λ files. AreRomFiles asked.bytes.now asked.first.text.now asked.further.items files.items) }
     ensures unchanged { IfOk result (λ _. C.journal console.new ≡ C.journal console.old) }
-    ensures fault { IfErr result (λ _. OnlyReports (C.journal console.old) (C.journal console.new)) }
+    ensures fault { IfErr result (λ _. C.journal console.new ≡ and_reported (C.journal console.old)) }
 {
     let first = RomFile {
         first: arguments.first.word(console)?,
@@ -178,7 +177,7 @@ fn add_file<'a, C: Console>(
 ) -> Result<(), Reported>
     ensures added { OnOk result (files.new.items ≡ files.old.items ++ file.entry ∷ []) }
     ensures unchanged { IfOk result (λ _. C.journal console.new ≡ C.journal console.old) }
-    ensures fault { IfErr result (λ _. OnlyReports (C.journal console.old) (C.journal console.new)) }
+    ensures fault { IfErr result (λ _. C.journal console.new ≡ and_reported (C.journal console.old)) }
 {
     match files.push(file) {
         Ok(()) => Ok(()),
@@ -191,7 +190,7 @@ fn add_file<'a, C: Console>(
 fn file_of<'a, C: Console>(console: &mut C, text: &'a str) -> Result<RomFile<'a>, Reported>
     ensures file { IfOk result (IsRomFile text.now) }
     ensures unchanged { IfOk result (λ _. C.journal console.new ≡ C.journal console.old) }
-    ensures fault { IfErr result (λ _. OnlyReports (C.journal console.old) (C.journal console.new)) }
+    ensures fault { IfErr result (λ _. C.journal console.new ≡ and_reported (C.journal console.old)) }
 {
     let option = OptionText::new(FURTHER, text);
     let Some((first, path)) = text.split_once('=') else {
@@ -212,9 +211,9 @@ fn read_dumps<C: Console>(
 ) -> Result<(Dumps, bool), Reported>
     ensures dumps { IfOk result (λ read. AreDumpsRead files.now (C.journal console.old) (C.journal console.new) read.0) }
     ensures start { IfOk result (λ read. read.1 ≡ is_covered read.0 start) }
-    ensures fault { IfErr result (λ _. OnlyReports (C.journal console.old) (C.journal console.new)) }
+    ensures fault { IfErr result (λ _. OnlyReports (rom_paths files.now) (C.journal console.old) (C.journal console.new)) }
 {
-    reading_leaves_files_alone();
+    faults_follow_reading();
     let mut dumps = Dumps::new(console.alloc());
     let mut has_start = false;
     for rom in files {

@@ -3,7 +3,7 @@
 ghost use Rattle.std.specs.Prelude.{◌≡◌, ◌∷◌, [], codes, length, IfOk, IfErr, OnOk};
 ghost use Rattle.image80_text.specs.NameText.{named_text};
 ghost use Rattle.rom80.specs.{Ranges.byte_ranges, Rom.bytes_over};
-ghost use Rattle.plm80_console.specs.{Answer.Gives, Journal.OnlyReports};
+ghost use Rattle.plm80_console.specs.{Answer.Gives, Answer.GivesUp, Journal.and_reported};
 ghost use Rattle.plm80_objects.specs.Compare.{ComparesBytes, ComparesFiles, IsDump, PrintsDifferences};
 ghost use Rattle.plm80_objects.specs.{Arguments.AreCompareArguments, RomFaults.IsRefused};
 
@@ -90,7 +90,8 @@ pub fn compare_files<C: Console>(
 ) -> Result<u8, Reported>
     ensures done { IfOk result (Gives (ComparesFiles arguments.entry) (arguments.entry.image.now ∷ arguments.entry.dump.now ∷ [])
         (C.journal console.old) (C.journal console.new)) }
-    ensures fault { IfErr result (λ _. OnlyReports (C.journal console.old) (C.journal console.new)) }
+    ensures fault { IfErr result (λ _. GivesUp (ComparesFiles arguments.entry) (arguments.entry.image.now ∷ arguments.entry.dump.now ∷ [])
+        (C.journal console.old) (C.journal console.new)) }
 {
     let done = print_differences(console, arguments);
     if let Ok(1) = done {
@@ -110,7 +111,8 @@ fn print_differences<C: Console>(
 ) -> Result<u8, Reported>
     ensures done { IfOk result (Gives (ComparesFiles arguments.entry) (arguments.entry.image.now ∷ arguments.entry.dump.now ∷ [])
         (C.journal console.old) (C.journal console.new)) }
-    ensures fault { IfErr result (λ _. OnlyReports (C.journal console.old) (C.journal console.new)) }
+    ensures fault { IfErr result (λ _. GivesUp (ComparesFiles arguments.entry) (arguments.entry.image.now ∷ arguments.entry.dump.now ∷ [])
+        (C.journal console.old) (C.journal console.new)) }
 {
     let first = arguments.first.word(console)?;
     let fill = arguments.fill.byte(console)?;
@@ -131,9 +133,8 @@ fn compare_read<C: Console>(
     fill: u8,
 ) -> Result<Answer<'static>, Reported>
     ensures compared { IfOk result (ComparesBytes asks_names file.now.bytes.items first dump.now.bytes.items fill) }
-    ensures no_file { IfOk result (λ answer. answer.files ≡ []) }
     ensures unchanged { IfOk result (λ _. C.journal console.new ≡ C.journal console.old) }
-    ensures fault { IfErr result (λ _. OnlyReports (C.journal console.old) (C.journal console.new)) }
+    ensures fault { IfErr result (λ _. C.journal console.new ≡ and_reported (C.journal console.old)) }
 {
     let none = no_regions(console.alloc());
     let image = image_of(console, file.path, &file.bytes, none)?;
@@ -156,7 +157,6 @@ fn compare_dump<'a>(
 ) -> Result<Answer<'static>, FaultOf<'a, RomFault>>
     ensures answer { let bytes = dump.now.bytes.items in IfOk result
         (PrintsDifferences image.now.chunks (bytes_over fill image.now.chunks first (length bytes)) bytes first names.now) }
-    ensures no_file { IfOk result (λ answer. answer.files ≡ []) }
     ensures whole { OnOk result (IsDump first dump.now.bytes.items) }
     ensures fault { IfErr result (λ f. (f.path.now ≡ dump.now.path.now) × IsRefused first dump.now.bytes.items f.fault) }
 {

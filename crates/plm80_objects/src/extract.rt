@@ -2,7 +2,7 @@
 
 ghost use Rattle.std.specs.Prelude.{◌≡◌, ◌+◌, ◌<◌, ◌↔◌, ◌∷◌, [], if◌then◌else◌, IfErr, IfOk, IsErrOf, codes};
 ghost use Rattle.rom80.specs.Rom.{bytes_over, sum_line};
-ghost use Rattle.plm80_console.specs.{Answer.Gives, Answer.GivesUp, Answer.writes, Journal.OnlyReports, Journal.and_reported};
+ghost use Rattle.plm80_console.specs.{Answer.Gives, Answer.GivesUp, Answer.writes, Journal.and_reported};
 ghost use Rattle.plm80_objects.specs.{Arguments.AreExtractArguments, Arguments.IsExtentOf, Arguments.fill_text, Absolute.ExtractsFile};
 
 use crate::helpers::byte_words::explain_bytes;
@@ -160,7 +160,7 @@ fn extent_of<C: Console>(
 ) -> Result<Extent, Reported>
     ensures extent { IfOk result (IsExtentOf arguments.entry) }
     ensures unchanged { IfOk result (λ _. C.journal console.new ≡ C.journal console.old) }
-    ensures fault { IfErr result (λ _. OnlyReports (C.journal console.old) (C.journal console.new)) }
+    ensures fault { IfErr result (λ _. C.journal console.new ≡ and_reported (C.journal console.old)) }
 {
     Ok(Extent {
         first: arguments.first.word(console)?,

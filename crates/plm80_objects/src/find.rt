@@ -2,7 +2,7 @@
 
 ghost use Rattle.std.specs.Prelude.{◌≡◌, ◌∷◌, [], map, IfOk, IfErr, OnOk};
 ghost use Rattle.rom80_find.specs.Dump.{dump_of};
-ghost use Rattle.plm80_console.specs.{Answer.Gives, Journal.OnlyReports};
+ghost use Rattle.plm80_console.specs.{Answer.Gives, Answer.GivesUp, Journal.OnlyReports};
 ghost use Rattle.plm80_objects.specs.Find.{AreFilesRead, FindsModules, PrintsFile, PrintsFound};
 ghost use Rattle.plm80_objects.specs.{Arguments.AreFindArguments, Compare.IsDump, RomFaults.IsRefused};
 
@@ -12,7 +12,7 @@ use crate::helpers::image_words::explain_images;
 use crate::helpers::rom_faults::report_rom_fault;
 use clap::ArgMatches;
 use omf_core::RecordKind;
-use plm80_console::laws::reading_leaves_files_alone;
+use plm80_console::laws::faults_follow_reading;
 use plm80_console::{
     Answer, Argument, Console, FaultOf, Kind, OptionText, ReadFile, Reported, Syntax,
     argument_text, argument_values,
@@ -89,7 +89,8 @@ pub fn find_modules<C: Console>(
 ) -> Result<u8, Reported>
     ensures done { IfOk result (Gives (FindsModules arguments.now) (arguments.now.dump.now ∷ map (λ path. path.now) arguments.now.files.items)
         (C.journal console.old) (C.journal console.new)) }
-    ensures fault { IfErr result (λ _. OnlyReports (C.journal console.old) (C.journal console.new)) }
+    ensures fault { IfErr result (λ _. GivesUp (FindsModules arguments.now) (arguments.now.dump.now ∷ map (λ path. path.now) arguments.now.files.items)
+        (C.journal console.old) (C.journal console.new)) }
 {
     let done = find_in_dump(console, arguments);
     let words = DumpWords::of(console, arguments.dump);
@@ -128,9 +129,10 @@ fn explain_libraries<C: Console>(console: &C, paths: &[&str]) {
 fn find_in_dump<C: Console>(console: &mut C, arguments: &FindArguments<'_>) -> Result<u8, Reported>
     ensures done { IfOk result (Gives (FindsModules arguments.now) (arguments.now.dump.now ∷ map (λ path. path.now) arguments.now.files.items)
         (C.journal console.old) (C.journal console.new)) }
-    ensures fault { IfErr result (λ _. OnlyReports (C.journal console.old) (C.journal console.new)) }
+    ensures fault { IfErr result (λ _. GivesUp (FindsModules arguments.now) (arguments.now.dump.now ∷ map (λ path. path.now) arguments.now.files.items)
+        (C.journal console.old) (C.journal console.new)) }
 {
-    reading_leaves_files_alone();
+    faults_follow_reading();
     let first = arguments.first.word(console)?;
     let file = console.read_file(arguments.dump)?;
     let dump = match dump_of(first, &file) {
@@ -147,9 +149,9 @@ fn find_in_dump<C: Console>(console: &mut C, arguments: &FindArguments<'_>) -> R
 fn read_all<C: Console>(console: &mut C, paths: &[&str]) -> Result<Vec<LinkFile>, Reported>
     ensures read { IfOk result (λ files. AreFilesRead (map (λ path. path.now) paths.now)
         (C.journal console.old) (C.journal console.new) files.items) }
-    ensures fault { IfErr result (λ _. OnlyReports (C.journal console.old) (C.journal console.new)) }
+    ensures fault { IfErr result (λ _. OnlyReports (map (λ path. path.now) paths.now) (C.journal console.old) (C.journal console.new)) }
 {
-    reading_leaves_files_alone();
+    faults_follow_reading();
     let mut files = Vec::new(console.alloc());
     for path in paths {
         let file = read_link_file(console, path)?;
@@ -184,8 +186,7 @@ fn find_all(
     dump: Dump<'_>,
     files: &[LinkFile],
 ) -> Result<Answer<'static>, AllocError>
-    ensures found { IfOk result (PrintsFound (dump_of dump.entry) files.now) }
-    ensures no_file { IfOk result (λ answer. answer.files ≡ []) }
+    ensures { IfOk result (PrintsFound (dump_of dump.entry) files.now) }
 {
     let mut text = Vec::new(alloc);
     let mut are_there = true;

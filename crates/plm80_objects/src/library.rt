@@ -8,7 +8,7 @@ ghost use Rattle.plm80_objects.specs.{Arguments.AreLibraryArguments, Modules.Are
 use clap::ArgMatches;
 use omf_library::{LibraryPutFault, write_library};
 use omf_module::Module;
-use plm80_console::laws::reading_leaves_files_alone;
+use plm80_console::laws::faults_follow_reading;
 use plm80_console::{Argument, Console, Kind, Reported, Syntax, argument_text, argument_values};
 use plm80_files::{append_modules, read_modules};
 use std::alloc::{AllocError, Global};
@@ -75,7 +75,6 @@ pub fn write_library_file<C: Console>(
     ensures done { IfOk result (WritesLibrary arguments.now (C.journal console.old) (C.journal console.new)) }
     ensures fault { IfErr result (λ _. GivesUpLibrary arguments.now (C.journal console.old) (C.journal console.new)) }
 {
-    reading_leaves_files_alone();
     let modules = modules_of(console, &arguments.files)?;
     match library_of(console.alloc(), &modules) {
         Ok(library) => {
@@ -110,9 +109,9 @@ fn library_of(alloc: Global, modules: &[Module]) -> Result<Vec<u8>, LibraryPutFa
 fn modules_of<C: Console>(console: &mut C, paths: &[&str]) -> Result<Vec<Module>, Reported>
     ensures read { IfOk result (λ modules. AreAllRead (map (λ path. path.now) paths.now)
         (C.journal console.old) (C.journal console.new) modules.items) }
-    ensures fault { IfErr result (λ _. OnlyReports (C.journal console.old) (C.journal console.new)) }
+    ensures fault { IfErr result (λ _. OnlyReports (map (λ path. path.now) paths.now) (C.journal console.old) (C.journal console.new)) }
 {
-    reading_leaves_files_alone();
+    faults_follow_reading();
     let mut modules = Vec::new(console.alloc());
     for path in paths {
         let mut read = read_modules(console, path)?;

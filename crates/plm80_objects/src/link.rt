@@ -5,7 +5,7 @@ ghost use Rattle.link80.specs.Selection.{IsSelection};
 ghost use Rattle.link80_text.specs.Parts.{IsMade};
 ghost use Rattle.plm80_objects.specs.Link.{AddsFile, AddsLibrary, AddsModules, AreLinkFilesRead, LinksFiles, LinksInto, WritesLinked};
 ghost use Rattle.plm80_objects.specs.Arguments.{AreLinkArguments};
-ghost use Rattle.plm80_console.specs.{Answer.Gives, Answer.GivesUp, Journal.OnlyReports};
+ghost use Rattle.plm80_console.specs.{Answer.Gives, Answer.GivesUp, Journal.OnlyReports, Journal.and_reported};
 
 use crate::helpers::causes::report_link_fault;
 use crate::helpers::image_words::explain_images;
@@ -15,7 +15,7 @@ use link80::{Linked, link};
 use omf_core::Name;
 use omf_library::Library;
 use omf_module::{Module, write_file};
-use plm80_console::laws::reading_leaves_files_alone;
+use plm80_console::laws::faults_follow_reading;
 use plm80_console::{
     Answer, Argument, Console, Kind, OptionText, Reported, Syntax, argument_text, argument_values,
 };
@@ -134,7 +134,6 @@ pub fn link_files<C: Console>(
     ensures fault { IfErr result (λ _. GivesUp (LinksFiles arguments.now) (map (λ path. path.now) arguments.now.files.items)
         (C.journal console.old) (C.journal console.new)) }
 {
-    reading_leaves_files_alone();
     let name = arguments.name.module_name(console)?;
     let files = read_files(console, &arguments.files)?;
     match link_read(console, arguments, &name, &files) {
@@ -160,7 +159,7 @@ fn link_read<'a, C: Console>(
 ) -> Result<Answer<'a>, Reported>
     ensures links { IfOk result (LinksInto arguments.now.out.now arguments.now.lines name.now files.now) }
     ensures unchanged { IfOk result (λ _. C.journal console.new ≡ C.journal console.old) }
-    ensures fault { IfErr result (λ _. OnlyReports (C.journal console.old) (C.journal console.new)) }
+    ensures fault { IfErr result (λ _. C.journal console.new ≡ and_reported (C.journal console.old)) }
 {
     let alloc = console.alloc();
     let made = match link(alloc, name, &files.roots, &files.libraries) {
@@ -177,9 +176,9 @@ fn link_read<'a, C: Console>(
 /// is reported.
 fn read_files<'a, C: Console>(console: &mut C, paths: &[&'a str]) -> Result<LinkFiles<'a>, Reported>
     ensures read { IfOk result (AreLinkFilesRead (map (λ path. path.now) paths.now) (C.journal console.old) (C.journal console.new)) }
-    ensures fault { IfErr result (λ _. OnlyReports (C.journal console.old) (C.journal console.new)) }
+    ensures fault { IfErr result (λ _. OnlyReports (map (λ path. path.now) paths.now) (C.journal console.old) (C.journal console.new)) }
 {
-    reading_leaves_files_alone();
+    faults_follow_reading();
     let mut files = LinkFiles {
         roots: Vec::new(console.alloc()),
         root_files: Vec::new(console.alloc()),

@@ -3,7 +3,7 @@
 ghost use Rattle.std.specs.Prelude.{◌≡◌, ◌⊎◌, ◌∷◌, None, Some, [], length, IfOk, IfErr, OnOk};
 ghost use Rattle.image80.specs.RegionsText.{regions_text};
 ghost use Rattle.place80.specs.declared.place_fault.PlaceFault.TheVariants.{Memory};
-ghost use Rattle.plm80_console.specs.{Answer.Gives, Answer.GivesUp, Answer.writes_both, Journal.OnlyReports, Journal.file_value};
+ghost use Rattle.plm80_console.specs.{Answer.Gives, Answer.GivesUp, Answer.writes_both, Journal.OnlyReports, Journal.and_reported, Journal.file_value};
 ghost use Rattle.plm80_files.specs.LinkFiles.{AreModulesRead};
 ghost use Rattle.plm80_objects.specs.Locate.{IsImageOf, fault_of, image_file, unmapped_of};
 ghost use Rattle.plm80_objects.specs.{Arguments.AreLocateArguments, Modules.LocatesFile, Modules.WritesLocated};
@@ -167,7 +167,7 @@ fn locate_program<'a, C: Console>(
 ) -> Result<Answer<'a>, Reported>
     ensures located { IfOk result (WritesLocated arguments.now options.now board.entry.rom.now board.entry.ram.now program.now) }
     ensures unchanged { IfOk result (λ _. C.journal console.new ≡ C.journal console.old) }
-    ensures fault { IfErr result (λ _. OnlyReports (C.journal console.old) (C.journal console.new)) }
+    ensures fault { IfErr result (λ _. C.journal console.new ≡ and_reported (C.journal console.old)) }
 {
     match image_of(console.alloc(), arguments.restart, program, options) {
         Ok(image) => answer_on_board(console, arguments, program, options, board, &image),
@@ -190,7 +190,7 @@ fn answer_on_board<'a, C: Console>(
         (file_value asked.image.now (image_file asked.publics options.now program.now image.now))
         (file_value asked.regions.now (regions_text image.now.regions))) }
     ensures unchanged { IfOk result (λ _. C.journal console.new ≡ C.journal console.old) }
-    ensures fault { IfErr result (λ _. OnlyReports (C.journal console.old) (C.journal console.new)) }
+    ensures fault { IfErr result (λ _. C.journal console.new ≡ and_reported (C.journal console.old)) }
 {
     match unmapped_of(console.alloc(), program, options, arguments.restart, board) {
         Ok(None) => {}
@@ -277,7 +277,7 @@ fn file_of(
 pub fn read_program<C: Console>(console: &mut C, path: &str) -> Result<Vec<Module>, Reported>
     ensures one { IfOk result (λ modules. length modules.items ≡ 1) }
     ensures read { IfOk result (λ modules. AreModulesRead path.now (C.journal console.old) (C.journal console.new) modules.items) }
-    ensures fault { IfErr result (λ _. OnlyReports (C.journal console.old) (C.journal console.new)) }
+    ensures fault { IfErr result (λ _. OnlyReports (path.now ∷ []) (C.journal console.old) (C.journal console.new)) }
 {
     let modules = read_modules(console, path)?;
     if modules.len() == 1 {

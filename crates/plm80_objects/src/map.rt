@@ -3,7 +3,7 @@
 ghost use Rattle.std.specs.Prelude.{◌≡◌, ◌⊎◌, ◌∷◌, None, Some, [], IfOk, IfErr, OnOk};
 ghost use Rattle.place80.specs.{Layout.layout_of, PlaceFault.locate_fault, declared.place_fault.PlaceFault.TheVariants.Memory};
 ghost use Rattle.place80_text.specs.Map.{IsMap};
-ghost use Rattle.plm80_console.specs.{Answer.Gives, Answer.prints, Journal.OnlyReports};
+ghost use Rattle.plm80_console.specs.{Answer.Gives, Answer.GivesUp, Answer.prints};
 ghost use Rattle.plm80_objects.specs.{Arguments.AreMapArguments, Modules.MapsFile};
 
 use crate::helpers::causes::report_place_fault;
@@ -77,7 +77,8 @@ impl<'a> MapArguments<'a> {
 pub fn map_file<C: Console>(console: &mut C, arguments: MapArguments<'_>) -> Result<u8, Reported>
     ensures done { IfOk result (Gives (MapsFile arguments.entry) (arguments.entry.object.now ∷ [])
         (C.journal console.old) (C.journal console.new)) }
-    ensures fault { IfErr result (λ _. OnlyReports (C.journal console.old) (C.journal console.new)) }
+    ensures fault { IfErr result (λ _. GivesUp (MapsFile arguments.entry) (arguments.entry.object.now ∷ [])
+        (C.journal console.old) (C.journal console.new)) }
 {
     let options = arguments.options.numbers(console)?;
     let modules = read_program(console, arguments.object)?;

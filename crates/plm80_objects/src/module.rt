@@ -2,7 +2,7 @@
 
 ghost use Rattle.std.specs.Prelude.{◌≡◌, ◌∷◌, ℕ, List, [], IfErr, IfOk, IfSome, codes};
 ghost use Rattle.omf_core.specs.Record.{SpellsRecord};
-ghost use Rattle.plm80_console.specs.{Answer.Gives, Arguments.argument_text, Journal.OnlyReports};
+ghost use Rattle.plm80_console.specs.{Answer.Gives, Answer.GivesUp, Arguments.argument_text};
 ghost use Rattle.plm80_objects.specs.Modules.{AnswersModules, DescribesModules};
 
 use clap::ArgMatches;
@@ -66,7 +66,8 @@ pub fn describe_file<C: Console>(
 ) -> Result<u8, Reported>
     ensures done { IfOk result (Gives (AnswersModules DescribesModules) (arguments.entry.object.now ∷ [])
         (C.journal console.old) (C.journal console.new)) }
-    ensures fault { IfErr result (λ _. OnlyReports (C.journal console.old) (C.journal console.new)) }
+    ensures fault { IfErr result (λ _. GivesUp (AnswersModules DescribesModules) (arguments.entry.object.now ∷ [])
+        (C.journal console.old) (C.journal console.new)) }
 {
     match read_modules(console, arguments.object) {
         Ok(modules) => {
@@ -115,8 +116,7 @@ fn header_from(bytes: &[u8], from: usize) -> Option<(usize, usize)>
 
 /// What `module` answers: the lines of all modules, in order.
 fn describe_modules(alloc: Global, modules: &[Module]) -> Result<Answer<'static>, AllocError>
-    ensures described { IfOk result (DescribesModules modules.now) }
-    ensures no_file { IfOk result (λ answer. answer.files ≡ []) }
+    ensures { IfOk result (DescribesModules modules.now) }
 {
     let mut text = Vec::new(alloc);
     for described in modules {

@@ -5,6 +5,8 @@ use Rattle.plm80_programs.proofs.Names.{append-nil, arith, subst, sym, Appends, 
 use Rattle.plm80_programs.proofs.Names.{All-nil, All-push, filter-append, filter_map-append, DeclaredCase, Located, case_text, cases_text}
 use Rattle.plm80_programs.proofs.Names.{Note, Finding, IsFinding, IsSearched, case_of, is_open, FoundCase, text_limit}
 use Rattle.plm80_programs.proofs.Names.{AreFoundBelow, FindsCases, HasLongCases, IsFoundAt}
+use Rattle.plm80_programs.proofs.Names.{AppendsFront, BeginsCases, LeavesFront, inr}
+use Rattle.plm80_programs.proofs.FrontLemmas.{all_front, front_of_second}
 use Rattle.plm80_programs.specs.Cases.IsFoundAt.{here, nothing}
 
 range_more : (a n j : ℕ) → a + n ≡ j → range_with_len a (suc n) ≡ range_with_len a n ++ j ∷ []
@@ -119,3 +121,33 @@ module _ (image : Located) (reached taken : List Bool) where
           (sym (cases_more shown.cases (cons_option found.case [])))
           (Appends-trans old now new (cases_text shown.cases) (cases_text (cons_option found.case [])) shown.written written);
     }
+
+    -- the lines so far, and a front part of those of what is found then
+    begun : (limit : ℕ) (cases : List DeclaredCase) (after : List Note) → AreFoundBelow image reached taken limit cases after
+        → IsSearched image reached taken → BeginsCases image (cases_text cases)
+    begun limit cases after found searched = record {
+      reached = reached;
+      taken = taken;
+      searched = searched;
+      limit = limit;
+      cases = cases;
+      notes = after;
+      found = found;
+      text_is = refl;
+    }
+
+    pub shown_front : IsSearched image reached taken → LeavesFront (BeginsCases image) old now
+    shown_front searched =
+        inr (cases_text shown.cases, begun at shown.cases notes shown.found searched, all_front old now (cases_text shown.cases) shown.written)
+
+    pub shown_front_more : IsSearched image reached taken → (found : FoundCase) (new : Option (List ℕ)) → IsFoundAt image reached taken at found
+        → AppendsFront now new (cases_text (cons_option found.case [])) → LeavesFront (BeginsCases image) old new
+    shown_front_more searched found new at_it part =
+        let cases = shown.cases ++ cons_option found.case [] in
+        let after = notes ++ cons_option found.note [] in
+        inr (
+          cases_text cases,
+          begun (at + 1) cases after (one_more image reached taken at shown.cases notes shown.found found cases after at_it refl refl) searched,
+          subst (λ (l : List ℕ). AppendsFront old new l) (sym (cases_more shown.cases (cons_option found.case [])))
+              (front_of_second old now new (cases_text shown.cases) (cases_text (cons_option found.case [])) shown.written part),
+        )

@@ -1,4 +1,5 @@
 pub mod CaseLemmas
+mod FrontLemmas
 pub mod GivenLemmas
 pub mod PrintLemmas
 pub mod RunLemmas

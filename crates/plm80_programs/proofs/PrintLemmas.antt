@@ -1,10 +1,18 @@
 -- What was written to an output that was taken back.
+use Rattle.plm80_programs.proofs.Names.{◌<◌, AppendsFront, Answers, GaveUp, AnswerValue, IsGivenUp, LeavesFront, StopsPrinting, and_reported, append-nil}
+use Rattle.plm80_programs.proofs.Names.{arith, length, take, drop, take-append-drop, take-append_seam, inl, inr}
 use Rattle.plm80_programs.proofs.Names.{◌≡◌, ℕ, List, [], Option, None, Some, Result, Ok, Err, refl, Appends, ◌∙◌, ap, subst}
 use Rattle.plm80_programs.proofs.Names.{sym, Outcome, SessionFault, Read, Write, Image, Regions, Inputs, Refused, TooLong, Sends, Says}
 use Rattle.plm80_programs.proofs.Names.{Texts, Limits, IsAnswered}
 use Rattle.plm80_programs.proofs.Names.{prints, IsTakenBack, Journal, and_printed}
 use Rattle.plm80_programs.proofs.Names.{AnswersTexts, session_status}
 use Rattle.loader80.specs.declared.fault.SessionFault.TheVariants.{Memory}
+use Rattle.plm80_console.specs.Answer.GaveUp.{printing}
+use Rattle.plm80_console.specs.Answer.IsGivenUp.{before as unmade, within as unfinished}
+
+-- to print no bytes does nothing
+pub nothing_printed : (journal : Journal) → and_printed journal [] ≡ journal
+nothing_printed journal = ap (λ (bytes : List ℕ). record journal { printed = bytes }) (append-nil journal.printed)
 
 -- these bytes, which are printed then
 pub printed : (before after : Option (List ℕ)) (lines : List ℕ) (old between new : Journal) → before ≡ Some [] → between ≡ old
@@ -14,6 +22,30 @@ printed before (Some bytes) lines old between new empty same appended taken =
     taken.1 ∙ ap (and_printed between) (sym taken.2 ∙ all) ∙ ap (λ (j : Journal). and_printed j lines) same
 printed before None lines old between new empty same appended taken =
     absurd (subst (λ (w : Option (List ℕ)). Appends w None lines) empty appended)
+
+-- a front part of them, behind which a fault was reported
+pub front_stopped : (before after : Option (List ℕ)) (whole : List ℕ) (old lent between new : Journal) → before ≡ Some [] → lent ≡ old
+    → AppendsFront before after whole → IsTakenBack after lent between → new ≡ and_reported between → StopsPrinting whole old new
+front_stopped before after whole old lent between new empty same part taken is =
+    let cut : take (length part.front) whole ≡ part.front =
+    ap (take (length part.front)) part.parts ∙ take-append_seam part.front part.rest in (
+      length part.front,
+      is ∙ ap and_reported (printed before after part.front old lent between empty same part.appended taken
+          ∙ ap (and_printed old) (sym cut)),
+    )
+
+-- the bytes of an answer that prints alone
+pub stops_as_answer : (lines : List ℕ) (status : ℕ) (old new : Journal) → StopsPrinting lines old new → GaveUp (prints lines status) old new
+stops_as_answer lines status old new stops = printing (subst (λ (j : Journal). StopsPrinting lines j new) (sym (nothing_printed old)) stops)
+
+-- nothing was written, or a front part of a text with which an answer begins
+pub stopped : (Part : List ℕ → Type 0) (Whole : AnswerValue → Type 0) (before after : Option (List ℕ)) (old lent between new : Journal)
+    → before ≡ Some [] → lent ≡ old → LeavesFront Part before after → IsTakenBack after lent between → new ≡ and_reported between
+    → ((text : List ℕ) → Part text → StopsPrinting text old new → IsGivenUp Whole old new) → IsGivenUp Whole old new
+stopped Part Whole before after old lent between new empty same (inl none) taken is make =
+    unmade (is ∙ ap and_reported (printed before after [] old lent between empty same none taken ∙ nothing_printed old))
+stopped Part Whole before after old lent between new empty same (inr part) taken is make =
+    make part.0 part.1 (front_stopped before after part.0 old lent between new empty same part.2 taken is)
 
 -- what a session sent, if its answer has a status
 sent : (limits : Limits) (texts : Texts) (said : Result Outcome SessionFault) (before after : Option (List ℕ)) (status : ℕ)
@@ -37,5 +69,60 @@ session_given limits texts said before after old between new status empty same s
     record {
       answer = prints all.0 status;
       answers = record { said = said; says = all.1; status_is = is; no_file = refl };
-      given = record { journal = printed before after all.0 old between new empty same all.2 taken; status_is = refl };
+      given = record {
+        journal = printed before after all.0 old between new empty same all.2 taken ∙ ap (λ (j : Journal). and_printed j all.0) (sym (nothing_printed old));
+        status_is = refl;
+      };
     }
+
+-- ---- a session that was given up
+
+no_part : (text : List ℕ) (count : ℕ) → text ≡ [] → count < length text → ⊥
+no_part text count none part = let empty : length text ≡ 0 = ap length none in omega (arith, empty, part)
+
+-- a text of which a front part may be missing is that of an answer
+whole_answer : (limits : Limits) (texts : Texts) (said : Result Outcome SessionFault) (text : List ℕ) (count : ℕ)
+    → Answers limits.outputs limits.steps texts said text → count < length text → (status : ℕ) × AnswersTexts limits texts (prints text status)
+whole_answer limits texts (Ok o) text count answers part = (_, record { said = Ok o; says = answers.1; status_is = refl; no_file = refl })
+whole_answer limits texts (Err (Refused r)) text count answers part =
+    (1, record { said = Err (Refused r); says = answers.1; status_is = refl; no_file = refl })
+whole_answer limits texts (Err (Read n)) text count answers part = absurd (no_part text count answers.1 part)
+whole_answer limits texts (Err (TooLong n)) text count answers part = absurd (no_part text count answers.1 part)
+whole_answer limits texts (Err Memory) text count answers part = absurd (no_part text count answers part)
+whole_answer limits texts (Err Write) text count answers part = absurd answers.1
+whole_answer limits texts (Err (Regions f)) text count answers part = absurd (no_part text count answers.1.2 part)
+whole_answer limits texts (Err (Image f)) text count answers part = absurd (no_part text count answers.1.3 part)
+whole_answer limits texts (Err (Inputs n)) text count answers part = absurd (no_part text count answers.1.2 part)
+
+-- nothing was sent
+sent_none : (limits : Limits) (texts : Texts) (said : Result Outcome SessionFault) (fault : SessionFault) (before after : Option (List ℕ))
+    → session_status said ≡ Err fault → Sends limits.outputs limits.steps texts said before after
+    → LeavesFront (λ text. (status : ℕ) × AnswersTexts limits texts (prints text status)) before after
+sent_none limits texts (Ok o) fault before after is sends = absurd cc
+sent_none limits texts (Err (Refused r)) fault before after is sends = absurd cc
+sent_none limits texts (Err Write) fault before after is sends =
+    inr (
+      sends.text,
+      whole_answer limits texts sends.answer sends.text sends.count sends.answers sends.part,
+      record {
+        front = take sends.count sends.text;
+        rest = drop sends.count sends.text;
+        parts = sym (take-append-drop sends.count sends.text);
+        appended = sends.appended;
+      },
+    )
+sent_none limits texts (Err (Read n)) fault before after is sends = inl (subst (Appends before after) sends.answers.1 sends.appended)
+sent_none limits texts (Err (TooLong n)) fault before after is sends = inl (subst (Appends before after) sends.answers.1 sends.appended)
+sent_none limits texts (Err Memory) fault before after is sends = inl (subst (Appends before after) sends.answers sends.appended)
+sent_none limits texts (Err (Regions f)) fault before after is sends = inl (subst (Appends before after) sends.answers.1.2 sends.appended)
+sent_none limits texts (Err (Image f)) fault before after is sends = inl (subst (Appends before after) sends.answers.1.3 sends.appended)
+sent_none limits texts (Err (Inputs n)) fault before after is sends = inl (subst (Appends before after) sends.answers.1.2 sends.appended)
+
+pub session_given_up : (limits : Limits) (texts : Texts) (said : Result Outcome SessionFault) (fault : SessionFault) (before after : Option (List ℕ))
+    (old lent between new : Journal) → before ≡ Some [] → lent ≡ old → Sends limits.outputs limits.steps texts said before after
+    → session_status said ≡ Err fault → IsTakenBack after lent between → new ≡ and_reported between
+    → IsGivenUp (AnswersTexts limits texts) old new
+session_given_up limits texts said fault before after old lent between new empty same sends is taken reported =
+    stopped (λ text. (status : ℕ) × AnswersTexts limits texts (prints text status)) (AnswersTexts limits texts) before after old lent between new
+    empty same (sent_none limits texts said fault before after is sends) taken reported
+    (λ text whole stops. unfinished (prints text whole.0) whole.1 (stops_as_answer text whole.0 old new stops))

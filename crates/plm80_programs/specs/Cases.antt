@@ -6,7 +6,7 @@ use Rattle.image80.specs.{Case.DeclaredCase, Image.Located, Regions.Areas, Regio
 use Rattle.stream80.specs.WholeText.{text_limit}
 use Rattle.verify80_cases.specs.Suggested.{Finding, IsFinding, IsSearched, case_of, is_open}
 use Rattle.verify80_cases.specs.{declared.search.Note.Note, declared.search.SuggestedCase.SuggestedCase, Added.AddsCases}
-use Rattle.plm80_console.specs.{Answer.AnswerValue, Journal.FileValue}
+use Rattle.plm80_console.specs.{Answer.AnswerValue, Answer.prints, Journal.FileValue}
 use Rattle.plm80_names.specs.Verdict.{AnswersProgram}
 use Rattle.plm80_programs.specs.{declared.cases.FoundCase.FoundCase, Status.notes_status}
 
@@ -58,8 +58,27 @@ pub record PrintsCases (out : Option (List ℕ)) (image : Located) (answer : Ans
   pub found : FindsCases image cases notes
   pub files : List FileValue
   pub added : AreAddedTo out image.regions cases files
-  pub answer_is : answer ≡ record { files = files; lines = cases_text cases; status = notes_status notes }
+  pub answer_is : answer ≡ record { first = []; files = files; lines = cases_text cases; status = notes_status notes }
+
+-- the lines of the cases of an image up to an address, each of which is right
+pub record BeginsCases (image : Located) (text : List ℕ) : Type 0 where
+  pub reached : List Bool
+  pub taken : List Bool
+  pub searched : IsSearched image reached taken
+  pub limit : ℕ
+  pub cases : List DeclaredCase
+  pub notes : List Note
+  pub found : AreFoundBelow image reached taken limit cases notes
+  pub text_is : text ≡ cases_text cases
+
+-- what is given up: that, or such lines, which are printed as they are found
+pub data PrintsCasesInPart (out : Option (List ℕ)) (image : Located) (answer : AnswerValue) : Type 0 where
+  whole : PrintsCases out image answer → PrintsCasesInPart out image answer
+  begun : BeginsCases image answer.lines → answer ≡ prints answer.lines 0 → PrintsCasesInPart out image answer
 
 -- the same of two files
 pub record AnswersCases (out : Option (List ℕ)) (files : List FileValue) (answer : AnswerValue) : Type 0 where
   pub is : AnswersProgram (λ image publics. PrintsCases out image) false files answer
+
+pub record AnswersCasesInPart (out : Option (List ℕ)) (files : List FileValue) (answer : AnswerValue) : Type 0 where
+  pub is : AnswersProgram (λ image publics. PrintsCasesInPart out image) false files answer

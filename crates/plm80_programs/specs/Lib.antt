@@ -7,3 +7,5 @@ pub mod Cases
 pub mod Suggest
 pub mod InputWords
 pub mod Written
+-- what the crate's own functions promise one another: no public contract cites these
+pub mod Fronts

@@ -1,8 +1,8 @@
 -- What commands print of an image, and their exit statuses. (The texts are those of the crates below; that a refusal is printed alone,
 -- with status 1, is this project's own.)
-use Rattle.std.specs.Prelude.{◌≡◌, ℕ, Bool, true, false, List, [], Some, All, codes, map}
+use Rattle.std.specs.Prelude.{◌≡◌, ◌<◌, ℕ, Bool, true, false, List, [], Some, All, codes, map}
 use Rattle.omf_model.specs.declared.symbols.Public.{Public}
-use Rattle.image80.specs.{declared.range.Range.Range, Image.Located}
+use Rattle.image80.specs.{declared.range.Range.Range, Image.Located, Range.in_range, Regions.Areas, Regions.in_data}
 use Rattle.image80_text.specs.{Listing.listing_of, NameText.labelled_text, NameText.named_text}
 use Rattle.machine80.specs.{Ports.lists_of, World.world_at_start}
 use Rattle.verify80.specs.{Looking.code_of, Boards.SetsStack, Vouched.Voucher}
@@ -81,8 +81,14 @@ pub record ListsStores (quiet : List Range) (publics : List Public) (program : V
   pub stack : stores.sets_stack ≡ true → SetsStack program.image
   pub answer_is : answer ≡ prints (stores_lines quiet program.image publics stores) (stores_status stores)
 
-abbrev pub PrintsStores : (quiet : List Range) → Located → List Public → AnswerValue → Type 0
-PrintsStores quiet image publics answer = AnswersVerdict (ListsStores quiet publics) image publics answer
+-- each address of a range is data
+abbrev pub IsAllData : Areas → Range → Type 0
+IsAllData regions range = (at : ℕ) → at < 65536 → in_range range at ≡ true → in_data regions at ≡ true
+
+-- the quiet ranges are data; the stores are listed, or the refusal
+pub record PrintsStores (quiet : List Range) (image : Located) (publics : List Public) (answer : AnswerValue) : Type 0 where
+  pub are_data : All (IsAllData image.regions) quiet
+  pub verdict : AnswersVerdict (ListsStores quiet publics) image publics answer
 
 -- the same of two files, with the ranges that the options write
 pub record AnswersStores (arguments : StoresArguments) (files : List FileValue) (answer : AnswerValue) : Type 0 where

@@ -62,9 +62,12 @@ IsTraceOf inputs limits span program ended =
 pub record TracesRun (inputs : List (ℕ × ℕ)) (limits : Limits) (span : Span) (publics : List Public) (program : Voucher) (answer : AnswerValue) : Type 0 where
   pub ended : Option Ended
   pub traced : IsTraceOf inputs limits span program ended
-  pub answer_is : answer ≡ record (trace_ending program publics ended) {
-    lines = trace_lines inputs limits span true publics program ++ (trace_ending program publics ended).lines;
-  }
+  pub answer_is : answer ≡ record (trace_ending program publics ended) { first = trace_lines inputs limits span true publics program }
+
+-- what a trace is that is given up: that, or the lines, as far as they came
+pub data TracesPart (inputs : List (ℕ × ℕ)) (limits : Limits) (span : Span) (publics : List Public) (program : Voucher) (answer : AnswerValue) : Type 0 where
+  whole : TracesRun inputs limits span publics program answer → TracesPart inputs limits span publics program answer
+  lines : answer ≡ prints (trace_lines inputs limits span true publics program) 0 → TracesPart inputs limits span publics program answer
 
 -- ---- run
 
@@ -98,7 +101,7 @@ pub record EndsRun (inputs : List (ℕ × ℕ)) (limits : Limits) (last : ℕ) (
   pub ended : Ended
   pub behind : AnswerValue
   pub watched : WatchesRun inputs limits last dump publics program text ended behind
-  pub answer_is : answer ≡ record behind { lines = text ++ behind.lines }
+  pub answer_is : answer ≡ record behind { first = text }
 
 -- ---- three files
 
@@ -183,12 +186,20 @@ pub record CoversFiles (arguments : CoverArguments) (files : List FileValue) (an
   pub are_limits : AreLimitsOf arguments.limits limits
   pub answers : AnswersRun (λ inputs publics program. PrintsText (CountsRun inputs limits publics program)) arguments.files.program.names files answer
 
-pub record TracesFiles (arguments : TraceArguments) (files : List FileValue) (answer : AnswerValue) : Type 0 where
+pub record TracesBy (Traces : List (ℕ × ℕ) → Limits → Span → List Public → Voucher → AnswerValue → Type 0) (arguments : TraceArguments)
+    (files : List FileValue) (answer : AnswerValue) : Type 0 where
   pub limits : Limits
   pub are_limits : AreLimitsOf arguments.limits limits
   pub span : Span
   pub is_span : IsSpanOf arguments span
-  pub answers : AnswersRun (λ inputs. TracesRun inputs limits span) arguments.files.program.names files answer
+  pub answers : AnswersRun (λ inputs. Traces inputs limits span) arguments.files.program.names files answer
+
+abbrev pub TracesFiles : TraceArguments → List FileValue → AnswerValue → Type 0
+TracesFiles = TracesBy TracesRun
+
+-- what is given up of it
+abbrev pub TracesFilesInPart : TraceArguments → List FileValue → AnswerValue → Type 0
+TracesFilesInPart = TracesBy TracesPart
 
 -- nothing but the transcript is asked for: no instructions, no memory and no names
 abbrev pub is_session : RunArguments → (last : ℕ) → Bool

@@ -1,14 +1,14 @@
 //! `plm80 calls`: the calls of a located program, or its refusal.
 
 ghost use Rattle.std.specs.Prelude.{IfErr, IfOk};
-ghost use Rattle.plm80_console.specs.{Answer.Gives, Journal.OnlyReports};
+ghost use Rattle.plm80_console.specs.Answer.{Gives, GivesUp};
 ghost use Rattle.plm80_names.specs.{Arguments.asks_names, Arguments.program_paths, Verdict.AnswersProgram};
 ghost use Rattle.plm80_programs.specs.{Arguments.AreCallsArguments, Printed.IsCallsText, Printed.PrintsCalls};
 
 use crate::helpers::printing::{Printing, answer_of};
 use clap::ArgMatches;
 use loader80::Vouched;
-use plm80_console::laws::reading_leaves_files_alone;
+use plm80_console::laws::faults_follow_reading;
 use plm80_console::{Argument, Console, Kind, Reported, Syntax};
 use plm80_files::{IMAGE, REGIONS};
 use plm80_names::{NAMES, NamedFiles, Names};
@@ -72,9 +72,10 @@ pub fn show_calls<C: Console>(
 ) -> Result<u8, Reported>
     ensures done { let asked = arguments.entry in IfOk result (Gives (AnswersProgram (PrintsCalls asked.dot) (asks_names asked.files))
         (program_paths asked.files) (C.journal console.old) (C.journal console.new)) }
-    ensures fault { IfErr result (λ _. OnlyReports (C.journal console.old) (C.journal console.new)) }
+    ensures fault { IfErr result (λ _. GivesUp (AnswersProgram (PrintsCalls arguments.entry.dot) (asks_names arguments.entry.files)) (program_paths arguments.entry.files)
+        (C.journal console.old) (C.journal console.new)) }
 {
-    reading_leaves_files_alone();
+    faults_follow_reading();
     let CallsArguments { files, dot } = arguments;
     let (image, names) = files.read(console)?;
     let answer = answer_of(console.alloc(), image, &names, Calls { dot });

@@ -1,14 +1,16 @@
 //! `plm80 cases`: the CASE lines that the tables of an image suggest.
 
 ghost use Rattle.std.specs.Prelude.{◌≡◌, ◌<◌, ◌++◌, ◌∷◌, [], List, None, Some, length, option_map, IfErr, IfOk};
-ghost use Rattle.std.specs.Prelude.{IsErrOf, OnOk};
+ghost use Rattle.std.specs.Prelude.{IsErrOf, OnErr, OnOk};
 ghost use Rattle.std.specs.{Io.KnownBytes.Appends, List.cons_option, List.list_any};
 ghost use Rattle.image80.specs.{Case.DeclaredCase, RegionsText.cases_text};
 ghost use Rattle.stream80.specs.WholeText.{text_limit};
 ghost use Rattle.verify80_cases.specs.Suggested.{IsSearched, case_of};
-ghost use Rattle.plm80_console.specs.Journal.{OnlyReports, and_reported};
+ghost use Rattle.plm80_console.specs.Journal.{and_reported};
 ghost use Rattle.plm80_console.specs.Answer.{Gives, GivesUp, IsAnswered, IsGivenUp};
-ghost use Rattle.plm80_programs.specs.Cases.{AnswersCases, FindsCases, HasLongCases, IsFoundAt, PrintsCases};
+ghost use Rattle.loader80_trace.specs.Traces.{AppendsFront};
+ghost use Rattle.plm80_programs.specs.Cases.{AnswersCases, AnswersCasesInPart, BeginsCases, FindsCases, HasLongCases, IsFoundAt, PrintsCases, PrintsCasesInPart};
+ghost use Rattle.plm80_programs.specs.Fronts.{LeavesFront};
 ghost use Rattle.plm80_programs.specs.{Arguments.AreCasesArguments, Arguments.cases_path, Status.lacks_table, Status.notes_status};
 
 use crate::helpers::endings::report_lines;
@@ -17,7 +19,7 @@ use image80::{Case, Image, RegionsFault, case_lines};
 use loader80::TEXT_LIMIT;
 use loader80_text::LengthFault;
 use loader80_trace::TraceFault;
-use plm80_console::laws::reading_leaves_files_alone;
+use plm80_console::laws::faults_follow_reading;
 use plm80_console::{Answer, Argument, Console, Kind, Reported, Syntax, argument_text};
 use plm80_files::{IMAGE, REGIONS};
 use plm80_names::NamedFiles;
@@ -88,10 +90,10 @@ pub fn suggest_for_files<C: Console>(
 ) -> Result<u8, Reported>
     ensures done { let asked = arguments.entry in IfOk result (Gives (AnswersCases (cases_path asked)) (asked.image.now ∷ asked.regions.now ∷ [])
         (C.journal console.old) (C.journal console.new)) }
-    ensures fault { let asked = arguments.entry in IfErr result (λ _. GivesUp (AnswersCases (cases_path asked))
+    ensures fault { let asked = arguments.entry in IfErr result (λ _. GivesUp (AnswersCasesInPart (cases_path asked))
         (asked.image.now ∷ asked.regions.now ∷ []) (C.journal console.old) (C.journal console.new)) }
 {
-    reading_leaves_files_alone();
+    faults_follow_reading();
     let files = NamedFiles {
         image: arguments.image,
         regions: arguments.regions,
@@ -106,7 +108,7 @@ pub fn suggest_for_files<C: Console>(
 fn suggest<C: Console>(console: &mut C, out: Option<&str>, image: &Image) -> Result<u8, Reported>
     ensures done { IfOk result (IsAnswered (PrintsCases (option_map (λ path. path.now) out.entry) image.now)
         (C.journal console.old) (C.journal console.new)) }
-    ensures fault { IfErr result (λ _. IsGivenUp (PrintsCases (option_map (λ path. path.now) out.entry) image.now)
+    ensures fault { IfErr result (λ _. IsGivenUp (PrintsCasesInPart (option_map (λ path. path.now) out.entry) image.now)
         (C.journal console.old) (C.journal console.new)) }
 {
     match out {
@@ -118,7 +120,7 @@ fn suggest<C: Console>(console: &mut C, out: Option<&str>, image: &Image) -> Res
 /// Prints the line of each case of `image` as it is found, and returns the exit status.
 fn print_cases<C: Console>(console: &mut C, image: &Image) -> Result<u8, Reported>
     ensures done { IfOk result (IsAnswered (PrintsCases None image.now) (C.journal console.old) (C.journal console.new)) }
-    ensures fault { IfErr result (λ _. OnlyReports (C.journal console.old) (C.journal console.new)) }
+    ensures fault { IfErr result (λ _. IsGivenUp (PrintsCasesInPart None image.now) (C.journal console.old) (C.journal console.new)) }
 {
     let mut output = console.output();
     let written = write_cases(console.alloc(), image, &mut output);
@@ -136,8 +138,9 @@ fn print_cases<C: Console>(console: &mut C, image: &Image) -> Result<u8, Reporte
 /// may have thousands of times as many targets as the image has bytes.
 fn write_cases<K: Sink>(alloc: Global, image: &Image, out: &mut K) -> Result<Vec<Note>, TraceFault>
     requires { K.failed out.old < u64.MAX }
-    ensures { IfOk result (λ notes. (cases : List DeclaredCase) × FindsCases image.now cases notes.items
+    ensures found { IfOk result (λ notes. (cases : List DeclaredCase) × FindsCases image.now cases notes.items
         × Appends (K.written out.old) (K.written out.new) (cases_text cases)) }
+    ensures front { OnErr result (LeavesFront (BeginsCases image.now) (K.written out.old) (K.written out.new)) }
 {
     let code = ImageCode::new(alloc, image)?;
     let search = Search::of(alloc, &code)?;
@@ -155,8 +158,9 @@ fn write_searched<K: Sink>(
     requires code { code.now ≡ image.now }
     requires searched { IsSearched image.now search.now.reached search.now.taken }
     requires countable { K.failed out.old < u64.MAX }
-    ensures { IfOk result (λ notes. (cases : List DeclaredCase) × FindsCases image.now cases notes.items
+    ensures found { IfOk result (λ notes. (cases : List DeclaredCase) × FindsCases image.now cases notes.items
         × Appends (K.written out.old) (K.written out.new) (cases_text cases)) }
+    ensures front { OnErr result (LeavesFront (BeginsCases image.now) (K.written out.old) (K.written out.new)) }
 {
     let mut notes = Vec::new(alloc);
     for address in 0..65_536_u32 {
@@ -175,6 +179,7 @@ fn write_found<K: Sink>(
 ) -> Result<(), TraceFault>
     requires { K.failed out.old < u64.MAX }
     ensures written { OnOk result (Appends (K.written out.old) (K.written out.new) (cases_text (cons_option found.case []))) }
+    ensures front { OnErr result (AppendsFront (K.written out.old) (K.written out.new) (cases_text (cons_option found.case []))) }
     ensures notes { OnOk result (notes.new.items ≡ notes.old.items ++ cons_option found.note []) }
     ensures failures { OnOk result (K.failed out.new ≡ K.failed out.old) }
 {
@@ -197,7 +202,7 @@ fn line_of(alloc: Global, case: &Option<Case>) -> Result<Vec<u8>, AllocError>
 /// Writes the regions of `image` with its cases to the file `path`, prints the line of each case, and returns the exit status.
 fn add_cases<C: Console>(console: &mut C, path: &str, image: &Image) -> Result<u8, Reported>
     ensures done { IfOk result (IsAnswered (PrintsCases (Some path.now) image.now) (C.journal console.old) (C.journal console.new)) }
-    ensures fault { IfErr result (λ _. IsGivenUp (PrintsCases (Some path.now) image.now) (C.journal console.old) (C.journal console.new)) }
+    ensures fault { IfErr result (λ _. IsGivenUp (PrintsCasesInPart (Some path.now) image.now) (C.journal console.old) (C.journal console.new)) }
 {
     match added_cases(console.alloc(), path, image) {
         Ok(AddedCases { answer, notes }) => {

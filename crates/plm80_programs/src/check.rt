@@ -1,13 +1,13 @@
 //! `plm80 check`: the verifier's report on a located program, or its refusal.
 
 ghost use Rattle.std.specs.Prelude.{IfErr, IfOk};
-ghost use Rattle.plm80_console.specs.{Answer.Gives, Journal.OnlyReports};
+ghost use Rattle.plm80_console.specs.Answer.{Gives, GivesUp};
 ghost use Rattle.plm80_names.specs.{Arguments.asks_names, Arguments.program_paths, Verdict.AnswersProgram};
 ghost use Rattle.plm80_programs.specs.Printed.{PrintsReport, Reports};
 
 use crate::helpers::printing::{Printing, answer_of};
 use loader80::Vouched;
-use plm80_console::laws::reading_leaves_files_alone;
+use plm80_console::laws::faults_follow_reading;
 use plm80_console::{Console, Reported, Syntax};
 use plm80_names::{NAMED_FILES, NamedFiles, Names, named_report};
 use std::alloc::{AllocError, Global};
@@ -39,9 +39,10 @@ pub const CHECK: Syntax<'static> = Syntax {
 pub fn check_files<C: Console>(console: &mut C, files: NamedFiles<'_>) -> Result<u8, Reported>
     ensures done { IfOk result (Gives (AnswersProgram PrintsReport (asks_names files.entry)) (program_paths files.entry)
         (C.journal console.old) (C.journal console.new)) }
-    ensures fault { IfErr result (λ _. OnlyReports (C.journal console.old) (C.journal console.new)) }
+    ensures fault { IfErr result (λ _. GivesUp (AnswersProgram PrintsReport (asks_names files.entry)) (program_paths files.entry)
+        (C.journal console.old) (C.journal console.new)) }
 {
-    reading_leaves_files_alone();
+    faults_follow_reading();
     let (image, names) = files.read(console)?;
     let answer = answer_of(console.alloc(), image, &names, Report);
     let given = console.give_if_made(answer);

@@ -1,7 +1,7 @@
 //! `plm80 cover`: the code of a located program, with how often a run began each instruction.
 
 ghost use Rattle.std.specs.Prelude.{IfErr, IfOk};
-ghost use Rattle.plm80_console.specs.{Answer.Gives, Journal.OnlyReports};
+ghost use Rattle.plm80_console.specs.Answer.{Gives, GivesUp};
 ghost use Rattle.plm80_programs.specs.Arguments.{AreCoverArguments, run_paths};
 ghost use Rattle.plm80_programs.specs.{Printed.CountsRun, Running.CoversFiles};
 
@@ -11,7 +11,7 @@ use clap::ArgMatches;
 use loader80::Vouched;
 use loader80_trace::{Limits, count_steps, cover};
 use machine80::Inputs;
-use plm80_console::laws::reading_leaves_files_alone;
+use plm80_console::laws::faults_follow_reading;
 use plm80_console::{Console, Reported, Syntax};
 use plm80_files::{IMAGE, REGIONS};
 use plm80_names::{NAMES, Names};
@@ -63,9 +63,10 @@ pub fn cover_files<C: Console>(
 ) -> Result<u8, Reported>
     ensures done { let asked = arguments.entry in IfOk result (Gives (CoversFiles asked) (run_paths asked.files)
         (C.journal console.old) (C.journal console.new)) }
-    ensures fault { IfErr result (λ _. OnlyReports (C.journal console.old) (C.journal console.new)) }
+    ensures fault { IfErr result (λ _. GivesUp (CoversFiles arguments.entry) (run_paths arguments.entry.files)
+        (C.journal console.old) (C.journal console.new)) }
 {
-    reading_leaves_files_alone();
+    faults_follow_reading();
     let limits = arguments.limits.numbers(console)?;
     let program = arguments.files.read(console)?;
     let inputs = program.inputs;

@@ -3,7 +3,7 @@
 ghost use Rattle.std.specs.Prelude.{◌≡◌, ◌≢◌, [], IfErr, IfOk, OnOk};
 ghost use Rattle.verify80_flow.specs.declared.refusal.Refusal.TheVariants.{Memory};
 ghost use Rattle.verify80_explain_text.specs.Printed.{GoesOnWithChain};
-ghost use Rattle.plm80_console.specs.{Answer.Gives, Journal.OnlyReports};
+ghost use Rattle.plm80_console.specs.Answer.{Gives, GivesUp};
 ghost use Rattle.plm80_names.specs.Arguments.{asks_names, program_paths};
 ghost use Rattle.plm80_names.specs.{Printed.named_report, Verdict.AnswersProgram};
 ghost use Rattle.plm80_programs.specs.Explanations.{PrintsExplanation, ShowsOverrun, ShowsRefusal, ShowsRefused, needed_stack};
@@ -13,7 +13,7 @@ use crate::all_refusals::all_refused;
 use clap::ArgMatches;
 use image80::Image;
 use loader80::{Refusal, Vouched, vouch};
-use plm80_console::laws::reading_leaves_files_alone;
+use plm80_console::laws::faults_follow_reading;
 use plm80_console::{Answer, Argument, Console, Kind, Reported, Syntax};
 use plm80_files::{IMAGE, REGIONS};
 use plm80_names::{
@@ -96,9 +96,10 @@ pub fn explain_files<C: Console>(
 ) -> Result<u8, Reported>
     ensures done { let asked = arguments.entry in IfOk result (Gives (AnswersProgram (PrintsExplanation asked.all) (asks_names asked.files))
         (program_paths asked.files) (C.journal console.old) (C.journal console.new)) }
-    ensures fault { IfErr result (λ _. OnlyReports (C.journal console.old) (C.journal console.new)) }
+    ensures fault { IfErr result (λ _. GivesUp (AnswersProgram (PrintsExplanation arguments.entry.all) (asks_names arguments.entry.files)) (program_paths arguments.entry.files)
+        (C.journal console.old) (C.journal console.new)) }
 {
-    reading_leaves_files_alone();
+    faults_follow_reading();
     let (image, names) = arguments.files.read(console)?;
     let answer = explained(console.alloc(), image, arguments.all, &names);
     let given = console.give_if_made(answer);
@@ -115,8 +116,7 @@ fn explained(
     all: bool,
     names: &Names,
 ) -> Result<Answer<'static>, AllocError>
-    ensures explanation { IfOk result (PrintsExplanation all image names.now) }
-    ensures no_file { IfOk result (λ answer. answer.files ≡ []) }
+    ensures { IfOk result (PrintsExplanation all image names.now) }
 {
     match vouch(alloc, image) {
         Ok(vouched) => {

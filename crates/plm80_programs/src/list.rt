@@ -1,7 +1,7 @@
 //! `plm80 list`: the instructions of a located program.
 
 ghost use Rattle.std.specs.Prelude.{◌≡◌, [], IfErr, IfOk};
-ghost use Rattle.plm80_console.specs.{Answer.Gives, Journal.OnlyReports};
+ghost use Rattle.plm80_console.specs.Answer.{Gives, GivesUp};
 ghost use Rattle.plm80_names.specs.{Arguments.asks_names, Arguments.program_paths, Verdict.AnswersProgram};
 ghost use Rattle.plm80_programs.specs.{Arguments.AreListArguments, Printed.ListsCode, Printed.PrintsListing};
 
@@ -11,7 +11,7 @@ use image80::Image;
 use image80_text::listing;
 use loader80::Vouched;
 use loader80_trace::list_reached;
-use plm80_console::laws::reading_leaves_files_alone;
+use plm80_console::laws::faults_follow_reading;
 use plm80_console::{Answer, Argument, Console, Kind, Reported, Syntax};
 use plm80_files::{IMAGE, REGIONS};
 use plm80_names::{NAMES, NamedFiles, Names};
@@ -75,9 +75,10 @@ impl<'a> ListArguments<'a> {
 pub fn list_files<C: Console>(console: &mut C, arguments: ListArguments<'_>) -> Result<u8, Reported>
     ensures done { let asked = arguments.entry in IfOk result (Gives (AnswersProgram (PrintsListing asked.reached) (asks_names asked.files))
         (program_paths asked.files) (C.journal console.old) (C.journal console.new)) }
-    ensures fault { IfErr result (λ _. OnlyReports (C.journal console.old) (C.journal console.new)) }
+    ensures fault { IfErr result (λ _. GivesUp (AnswersProgram (PrintsListing arguments.entry.reached) (asks_names arguments.entry.files)) (program_paths arguments.entry.files)
+        (C.journal console.old) (C.journal console.new)) }
 {
-    reading_leaves_files_alone();
+    faults_follow_reading();
     let ListArguments { files, reached } = arguments;
     let (image, names) = files.read(console)?;
     let answer = listed(console.alloc(), image, reached, &names);
@@ -93,8 +94,7 @@ fn listed(
     reached: bool,
     names: &Names,
 ) -> Result<Answer<'static>, AllocError>
-    ensures listing { IfOk result (PrintsListing reached image names.now) }
-    ensures no_file { IfOk result (λ answer. answer.files ≡ []) }
+    ensures { IfOk result (PrintsListing reached image names.now) }
 {
     if reached {
         return answer_of(alloc, image, names, ReachedCode);

@@ -1,16 +1,16 @@
 //! `plm80 stores`: the stores of a program that may leave its data, and its jumps by PCHL.
 
-ghost use Rattle.std.specs.Prelude.{◌≡◌, false, [], IfErr, IfOk, IfSome};
+ghost use Rattle.std.specs.Prelude.{◌≡◌, false, All, IfErr, IfNone, IfOk, IfSome, OnOk};
 ghost use Rattle.image80.specs.Regions.{in_data};
-ghost use Rattle.plm80_console.specs.{Answer.Gives, Answer.IsAnswered, Answer.prints, Journal.OnlyReports};
-ghost use Rattle.plm80_names.specs.Arguments.{program_paths};
-ghost use Rattle.plm80_programs.specs.Printed.{AnswersStores, ListsStores, PrintsStores, stores_lines};
+ghost use Rattle.plm80_console.specs.{Answer.Gives, Answer.GivesUp, Answer.IsAnswered, Answer.IsGivenUp, Answer.prints, Journal.and_reported};
+ghost use Rattle.plm80_names.specs.{Arguments.program_paths, Verdict.AnswersVerdict};
+ghost use Rattle.plm80_programs.specs.Printed.{AnswersStores, IsAllData, ListsStores, PrintsStores, stores_lines};
 ghost use Rattle.plm80_programs.specs.{Arguments.AreStoresArguments, Status.stores_status};
 
 use clap::ArgMatches;
 use image80::{Image, Range, Regions};
 use loader80::Vouched;
-use plm80_console::laws::reading_leaves_files_alone;
+use plm80_console::laws::faults_follow_reading;
 use plm80_console::{
     Answer, Argument, Console, Kind, Reported, Syntax, argument_values, ranges_of,
 };
@@ -93,30 +93,30 @@ pub fn list_stores<C: Console>(
 ) -> Result<u8, Reported>
     ensures done { let asked = arguments.now in IfOk result (Gives (AnswersStores asked) (program_paths asked.files)
         (C.journal console.old) (C.journal console.new)) }
-    ensures fault { IfErr result (λ _. OnlyReports (C.journal console.old) (C.journal console.new)) }
+    ensures fault { IfErr result (λ _. GivesUp (AnswersStores arguments.now) (program_paths arguments.now.files)
+        (C.journal console.old) (C.journal console.new)) }
 {
-    reading_leaves_files_alone();
+    faults_follow_reading();
     let quiet = ranges_of(console, QUIET, &arguments.quiet)?;
     let files = arguments.files;
     let (image, names) = files.read(console)?;
-    let given = print_stores(console, image, &names, &arguments.quiet, &quiet);
+    let given = print_stores(console, image, &names, &quiet);
     files.explain(console, &given);
     given
 }
 
-/// Prints what is known of the stores and jumps of `image`, or its refusal, and returns the exit status. `quiet` are the ranges that
-/// `texts` write.
+/// Prints what is known of the stores and jumps of `image`, or its refusal, and returns the exit status. Reports a quiet range that isn't
+/// all data.
 fn print_stores<C: Console>(
     console: &mut C,
     image: Image,
     names: &Names,
-    texts: &[&str],
     quiet: &[Range],
 ) -> Result<u8, Reported>
     ensures done { IfOk result (IsAnswered (PrintsStores quiet.now image names.now) (C.journal console.old) (C.journal console.new)) }
-    ensures fault { IfErr result (λ _. OnlyReports (C.journal console.old) (C.journal console.new)) }
+    ensures fault { IfErr result (λ _. IsGivenUp (PrintsStores quiet.now image names.now) (C.journal console.old) (C.journal console.new)) }
 {
-    require_data(console, &image.regions, texts, quiet)?;
+    require_data(console, &image.regions, quiet)?;
     match judged(console.alloc(), image, names, quiet, console.explains()) {
         Ok(ListedStores { answer, causes }) => {
             let status = console.give(answer)?;
@@ -131,33 +131,32 @@ fn print_stores<C: Console>(
 fn require_data<C: Console>(
     console: &mut C,
     regions: &Regions,
-    texts: &[&str],
     quiet: &[Range],
 ) -> Result<(), Reported>
+    ensures are_data { OnOk result (All (IsAllData regions.now) quiet.now) }
     ensures unchanged { IfOk result (λ _. C.journal console.new ≡ C.journal console.old) }
-    ensures fault { IfErr result (λ _. OnlyReports (C.journal console.old) (C.journal console.new)) }
+    ensures fault { IfErr result (λ _. C.journal console.new ≡ and_reported (C.journal console.old)) }
 {
-    match first_no_data(regions, texts, quiet) {
-        Some((text, at)) => {
+    match first_no_data(regions, quiet) {
+        Some((Range { first, length }, at)) => {
             let reported = console.report("NotData");
-            console.explain(format_args!("--{QUIET} {text}: {at:04X} is no address of DATA"));
+            console.explain(format_args!(
+                "--{QUIET} {first:04X}:{length:04X}: {at:04X} is no address of DATA"
+            ));
             Err(reported)
         }
         None => Ok(()),
     }
 }
 
-/// The text of the first of the quiet ranges that isn't all data of `regions`, and its first address that isn't. `None` if all of them are.
-fn first_no_data<'a>(
-    regions: &Regions,
-    texts: &[&'a str],
-    quiet: &[Range],
-) -> Option<(&'a str, u16)>
-    ensures { IfSome result (λ found. in_data regions.now found.1 ≡ false) }
+/// The first of the quiet ranges that isn't all data of `regions`, and its first address that isn't. `None` if all of them are.
+fn first_no_data(regions: &Regions, quiet: &[Range]) -> Option<(Range, u16)>
+    ensures some { IfSome result (λ found. in_data regions.now found.1 ≡ false) }
+    ensures none { IfNone result (All (IsAllData regions.now) quiet.now) }
 {
-    for (text, range) in texts.iter().zip(quiet) {
+    for range in quiet {
         if let Some(at) = first_outside_data(regions, *range) {
-            return Some((*text, at));
+            return Some((*range, at));
         }
     }
     None
@@ -180,8 +179,7 @@ fn judged(
     quiet: &[Range],
     explains: bool,
 ) -> Result<ListedStores, AllocError>
-    ensures stores { IfOk result (λ listed. PrintsStores quiet.now image names.now listed.answer) }
-    ensures no_file { IfOk result (λ listed. listed.answer.files ≡ []) }
+    ensures { IfOk result (λ listed. AnswersVerdict (ListsStores quiet.now names.now) image names.now listed.answer) }
 {
     match judge(alloc, image, names)? {
         Verdict::Accepted(vouched) => stores_of(alloc, &vouched, names, quiet, explains),
@@ -207,8 +205,7 @@ fn stores_of(
     quiet: &[Range],
     explains: bool,
 ) -> Result<ListedStores, AllocError>
-    ensures stores { IfOk result (λ listed. ListsStores quiet.now names.now vouched.now listed.answer) }
-    ensures no_file { IfOk result (λ listed. listed.answer.files ≡ []) }
+    ensures { IfOk result (λ listed. ListsStores quiet.now names.now vouched.now listed.answer) }
 {
     let stores = find_stores(alloc, vouched, quiet)?;
     listed(alloc, vouched, names, quiet, explains, &stores)

@@ -4,7 +4,7 @@ ghost use Rattle.std.specs.Prelude.{◌≡◌, ◌≤◌, ◌∷◌, [], length,
 ghost use Rattle.stream80.specs.WholeText.{text_limit};
 ghost use Rattle.image80.specs.RegionsText.{regions_text};
 ghost use Rattle.image80_file.specs.ImageFile.{SpellsImage, without_regions};
-ghost use Rattle.plm80_console.specs.{Answer.Gives, Answer.IsGiven, Answer.prints, Journal.OnlyReports, Journal.and_read};
+ghost use Rattle.plm80_console.specs.{Answer.GaveUp, Answer.Gives, Answer.GivesUp, Answer.IsGiven, Answer.prints, Journal.OnlyReports, Journal.and_read};
 ghost use Rattle.plm80_programs.specs.Suggest.{AdvisesRegions, AnswersAdvice, AreSuggestArguments, stack_words};
 ghost use Rattle.plm80_programs.specs.Status.{notes_status};
 
@@ -97,7 +97,8 @@ pub fn advise_file<C: Console>(
 ) -> Result<u8, Reported>
     ensures done { let asked = arguments.now in IfOk result (Gives (AnswersAdvice asked) (asked.image.now ∷ [])
         (C.journal console.old) (C.journal console.new)) }
-    ensures fault { IfErr result (λ _. OnlyReports (C.journal console.old) (C.journal console.new)) }
+    ensures fault { IfErr result (λ _. GivesUp (AnswersAdvice arguments.now) (arguments.now.image.now ∷ [])
+        (C.journal console.old) (C.journal console.new)) }
 {
     let rom = ranges_of(console, ROM, &arguments.rom)?;
     let ram = ranges_of(console, RAM, &arguments.ram)?;
@@ -120,7 +121,7 @@ struct PrintedAdvice {
 fn bare_image<C: Console>(console: &mut C, path: &str) -> Result<Image, Reported>
     ensures image { IfOk result (λ image. (bytes : List ℕ) × SpellsImage bytes (without_regions image)
         × (C.journal console.new ≡ and_read (C.journal console.old) path.now bytes)) }
-    ensures fault { IfErr result (λ _. OnlyReports (C.journal console.old) (C.journal console.new)) }
+    ensures fault { IfErr result (λ _. OnlyReports (path.now ∷ []) (C.journal console.old) (C.journal console.new)) }
 {
     let file = console.read_file(path)?;
     let none = regions_of(console, path, b"REGIONS 1\nSTACK 0000 0000\n")?;
@@ -130,9 +131,8 @@ fn bare_image<C: Console>(console: &mut C, path: &str) -> Result<Image, Reported
 
 /// Prints the suggested regions, says what is uncertain of them, and returns the exit status.
 fn print_advice<C: Console>(console: &mut C, printed: PrintedAdvice) -> Result<u8, Reported>
-    requires { printed.answer.files ≡ [] }
     ensures given { IfOk result (IsGiven printed.answer (C.journal console.old) (C.journal console.new)) }
-    ensures fault { IfErr result (λ _. OnlyReports (C.journal console.old) (C.journal console.new)) }
+    ensures fault { IfErr result (λ _. GaveUp printed.answer (C.journal console.old) (C.journal console.new)) }
 {
     let PrintedAdvice { advice, answer } = printed;
     let status = console.give(answer)?;
@@ -151,8 +151,7 @@ fn advise(
     rom: &[Range],
     ram: &[Range],
 ) -> Result<PrintedAdvice, LengthFault>
-    ensures advice { IfOk result (λ advised. AdvisesRegions image.old rom.now ram.now advised.advice advised.answer) }
-    ensures no_file { IfOk result (λ advised. advised.answer.files ≡ []) }
+    ensures { IfOk result (λ advised. AdvisesRegions image.old rom.now ram.now advised.advice advised.answer) }
 {
     image.regions = base_regions(alloc, image, rom)?;
     // Together its cases may have thousands of times as many targets as it has bytes.

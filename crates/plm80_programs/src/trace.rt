@@ -1,8 +1,8 @@
 //! `plm80 trace`: the instructions of a located program's run, a line each.
 
 ghost use Rattle.std.specs.Prelude.{◌≡◌, IfErr, IfOk};
-ghost use Rattle.plm80_console.specs.{Answer.Gives, Answer.IsAnswered, Answer.IsGiven, Journal.OnlyReports};
-ghost use Rattle.plm80_programs.specs.Running.{AnswersRun, IsSpanOf, TracesFiles, TracesRun, trace_ending};
+ghost use Rattle.plm80_console.specs.{Answer.Gives, Answer.GivesUp, Answer.IsAnswered, Answer.IsGiven, Answer.IsGivenUp, Journal.and_reported};
+ghost use Rattle.plm80_programs.specs.Running.{AnswersRun, IsSpanOf, TracesFiles, TracesFilesInPart, TracesPart, TracesRun, trace_ending};
 ghost use Rattle.plm80_programs.specs.Arguments.{AreTraceArguments, run_paths};
 
 use crate::EndWords;
@@ -12,7 +12,7 @@ use clap::ArgMatches;
 use loader80::{Ended, Vouched};
 use loader80_trace::{Limits, LineForm, Span, write_lines};
 use machine80::Inputs;
-use plm80_console::laws::reading_leaves_files_alone;
+use plm80_console::laws::faults_follow_reading;
 use plm80_console::{Answer, Argument, Console, Kind, OptionText, Reported, Syntax};
 use plm80_files::{IMAGE, REGIONS};
 use plm80_names::{NAMES, Names, Verdict, judge};
@@ -83,7 +83,7 @@ impl<'a> TraceArguments<'a> {
     fn span<C: Console>(self, console: &mut C) -> Result<Span, Reported>
         ensures span { IfOk result (IsSpanOf self.entry) }
         ensures unchanged { IfOk result (λ _. C.journal console.new ≡ C.journal console.old) }
-        ensures fault { IfErr result (λ _. OnlyReports (C.journal console.old) (C.journal console.new)) }
+        ensures fault { IfErr result (λ _. C.journal console.new ≡ and_reported (C.journal console.old)) }
     {
         let from = self.from.count(console)?;
         let count = self.count.count(console)?;
@@ -98,7 +98,8 @@ pub fn trace_files<C: Console>(
 ) -> Result<u8, Reported>
     ensures done { let asked = arguments.entry in IfOk result (Gives (TracesFiles asked) (run_paths asked.files)
         (C.journal console.old) (C.journal console.new)) }
-    ensures fault { IfErr result (λ _. OnlyReports (C.journal console.old) (C.journal console.new)) }
+    ensures fault { IfErr result (λ _. GivesUp (TracesFilesInPart arguments.entry) (run_paths arguments.entry.files)
+        (C.journal console.old) (C.journal console.new)) }
 {
     let limits = arguments.limits.numbers(console)?;
     let span = arguments.span(console)?;
@@ -117,9 +118,10 @@ fn trace_within<C: Console>(
 ) -> Result<u8, Reported>
     ensures done { IfOk result (Gives (AnswersRun (λ inputs. TracesRun inputs limits span) files.entry.program.names) (run_paths files.entry)
         (C.journal console.old) (C.journal console.new)) }
-    ensures fault { IfErr result (λ _. OnlyReports (C.journal console.old) (C.journal console.new)) }
+    ensures fault { IfErr result (λ _. GivesUp (AnswersRun (λ inputs. TracesPart inputs limits span) files.entry.program.names) (run_paths files.entry)
+        (C.journal console.old) (C.journal console.new)) }
 {
-    reading_leaves_files_alone();
+    faults_follow_reading();
     let program = files.read(console)?;
     let inputs = program.inputs;
     match judge(console.alloc(), program.image, &program.names) {
@@ -142,7 +144,8 @@ fn print_trace<C: Console>(
 ) -> Result<u8, Reported>
     ensures done { IfOk result (IsAnswered (TracesRun inputs.pairs.items limits span names.now vouched.now)
         (C.journal console.old) (C.journal console.new)) }
-    ensures fault { IfErr result (λ _. OnlyReports (C.journal console.old) (C.journal console.new)) }
+    ensures fault { IfErr result (λ _. IsGivenUp (TracesPart inputs.pairs.items limits span names.now vouched.now)
+        (C.journal console.old) (C.journal console.new)) }
 {
     let form = LineForm {
         numbered: true,
@@ -173,7 +176,7 @@ fn end_trace<C: Console>(
     names: &Names,
 ) -> Result<u8, Reported>
     ensures given { IfOk result (IsGiven (trace_ending vouched.now names.now ended.now) (C.journal console.old) (C.journal console.new)) }
-    ensures fault { IfErr result (λ _. OnlyReports (C.journal console.old) (C.journal console.new)) }
+    ensures fault { IfErr result (λ _. IsGivenUp (λ answer. answer ≡ trace_ending vouched.now names.now ended.now) (C.journal console.old) (C.journal console.new)) }
 {
     let Ok(ending) = trace_ending_of(console.alloc(), vouched, ended, names) else {
         return Err(console.report_memory());

@@ -1,7 +1,7 @@
 //! The options of LOCATE, which `locate` and `map` take.
 
 ghost use Rattle.std.specs.Prelude.{◌≡◌, ◌∷◌, None, Some, [], IfErr, IfOk};
-ghost use Rattle.plm80_console.specs.Journal.{OnlyReports};
+ghost use Rattle.plm80_console.specs.Journal.{and_reported};
 ghost use Rattle.plm80_objects.specs.Arguments.{AreLocateTexts, AreNumbersOf};
 
 use clap::ArgMatches;
@@ -107,7 +107,7 @@ impl<'a> LocateTexts<'a> {
     pub fn numbers<C: Console>(self, console: &mut C) -> Result<Options, Reported>
         ensures numbers { IfOk result (AreNumbersOf self.entry) }
         ensures unchanged { IfOk result (λ _. C.journal console.new ≡ C.journal console.old) }
-        ensures fault { IfErr result (λ _. OnlyReports (C.journal console.old) (C.journal console.new)) }
+        ensures fault { IfErr result (λ _. C.journal console.new ≡ and_reported (C.journal console.old)) }
     {
         Ok(Options {
             code: OptionText::word_if_given(self.code, console)?,

@@ -29,8 +29,7 @@ pub fn answer_of<P: Printing + Drop>(
     names: &Names,
     printing: P,
 ) -> Result<Answer<'static>, AllocError>
-    ensures verdict { IfOk result (AnswersVerdict (λ program. PrintsText (P.says printing names.now program)) image names.now) }
-    ensures no_file { IfOk result (λ answer. answer.files ≡ []) }
+    ensures { IfOk result (AnswersVerdict (λ program. PrintsText (P.says printing names.now program)) image names.now) }
 {
     match judge(alloc, image, names)? {
         Verdict::Accepted(vouched) => {

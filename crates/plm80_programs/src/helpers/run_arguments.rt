@@ -2,9 +2,9 @@
 
 ghost use Rattle.std.specs.Prelude.{◌≡◌, None, IfErr, IfOk, OnOk};
 ghost use Rattle.loader80.specs.InputsText.{bad_line, inputs_of};
-ghost use Rattle.plm80_console.specs.Journal.{OnlyReports, and_read_files};
+ghost use Rattle.plm80_console.specs.Journal.{OnlyReports, and_read_files, and_reported};
 ghost use Rattle.plm80_programs.specs.Running.{AreLimitsOf, IsRunRead, run_files};
-ghost use Rattle.plm80_programs.specs.Arguments.{AreLimitTexts, AreRunFiles};
+ghost use Rattle.plm80_programs.specs.Arguments.{AreLimitTexts, AreRunFiles, run_paths};
 
 use clap::ArgMatches;
 use image80::Image;
@@ -74,7 +74,7 @@ impl<'a> RunFiles<'a> {
     pub fn read<C: Console>(self, console: &mut C) -> Result<RunProgram, Reported>
         ensures read { IfOk result (λ read. IsRunRead self.entry (C.journal console.old) (C.journal console.new)
             read.image read.names read.inputs.pairs.items) }
-        ensures fault { IfErr result (λ _. OnlyReports (C.journal console.old) (C.journal console.new)) }
+        ensures fault { IfErr result (λ _. OnlyReports (run_paths self.entry) (C.journal console.old) (C.journal console.new)) }
     {
         let texts = self.texts(console)?;
         let (image, names) = texts.program.program(console, self.program.names)?;
@@ -92,7 +92,7 @@ impl<'a> RunFiles<'a> {
         ensures regions { IfOk result (λ texts. texts.program.regions.path.now ≡ self.entry.program.regions.now) }
         ensures inputs { IfOk result (λ texts. texts.inputs.path.now ≡ self.entry.inputs.now) }
         ensures read { IfOk result (λ texts. C.journal console.new ≡ and_read_files (C.journal console.old) (run_files self.entry texts)) }
-        ensures fault { IfErr result (λ _. OnlyReports (C.journal console.old) (C.journal console.new)) }
+        ensures fault { IfErr result (λ _. OnlyReports (run_paths self.entry) (C.journal console.old) (C.journal console.new)) }
     {
         let program = ProgramTexts::read(console, self.program.image, self.program.regions)?;
         let inputs = console.read_file(self.inputs)?;
@@ -104,7 +104,7 @@ impl<'a> RunFiles<'a> {
         ensures good { OnOk result (bad_line text.now ≡ None) }
         ensures inputs { IfOk result (λ inputs. inputs.pairs.items ≡ inputs_of text.now) }
         ensures unchanged { IfOk result (λ _. C.journal console.new ≡ C.journal console.old) }
-        ensures fault { IfErr result (λ _. OnlyReports (C.journal console.old) (C.journal console.new)) }
+        ensures fault { IfErr result (λ _. C.journal console.new ≡ and_reported (C.journal console.old)) }
     {
         match read_inputs(console.alloc(), text) {
             Ok(inputs) => Ok(inputs),
@@ -140,7 +140,7 @@ impl<'a> LimitTexts<'a> {
     pub fn numbers<C: Console>(self, console: &mut C) -> Result<Limits, Reported>
         ensures limits { IfOk result (AreLimitsOf self.entry) }
         ensures unchanged { IfOk result (λ _. C.journal console.new ≡ C.journal console.old) }
-        ensures fault { IfErr result (λ _. OnlyReports (C.journal console.old) (C.journal console.new)) }
+        ensures fault { IfErr result (λ _. C.journal console.new ≡ and_reported (C.journal console.old)) }
     {
         let steps = self.steps.count(console)?;
         let outputs = self.outputs.count(console)? as usize;

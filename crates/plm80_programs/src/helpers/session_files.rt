@@ -2,7 +2,7 @@
 
 ghost use Rattle.std.specs.Prelude.{◌≡◌, ◌<◌, IfErr, IfOk, option_copied};
 ghost use Rattle.loader80.specs.Sends.{Sends};
-ghost use Rattle.plm80_console.specs.{Answer.Gives, Answer.IsAnswered, Journal.OnlyReports, Journal.and_reported};
+ghost use Rattle.plm80_console.specs.{Answer.Gives, Answer.GivesUp, Answer.IsAnswered, Answer.IsGivenUp, Journal.and_reported};
 ghost use Rattle.plm80_programs.specs.Running.{AnswersSession, AnswersTexts, fault_file, session_status, texts_of};
 ghost use Rattle.plm80_programs.specs.Arguments.{run_paths};
 
@@ -25,7 +25,7 @@ pub fn run_session<C: Console>(
     limits: Limits,
 ) -> Result<u8, Reported>
     ensures done { IfOk result (Gives (AnswersSession limits) (run_paths files.entry) (C.journal console.old) (C.journal console.new)) }
-    ensures fault { IfErr result (λ _. OnlyReports (C.journal console.old) (C.journal console.new)) }
+    ensures fault { IfErr result (λ _. GivesUp (AnswersSession limits) (run_paths files.entry) (C.journal console.old) (C.journal console.new)) }
 {
     let texts = files.texts(console)?;
     let given = print_session(console, &texts, limits);
@@ -40,7 +40,7 @@ fn print_session<C: Console>(
     limits: Limits,
 ) -> Result<u8, Reported>
     ensures done { IfOk result (IsAnswered (AnswersTexts limits (texts_of texts.now)) (C.journal console.old) (C.journal console.new)) }
-    ensures fault { IfErr result (λ _. OnlyReports (C.journal console.old) (C.journal console.new)) }
+    ensures fault { IfErr result (λ _. IsGivenUp (AnswersTexts limits (texts_of texts.now)) (C.journal console.old) (C.journal console.new)) }
 {
     let mut output = console.output();
     let answer = session_of(console.alloc(), texts, limits, &mut output);

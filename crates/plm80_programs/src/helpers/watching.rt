@@ -1,12 +1,13 @@
 //! `plm80 run` with `--last` or `--dump`: a run, its last instructions, and the memory that it leaves.
 
-ghost use Rattle.std.specs.Prelude.{◌≡◌, ◌<◌, ◌≤◌, ◌++◌, ℕ, List, Some, IfErr, IfOk, OnOk};
+ghost use Rattle.std.specs.Prelude.{◌≡◌, ◌<◌, ◌≤◌, ◌++◌, ℕ, List, Some, IfErr, IfOk, OnErr, OnOk};
 ghost use Rattle.std.specs.{Io.KnownBytes.Appends, List.flat_map};
 ghost use Rattle.machine80.specs.{Run.IsRun, Step.with_ports};
 ghost use Rattle.loader80.specs.TranscriptText.{output_line, stack_line};
-ghost use Rattle.plm80_console.specs.Answer.{GaveUp, Gives, GivesUp, IsAnswered, IsGiven, IsGivenUp};
+ghost use Rattle.plm80_console.specs.Answer.{Gives, GivesUp, IsAnswered, IsGiven, IsGivenUp};
 ghost use Rattle.plm80_programs.specs.Running.{AnswersRun, EndsRun, WatchesRun, last_lines, start_of, with_memory};
-ghost use Rattle.plm80_programs.specs.Arguments.{dump_path, run_paths};
+ghost use Rattle.loader80_trace.specs.Traces.{AppendsFront};
+ghost use Rattle.plm80_programs.specs.{Arguments.dump_path, Arguments.run_paths, Fronts.IsFirstOf, Fronts.LeavesFront};
 
 use crate::EndWords;
 use crate::helpers::endings::{ending_of, report_lines};
@@ -16,7 +17,7 @@ use loader80_trace::{
     Finished, Limits, LineForm, Span, TraceFault, finish, memory_bytes, write_lines,
 };
 use machine80::{Inputs, PagedBus};
-use plm80_console::laws::reading_leaves_files_alone;
+use plm80_console::laws::faults_follow_reading;
 use plm80_console::{Answer, Console, Reported};
 use plm80_names::{Names, Verdict, judge};
 use std::alloc::{AllocError, Global};
@@ -54,7 +55,7 @@ pub fn watch_run<C: Console>(
         files.entry.program.names)
         (run_paths files.entry) (C.journal console.old) (C.journal console.new)) }
 {
-    reading_leaves_files_alone();
+    faults_follow_reading();
     let program = files.read(console)?;
     match judge(console.alloc(), program.image, &program.names) {
         Ok(Verdict::Accepted(vouched)) => {
@@ -91,7 +92,7 @@ fn print_run<C: Console>(
 /// Writes the memory of a run that was watched, if a file is named, prints the last line of its transcript, and returns the exit status.
 fn end_run<C: Console>(console: &mut C, watched: Watched<'_>) -> Result<u8, Reported>
     ensures given { IfOk result (IsGiven watched.entry.answer (C.journal console.old) (C.journal console.new)) }
-    ensures fault { IfErr result (λ _. GaveUp watched.entry.answer.files (C.journal console.old) (C.journal console.new)) }
+    ensures fault { IfErr result (λ _. IsGivenUp (λ answer. answer ≡ watched.entry.answer) (C.journal console.old) (C.journal console.new)) }
 {
     let Watched { ended, answer } = watched;
     let status = console.give(answer)?;
@@ -109,9 +110,12 @@ fn write_run<'a, K: Sink>(
     out: &mut K,
 ) -> Result<Watched<'a>, TraceFault>
     requires { K.failed out.old < u64.MAX }
-    ensures { let w = watch.entry in IfOk result (λ watched. (text : List ℕ) × Appends (K.written out.old) (K.written out.new) text
+    ensures watched { let w = watch.entry in IfOk result (λ watched. (text : List ℕ) × Appends (K.written out.old) (K.written out.new) text
         × WatchesRun inputs.now.pairs.items w.limits w.last (dump_path w.dump) names.now vouched.now text
         watched.ended watched.answer) }
+    ensures front { let w = watch.entry in OnErr result (LeavesFront
+        (IsFirstOf (EndsRun inputs.now.pairs.items w.limits w.last (dump_path w.dump) names.now vouched.now))
+        (K.written out.old) (K.written out.new)) }
 {
     let first = copy_of(alloc, inputs)?;
     let finished = finish(alloc, vouched, first, watch.limits)?;
@@ -132,9 +136,12 @@ fn write_finished<'a, K: Sink>(
     requires finished { let program = vouched.now in let at = finished.now in
         IsRun program.image.regions (Some watch.limits.outputs) (start_of program inputs.now.pairs.items) watch.limits.steps at.ended.steps
         (with_ports at.ended.cpu at.bus at.ports) at.ended.end }
-    ensures { let w = watch.entry in IfOk result (λ watched. (text : List ℕ) × Appends (K.written out.old) (K.written out.new) text
+    ensures watched { let w = watch.entry in IfOk result (λ watched. (text : List ℕ) × Appends (K.written out.old) (K.written out.new) text
         × WatchesRun inputs.now.pairs.items w.limits w.last (dump_path w.dump) names.now vouched.now text
         watched.ended watched.answer) }
+    ensures front { let w = watch.entry in OnErr result (LeavesFront
+        (IsFirstOf (EndsRun inputs.now.pairs.items w.limits w.last (dump_path w.dump) names.now vouched.now))
+        (K.written out.old) (K.written out.new)) }
 {
     write_front(alloc, vouched, finished, out)?;
     write_last(alloc, vouched, &finished.ended, inputs, watch, names, out)?;
@@ -164,6 +171,8 @@ fn write_front<K: Sink>(
     requires { K.failed out.old < u64.MAX }
     ensures written { OnOk result (Appends (K.written out.old) (K.written out.new)
         (stack_line vouched.now.stack_bytes ++ flat_map output_line finished.now.ports.outputs)) }
+    ensures front { OnErr result (AppendsFront (K.written out.old) (K.written out.new)
+        (stack_line vouched.now.stack_bytes ++ flat_map output_line finished.now.ports.outputs)) }
     ensures failures { OnOk result (K.failed out.new ≡ K.failed out.old) }
 {
     let text = front_text(alloc, vouched.stack_bytes(), finished.ports.outputs())?;
@@ -183,7 +192,9 @@ fn write_last<K: Sink>(
 ) -> Result<(), TraceFault>
     requires countable { K.failed out.old < u64.MAX }
     requires within { ended.now.steps ≤ watch.limits.steps }
-    ensures { OnOk result (Appends (K.written out.old) (K.written out.new)
+    ensures written { OnOk result (Appends (K.written out.old) (K.written out.new)
+        (last_lines inputs.now.pairs.items watch.entry.limits watch.entry.last names.now vouched.now ended.now)) }
+    ensures front { OnErr result (AppendsFront (K.written out.old) (K.written out.new)
         (last_lines inputs.now.pairs.items watch.entry.limits watch.entry.last names.now vouched.now ended.now)) }
 {
     if watch.last == 0 {

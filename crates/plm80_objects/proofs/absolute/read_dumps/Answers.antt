@@ -1,18 +1,16 @@
-use Rattle.plm80_objects.proofs.{Names.file_value, Names.◌∷◌, Names.[], GivenLemmas.err_from, ReadLemmas.dumps_more, ReadLemmas.faults_behind}
+use Rattle.plm80_objects.proofs.GivenLemmas.{err_from}
+use Rattle.plm80_objects.proofs.ReadLemmas.{dumps_more, faults_at, faults_before, read_then_reported, rom_path}
 use Rattle.plm80_objects.proofs.absolute.read_dumps.Goals as goal
 
 pub returns-in_err-file-clause-fault : goal.returns-in_err-file-clause-fault
 returns-in_err-file-clause-fault g c =
-    err_from c.from_residual.result
-    (faults_behind c.loop-rom.invariant.read c.reading_leaves_files_alone.ensures.faults c.in_err-file.ensures.fault)
+    err_from c.from_residual.result (faults_before rom_path c.args.files.now c.loop-rom.rom-index c.loop-rom.invariant.read c.in_err-file.ensures.fault)
 
 pub returns-in-Err-clause-fault : goal.returns-in-Err-clause-fault
 returns-in-Err-clause-fault g c =
-    let law = c.reading_leaves_files_alone.ensures in
-    faults_behind c.loop-rom.invariant.read law.faults
-    (law.reported (g.C.Console.journal c.loop-rom.console) (g.C.Console.journal c.read_file.new.self)
-    (g.C.Console.journal c.report_rom_fault.new.console) (file_value _ c.in_ok-file.file.bytes.items ∷ []) c.in_ok-file.ensures.read
-    c.report_rom_fault.ensures)
+    faults_at rom_path c.args.files.now c.loop-rom.rom-index c.loop-rom.invariant.read _ c.loop-rom-test.true c.faults_follow_reading.ensures
+    (read_then_reported _ c.in_ok-file.file.bytes.items (g.C.Console.journal c.loop-rom.console) (g.C.Console.journal c.read_file.new.self)
+    (g.C.Console.journal c.report_rom_fault.new.console) c.in_ok-file.ensures.read c.report_rom_fault.ensures)
 
 pub loop-rom-preserved : goal.loop-rom-preserved
 loop-rom-preserved g c = record {

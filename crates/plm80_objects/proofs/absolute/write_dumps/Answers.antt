@@ -1,6 +1,7 @@
 use Rattle.plm80_objects.proofs.Names.{List, ◌∙◌, ap, subst, IfErr-weaker, IfOk-weaker, GivesUp, Journal, and_read_files, RomFile, AreDumpsRead}
-use Rattle.plm80_objects.proofs.Names.{GivesUpDumps, WritesDumps, WritesImage, rom_paths}
-use Rattle.plm80_objects.proofs.GivenLemmas.{gives_up_if_made}
+use Rattle.plm80_objects.proofs.Names.{GivesUpDumps, OnlyReports, WritesDumps, WritesImage, rom_paths}
+use Rattle.plm80_objects.proofs.GivenLemmas.{err_from, gives_up_if_made}
+use Rattle.plm80_console.specs.Answer.GivesUp.{before}
 use Rattle.plm80_objects.specs.Absolute.GivesUpDumps.{within}
 use Rattle.plm80_objects.proofs.absolute.write_dumps.Goals as goal
 
@@ -20,7 +21,7 @@ returns-clause-fault g c =
     IfErr-weaker result (λ _. GivesUp (WritesDumps asked roms) (rom_paths roms) old new) (λ _. GivesUpDumps asked old new)
     (λ _ up. within roms c.in_ok-files.ensures.files up)
     (gives_up_if_made (WritesDumps asked roms) (rom_paths roms) old between new read.files read.paths_are
-    (read.journal ∙ ap (λ (j : Journal). and_read_files j read.files) same) made result c.reading_leaves_files_alone.ensures.faults
+    (read.journal ∙ ap (λ (j : Journal). and_read_files j read.files) same) made result
     (IfOk-weaker made (WritesImage asked.image.now c.in_ok-name.name c.in_ok-dumps.dumps c.in_ok-start.start) (WritesDumps asked roms read.files)
     (λ answer writes. record {
       image = writes.image;
@@ -31,3 +32,13 @@ returns-clause-fault g c =
     })
     c.answer-answer.ensures)
     c.give_if_made-given.ensures.fault)
+
+pub returns-in_err-dumps-clause-fault : goal.returns-in_err-dumps-clause-fault
+returns-in_err-dumps-clause-fault g c =
+    let journal = g.C.Console.journal in
+    let same = c.in_ok-name.ensures.unchanged ∙ c.in_ok-files.ensures.unchanged ∙ c.in_ok-start.ensures.unchanged in
+    let only = subst (λ (rs : List RomFile). OnlyReports (rom_paths rs) (journal c.module_name.new.console) (journal c.read_dumps.new.console))
+    c.deref.ensures.value c.in_err-dumps.ensures.fault in
+    err_from c.from_residual-in_err-dumps.result
+    (within c.in_ok-files.files.items c.in_ok-files.ensures.files
+    (before (subst (λ (j : Journal). OnlyReports (rom_paths c.in_ok-files.files.items) j (journal c.read_dumps.new.console)) same only)))

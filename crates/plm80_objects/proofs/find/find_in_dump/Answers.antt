@@ -1,10 +1,11 @@
-use Rattle.plm80_objects.proofs.Names.{◌≡◌, ℕ, List, ◌∷◌, refl, ◌∙◌, ap, subst, IfOk, IfOk-weaker, DumpValue, LinkFile, dump_of, Journal}
+use Rattle.plm80_objects.proofs.Names.{◌≡◌, Bor, ℕ, List, [], ◌∷◌, append-nil, refl, ◌∙◌, ap, subst, sym, IfOk, IfOk-weaker, DumpValue, LinkFile, dump_of, Journal, OnlyReports}
 use Rattle.plm80_objects.proofs.Names.{and_read, and_read_files, file_value, FindsModules, PrintsFound}
-use Rattle.plm80_objects.proofs.{GivenLemmas.gives_if_made, GivenLemmas.reports_after, ReadLemmas.texts}
+use Rattle.plm80_objects.proofs.{GivenLemmas.both_if_made, GivenLemmas.err_from, ReadLemmas.read_then_reported, ReadLemmas.texts}
+use Rattle.plm80_console.specs.Answer.GivesUp.{before}
 use Rattle.plm80_objects.proofs.find.find_in_dump.Goals as goal
 
-pub returns-clause-done : goal.returns-clause-done
-returns-clause-done g c =
+pub returns : goal.returns
+returns g c =
     let asked = c.args.arguments.now in
     let file = file_value asked.dump.now c.in_ok-file.file.bytes.items in
     let first = c.in_ok-first.first in
@@ -15,8 +16,8 @@ returns-clause-done g c =
     λ k. record { first = c.in-Ok.ensures.dump.0 k; bytes = c.in-Ok.ensures.dump.1 k } in
     let made = c.find_all-answer.result in
     let found = subst (λ (d : DumpValue). IfOk made (PrintsFound d c.in_ok-files.files.items)) same
-    (subst (λ (fs : List LinkFile). IfOk made (PrintsFound (dump_of dump) fs)) c.deref-2.ensures.value c.find_all-answer.ensures.found) in
-    gives_if_made (FindsModules asked) (file.path ∷ texts asked.files.items) (journal c.args.console.now) (journal c.read_all.new.console)
+    (subst (λ (fs : List LinkFile). IfOk made (PrintsFound (dump_of dump) fs)) c.deref-2.ensures.value c.find_all-answer.ensures) in
+    let both = both_if_made (FindsModules asked) (file.path ∷ texts asked.files.items) (journal c.args.console.now) (journal c.read_all.new.console)
     (journal c.give_if_made.new.self) (file ∷ read.files)
     (ap (λ (ps : List (List ℕ)). file.path ∷ ps) (read.paths_are ∙ ap texts c.deref.ensures.value))
     (read.journal ∙ ap (λ (j : Journal). and_read_files j read.files)
@@ -35,15 +36,31 @@ returns-clause-done g c =
       answer_is = is;
     })
     found)
-    c.give_if_made.ensures.given
+    c.give_if_made.ensures.given c.give_if_made.ensures.fault in
+    record { done = both.0; fault = both.1 }
 
-pub returns-clause-fault : goal.returns-clause-fault
-returns-clause-fault g c =
-    let journal = g.C.Console.journal in
-    let read = c.in_ok-files.ensures.read in
-    let file = file_value c.args.arguments.now.dump.now c.in_ok-file.file.bytes.items in
-    reports_after (journal c.args.console.now) (journal c.read_all.new.console) (journal c.give_if_made.new.self) (file ∷ read.files)
-    c.give_if_made.result c.reading_leaves_files_alone.ensures.faults
-    (read.journal ∙ ap (λ (j : Journal). and_read_files j read.files)
-    (c.in_ok-file.ensures.read ∙ ap (λ (j : Journal). and_read j file.path file.bytes) c.in_ok-first.ensures.unchanged))
-    (c.give_if_made.ensures.no_file c.find_all-answer.ensures.no_file)
+-- a fault behind the dump
+pub returns-in-Err-clause-fault : goal.returns-in-Err-clause-fault
+returns-in-Err-clause-fault g c =
+    let asked = c.args.arguments.now in
+    before
+    (c.faults_follow_reading.ensures (g.C.Console.journal c.args.console.now) (g.C.Console.journal c.word.new.console)
+    (g.C.Console.journal c.report_rom_fault.new.console) [] (asked.dump.now ∷ texts asked.files.items) (asked.dump.now ∷ [])
+    (texts asked.files.items) refl c.in_ok-first.ensures.unchanged
+    (read_then_reported asked.dump.now c.in_ok-file.file.bytes.items (g.C.Console.journal c.word.new.console)
+    (g.C.Console.journal c.read_file.new.self) (g.C.Console.journal c.report_rom_fault.new.console) c.in_ok-file.ensures.read
+    c.report_rom_fault.ensures))
+
+pub returns-in_err-files-clause-fault : goal.returns-in_err-files-clause-fault
+returns-in_err-files-clause-fault g c =
+    let asked = c.args.arguments.now in
+    let file = file_value asked.dump.now c.in_ok-file.file.bytes.items in
+    let further = texts asked.files.items in
+    err_from c.from_residual-in_err-files.result
+    (before
+    (c.faults_follow_reading.ensures (g.C.Console.journal c.args.console.now) (g.C.Console.journal c.read_file.new.self)
+    (g.C.Console.journal c.read_all.new.console) (file ∷ []) (file.path ∷ further) further []
+    (ap (λ (ps : List (List ℕ)). file.path ∷ ps) (sym (append-nil further)))
+    (c.in_ok-file.ensures.read ∙ ap (λ (j : Journal). and_read j file.path file.bytes) c.in_ok-first.ensures.unchanged)
+    (subst (λ (ps : List (Bor (List ℕ))). OnlyReports (texts ps) (g.C.Console.journal c.read_file.new.self) (g.C.Console.journal c.read_all.new.console))
+    c.deref.ensures.value c.in_err-files.ensures.fault)))

@@ -1,5 +1,5 @@
 use Rattle.plm80_objects.proofs.Names.{Bor, ℕ, List, ◌∙◌, ap, subst, Journal, and_read_files, AreLinkFilesRead, LinksFiles, LinksInto}
-use Rattle.plm80_objects.proofs.{GivenLemmas.gives_or_gives_up, ReadLemmas.texts}
+use Rattle.plm80_objects.proofs.{Names.OnlyReports, GivenLemmas.err_from, GivenLemmas.gives_or_gives_up, ReadLemmas.all_read, ReadLemmas.texts}
 use Rattle.plm80_console.specs.Answer.GivesUp.{before}
 use Rattle.plm80_objects.proofs.link.link_files.Goals as goal
 
@@ -24,8 +24,18 @@ returns-in-Ok g c =
 
 pub returns-clause-fault : goal.returns-clause-fault
 returns-clause-fault g c =
-    let read = c.in_ok-files.ensures.read in
+    let asked = c.args.arguments.now in
+    let read = subst (λ (ps : List (Bor (List ℕ))). AreLinkFilesRead (texts ps) (g.C.Console.journal c.module_name.new.console)
+    (g.C.Console.journal c.read_files.new.console) c.in_ok-files.files) c.deref.ensures.value c.in_ok-files.ensures.read in
     before
-    (c.reading_leaves_files_alone.ensures.faults (g.C.Console.journal c.args.console.now) (g.C.Console.journal c.read_files.new.console)
-    (g.C.Console.journal c.link_read.new.console) read.files
-    (read.journal ∙ ap (λ (j : Journal). and_read_files j read.files) c.in_ok-name.ensures.unchanged) c.in-Err.ensures.fault)
+    (subst (λ (j : Journal). OnlyReports (texts asked.files.items) j (g.C.Console.journal c.link_read.new.console)) c.in_ok-name.ensures.unchanged
+    (all_read read c.in-Err.ensures.fault))
+
+pub returns-in_err-files-clause-fault : goal.returns-in_err-files-clause-fault
+returns-in_err-files-clause-fault g c =
+    let new = g.C.Console.journal c.read_files.new.console in
+    err_from c.from_residual-in_err-files.result
+    (before
+    (subst (λ (j : Journal). OnlyReports (texts c.args.arguments.now.files.items) j new) c.in_ok-name.ensures.unchanged
+    (subst (λ (ps : List (Bor (List ℕ))). OnlyReports (texts ps) (g.C.Console.journal c.module_name.new.console) new) c.deref.ensures.value
+    c.in_err-files.ensures.fault)))

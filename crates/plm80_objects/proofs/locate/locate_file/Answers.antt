@@ -1,6 +1,8 @@
 use Rattle.plm80_objects.proofs.Names.{Bor, ℕ, List, [], ◌∷◌, refl, ◌∙◌, ap, subst, Range, Journal, and_read, file_value, AreRangesOf}
 use Rattle.plm80_objects.proofs.Names.{LocatesFile, WritesLocated}
-use Rattle.plm80_objects.proofs.{GivenLemmas.gives_or_gives_up, ReadLemmas.of_program, ReadLemmas.texts}
+use Rattle.plm80_objects.proofs.{Names.OnlyReports, Names.and_reported, GivenLemmas.err_from, GivenLemmas.gives_or_gives_up, ReadLemmas.of_program}
+use Rattle.plm80_objects.proofs.ReadLemmas.{texts}
+use Rattle.plm80_console.specs.{Answer.GivesUp.before, Journal.OnlyReports.read as read_it}
 use Rattle.plm80_objects.proofs.locate.locate_file.Goals as goal
 
 pub returns : goal.returns
@@ -33,3 +35,20 @@ returns g c =
     })
     c.give-given.ensures.given c.give-given.ensures.fault in
     record { done = both.0; fault = both.1 }
+
+pub returns-in_err-answer-clause-fault : goal.returns-in_err-answer-clause-fault
+returns-in_err-answer-clause-fault g c =
+    let path = c.args.arguments.now.object.now in
+    let read = c.in_ok-modules.ensures.read in
+    err_from c.from_residual-in_err-answer.result
+    (before
+    (read_it (file_value path read.0 ∷ []) [] refl
+    (c.in_err-answer.ensures.fault ∙ ap and_reported (read.1 ∙ ap (λ (j : Journal). and_read j path read.0)
+    (c.in_ok-ram.ensures.unchanged ∙ c.in_ok-rom.ensures.unchanged ∙ c.in_ok-options.ensures.unchanged)))))
+
+pub returns-in_err-modules-clause-fault : goal.returns-in_err-modules-clause-fault
+returns-in_err-modules-clause-fault g c =
+    err_from c.from_residual-in_err-modules.result
+    (before
+    (subst (λ (j : Journal). OnlyReports (c.args.arguments.now.object.now ∷ []) j (g.C.Console.journal c.read_program.new.console))
+    (c.in_ok-ram.ensures.unchanged ∙ c.in_ok-rom.ensures.unchanged ∙ c.in_ok-options.ensures.unchanged) c.in_err-modules.ensures.fault))

@@ -1,9 +1,10 @@
 use Rattle.plm80_objects.proofs.Names.{[], ◌∷◌, refl, ◌∙◌, ap, Journal, and_read, file_value, MapsFile, PrintsMap}
-use Rattle.plm80_objects.proofs.{GivenLemmas.gives, ReadLemmas.of_program}
+use Rattle.plm80_objects.proofs.{Names.OnlyReports, Names.and_reported, Names.subst, GivenLemmas.err_from, GivenLemmas.gives_or_gives_up, ReadLemmas.of_program}
+use Rattle.plm80_console.specs.{Answer.GivesUp.before, Journal.OnlyReports.read as read_it}
 use Rattle.plm80_objects.proofs.map.map_file.Goals as goal
 
-pub returns-in-Ok-clause-done : goal.returns-in-Ok-clause-done
-returns-in-Ok-clause-done g c =
+pub returns-in-Ok : goal.returns-in-Ok
+returns-in-Ok g c =
     let asked = c.args.arguments in
     let read = c.in_ok-modules.ensures.read in
     let file = file_value asked.object.now read.0 in
@@ -15,5 +16,22 @@ returns-in-Ok-clause-done g c =
           c.index-program.ensures (record { none = c.in-Ok.ensures.none; is_map = c.in-Ok.ensures.map; answer_is = c.in-Ok.ensures.printed });
     } in
     let journal = read.1 ∙ ap (λ (j : Journal). and_read j asked.object.now read.0) c.in_ok-options.ensures.unchanged in
-    gives (MapsFile asked) (asked.object.now ∷ []) (g.C.Console.journal c.args.console.now) (g.C.Console.journal c.read_program.new.console) (g.C.Console.journal c.give.new.self) (file ∷ []) refl
-    journal c.in-Ok.answer c.give.result answers c.give.ensures.given
+    let both = gives_or_gives_up (MapsFile asked) (asked.object.now ∷ []) (g.C.Console.journal c.args.console.now) (g.C.Console.journal c.read_program.new.console) (g.C.Console.journal c.give.new.self) (file ∷ []) refl
+    journal c.in-Ok.answer c.give.result answers c.give.ensures.given c.give.ensures.fault in
+    record { done = both.0; fault = both.1 }
+
+pub returns-clause-fault : goal.returns-clause-fault
+returns-clause-fault g c =
+    let asked = c.args.arguments in
+    let read = c.in_ok-modules.ensures.read in
+    before
+    (read_it (file_value asked.object.now read.0 ∷ []) [] refl
+    (c.report_place_fault.ensures ∙ ap and_reported (read.1
+    ∙ ap (λ (j : Journal). and_read j asked.object.now read.0) c.in_ok-options.ensures.unchanged)))
+
+pub returns-in_err-modules-clause-fault : goal.returns-in_err-modules-clause-fault
+returns-in_err-modules-clause-fault g c =
+    err_from c.from_residual-in_err-modules.result
+    (before
+    (subst (λ (j : Journal). OnlyReports (c.args.arguments.object.now ∷ []) j (g.C.Console.journal c.read_program.new.console))
+    c.in_ok-options.ensures.unchanged c.in_err-modules.ensures.fault))

@@ -1,17 +1,22 @@
 use Rattle.plm80_objects.proofs.Names.{List, [], ◌∷◌, refl, subst, IfOk, IfOk-weaker, ModuleValue, file_value, AnswersModules, DescribesModules}
-use Rattle.plm80_objects.proofs.GivenLemmas.{gives_if_made}
+use Rattle.plm80_objects.proofs.GivenLemmas.{both_if_made}
+use Rattle.plm80_console.specs.Answer.GivesUp.{before}
 use Rattle.plm80_objects.proofs.module.describe_file.Goals as goal
 
-pub returns-in-Ok-clause-done : goal.returns-in-Ok-clause-done
-returns-in-Ok-clause-done g c =
+pub returns-in-Ok : goal.returns-in-Ok
+returns-in-Ok g c =
     let read = c.in-Ok.ensures.read in
     let modules = c.in-Ok.modules.items in
     let path = c.args.arguments.object.now in
     let file = file_value path read.0 in
     let made = c.describe_modules-answer.result in
-    gives_if_made (AnswersModules DescribesModules) (path ∷ []) (g.C.Console.journal c.args.console.now)
+    let both = both_if_made (AnswersModules DescribesModules) (path ∷ []) (g.C.Console.journal c.args.console.now)
     (g.C.Console.journal c.read_modules.new.console) (g.C.Console.journal c.give_if_made.new.self) (file ∷ []) refl read.1 made c.give_if_made.result
     (IfOk-weaker made (DescribesModules modules) (AnswersModules DescribesModules (file ∷ []))
     (λ answer answers. record { file = file; files_are = refl; modules = modules; spelled = read.2; answers = answers })
-    (subst (λ (ms : List ModuleValue). IfOk made (DescribesModules ms)) c.deref.ensures.value c.describe_modules-answer.ensures.described))
-    c.give_if_made.ensures.given
+    (subst (λ (ms : List ModuleValue). IfOk made (DescribesModules ms)) c.deref.ensures.value c.describe_modules-answer.ensures))
+    c.give_if_made.ensures.given c.give_if_made.ensures.fault in
+    record { done = both.0; fault = both.1 }
+
+pub returns-in-Err-clause-fault : goal.returns-in-Err-clause-fault
+returns-in-Err-clause-fault g c = before c.in-Err.ensures.fault

@@ -1,4 +1,5 @@
-use Rattle.plm80_programs.proofs.CaseLemmas.{finds_cases, shown_more, shown_nothing}
+use Rattle.plm80_programs.proofs.CaseLemmas.{finds_cases, shown_front, shown_front_more, shown_more, shown_nothing}
+use Rattle.plm80_programs.proofs.FrontLemmas.{on_err}
 use Rattle.plm80_programs.proofs.Names.{◌≡◌, ◌∙◌, arith, refl}
 use Rattle.plm80_programs.proofs.cases.write_searched.Goals as goal
 
@@ -18,8 +19,8 @@ loop-address-preserved g c = record {
       c.in_ok-write_found.ensures.written c.in_ok-write_found.ensures.notes;
 }
 
-pub returns : goal.returns
-returns g c =
+pub returns-clause-found : goal.returns-clause-found
+returns-clause-found g c =
     let all : c.loop-address.address ≡ 65536 = omega (arith, c.loop-address-test.false, c.loop-address.auto.address-end) in
     let shown = c.loop-address.invariant.shown in (
       shown.cases,
@@ -27,3 +28,16 @@ returns g c =
           c.requires.searched all shown.found,
       shown.written,
     )
+
+pub returns-in_err-found-clause-front : goal.returns-in_err-found-clause-front
+returns-in_err-found-clause-front g c =
+    on_err c.from_residual.result
+    (shown_front c.args.image.now c.args.search.now.reached c.args.search.now.taken c.loop-address.address c.loop-address.notes.items
+    (g.K.Sink.written c.args.out.now) (g.K.Sink.written c.loop-address.out) c.loop-address.invariant.shown c.requires.searched)
+
+pub returns-in_err-write_found-clause-front : goal.returns-in_err-write_found-clause-front
+returns-in_err-write_found-clause-front g c =
+    on_err c.from_residual-in_err-write_found.result
+    (shown_front_more c.args.image.now c.args.search.now.reached c.args.search.now.taken c.loop-address.address c.loop-address.notes.items
+    (g.K.Sink.written c.args.out.now) (g.K.Sink.written c.loop-address.out) c.loop-address.invariant.shown c.requires.searched c.in_ok-found.found
+    (g.K.Sink.written c.write_found.new.out) c.in_ok-found.ensures c.in_err-write_found.ensures.front)

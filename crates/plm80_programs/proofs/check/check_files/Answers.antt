@@ -1,12 +1,14 @@
-use Rattle.plm80_programs.proofs.{Names.PrintsReport, GivenLemmas.program_given, GivenLemmas.program_reports}
+use Rattle.plm80_programs.proofs.{Names.PrintsReport, GivenLemmas.program_or_gives_up}
+use Rattle.plm80_programs.proofs.GivenLemmas.{err_from}
+use Rattle.plm80_console.specs.Answer.GivesUp.{before}
 use Rattle.plm80_programs.proofs.check.check_files.Goals as goal
 
-pub returns-clause-done : goal.returns-clause-done
-returns-clause-done g c =
-    program_given c.in_ok-image.ensures.read (g.C.Console.journal c.give_if_made-given.new.self) PrintsReport
-    c.answer_of-answer.result c.give_if_made-given.result c.answer_of-answer.ensures.verdict c.give_if_made-given.ensures.given
+pub returns : goal.returns
+returns g c =
+    let both = program_or_gives_up c.in_ok-image.ensures.read (g.C.Console.journal c.give_if_made-given.new.self) PrintsReport
+    c.answer_of-answer.result c.give_if_made-given.result c.answer_of-answer.ensures c.give_if_made-given.ensures.given c.give_if_made-given.ensures.fault in
+    record { done = both.0; fault = both.1 }
 
-pub returns-clause-fault : goal.returns-clause-fault
-returns-clause-fault g c =
-    program_reports c.in_ok-image.ensures.read (g.C.Console.journal c.give_if_made-given.new.self) c.give_if_made-given.result
-    c.reading_leaves_files_alone.ensures.faults (c.give_if_made-given.ensures.no_file c.answer_of-answer.ensures.no_file)
+pub returns-in_err-image-clause-fault : goal.returns-in_err-image-clause-fault
+returns-in_err-image-clause-fault g c =
+    err_from c.from_residual.result (before c.in_err-image.ensures.fault)

@@ -2,8 +2,8 @@ use Rattle.plm80_programs.proofs.Names.{subst, Located, GoesOnWithChain, named_r
 use Rattle.plm80_programs.specs.Explanations.PrintsExplanation.{accepted, refused}
 use Rattle.plm80_programs.proofs.explain.explained.Goals as goal
 
-pub returns-in_ok-text-in-Ok-clause-explanation : goal.returns-in_ok-text-in-Ok-clause-explanation
-returns-in_ok-text-in-Ok-clause-explanation c =
+pub returns-in_ok-text-in-Ok : goal.returns-in_ok-text-in-Ok
+returns-in_ok-text-in-Ok c =
     let program = c.in-Ok.vouched in
     let text = c.in_ok-text-in-Ok.text.items in
     accepted program text (record { image_is = c.in-Ok.ensures.image; vouched = c.in-Ok.ensures.vouched })
@@ -11,8 +11,8 @@ returns-in_ok-text-in-Ok-clause-explanation c =
     c.in-Ok.ensures.image c.in_ok-text-in-Ok.ensures)
     c.prints.ensures
 
-pub returns-in_ok-text-in-Err-clause-explanation : goal.returns-in_ok-text-in-Err-clause-explanation
-returns-in_ok-text-in-Err-clause-explanation c =
+pub returns-in_ok-text-in-Err : goal.returns-in_ok-text-in-Err
+returns-in_ok-text-in-Err c =
     let text = c.in_ok-text-in-Err.text.items in
     refused c.in-Err.refusal text c.in-Err.ensures.refused c.in_ok-text-in-Err.ensures.no_memory
     (subst (λ (i : Located). ShowsRefused c.args.all i c.args.names.now c.in-Err.refusal text) c.in-Err.ensures.handed_back c.in_ok-text-in-Err.ensures.shows)

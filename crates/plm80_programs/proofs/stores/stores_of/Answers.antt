@@ -1,8 +1,8 @@
 use Rattle.plm80_programs.proofs.Names.{◌≡◌, IfOk-weaker, prints, ListedStores, ListsStores, stores_lines, stores_status}
 use Rattle.plm80_programs.proofs.stores.stores_of.Goals as goal
 
-pub returns-clause-stores : goal.returns-clause-stores
-returns-clause-stores c =
+pub returns : goal.returns
+returns c =
     let quiet = c.args.quiet.now in
     let names = c.args.names.now in
     let program = c.args.vouched.now in

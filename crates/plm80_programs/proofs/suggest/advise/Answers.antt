@@ -23,8 +23,8 @@ of_any_regions image areas rom ram first second tableless notes new s = record {
   same = s.same;
 }
 
-pub returns-clause-advice : goal.returns-clause-advice
-returns-clause-advice c =
+pub returns : goal.returns
+returns c =
     let rom = c.args.rom.now in
     let ram = c.args.ram.now in
     let areas = c.in_ok-image-inside.field-0 in

@@ -1,6 +1,8 @@
 use Rattle.plm80_programs.proofs.Names.{ℕ, List, subst, IsVerdict, AnswersVerdict, EndsRun, dump_path}
-use Rattle.plm80_programs.proofs.GivenLemmas.{answered_of, given_or_given_up, run_or_gives_up}
+use Rattle.plm80_programs.proofs.GivenLemmas.{answered_of, given_or_given_up, run_or_gives_up, run_reported}
 use Rattle.plm80_names.specs.Verdict.AnswersVerdict.{accepted, refused}
+use Rattle.plm80_programs.proofs.GivenLemmas.{err_from}
+use Rattle.plm80_console.specs.Answer.GivesUp.{before}
 use Rattle.plm80_programs.proofs.helpers.watching.watch_run.Goals as goal
 
 pub returns-in-Ok-Accepted : goal.returns-in-Ok-Accepted
@@ -11,7 +13,7 @@ returns-in-Ok-Accepted g c =
     let Ends_here = Ends read.inputs.pairs.items read.names in
     let new = g.C.Console.journal c.print_run.new.console in
     let is = subst (IsVerdict read.image read.names) c.in-Ok-Accepted.field-0-is c.in-Ok-Accepted.ensures in
-    let both = run_or_gives_up c.in_ok-program.ensures.read new Ends c.print_run.result c.reading_leaves_files_alone.ensures.faults
+    let both = run_or_gives_up c.in_ok-program.ensures.read new Ends c.print_run.result
     (answered_of (Ends_here c.in-Ok-Accepted.vouched) (AnswersVerdict Ends_here read.image read.names)
     (λ answer ends. accepted c.in-Ok-Accepted.vouched is ends) (g.C.Console.journal c.read.new.console) new c.print_run.result
     (c.print_run.ensures.done, c.print_run.ensures.fault)) in
@@ -24,8 +26,15 @@ returns-in-Ok-Refused g c =
     let Ends = λ (inputs : List (ℕ × ℕ)). EndsRun inputs watch.limits watch.last (dump_path watch.dump) in
     let new = g.C.Console.journal c.give.new.self in
     let is = subst (IsVerdict read.image read.names) c.in-Ok-Refused.field-0-is c.in-Ok-Refused.ensures in
-    let both = run_or_gives_up c.in_ok-program.ensures.read new Ends c.give.result c.reading_leaves_files_alone.ensures.faults
+    let both = run_or_gives_up c.in_ok-program.ensures.read new Ends c.give.result
     (given_or_given_up (AnswersVerdict (Ends read.inputs.pairs.items read.names) read.image read.names) c.prints.result
     (g.C.Console.journal c.read.new.console) new c.give.result (refused c.in-Ok-Refused.line.items is c.prints.ensures)
     c.give.ensures.given c.give.ensures.fault) in
     record { done = both.0; fault = both.1 }
+
+pub returns-clause-fault : goal.returns-clause-fault
+returns-clause-fault g c = run_reported c.in_ok-program.ensures.read (g.C.Console.journal c.report_memory.new.self) c.report_memory.ensures
+
+pub returns-in_err-program-clause-fault : goal.returns-in_err-program-clause-fault
+returns-in_err-program-clause-fault g c =
+    err_from c.from_residual.result (before c.in_err-program.ensures.fault)

@@ -1,5 +1,7 @@
-use Rattle.plm80_programs.proofs.Names.{Some, ◌++◌, ◌∙◌, ap, refl, flat_map, with_ports, dump_path, output_line, stack_line, last_lines, start_of}
-use Rattle.plm80_programs.proofs.{Names.Appends-trans, Names.with_memory, RunLemmas.steps_within}
+use Rattle.plm80_programs.proofs.Names.{◌++◌, ◌∙◌, ap, flat_map, inr, subst, AnswerValue, WatchesRun, dump_path, ending, output_line, stack_line, last_lines, start_of}
+use Rattle.plm80_programs.proofs.Names.{Appends-trans, Some, with_memory, with_ports, sym}
+use Rattle.plm80_programs.proofs.FrontLemmas.{all_front, front_of_first, front_of_second, on_err}
+use Rattle.plm80_programs.proofs.RunLemmas.{first_of_run, run_text, steps_within, watched_run}
 use Rattle.plm80_programs.proofs.helpers.watching.write_finished.Goals as goal
 
 pub write_last-requires-clause-within : goal.write_last-requires-clause-within
@@ -9,20 +11,83 @@ write_last-requires-clause-within g c =
     steps_within program.image.regions (Some c.args.watch.limits.outputs) (start_of program c.args.inputs.now.pairs.items)
     c.args.watch.limits.steps at.ended.steps (with_ports at.ended.cpu at.bus at.ports) at.ended.end c.requires.finished
 
-pub returns : goal.returns
-returns g c =
+pub returns-clause-watched : goal.returns-clause-watched
+returns-clause-watched g c =
     let program = c.args.vouched.now in
     let watch = c.args.watch in
     let at = c.args.finished.now in
+    let inputs = c.args.inputs.now.pairs.items in
+    let names = c.args.names.now in
+    let dump = dump_path watch.dump in
     let front = stack_line program.stack_bytes ++ flat_map output_line at.ports.outputs in
-    let last = last_lines c.args.inputs.now.pairs.items watch.limits watch.last c.args.names.now program at.ended in (
+    let last = last_lines inputs watch.limits watch.last names program at.ended in (
       front ++ last,
       Appends-trans (g.K.Sink.written c.args.out.now) (g.K.Sink.written c.write_front.new.out) (g.K.Sink.written c.write_last.new.out) front last
-          c.in_ok-write_front.ensures.written c.in_ok-write_last.ensures,
-      record {
-        front = front;
-        transcript = record { last = with_ports at.ended.cpu at.bus at.ports; run = c.requires.finished; at = refl; spells = refl };
-        text_is = refl;
-        answer_is = c.in_ok-answer.ensures ∙ ap (with_memory (dump_path watch.dump) at.bus) c.in_ok-ending.ensures;
-      },
+          c.in_ok-write_front.ensures.written c.in_ok-write_last.ensures.written,
+      subst (λ (answer : AnswerValue). WatchesRun inputs watch.limits watch.last dump names program (front ++ last) at.ended answer)
+          (sym (c.in_ok-answer.ensures ∙ ap (with_memory dump at.bus) c.in_ok-ending.ensures))
+          (watched_run inputs watch.limits watch.last dump names program at.ended at.bus at.ports c.requires.finished),
     )
+
+pub returns-in_err-write_front-clause-front : goal.returns-in_err-write_front-clause-front
+returns-in_err-write_front-clause-front g c =
+    let at = c.args.finished.now in
+    let program = c.args.vouched.now in
+    let watch = c.args.watch in
+    let inputs = c.args.inputs.now.pairs.items in
+    let names = c.args.names.now in
+    on_err c.from_residual.result
+    (inr (
+      run_text inputs watch.limits watch.last names program at.ended at.ports.outputs,
+      first_of_run inputs watch.limits watch.last (dump_path watch.dump) names program at.ended at.bus at.ports c.requires.finished,
+      front_of_first (g.K.Sink.written c.args.out.now) (g.K.Sink.written c.write_front.new.out) _ _ c.in_err-write_front.ensures.front,
+    ))
+
+pub returns-in_err-write_last-clause-front : goal.returns-in_err-write_last-clause-front
+returns-in_err-write_last-clause-front g c =
+    let at = c.args.finished.now in
+    let program = c.args.vouched.now in
+    let watch = c.args.watch in
+    let inputs = c.args.inputs.now.pairs.items in
+    let names = c.args.names.now in
+    on_err c.from_residual-in_err-write_last.result
+    (inr (
+      run_text inputs watch.limits watch.last names program at.ended at.ports.outputs,
+      first_of_run inputs watch.limits watch.last (dump_path watch.dump) names program at.ended at.bus at.ports c.requires.finished,
+      front_of_second (g.K.Sink.written c.args.out.now) (g.K.Sink.written c.write_front.new.out) (g.K.Sink.written c.write_last.new.out) _ _
+          c.in_ok-write_front.ensures.written c.in_err-write_last.ensures.front,
+    ))
+
+pub returns-in_err-ending-clause-front : goal.returns-in_err-ending-clause-front
+returns-in_err-ending-clause-front g c =
+    let at = c.args.finished.now in
+    let program = c.args.vouched.now in
+    let watch = c.args.watch in
+    let inputs = c.args.inputs.now.pairs.items in
+    let names = c.args.names.now in
+    let last = last_lines inputs watch.limits watch.last names program at.ended in
+    on_err c.from_residual-in_err-ending.result
+    (inr (
+      run_text inputs watch.limits watch.last names program at.ended at.ports.outputs,
+      first_of_run inputs watch.limits watch.last (dump_path watch.dump) names program at.ended at.bus at.ports c.requires.finished,
+      all_front (g.K.Sink.written c.args.out.now) (g.K.Sink.written c.write_last.new.out) _
+          (Appends-trans (g.K.Sink.written c.args.out.now) (g.K.Sink.written c.write_front.new.out) (g.K.Sink.written c.write_last.new.out) _ last
+          c.in_ok-write_front.ensures.written c.in_ok-write_last.ensures.written),
+    ))
+
+pub returns-in_err-answer-clause-front : goal.returns-in_err-answer-clause-front
+returns-in_err-answer-clause-front g c =
+    let at = c.args.finished.now in
+    let program = c.args.vouched.now in
+    let watch = c.args.watch in
+    let inputs = c.args.inputs.now.pairs.items in
+    let names = c.args.names.now in
+    let last = last_lines inputs watch.limits watch.last names program at.ended in
+    on_err c.from_residual-in_err-answer.result
+    (inr (
+      run_text inputs watch.limits watch.last names program at.ended at.ports.outputs,
+      first_of_run inputs watch.limits watch.last (dump_path watch.dump) names program at.ended at.bus at.ports c.requires.finished,
+      all_front (g.K.Sink.written c.args.out.now) (g.K.Sink.written c.write_last.new.out) _
+          (Appends-trans (g.K.Sink.written c.args.out.now) (g.K.Sink.written c.write_front.new.out) (g.K.Sink.written c.write_last.new.out) _ last
+          c.in_ok-write_front.ensures.written c.in_ok-write_last.ensures.written),
+    ))
