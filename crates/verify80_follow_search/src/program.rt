@@ -1,0 +1,147 @@
+//! The program that is followed, and where each way leads from a state.
+
+use crate::stop::StopReason;
+use decode80::{Fetched, Flow, Instr, ahead, behind, fetch};
+use frames80::{Code, LookFault};
+use verify80::ImageCode;
+use verify80_follow::{FollowedState, return_address};
+use verify80_states::{Known, Span, given};
+
+/// A program that is followed.
+#[derive(Clone, Copy)]
+pub(crate) struct FollowedProgram<'a> {
+    pub image: &'a ImageCode<'a>,
+    /// The bytes of code, by address.
+    pub code: &'a [Option<u8>],
+    /// Marks of the quiet addresses.
+    pub quiet: &'a [bool],
+    /// Whether addresses of code that LXI names tell states apart.
+    pub splits_addresses: bool,
+    /// Whether bytes of A tell states apart, where ANA or a comparison leaves few of them.
+    pub splits_bytes: bool,
+}
+
+/// A way on from a state: where it leads, whether the call or the return is taken, and what is known before the instruction then.
+#[derive(Clone, Copy)]
+pub(crate) struct Lead {
+    pub to: u16,
+    pub taken: bool,
+    pub known: Known,
+}
+
+impl FollowedProgram<'_> {
+    /// The instruction at an address.
+    ///
+    /// # Errors
+    /// Why none may be executed there.
+    pub fn instruction(self, at: u16) -> Result<Fetched, StopReason> {
+        match self.image.look(at) {
+            Ok(found) => Ok(found),
+            Err(LookFault::Pchl) => Ok(Fetched {
+                instr: Instr::Pchl,
+                next: ahead(at, 1),
+            }),
+            Err(LookFault::Outside) => Err(StopReason::FetchOutside),
+            Err(LookFault::Unused) => Err(StopReason::UnusedOpcode),
+            Err(LookFault::EnablesInterrupts) => Err(StopReason::EnablesInterrupts),
+            Err(LookFault::DirectStore) => Err(StopReason::DirectStore),
+        }
+    }
+
+    /// How many hints the ways of an instruction have.
+    pub fn count_hints(self, at: u16, instr: Instr) -> usize {
+        match instr.flow() {
+            Flow::Halts => 0,
+            Flow::JumpsIf(_, _) | Flow::CallsIf(_, _) | Flow::Returns => 2,
+            Flow::ReturnsIf(_) => 3,
+            Flow::JumpsToHl => self.image.targets(at).len().max(2),
+            _ => 1,
+        }
+    }
+
+    /// Whether the way from a return, or from a PCHL without declared targets, is to be listed: it goes to no address behind a call.
+    pub fn is_listed(self, at: u16, instr: Instr, to: u16) -> bool {
+        let is_number = match instr.flow() {
+            Flow::Returns | Flow::ReturnsIf(_) => true,
+            Flow::JumpsToHl => self.image.targets(at).is_empty(),
+            _ => false,
+        };
+        is_number && !self.has_call(behind(to, 1), to) && !self.has_call(behind(to, 3), to)
+    }
+
+    /// Whether the code has a call at an address that returns to another.
+    fn has_call(self, at: u16, to: u16) -> bool {
+        match fetch(at, self.image) {
+            Ok(Fetched { instr, next }) => {
+                next == to && matches!(instr.flow(), Flow::Calls(_) | Flow::CallsIf(_, _))
+            }
+            Err(_) => false,
+        }
+    }
+
+    /// The way on from a state that has the hint with this number; `None` if there is none.
+    ///
+    /// # Errors
+    /// Why it isn't known where the way leads.
+    pub fn lead(
+        self,
+        state: &FollowedState,
+        found: Fetched,
+        number: usize,
+    ) -> Result<Option<Lead>, StopReason> {
+        let Fetched { instr, next } = found;
+        let known = state.known;
+        let (to, taken, left) = match (instr.flow(), number) {
+            (Flow::Calls(to), 0) => (Some(to), true, Some(known)),
+            (Flow::Jumps(to), 0) => (Some(to), false, Some(known)),
+            (Flow::JumpsIf(condition, to) | Flow::CallsIf(condition, to), 0) => {
+                (Some(to), true, given(condition, true, known))
+            }
+            (Flow::JumpsIf(condition, _) | Flow::CallsIf(condition, _), 1)
+            | (Flow::ReturnsIf(condition), 2) => {
+                (Some(next), false, given(condition, false, known))
+            }
+            (Flow::Returns, 0) => (Some(returned_to(state)?), true, Some(known)),
+            (Flow::ReturnsIf(condition), 0) => match given(condition, true, known) {
+                Some(left) => (Some(returned_to(state)?), true, Some(left)),
+                None => (None, true, None),
+            },
+            (Flow::JumpsToHl, number) => (self.jumped_to(state, number)?, false, Some(known)),
+            (Flow::Continues | Flow::Pushes | Flow::Pops | Flow::Exchanges, 0) => {
+                (Some(next), false, Some(known))
+            }
+            _ => (None, false, None),
+        };
+        Ok(match (to, left) {
+            (Some(to), Some(known)) => Some(Lead { to, taken, known }),
+            _ => None,
+        })
+    }
+
+    /// Where a PCHL goes with the hint that has this number, if it does.
+    ///
+    /// # Errors
+    /// `UnknownJump` if no targets are declared, and HL isn't known.
+    fn jumped_to(self, state: &FollowedState, number: usize) -> Result<Option<u16>, StopReason> {
+        let words = state.known.hl.words;
+        let targets = self.image.targets(state.at);
+        match targets.get(number) {
+            Some(to) => Ok(Span::alone(*to).is_inside(words).then_some(*to)),
+            None if number > 0 || !targets.is_empty() => Ok(None),
+            None if words.is_alone() => Ok(Some(words.first)),
+            None => Err(StopReason::UnknownJump),
+        }
+    }
+}
+
+/// Where a return goes from a state.
+///
+/// # Errors
+/// Why that isn't known.
+fn returned_to(state: &FollowedState) -> Result<u16, StopReason> {
+    match state.bytes() {
+        None => Err(StopReason::StackNotSet),
+        Some(bytes) if bytes.len() < 2 => Err(StopReason::LeavesStack),
+        Some(bytes) => return_address(bytes).ok_or(StopReason::UnknownReturn),
+    }
+}

@@ -1,0 +1,57 @@
+//! A table is searched for.
+
+use crate::program::FollowedProgram;
+use crate::stop::{SearchResult, Stop, StopReason};
+use crate::trial::{WAYS, follow_from};
+use image80::Image;
+use std::alloc::{AllocError, Global};
+use verify80::ImageCode;
+
+/// Whether addresses that LXI names and few bytes of A tell states apart, in one trial after the other.
+const TRIALS: [(bool, bool); 4] = [(false, false), (true, false), (false, true), (true, true)];
+
+/// Searches for a table of states that follows an image. `code` has its code by address, `quiet` marks the quiet addresses, and `is_set` says
+/// whether SP is the stack's top at the start: else it may be anything.
+///
+/// # Errors
+/// `AllocError` if memory runs out.
+pub fn search(
+    alloc: Global,
+    image: &Image,
+    code: &[Option<u8>],
+    quiet: &[bool],
+    is_set: bool,
+) -> Result<SearchResult, AllocError> {
+    let program = ImageCode::new(alloc, image)?;
+    let mut left = WAYS;
+    let mut are_many = [false; 2];
+    let mut shown = Stop {
+        at: image.start,
+        reason: StopReason::TooManyStates,
+        way: Vec::new(alloc),
+    };
+    for (splits_addresses, splits_bytes) in TRIALS {
+        // If there are too many states, there are with more splits.
+        if splits_addresses && are_many[0] || splits_bytes && are_many[1] {
+            continue;
+        }
+        let followed = FollowedProgram {
+            image: &program,
+            code,
+            quiet,
+            splits_addresses,
+            splits_bytes,
+        };
+        let stop = match follow_from(alloc, followed, image.start, is_set, &mut left)? {
+            SearchResult::Found(table) => return Ok(SearchResult::Found(table)),
+            SearchResult::Stopped(stop) => stop,
+        };
+        let is_crowded = stop.reason == StopReason::TooManyStates;
+        are_many[0] |= is_crowded && !splits_bytes;
+        are_many[1] |= is_crowded && !splits_addresses;
+        if !is_crowded || shown.way.is_empty() {
+            shown = stop;
+        }
+    }
+    Ok(SearchResult::Stopped(shown))
+}
