@@ -25,7 +25,7 @@ use Rattle.verify80_states.specs.Laws.{ConditionsLeaveKnown, InstructionsAreFoll
 use Rattle.verify80_states.specs.Invariants.{invariant_is_kept}
 use Rattle.verify80_follow.specs.declared.{followed.FollowedState.FollowedState, followed.Way.Way}
 use Rattle.verify80_follow.specs.Stack.{AreBytesInside, HoldsFrom, HoldsStack, IsStackInside, bounds_of, if_true, moved_to, pointer_at, return_address, set_stack, stack_after, stack_then, top_of_stack, word_on}
-use Rattle.verify80_follow.specs.Follows.{CoversThen, Follows, FollowsBy, Has, IsWay, JumpsBy, LeadsTo, ReturnsLeft, ReturnsTo, StateFollows, stack_of}
+use Rattle.verify80_follow.specs.Follows.{CoversThen, Follows, FollowsBy, Has, IsWay, JumpsBy, LeadsTo, ReturnsLeft, ReturnsTo, StateFollows, first_stack, stack_of}
 use Rattle.verify80_follow.specs.Promise.{FollowedProgramsKeepThePromise, KeepsFollowed, KnowsWorld, PromiseOfFollowed}
 use Rattle.verify80_follow.proofs.{GroundLemmas.Ground, FetchLemmas.anywhere_of, FetchLemmas.fetched_here, FetchLemmas.inside_of, StackSteps.stack_holds}
 use Rattle.verify80_follow.proofs.GuardLemmas.{Touches, all_of_list, passes_guard, touched}
@@ -198,8 +198,8 @@ pub record Laws : Type 0 where
   pub reads : FetchReadsCodeAlone
   pub bounded : FetchedOperandsAreBounded
 
-module _ (laws : Laws) (image : Located) (quiet : ℕ → Bool) (ways : List Way) (table : List FollowedState) (bytes : ℕ) (rules : AreRegions image.regions) (ground : Ground image.regions)
-    (quiet_data : (at : ℕ) → quiet at ≡ true → in_data image.regions at ≡ true) (fits : Follows image quiet ways table bytes) (few : bytes ≤ image.regions.stack.length) where
+module _ (laws : Laws) (image : Located) (quiet : ℕ → Bool) (is_set : Bool) (ways : List Way) (table : List FollowedState) (bytes : ℕ) (rules : AreRegions image.regions) (ground : Ground image.regions)
+    (quiet_data : (at : ℕ) → quiet at ≡ true → in_data image.regions at ≡ true) (fits : Follows image quiet is_set ways table bytes) (few : bytes ≤ image.regions.stack.length) where
   abbrev Knows : Bool → World → Type 0
   Knows set w = KnowsWorld image table set w
 
@@ -218,8 +218,12 @@ module _ (laws : Laws) (image : Located) (quiet : ℕ → Bool) (ways : List Way
     code = code;
   }
 
-  begun : (start : Machine) → start.cpu.pc ≡ image.start → length start.memory ≡ 65536 → HasCode image start.memory → HoldsBytes start → Knows false (world_of start)
-  begun start pc whole code held = enters false (world_of start) nothing_known None (subst (λ n. Has table n nothing_known None) (sym pc) fits.start) (laws.holds start held).nothing tt held whole code
+  empty_at_top : (b : Bool) (sp : ℕ) (m : List ℕ) → (b ≡ true → sp ≡ top_of image.regions) → IfSome (first_stack b) (λ bytes. HoldsStack (bounds_of image) bytes sp m × (b ≡ true))
+  empty_at_top false sp m top = tt
+  empty_at_top true sp m top = (record { pointer = top refl ∙ omega arith; within = omega arith; each = tt }, refl)
+
+  begun : (start : Machine) → start.cpu.pc ≡ image.start → length start.memory ≡ 65536 → HasCode image start.memory → HoldsBytes start → (is_set ≡ true → start.cpu.sp ≡ top_of image.regions) → Knows is_set (world_of start)
+  begun start pc whole code held top = enters is_set (world_of start) nothing_known (first_stack is_set) (subst (λ n. Has table n nothing_known (first_stack is_set)) (sym pc) fits.start) (laws.holds start held).nothing (empty_at_top is_set start.cpu.sp start.memory top) held whole code
 
   -- what devices write leaves what is known
   entry_of : (set : Bool) (w : World) (k : Knows set w) → StateFollows image quiet fits.code ways table bytes k.state
@@ -510,10 +514,10 @@ module _ (laws : Laws) (image : Located) (quiet : ℕ → Bool) (ways : List Way
   executes : (before : Bool) (w v : World) → Knows before w → (by : Executes image.regions Anywhere w v) → Knows (before || sets_sp by.found.instr) v
   executes before w v k by = executes_found before w k v by (same_some _ _ (sym by.fetched ∙ anywhere before w k))
 
-  pub promise_is_kept : PromiseOfFollowed image quiet ways bytes
-  promise_is_kept start pc whole code held w set on =
-      invariant_is_kept image quiet Anywhere start false Knows (λ v. KeepsFollowed image Anywhere bytes ways v)
-      (record { begun = begun start pc whole code held; disturbs = disturbs; executes = executes; keeps = λ s v k. keeps s v k }) w set on
+  pub promise_is_kept : PromiseOfFollowed image quiet is_set ways bytes
+  promise_is_kept start pc whole code held top w set on =
+      invariant_is_kept image quiet Anywhere start is_set Knows (λ v. KeepsFollowed image Anywhere bytes ways v)
+      (record { begun = begun start pc whole code held top; disturbs = disturbs; executes = executes; keeps = λ s v k. keeps s v k }) w set on
 
 pub promise : Laws → ((regions : Areas) → AreRegions regions → Ground regions) → FollowedProgramsKeepThePromise
-promise laws ground image quiet ways table bytes rules quiet_data fits few = promise_is_kept laws image quiet ways table bytes rules (ground image.regions rules) quiet_data fits few
+promise laws ground image quiet is_set ways table bytes rules quiet_data fits few = promise_is_kept laws image quiet is_set ways table bytes rules (ground image.regions rules) quiet_data fits few

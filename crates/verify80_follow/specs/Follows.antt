@@ -110,9 +110,14 @@ pub record StateFollows (image : Located) (quiet : ℕ → Bool) (code : List (O
   pub depth : IfSome (stack_of s) (λ stack. length stack ≤ bytes)
   pub knows : IsQuietKnown quiet s.known
 
+-- the stack at the image's start: empty if the pointer is at its top, or not set
+abbrev pub first_stack : (is_set : Bool) → Option (List ByteSpan)
+first_stack true = Some []
+first_stack false = None
+
 -- a table follows an image, with no more bytes on the stack than these
-pub record Follows (image : Located) (quiet : ℕ → Bool) (ways : List Way) (table : List FollowedState) (bytes : ℕ) : Type 0 where
+pub record Follows (image : Located) (quiet : ℕ → Bool) (is_set : Bool) (ways : List Way) (table : List FollowedState) (bytes : ℕ) : Type 0 where
   pub code : List (Option ℕ)
   pub are_code : AreCodeBytes image code
-  pub start : Has table image.start nothing_known None
+  pub start : Has table image.start nothing_known (first_stack is_set)
   pub states : All (λ s. StateFollows image quiet code ways table bytes s) table

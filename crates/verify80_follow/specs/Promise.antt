@@ -1,6 +1,6 @@
 -- What is promised of a program that a table follows, on every board whose devices leave quiet memory alone. (This project's own; what a board is and
 -- does stands in verify80, specs/Boards.)
-use Rattle.std.specs.Prelude.{◌≡◌, ◌≢◌, ◌≤◌, ◌<◌, ℕ, Bool, true, false, List, All, None, Some, IfSome, length, slice_get}
+use Rattle.std.specs.Prelude.{◌≡◌, ◌≢◌, ◌≤◌, ◌<◌, ℕ, Bool, true, List, All, None, Some, IfSome, length, slice_get}
 use Rattle.decode80.specs.{declared.fetching.Fetched.Fetched, Fetch.direct_bytes}
 use Rattle.decode80.specs.declared.instr.Instr.TheVariants.{Ei, Hlt, Pchl}
 use Rattle.image80.specs.{Regions.AreRegions, Regions.in_data, Regions.targets_at, Regions.top_of, Image.Located, Image.memory_of}
@@ -39,14 +39,14 @@ pub record KnowsWorld (image : Located) (table : List FollowedState) (set : Bool
   pub whole : length w.machine.memory ≡ 65536
   pub code : HasCode image w.machine.memory
 
--- On every board whose devices leave quiet addresses as they are, from the image's start, whatever SP, registers and flags are and memory outside the
+-- On every board whose devices leave quiet addresses as they are, from the image's start, with SP at the stack's top or anywhere, whatever registers and flags are and memory outside the
 -- code holds: up to the first store through a pair outside data, or PCHL outside its declared targets, a program that a table follows keeps that
 -- promise.
-abbrev pub PromiseOfFollowed : Located → (quiet : ℕ → Bool) → List Way → (bytes : ℕ) → Type 0
-PromiseOfFollowed image quiet ways bytes = (start : Machine) → start.cpu.pc ≡ image.start → length start.memory ≡ 65536 → HasCode image start.memory → HoldsBytes start →
-    (w : World) (set : Bool) → OnQuietBoard image.regions quiet Anywhere start false set w → KeepsFollowed image Anywhere bytes ways w
+abbrev pub PromiseOfFollowed : Located → (quiet : ℕ → Bool) → (is_set : Bool) → List Way → (bytes : ℕ) → Type 0
+PromiseOfFollowed image quiet is_set ways bytes = (start : Machine) → start.cpu.pc ≡ image.start → length start.memory ≡ 65536 → HasCode image start.memory → HoldsBytes start →
+    (is_set ≡ true → start.cpu.sp ≡ top_of image.regions) → (w : World) (set : Bool) → OnQuietBoard image.regions quiet Anywhere start is_set set w → KeepsFollowed image Anywhere bytes ways w
 
 abbrev pub FollowedProgramsKeepThePromise : Type 0
-FollowedProgramsKeepThePromise = (image : Located) (quiet : ℕ → Bool) (ways : List Way) (table : List FollowedState) (bytes : ℕ) → AreRegions image.regions →
-    ((at : ℕ) → quiet at ≡ true → in_data image.regions at ≡ true) → Follows image quiet ways table bytes → bytes ≤ image.regions.stack.length →
-    PromiseOfFollowed image quiet ways bytes
+FollowedProgramsKeepThePromise = (image : Located) (quiet : ℕ → Bool) (is_set : Bool) (ways : List Way) (table : List FollowedState) (bytes : ℕ) → AreRegions image.regions →
+    ((at : ℕ) → quiet at ≡ true → in_data image.regions at ≡ true) → Follows image quiet is_set ways table bytes → bytes ≤ image.regions.stack.length →
+    PromiseOfFollowed image quiet is_set ways bytes

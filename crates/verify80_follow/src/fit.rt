@@ -4,8 +4,8 @@ ghost use Rattle.std.specs.Prelude.{◌≡◌, ◌≤◌, ℕ, Bool, false, true
 ghost use Rattle.std.specs.Option.{option_map};
 ghost use Rattle.image80.specs.{Image.memory_of, Regions.AreRegions, Regions.in_data};
 ghost use Rattle.verify80_spans.specs.Span.{Within, ByteWithin, byte_alone};
-ghost use Rattle.verify80_states.specs.{Known.cut, Following.known_after, Marks.is_marked, Steps.AreCodeBytes};
-ghost use Rattle.verify80_follow.specs.Follows.{Covers, CoversStack, CoversThen, FollowsBy, Has, IsBehindCall, IsWay, JumpsBy, JumpsByNumber, LeadsTo, ReturnsLeft, ReturnsTo, StateFollows, Follows, is_call};
+ghost use Rattle.verify80_states.specs.{Known.cut, Known.nothing_known, Following.known_after, Marks.is_marked, Steps.AreCodeBytes};
+ghost use Rattle.verify80_follow.specs.Follows.{Covers, CoversStack, CoversThen, FollowsBy, Has, IsBehindCall, IsWay, JumpsBy, JumpsByNumber, LeadsTo, ReturnsLeft, ReturnsTo, StateFollows, first_stack, is_call};
 ghost use Rattle.verify80_follow.specs.Promise.{PromiseOfFollowed};
 ghost use Rattle.verify80_follow.specs.Stack.{after_of, bounds_of};
 ghost use Rattle.decode80.specs.{Facts.flow, declared.flow.Flow.TheVariants.JumpsToHl};
@@ -67,6 +67,17 @@ impl Fit<'_> {
                     && is_stack_inside(stack, state.bytes())
             }
             None => false,
+        }
+    }
+
+    /// Whether the first hint names a state at the start that says nothing but, if SP is set there, that the stack is empty.
+    fn has_start(&self, start: u16, is_set: bool) -> bool
+        ensures { result ≡ true → Has self.now.table.now start nothing_known (first_stack is_set) }
+    {
+        if is_set {
+            self.has(0, start, Known::ANY, Some(&[]))
+        } else {
+            self.has(0, start, Known::ANY, None)
         }
     }
 
@@ -407,7 +418,8 @@ fn is_within(bytes: Option<&[ByteSpan]>, most: u16) -> bool
 
 /// Whether a table follows an image, so that every run of the image on a board that leaves quiet memory alone keeps the promise.
 ///
-/// `code` has the image's code by address, and `quiet` marks the quiet addresses.
+/// `code` has the image's code by address, and `quiet` marks the quiet addresses. `is_set` says whether SP is at the stack's top when a run
+/// begins; else it may be anywhere.
 ///
 /// # Errors
 /// `AllocError` if memory runs out.
@@ -417,11 +429,12 @@ pub fn follows(
     table: &Table,
     code: &[Option<u8>],
     quiet: &[bool],
+    is_set: bool,
 ) -> Result<bool, AllocError>
     requires rules { AreRegions image.now.regions }
     requires code { AreCodeBytes image.now code.now }
     requires quiet { (at : ℕ) → is_marked quiet.now at ≡ true → in_data image.now.regions at ≡ true }
-    ensures promise { IfOk result (λ follows. follows ≡ true → PromiseOfFollowed image.now (is_marked quiet.now) table.now.ways.items table.now.bytes) }
+    ensures promise { IfOk result (λ follows. follows ≡ true → PromiseOfFollowed image.now (is_marked quiet.now) is_set table.now.ways.items table.now.bytes) }
 {
     followed_programs_keep_the_promise();
     let program = ImageCode::new(alloc, image)?;
@@ -434,7 +447,7 @@ pub fn follows(
         program: &program,
         quiet,
     };
-    if table.bytes > program.stack() || !fit.has(0, program.start(), Known::ANY, None) {
+    if table.bytes > program.stack() || !fit.has_start(program.start(), is_set) {
         return Ok(false);
     }
     fit.all_follow(alloc)
