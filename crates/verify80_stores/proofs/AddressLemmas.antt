@@ -1,5 +1,5 @@
 -- Tables with an entry for each address.
-use Rattle.verify80_stores.proofs.Names.{◌≡◌, ◌∙◌, ◌<◌, ℕ, Bool, true, false, List, Option, None, Some, map, range_with_len, slice_index, get_or, ◌≤◌, if◌then◌else◌, inl, inr, cases_lt, refl, sym, subst, arith, true≢false, get_or_past, get_or-map-range_with_len, length-map-range_with_len, Areas, Located, in_code, memory_of, entry_at, is_marked, AreCodeBytes, code_in}
+use Rattle.verify80_stores.proofs.Names.{◌≡◌, ◌<◌, ℕ, map, range_with_len, get_or, ◌≤◌, arith, get_or_past, get_or-map-range_with_len, length-map-range_with_len}
 
 pub read_at : {A : Type 0} (f : ℕ → A) (at : ℕ) (d : A) → at < 65536 → get_or (map f (range_with_len 0 65536)) at d ≡ f at
 read_at f at d less = get_or-map-range_with_len f 0 65536 at at d less (omega arith)

@@ -14,7 +14,7 @@ keeps_so image table m places inputs outputs k = record {
   placed = k.placed;
   there = k.there;
   at = k.at;
-  holds = record { registers = k.holds.registers; words = k.holds.words; cells = k.holds.cells; source = k.holds.source };
+  holds = record { known = record { registers = k.holds.known.registers; cells = k.holds.known.cells; source = k.holds.known.source }; words = k.holds.words };
   code = k.code;
   whole = k.whole;
 }

@@ -1,9 +1,8 @@
 -- What is known of a program on every board. (This project's own; what a board is and does stands in verify80, specs/Boards.)
-use Rattle.std.specs.Prelude.{◌≡◌, ◌⊎◌, ◌&&◌, ◌||◌, ℕ, Bool, true, List, All, Any, Contains, slice_index}
-use Rattle.image80.specs.declared.range.Range.{Range}
-use Rattle.image80.specs.{Range.in_ranges, Regions.Areas, Regions.in_data, Image.Located}
+use Rattle.std.specs.Prelude.{◌≡◌, ◌⊎◌, ℕ, Bool, List, All, Any, Contains}
+use Rattle.image80.specs.{Image.Located}
 use Rattle.decode80.specs.declared.instr.Instr.TheVariants.{Pchl}
-use Rattle.machine80.specs.{Cpu.hl_of, Effects.pointed_bytes, Step.Machine, World.World, Run.world_of}
+use Rattle.machine80.specs.{Cpu.hl_of, Effects.pointed_bytes, Step.Machine, World.World}
 use Rattle.verify80.specs.Looking.{declared_targets}
 use Rattle.verify80.specs.Boards.{KeepsPromise, KeepsToWalks, MayStart, OnBoard}
 use Rattle.verify80_states.specs.Bytes.{HoldsBytes}
