@@ -1,7 +1,7 @@
 -- Files of which one couldn't be written.
-use Rattle.std.proofs.Common.{◌≡◌, ℕ, Bool, true, false, ◌&&◌, if◌then◌else◌, not, List, [], ◌∷◌, Result, Ok, Err, IfErr, refl, ◌∙◌, ap, inl, inr, subst}
-use Rattle.plm80_console.specs.{Answer.StopsWriting, Answer.and_files, Journal.FileValue, Journal.Journal, Journal.and_reported, Journal.and_unwritten}
-use Rattle.plm80_console.specs.{Journal.and_written, Journal.file_value, Replaced.NotSettled, Replaced.new_file_value}
+use Rattle.std.proofs.Common.{◌≡◌, Bool, true, false, ◌&&◌, if◌then◌else◌, not, List, [], ◌∷◌, Result, Ok, Err, IfErr, refl, ◌∙◌, ap, inl, inr, subst}
+use Rattle.plm80_console.specs.{Answer.StopsWriting, Journal.FileValue, Journal.Journal}
+use Rattle.plm80_console.specs.{Journal.and_written, Replaced.NotSettled, Replaced.new_file_value}
 use Rattle.plm80_console.specs.declared.new_file.NewFile.{NewFile}
 use Rattle.plm80_host.specs.Drafts.{NotBothSettled, in_order, is_in_place}
 use Rattle.plm80_host.specs.declared.replacing.Draft.{Draft}

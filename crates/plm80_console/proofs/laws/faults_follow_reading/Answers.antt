@@ -1,4 +1,4 @@
-use Rattle.std.proofs.Common.{◌≡◌, ℕ, List, [], ◌∷◌, ◌++◌, append_assoc, map, refl, ◌∙◌, ap, sym}
+use Rattle.std.proofs.Common.{◌≡◌, ℕ, List, [], ◌∷◌, ◌++◌, append_assoc, refl, ◌∙◌, ap, sym}
 use Rattle.std.proofs.lemmas.List.{map-append}
 use Rattle.plm80_console.specs.Journal.{FileValue, Journal, and_read, and_read_files, and_reported, paths_of}
 use Rattle.plm80_console.specs.{Journal.OnlyReports.read, Journal.OnlyReports.unread, JournalLaws.FaultsFollowReading}

@@ -1,4 +1,4 @@
-use Rattle.std.proofs.Common.{◌≡◌, ℕ, List, [], ◌∷◌, Result, Ok, Err, IfErr, subst}
+use Rattle.std.proofs.Common.{ℕ, List, [], ◌∷◌, Result, Ok, Err, IfErr}
 use Rattle.plm80_console.specs.{Answer.StopsWriting, Journal.Journal, Journal.file_value, Replaced.NotSettled}
 use Rattle.plm80_console.proofs.JournalLemmas.{one_unwritten}
 use Rattle.plm80_console.proofs.console.Console.write_files.Goals as goal
