@@ -1,6 +1,6 @@
 -- Front parts of texts that are written as they come.
-use Rattle.plm80_programs.proofs.Names.{◌≡◌, ℕ, List, [], ◌++◌, Option, None, Some, Result, Ok, Err, OnErr, refl, ◌∙◌, ap, append-nil, append_assoc}
-use Rattle.plm80_programs.proofs.Names.{inl, inr, subst, sym, drop, take, take-append-drop, Appends, Appends-nil, Appends-trans, AppendsFront, LeavesFront}
+use Rattle.plm80_programs.proofs.Names.{ℕ, List, [], ◌++◌, Option, Result, Ok, Err, OnErr, refl, ◌∙◌, ap, append-nil, append_assoc}
+use Rattle.plm80_programs.proofs.Names.{sym, drop, take, take-append-drop, Appends, Appends-nil, Appends-trans, AppendsFront}
 
 pub on_err : {A E P : Type 0} (r : Result A E) → P → OnErr r P
 on_err (Ok x) p = tt

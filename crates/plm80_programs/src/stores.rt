@@ -100,23 +100,24 @@ pub fn list_stores<C: Console>(
     let quiet = ranges_of(console, QUIET, &arguments.quiet)?;
     let files = arguments.files;
     let (image, names) = files.read(console)?;
-    let given = print_stores(console, image, &names, &quiet);
+    let given = print_stores(console, image, &names, &arguments.quiet, &quiet);
     files.explain(console, &given);
     given
 }
 
-/// Prints what is known of the stores and jumps of `image`, or its refusal, and returns the exit status. Reports a quiet range that isn't
-/// all data.
+/// Prints what is known of the stores and jumps of `image`, or its refusal, and returns the exit status. `quiet` are the ranges that
+/// `texts` write; one that isn't all data is reported.
 fn print_stores<C: Console>(
     console: &mut C,
     image: Image,
     names: &Names,
+    texts: &[&str],
     quiet: &[Range],
 ) -> Result<u8, Reported>
     ensures done { IfOk result (IsAnswered (PrintsStores quiet.now image names.now) (C.journal console.old) (C.journal console.new)) }
     ensures fault { IfErr result (λ _. IsGivenUp (PrintsStores quiet.now image names.now) (C.journal console.old) (C.journal console.new)) }
 {
-    require_data(console, &image.regions, quiet)?;
+    require_data(console, &image.regions, texts, quiet)?;
     match judged(console.alloc(), image, names, quiet, console.explains()) {
         Ok(ListedStores { answer, causes }) => {
             let status = console.give(answer)?;
@@ -131,6 +132,7 @@ fn print_stores<C: Console>(
 fn require_data<C: Console>(
     console: &mut C,
     regions: &Regions,
+    texts: &[&str],
     quiet: &[Range],
 ) -> Result<(), Reported>
     ensures are_data { OnOk result (All (IsAllData regions.now) quiet.now) }
@@ -138,26 +140,28 @@ fn require_data<C: Console>(
     ensures fault { IfErr result (λ _. C.journal console.new ≡ and_reported (C.journal console.old)) }
 {
     match first_no_data(regions, quiet) {
-        Some((Range { first, length }, at)) => {
+        Some((index, at)) => {
             let reported = console.report("NotData");
-            console.explain(format_args!(
-                "--{QUIET} {first:04X}:{length:04X}: {at:04X} is no address of DATA"
-            ));
+            if let Some(text) = texts.get(index) {
+                console.explain(format_args!("--{QUIET} {text}: {at:04X} is no address of DATA"));
+            }
             Err(reported)
         }
         None => Ok(()),
     }
 }
 
-/// The first of the quiet ranges that isn't all data of `regions`, and its first address that isn't. `None` if all of them are.
-fn first_no_data(regions: &Regions, quiet: &[Range]) -> Option<(Range, u16)>
+/// The index of the first of the quiet ranges that isn't all data of `regions`, and its first address that isn't. `None` if all are.
+fn first_no_data(regions: &Regions, quiet: &[Range]) -> Option<(usize, u16)>
     ensures some { IfSome result (λ found. in_data regions.now found.1 ≡ false) }
     ensures none { IfNone result (All (IsAllData regions.now) quiet.now) }
 {
+    let mut index = 0usize;
     for range in quiet {
         if let Some(at) = first_outside_data(regions, *range) {
-            return Some((*range, at));
+            return Some((index, at));
         }
+        index = index.saturating_add(1);
     }
     None
 }

@@ -1,4 +1,3 @@
-use Rattle.plm80_programs.proofs.Names.{ℕ, List, subst, AppendsFront}
 use Rattle.plm80_programs.proofs.FrontLemmas.{all_front, first_bytes, no_front, on_err}
 use Rattle.plm80_programs.proofs.cases.write_found.Goals as goal
 

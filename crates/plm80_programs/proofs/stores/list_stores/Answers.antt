@@ -15,9 +15,9 @@ returns g c =
     (λ files given is. record { quiet = quiet; written = simp (c.deref.ensures.value) at c.in_ok-quiet.ensures.ranges; is = is })
     c.in_ok-quiet.ensures.unchanged c.print_stores-given.result (
       program_answered c.in_ok-image.ensures.read new (PrintsStores quiet) c.print_stores-given.result
-          (simp (c.deref-2.ensures.value) at c.print_stores-given.ensures.done),
+          (simp (c.deref-3.ensures.value) at c.print_stores-given.ensures.done),
       program_given_up c.in_ok-image.ensures.read new (PrintsStores quiet) c.print_stores-given.result
-          (simp (c.deref-2.ensures.value) at c.print_stores-given.ensures.fault),
+          (simp (c.deref-3.ensures.value) at c.print_stores-given.ensures.fault),
     ) in
     record { done = both.0; fault = both.1 }
 

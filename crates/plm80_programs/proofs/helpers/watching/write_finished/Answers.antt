@@ -1,4 +1,4 @@
-use Rattle.plm80_programs.proofs.Names.{◌++◌, ◌∙◌, ap, flat_map, inr, subst, AnswerValue, WatchesRun, dump_path, ending, output_line, stack_line, last_lines, start_of}
+use Rattle.plm80_programs.proofs.Names.{◌++◌, ◌∙◌, ap, flat_map, inr, subst, AnswerValue, WatchesRun, dump_path, output_line, stack_line, last_lines, start_of}
 use Rattle.plm80_programs.proofs.Names.{Appends-trans, Some, with_memory, with_ports, sym}
 use Rattle.plm80_programs.proofs.FrontLemmas.{all_front, front_of_first, front_of_second, on_err}
 use Rattle.plm80_programs.proofs.RunLemmas.{first_of_run, run_text, steps_within, watched_run}
