@@ -9,7 +9,6 @@
 //! | `sessions` | `loader80`: sessions, over readers and writers that give and take a byte at a time |
 //! | `failures` | `loader80` and `loader80_text`: sessions and bundles whose readers or writers fail, or never end |
 //! | `faults` | `loader80` and `loader80_text`: faults as they are shown |
-//! | `following` | `verify80_follow` and `verify80_follow_search`: programs that are followed |
 //! | `frames`, `numbered_frames` | `frames80` and `frames80_interned`: frames, and frames by number |
 //! | `pushing`, `outside` | the program, and the sources and sinks, of these tests |
 //!
@@ -20,8 +19,6 @@
 mod failures;
 #[cfg(test)]
 mod faults;
-#[cfg(test)]
-mod following;
 #[cfg(test)]
 mod frames;
 #[cfg(test)]
