@@ -1,7 +1,7 @@
 # plm80: LINK, LOCATE and a verifying loader for 8080 programs.
 #
 #   make run       proves every crate, shows its progress, builds plm80 and runs it on the stored examples
-#   make try       shows the transcript of a stored example within three minutes: plm80 is built without any proof, and kept as out/plm80 until a source changes. ARGS=".." does a command, as in make try ARGS="check a.img a.regions", and fails if the command does
+#   make try       shows the transcript of a stored example in some five minutes: plm80 is built without any proof, in 4 GB of memory, and kept as out/plm80 until a source changes. ARGS=".." does a command, as in make try ARGS="check a.img a.regions", and fails if the command does
 #   make install   builds plm80 as `make run` does, unless `make run` or `make test` has, and installs it with its manual page, the pages for users, its examples and its completion for bash: make install PREFIX=/usr/local
 #   make uninstall takes away what make install installed, with the same PREFIX
 #   make package   builds plm80 as `make run` does, and makes a Debian package of what make install installs, in out/; a tarball, if there is no dpkg-deb
@@ -81,6 +81,7 @@ test: need-rt need-python3
 	@tests/layers/closure
 	@tests/examples/run
 	@tools/crates --check
+	@tools/manual --check
 	@tools/clauses --check
 	@tools/statements --check
 	@tools/gate
@@ -94,6 +95,7 @@ test: need-rt need-python3
 	@tests/generated/boards $(PROGRAM)
 	@tests/generated/manners $(PROGRAM)
 	@tests/generated/firmware_shown $(PROGRAM)
+	@tests/generated/followed $(PROGRAM)
 	@tests/commands/replaced $(PROGRAM)
 	@tests/commands/completion $(PROGRAM)
 	@tests/commands/fault_page
@@ -116,6 +118,7 @@ commands: need-python3 build
 	@tests/generated/boards $(PROGRAM)
 	@tests/generated/manners $(PROGRAM)
 	@tests/generated/firmware_shown $(PROGRAM)
+	@tests/generated/followed $(PROGRAM)
 	@tests/commands/replaced $(PROGRAM)
 	@tests/commands/completion $(PROGRAM)
 	@tests/commands/fault_page

@@ -18,7 +18,7 @@ _plm80() {
             ;;
     esac
     if [[ $COMP_CWORD -eq 1 ]]; then
-        COMPREPLY=($(compgen -W 'lib link locate map module check explain calls stores run trace cover inputs absolute extract compare find suggest cases list regions help --why -h --help -V --version' -- "$word"))
+        COMPREPLY=($(compgen -W 'lib link locate map module check explain calls stores follow run trace cover inputs absolute extract compare find suggest cases list regions help --why -h --help -V --version' -- "$word"))
         return
     fi
     case ${COMP_WORDS[1]} in
@@ -37,11 +37,12 @@ _plm80() {
         check) options='--names --why -h --help' ;;
         explain) options='--all --names --why -h --help' ;;
         stores) options='--names --quiet-ram --why -h --help' ;;
+        follow) options='--names --quiet-ram --list --why -h --help' ;;
         list) options='--reached --names --why -h --help' ;;
         cases) options='--out --why -h --help' ;;
         calls) options='--dot --names --why -h --help' ;;
         help)
-            [[ $COMP_CWORD -eq 2 ]] && COMPREPLY=($(compgen -W 'lib link locate map module check explain calls stores run trace cover inputs absolute extract compare find suggest cases list regions help' -- "$word"))
+            [[ $COMP_CWORD -eq 2 ]] && COMPREPLY=($(compgen -W 'lib link locate map module check explain calls stores follow run trace cover inputs absolute extract compare find suggest cases list regions help' -- "$word"))
             return
             ;;
         *) return ;;

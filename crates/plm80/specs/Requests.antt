@@ -10,7 +10,8 @@ use Rattle.plm80_objects.specs.Absolute.{ExtractsFile, GivesDumps, GivesUpDumps}
 use Rattle.plm80_objects.specs.Arguments.{AreAbsoluteArguments, AreCompareArguments, AreExtractArguments, AreFindArguments, AreLibraryArguments, AreLinkArguments, AreLocateArguments, AreMapArguments}
 use Rattle.plm80_objects.specs.Modules.{AnswersModules, DescribesModules, GivesUpLibrary, LocatesFile, MapsFile, WritesLibrary}
 use Rattle.plm80_objects.specs.{Compare.ComparesFiles, Find.FindsModules, Link.LinksFiles}
-use Rattle.plm80_programs.specs.Arguments.{AreCallsArguments, AreCasesArguments, AreCoverArguments, AreExplainArguments, AreListArguments, AreRegionsArguments, AreRunArguments, AreStoresArguments, AreTraceArguments, cases_path, run_paths}
+use Rattle.plm80_programs.specs.Arguments.{AreCallsArguments, AreCasesArguments, AreCoverArguments, AreExplainArguments, AreFollowArguments, AreListArguments, AreRegionsArguments, AreRunArguments, AreStoresArguments, AreTraceArguments, cases_path, run_paths}
+use Rattle.plm80_programs.specs.Following.{AnswersFollowing}
 use Rattle.plm80_programs.specs.Printed.{AnswersStores, PrintsCalls, PrintsListing, PrintsReport}
 use Rattle.plm80_programs.specs.Running.{CoversFiles, RunsFiles, TracesFiles, TracesFilesInPart}
 use Rattle.plm80_programs.specs.{Cases.AnswersCases, Cases.AnswersCasesInPart, InputWords.AnswersWords, InputWords.AreInputsArguments, Explanations.PrintsExplanation}
@@ -33,6 +34,7 @@ command_name (request.Map arguments) = codes "map"
 command_name (request.Extract arguments) = codes "extract"
 command_name (request.Absolute arguments) = codes "absolute"
 command_name (request.Stores arguments) = codes "stores"
+command_name (request.Follow arguments) = codes "follow"
 command_name (request.Compare arguments) = codes "compare"
 command_name (request.Inputs arguments) = codes "inputs"
 command_name (request.Calls arguments) = codes "calls"
@@ -57,6 +59,7 @@ AreArgumentsOf matches (request.Map arguments) = AreMapArguments matches argumen
 AreArgumentsOf matches (request.Extract arguments) = AreExtractArguments matches arguments
 AreArgumentsOf matches (request.Absolute arguments) = AreAbsoluteArguments matches arguments
 AreArgumentsOf matches (request.Stores arguments) = AreStoresArguments matches arguments
+AreArgumentsOf matches (request.Follow arguments) = AreFollowArguments matches arguments
 AreArgumentsOf matches (request.Compare arguments) = AreCompareArguments matches arguments
 AreArgumentsOf matches (request.Inputs arguments) = AreInputsArguments matches arguments
 AreArgumentsOf matches (request.Calls arguments) = AreCallsArguments matches arguments
@@ -89,6 +92,7 @@ IsPerformed (request.Map arguments) old new status = Gives (MapsFile arguments) 
 IsPerformed (request.Extract arguments) old new status = Gives (ExtractsFile arguments) (arguments.image.now ∷ []) old new status
 IsPerformed (request.Absolute arguments) old new status = GivesDumps arguments old new status
 IsPerformed (request.Stores arguments) old new status = Gives (AnswersStores arguments) (program_paths arguments.files) old new status
+IsPerformed (request.Follow arguments) old new status = Gives (AnswersFollowing arguments) (program_paths arguments.files) old new status
 IsPerformed (request.Compare arguments) old new status = Gives (ComparesFiles arguments) (arguments.image.now ∷ arguments.dump.now ∷ []) old new status
 IsPerformed (request.Inputs arguments) old new status = Gives (AnswersWords arguments) ([]) old new status
 IsPerformed (request.Calls arguments) old new status = Gives (AnswersProgram (PrintsCalls arguments.dot) (asks_names arguments.files)) (program_paths arguments.files) old new status
@@ -113,6 +117,7 @@ IsFailed (request.Map arguments) old new = GivesUp (MapsFile arguments) (argumen
 IsFailed (request.Extract arguments) old new = GivesUp (ExtractsFile arguments) (arguments.image.now ∷ []) old new
 IsFailed (request.Absolute arguments) old new = GivesUpDumps arguments old new
 IsFailed (request.Stores arguments) old new = GivesUp (AnswersStores arguments) (program_paths arguments.files) old new
+IsFailed (request.Follow arguments) old new = GivesUp (AnswersFollowing arguments) (program_paths arguments.files) old new
 IsFailed (request.Compare arguments) old new = GivesUp (ComparesFiles arguments) (arguments.image.now ∷ arguments.dump.now ∷ []) old new
 IsFailed (request.Inputs arguments) old new = GivesUp (AnswersWords arguments) ([]) old new
 IsFailed (request.Calls arguments) old new = GivesUp (AnswersProgram (PrintsCalls arguments.dot) (asks_names arguments.files)) (program_paths arguments.files) old new

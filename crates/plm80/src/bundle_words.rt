@@ -6,7 +6,7 @@ ghost use Rattle.std.specs.Char.{is_ascii_hexdigit};
 use loader80::SessionFault;
 use loader80_text::BundleFault;
 use plm80_console::{Console, FailureWords};
-use plm80_files::{FLAWS, explain_flaws, explain_regions};
+use plm80_files::{FLAWS, explain_flaws, explain_regions, image_words};
 use std::io::ErrorKind;
 
 /// The line between the regions and the inputs.
@@ -44,6 +44,9 @@ pub fn explain_bundle<C: Console>(
             if after_inputs_line(text).is_empty() && !text.ends_with(INPUTS) {
                 console.explain("there is no line INPUTS");
             }
+        }
+        BundleFault::Session(SessionFault::Image(fault)) => {
+            console.explain_any(image_words(fault));
         }
         BundleFault::Session(_) => {}
     }

@@ -15,8 +15,8 @@ use plm80_objects::{
     write_absolute, write_library_file,
 };
 use plm80_programs::{
-    advise_file, check_files, cover_files, explain_files, list_files, list_stores, migrate_file,
-    run_files, show_calls, suggest_for_files, trace_files, write_inputs_file,
+    advise_file, check_files, cover_files, explain_files, follow_files, list_files, list_stores,
+    migrate_file, run_files, show_calls, suggest_for_files, trace_files, write_inputs_file,
 };
 use std::process::ExitCode;
 
@@ -77,6 +77,7 @@ fn perform<C: Console>(console: &mut C, request: Request<'_>) -> Result<u8, Repo
         Request::Extract(arguments) => extract_file(console, arguments),
         Request::Absolute(arguments) => write_absolute(console, &arguments),
         Request::Stores(arguments) => list_stores(console, &arguments),
+        Request::Follow(arguments) => follow_files(console, &arguments),
         Request::Compare(arguments) => compare_files(console, arguments),
         Request::Inputs(arguments) => write_inputs_file(console, &arguments),
         Request::Calls(arguments) => show_calls(console, arguments),

@@ -12,4 +12,5 @@ pub mod Ranges
 pub mod Refusals
 pub mod SyntaxTable
 -- what the crate's own functions promise one another: no public contract cites these
+pub mod HiddenCharacters
 pub mod SharedPaths

@@ -67,8 +67,8 @@ pub trait Console {
         ensures fault { IfErr result (λ _. StopsWriting (new_file_value first.entry ∷ new_file_value second.entry ∷ [])
             (journal self.old) (journal self.new)) };
 
-    /// Replaces the file of this path by one with these bytes. If the path names an object file now, a copy of it is kept beside the path
-    /// first.
+    /// Replaces the file of this path by one with these bytes. If the path names a file now that is no library, a copy of it is kept
+    /// beside the path first.
     fn replace_keeping_objects(&mut self, path: &str, bytes: &[u8]) -> Result<(), Reported>
         ensures written { IfOk result (λ _. IsReplacedKeeping path.now bytes.now (journal self.old) (journal self.new)) }
         ensures fault { IfErr result (λ _. GaveUpKeeping path.now (journal self.old) (journal self.new)) };

@@ -8,6 +8,7 @@
 //! | [`exit_code`] | the exit status of an answer, or of a fault that was reported |
 //! | [`Syntax`], [`Argument`], [`Kind`] | a command and its arguments, as tables for clap |
 //! | [`OptionText`], [`ranges_of`] | an option with its value; a [`Console`] reads it as a number, a name, or ranges of addresses |
+//! | [`explain_board`], [`RangeTexts`] | ranges that may have been meant otherwise, in words |
 //! | [`Answer`], [`WrittenFile`] | what a command answers: files, lines and a status; a [`Console`] does it |
 //! | [`ReadFile`], [`FaultOf`] | a file with its path; a fault with the path of its file |
 //! | [`FailureWords`] | why the system failed, in words |
@@ -44,7 +45,7 @@ pub use number_text::{
 pub use one_line::OneLine;
 pub use options::OptionText;
 pub use pieces::TakePieces;
-pub use ranges::ranges_of;
+pub use ranges::{RangeTexts, explain_board, ranges_of};
 pub use read_file::{FaultOf, ReadFile};
 pub use reported::{Reported, exit_code};
 pub use syntax::{Argument, Kind, Syntax, WHY};

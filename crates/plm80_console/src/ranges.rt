@@ -4,7 +4,7 @@ ghost use Rattle.std.specs.Prelude.{◌≡◌, map, IfErr, IfOk, IfSome};
 ghost use Rattle.plm80_console.specs.{Journal.and_reported, Ranges.AreRangesOf, Ranges.IsRangeText};
 
 use crate::console::Console;
-use crate::number_text::word_of_digits;
+use crate::number_text::{count_of_digits, word_of_digits};
 use crate::options::OptionText;
 use crate::reported::Reported;
 use image80::Range;
@@ -46,4 +46,83 @@ fn range_of(text: &str) -> Option<Range>
         return None;
     }
     Some(Range { first, length })
+}
+
+/// An option that names ranges of a board's memory, and its values.
+#[derive(Clone, Copy)]
+pub struct RangeTexts<'a> {
+    pub name: &'a str,
+    pub values: &'a [&'a str],
+}
+
+/// Says which values of the two options that name a board's ROM and RAM may have been meant otherwise, and which of ROM overlap which of
+/// RAM.
+pub fn explain_board<C: Console>(console: &C, rom: RangeTexts<'_>, ram: RangeTexts<'_>) {
+    explain_ranges(console, rom);
+    explain_ranges(console, ram);
+    for first in rom.values {
+        for second in ram.values {
+            if overlap(first, second) {
+                let (rom, ram) = (rom.name, ram.name);
+                console.explain(format_args!("--{rom} {first} and --{ram} {second} overlap"));
+            }
+        }
+    }
+}
+
+/// Says which of these values may have been meant otherwise: one whose length seems to be a last address, or is a size of a memory in
+/// decimal.
+fn explain_ranges<C: Console>(console: &C, texts: RangeTexts<'_>) {
+    for value in texts.values {
+        let name = texts.name;
+        if let Some(length) = length_to_end(value) {
+            console.explain(format_args!(
+                "--{name} {value} is a first address and a length; the length up to that address is {length:04X}"
+            ));
+        }
+        if let Some((text, number)) = decimal_length(value) {
+            console.explain(format_args!(
+                "--{name} {value} is hexadecimal: {text} in decimal is {number:X}"
+            ));
+        }
+    }
+}
+
+/// The length of the range from the first address of a text up to its length taken for an address, if that is the last byte of a page and
+/// isn't below the first address; else `None`.
+fn length_to_end(text: &str) -> Option<u32> {
+    let range = range_of(text)?;
+    let (first, last) = (u32::from(range.first), u32::from(range.length));
+    if last % 256 == 255 {
+        last.checked_sub(first)?.checked_add(1)
+    } else {
+        None
+    }
+}
+
+/// The length of a text and its value in decimal, if that is a power of two, as sizes of memories are; else `None`.
+fn decimal_length(text: &str) -> Option<(&str, u64)> {
+    let (_, length) = text.split_once(':')?;
+    let number = count_of_digits(length)?;
+    if number >= 16 && number.count_ones() == 1 {
+        Some((length, number))
+    } else {
+        None
+    }
+}
+
+/// Whether the ranges that two texts write have an address in common; `false` if one writes none.
+fn overlap(first: &str, second: &str) -> bool {
+    let (Some(first), Some(second)) = (range_of(first), range_of(second)) else {
+        return false;
+    };
+    let (low, high) = if first.first <= second.first {
+        (first, second)
+    } else {
+        (second, first)
+    };
+    match high.first.checked_sub(low.first) {
+        Some(offset) => high.length > 0 && offset < low.length,
+        None => false,
+    }
 }

@@ -18,12 +18,14 @@ pub fn read_modules<C: Console>(console: &mut C, path: &str) -> Result<Vec<Modul
     let mut feed = FileFeed::new(console.alloc());
     console.read_in_pieces(path, &mut feed)?;
     match feed.finish() {
-        Ok(modules) => {
-            console.explain_any(UnreadBytes::of_file(console, path));
-            Ok(modules)
-        }
+        Ok(modules) => Ok(modules),
         Err(fault) => Err(FileFault::Module(fault).report(console, path)),
     }
+}
+
+/// Says that bytes of the object file of this path aren't read, if there are such.
+pub fn explain_unread<C: Console>(console: &C, path: &str) {
+    console.explain_any(UnreadBytes::of_file(console, path));
 }
 
 /// Moves the modules that were `read` behind the others, and leaves none in `read`. `Memory` is reported if memory runs out.

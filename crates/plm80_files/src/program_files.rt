@@ -80,16 +80,21 @@ pub fn image_of<C: Console>(
         Err((_, ImageFault::Memory)) => Err(console.report_memory()),
         Err((_, fault)) => {
             let reported = console.report_file(path, fault);
-            if !explain_file(console, bytes, FileRole::Image) {
-                console.explain_any(words_for(fault));
-            }
+            explain_image(console, bytes, fault);
             Err(reported)
         }
     }
 }
 
+/// Says why these bytes, which were to be those of an image, spell none: what they seem to be, or what is wrong with them.
+pub fn explain_image<C: Console>(console: &C, bytes: &[u8], fault: ImageFault) {
+    if !explain_file(console, bytes, FileRole::Image) {
+        console.explain_any(image_words(fault));
+    }
+}
+
 /// Words on a fault of a file that begins as an image does; `None` if memory ran out.
-fn words_for(fault: ImageFault) -> Option<&'static str>
+pub fn image_words(fault: ImageFault) -> Option<&'static str>
     ensures { (result ≡ None) ↔ (fault ≡ ImageFault.Memory) }
 {
     match fault {

@@ -1,2 +1,3 @@
 mod DraftLemmas
+mod SystemTextLemmas
 mod Walks

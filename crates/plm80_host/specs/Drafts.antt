@@ -1,8 +1,12 @@
 -- How a new file comes into its place.
-use Rattle.std.specs.Prelude.{◌≡◌, ◌⊎◌, ℕ, Bool, ◌&&◌, not, is_none, if◌then◌else◌, IfSome, List, ◌++◌, take, codes, string_bytes}
-use Rattle.std.specs.Fmt.{decimal}
+use Rattle.std.specs.Prelude.{◌≡◌, ◌⊎◌, ℕ, ◌==◌, Bool, ◌&&◌, ◌||◌, not, is_none, if◌then◌else◌, IfSome, List, ◌++◌, length, take, codes, string_bytes}
+use Rattle.std.specs.{Fmt.decimal, Str.bytes_eq}
 use Rattle.plm80_console.specs.{Journal.Journal, Journal.and_written, Replaced.NotSettled, declared.new_file.NewFile.NewFile}
 use Rattle.plm80_host.specs.declared.replacing.Draft.{Draft}
+
+-- a path that names no file: none at all, or a hyphen alone
+abbrev pub is_no_path : (path : List ℕ) → Bool
+is_no_path path = length path == 0 || bytes_eq path (codes "-")
 
 -- it is written in its place, where it may fail as it is written
 abbrev pub is_in_place : Draft → Bool

@@ -3,3 +3,4 @@ pub mod Noted
 pub mod Drafts
 pub mod PathParts
 pub mod Places
+pub mod SystemTexts

@@ -1,13 +1,15 @@
 //! The console of the program, over its host.
 
-ghost use Rattle.std.specs.Prelude.{◌≡◌, [], IfErr, IfOk};
+ghost use Rattle.std.specs.Prelude.{◌≡◌, ℕ, [], take, IfErr, IfOk};
 ghost use Rattle.plm80_console.specs.Journal.{and_reported, nothing_done};
-ghost use Rattle.plm80_host.specs.Noted.{noted};
+ghost use Rattle.plm80_host.specs.{Drafts.is_no_path, Noted.noted};
 
 use crate::files::{NotedReader, kind_of};
 use crate::notes::{Note, Notes};
 use crate::replacing::in_order;
 use crate::same_file::place_of;
+use crate::size_limit::room_of_output;
+use crate::usage::without_tip;
 use plm80_console::{Console, FailureWords, NewFile, OneLine, Reported, TakePieces};
 use std::alloc::Global;
 use std::fmt::Display;
@@ -104,9 +106,9 @@ impl<'a> Console for HostConsole<'a> {
     }
 
     fn replace_both(&mut self, first: NewFile<'_>, second: NewFile<'_>) -> Result<(), Reported> {
-        if second.path == DASH {
+        if is_no_path(second.path) {
             self.note(&Note::Unwritten(second.path, false));
-            return Err(self.report_dash("Write"));
+            return Err(self.report_no_path(second.path, "Write"));
         }
         let first_draft = self.draft(first)?;
         match self.draft(second) {
@@ -143,6 +145,7 @@ impl<'a> Console for HostConsole<'a> {
     fn output(&mut self) -> HostOutput<'a> {
         HostOutput {
             rt: self.rt,
+            room: room_of_output(self.rt),
             failures: 0,
             failure: None,
             pieces: Notes::new(),
@@ -152,6 +155,7 @@ impl<'a> Console for HostConsole<'a> {
     fn take_back(&mut self, output: HostOutput<'a>) -> Option<ErrorKind> {
         let HostOutput {
             rt: _,
+            room: _,
             failures: _,
             failure,
             pieces,
@@ -170,9 +174,19 @@ impl<'a> Console for HostConsole<'a> {
         if error.kind() == clap::error::ErrorKind::OutOfMemory {
             return self.report_memory();
         }
-        let reported = Reported::print(self.rt, format_args!("{error}"));
+        let Ok(text) = format!(in self.rt.alloc(); "{error}") else {
+            return self.report_memory();
+        };
+        let (text, rest) = without_tip(&text);
+        let reported = Reported::print(self.rt, format_args!("{text}{rest}"));
         self.note(&Note::Reported);
         reported
+    }
+
+    fn report_memory(&mut self) -> Reported {
+        // Words would take memory, too.
+        self.why = false;
+        self.report("Memory")
     }
 
     fn explain_faults(&mut self) {
@@ -210,7 +224,14 @@ impl<'a> Console for HostConsole<'a> {
 }
 
 /// The path by which other programs name standard input or output.
-pub(crate) const DASH: &str = "-";
+const DASH: &str = "-";
+
+/// Whether a path names no file: a hyphen alone, or none at all, as of a shell's variable that isn't set.
+pub(crate) fn is_no_path(path: &str) -> bool
+    ensures { result ≡ is_no_path path.now }
+{
+    path.is_empty() || path == DASH
+}
 
 impl<'a> HostConsole<'a> {
     /// Opens the file of this path. A fault is reported.
@@ -218,8 +239,8 @@ impl<'a> HostConsole<'a> {
         ensures unchanged { IfOk result (λ _. self.new.notes.journal ≡ self.old.notes.journal) }
         ensures fault { IfErr result (λ _. self.new.notes.journal ≡ and_reported self.old.notes.journal) }
     {
-        if path == DASH {
-            return Err(self.report_dash("Read"));
+        if is_no_path(path) {
+            return Err(self.report_no_path(path, "Read"));
         }
         match File::open(self.rt, path) {
             Ok(file) => Ok(NotedReader::new(file)),
@@ -227,14 +248,16 @@ impl<'a> HostConsole<'a> {
         }
     }
 
-    /// Reports the fault of a path that is a hyphen alone, which names no file, and says below it how standard streams are named.
-    pub(crate) fn report_dash(&mut self, fault: &str) -> Reported
+    /// Reports the fault of a path that names no file, and says below it how standard streams are named, or that it is empty.
+    pub(crate) fn report_no_path(&mut self, path: &str, fault: &str) -> Reported
         ensures { self.new.notes.journal ≡ and_reported self.old.notes.journal }
     {
-        let reported = self.report_file(DASH, fault);
-        self.explain(
-            "standard input is /dev/stdin, standard output /dev/stdout, and a file of this name ./-",
-        );
+        let reported = self.report_file(path, fault);
+        self.explain(if path.is_empty() {
+            "the path is empty, as of a shell's variable that isn't set"
+        } else {
+            "standard input is /dev/stdin, standard output /dev/stdout, and a file of this name ./-"
+        });
         reported
     }
 
@@ -319,6 +342,8 @@ fn hand_pieces<R: Read, F: TakePieces>(file: &mut R, feed: &mut F) -> Result<Not
 /// Standard output while it is lent out. The pieces that it takes are noted.
 pub struct HostOutput<'a> {
     rt: &'a HostRuntime,
+    /// How many bytes it still takes; `None` if that isn't limited.
+    room: Option<u64>,
     failures: u64,
     failure: Option<ErrorKind>,
     pieces: Notes,
@@ -336,13 +361,20 @@ impl<'a> Sink for HostOutput<'a> {
     }
 
     fn write(&mut self, bytes: &[u8]) -> Result<usize, Failed> {
-        match self.rt.stdout().write(bytes) {
+        let front = self.front_within_room(bytes);
+        if front.is_empty() {
+            self.failures += 1;
+            self.failure = Some(ErrorKind::FileTooLarge);
+            return Err(Failed);
+        }
+        match self.rt.stdout().write(front) {
             Ok(0) => {
                 self.failures += 1;
                 Ok(0)
             }
             Ok(count) => {
-                self.pieces = self.pieces.with(&Note::Piece(&bytes[..count]));
+                self.room = self.room.map(|room| room.saturating_sub(count as u64));
+                self.pieces = self.pieces.with(&Note::Piece(&front[..count]));
                 Ok(count)
             }
             Err(error) => {
@@ -350,6 +382,18 @@ impl<'a> Sink for HostOutput<'a> {
                 self.failure = Some(kind_of(&error));
                 Err(Failed)
             }
+        }
+    }
+}
+
+impl<'a> HostOutput<'a> {
+    /// As many of these bytes, from the first one on, as standard output still takes.
+    fn front_within_room<'b>(&self, bytes: &'b [u8]) -> &'b [u8]
+        ensures { (count : ℕ) × (result.now ≡ take count bytes.now) }
+    {
+        match self.room {
+            Some(room) if room < bytes.len() as u64 => &bytes[..room as usize],
+            _ => &bytes[..bytes.len()],
         }
     }
 }

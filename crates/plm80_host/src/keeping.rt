@@ -1,4 +1,4 @@
-//! An object file in the place of a library that is written: a copy of it is kept under another name.
+//! A file that is no library in the place of one that is written: a copy of it is kept under another name.
 
 ghost use Rattle.std.specs.Prelude.{◌≡◌, ℕ, IfErr, IfOk, string_bytes};
 ghost use Rattle.plm80_console.specs.Journal.{and_copied, and_reported};
@@ -16,12 +16,12 @@ use std::io::{ErrorKind, Read, Seek, SeekFrom};
 use std::os::unix::fs::PermissionsExt;
 use std::{fs, io};
 
-/// The first byte of an object file: the type of a module's header.
-const MODULE_HEADER: u8 = 0x02;
+/// The first bytes of a library: the type of its header, and the length of that.
+const LIBRARY_HEADER: [u8; 3] = [0x2C, 0x07, 0x00];
 
 impl<'a> HostConsole<'a> {
-    /// Keeps a copy of the regular file that the path names, if it is an object file. A file that can't be read may be one: that is
-    /// reported.
+    /// Keeps a copy of the regular file that the path names, unless it is empty or a library. A file that can't be read may be anything:
+    /// that is reported.
     pub(crate) fn keep_object(&mut self, path: &str) -> Result<(), Reported>
         ensures kept { IfOk result (λ _. IsKept path.now self.old.notes.journal self.new.notes.journal) }
         ensures fault { IfErr result (λ _. self.new.notes.journal ≡ and_reported self.old.notes.journal) }
@@ -39,19 +39,19 @@ impl<'a> HostConsole<'a> {
         }
     }
 
-    /// Opens the file of this path; `None` if it isn't there, is no regular file, or doesn't begin as an object file does.
+    /// Opens the file of this path; `None` if it is empty, or begins as a library does.
     fn open_object(&self, path: &str) -> io::Result<Option<File>> {
         let mut file = File::open(self.rt, path)?;
-        let mut first = [0u8; 1];
+        let mut first = [0u8; 3];
         let count = file.read(&mut first)?;
-        if count == 0 || first[0] != MODULE_HEADER {
+        if count == 0 || first == LIBRARY_HEADER {
             return Ok(None);
         }
         file.seek(SeekFrom::Start(0))?;
         Ok(Some(file))
     }
 
-    /// Copies the object file of this path to the first name beside it that no file has. A fault is reported, and no copy is left.
+    /// Copies the file of this path to the first name beside it that no file has. A fault is reported, and no copy is left.
     fn keep(&mut self, path: &str, object: File) -> Result<(), Reported>
         ensures kept { IfOk result (λ _. IsKept path.now self.old.notes.journal self.new.notes.journal) }
         ensures fault { IfErr result (λ _. self.new.notes.journal ≡ and_reported self.old.notes.journal) }
@@ -90,7 +90,7 @@ impl<'a> HostConsole<'a> {
         }
     }
 
-    /// Makes the new file `copy`, whose name is `kept`, a copy of the object file of this path. After a fault, which is reported, it is
+    /// Makes the new file `copy`, whose name is `kept`, a copy of the file of this path. After a fault, which is reported, it is
     /// removed.
     fn fill_copy(
         &mut self,
@@ -110,7 +110,7 @@ impl<'a> HostConsole<'a> {
                     let _ = folder.sync_all();
                 }
                 self.note(&Note::Copied(kept));
-                self.explain(format_args!("{path} is an object file: a copy of it is {kept}"));
+                self.explain(format_args!("{path} was no library: a copy of it is {kept}"));
                 Ok(())
             }
             Err(error) => {
@@ -120,12 +120,12 @@ impl<'a> HostConsole<'a> {
         }
     }
 
-    /// Reports that the object file of this path can't be kept under the name `kept`, and why.
+    /// Reports that the file of this path can't be kept under the name `kept`, and why.
     fn report_unkept(&mut self, path: &str, kept: &str, kind: ErrorKind) -> Reported
         ensures { self.new.notes.journal ≡ and_reported self.old.notes.journal }
     {
         let reported = self.report_system(kept, "Write", Some(kind));
-        self.explain(format_args!("{path} is an object file, and was to be kept under that name"));
+        self.explain(format_args!("{path} is no library, and was to be kept under that name"));
         reported
     }
 }
@@ -147,7 +147,7 @@ impl From<AllocError> for CopyFault {
     }
 }
 
-/// Writes all bytes of the object file to the copy and to the disk. The copy gets the object file's permissions first. An error if a file
+/// Writes all bytes of the file to the copy and to the disk. The copy gets the file's permissions first. An error if a file
 /// of that length is too long for the system, or if the system fails.
 fn copy_and_sync(rt: &HostRuntime, mut object: File, mut copy: File) -> io::Result<()> {
     let metadata = object.metadata()?;

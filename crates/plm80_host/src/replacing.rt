@@ -1,15 +1,16 @@
 //! Files that are replaced whole or not at all.
 //!
 //! A file is written beside its place, synced, and renamed, so that the place has the old file or the new one, never a part. A
-//! place that is no regular file with one link, or beside which no file of the same owner can be made, is written in place. What
-//! replaces a file can be opened by its owner alone until it has the old file's permissions.
+//! place that is no regular file with one link, to which none can be renamed, or beside which no file of the same owner can be made, is
+//! written in place. What replaces a file can be opened by its owner alone until it has the old file's permissions.
 
-ghost use Rattle.std.specs.Prelude.{◌≡◌, IfErr, IfOk, string_bytes};
+ghost use Rattle.std.specs.Prelude.{◌≡◌, false, IfErr, IfOk, string_bytes};
 ghost use Rattle.std.specs.IoError.{error_kind};
 ghost use Rattle.plm80_console.specs.{Journal.and_reported, Replaced.NotSettled};
-ghost use Rattle.plm80_host.specs.Drafts.{IsBeginning, IsDraftIn, IsDraftOf, NotBothSettled, in_order, is_in_place};
+ghost use Rattle.plm80_host.specs.Drafts.{IsBeginning, IsDraftIn, IsDraftOf, NotBothSettled, in_order, is_in_place, is_no_path};
 
-use crate::host::{DASH, HostConsole};
+use crate::fitness::{is_mounted, is_unfit, stays_in_folder};
+use crate::host::{HostConsole, is_no_path};
 use crate::notes::Note;
 use crate::path_parts::folder_and_name;
 use crate::size_limit::is_past_limit;
@@ -108,12 +109,13 @@ impl<'a> HostConsole<'a> {
     /// Makes the draft of a file: beside its place, if it can be renamed from there. A fault is reported.
     pub(crate) fn draft<'f>(&mut self, file: NewFile<'f>) -> Result<Draft<'f>, Reported>
         ensures draft { IfOk result (IsDraftOf file.entry) }
+        ensures named { IfOk result (λ _. is_no_path file.entry.path.now ≡ false) }
         ensures unchanged { IfOk result (λ _. self.new.notes.journal ≡ self.old.notes.journal) }
         ensures fault { IfErr result (λ _. NotSettled file.entry.path.now self.old.notes.journal self.new.notes.journal) }
     {
-        if file.path == DASH {
+        if is_no_path(file.path) {
             self.note(&Note::Unwritten(file.path, false));
-            return Err(self.report_dash("Write"));
+            return Err(self.report_no_path(file.path, "Write"));
         }
         match self.try_draft(file) {
             Ok(draft) => Ok(draft),
@@ -142,28 +144,40 @@ impl<'a> HostConsole<'a> {
     {
         let Draft { file, beside } = draft;
         match beside {
-            Some(beside) => self.move_draft(&beside, file.path),
-            None => match fs::write(self.rt, file.path, file.bytes) {
-                Ok(()) => Ok(()),
-                Err(error) => {
-                    self.note(&Note::Unwritten(file.path, true));
-                    Err(self.report_system(file.path, "Write", Some(error.kind())))
-                }
-            },
+            Some(beside) => self.move_draft(&beside, file),
+            None => self.write_in_place(file),
         }
     }
 
-    /// Renames the file `beside` to this path. If that fails, which is reported, it is removed.
-    fn move_draft(&mut self, beside: &str, path: &str) -> Result<(), Reported>
+    /// Renames the file `beside` to the new file's path. If that fails, it is removed, and the new file is written in place if the place is
+    /// why; another fault is reported.
+    fn move_draft(&mut self, beside: &str, file: NewFile<'_>) -> Result<(), Reported>
         ensures unchanged { IfOk result (λ _. self.new.notes.journal ≡ self.old.notes.journal) }
-        ensures fault { IfErr result (λ _. NotSettled path.now self.old.notes.journal self.new.notes.journal) }
+        ensures fault { IfErr result (λ _. NotSettled file.entry.path.now self.old.notes.journal self.new.notes.journal) }
     {
-        match fs::rename(self.rt, beside, path) {
+        match fs::rename(self.rt, beside, file.path) {
             Ok(()) => Ok(()),
             Err(error) => {
                 let _ = fs::remove_file(self.rt, beside);
-                self.note(&Note::Unwritten(path, false));
-                Err(self.report_system(path, "Write", Some(error.kind())))
+                if is_unfit(error.kind()) {
+                    return self.write_in_place(file);
+                }
+                self.note(&Note::Unwritten(file.path, false));
+                Err(self.report_system(file.path, "Write", Some(error.kind())))
+            }
+        }
+    }
+
+    /// Writes the file in its place. After a fault, which is reported, it may have lost its bytes.
+    fn write_in_place(&mut self, file: NewFile<'_>) -> Result<(), Reported>
+        ensures unchanged { IfOk result (λ _. self.new.notes.journal ≡ self.old.notes.journal) }
+        ensures fault { IfErr result (λ _. NotSettled file.entry.path.now self.old.notes.journal self.new.notes.journal) }
+    {
+        match fs::write(self.rt, file.path, file.bytes) {
+            Ok(()) => Ok(()),
+            Err(error) => {
+                self.note(&Note::Unwritten(file.path, true));
+                Err(self.report_system(file.path, "Write", Some(error.kind())))
             }
         }
     }
@@ -204,7 +218,7 @@ impl<'a> HostConsole<'a> {
     }
 
     /// Writes the file's bytes to `target`, whose name is `beside`, with the permissions of the file `old` that it replaces. If it can't
-    /// have the owner and permissions of that, the draft is one that is written in place.
+    /// have the owner and permissions of that, or if it can't be renamed, the draft is one that is written in place.
     fn fill<'f>(
         &self,
         target: File,
@@ -218,6 +232,10 @@ impl<'a> HostConsole<'a> {
             && !has_place_of(&target, &old)
         {
             let _ = fs::remove_file(self.rt, &beside);
+            return Ok(Draft { file, beside: None });
+        }
+        if stays_in_folder(self.rt, &beside) {
+            self.explain(format_args!("{beside} is empty, and can't be removed from its folder"));
             return Ok(Draft { file, beside: None });
         }
         match write_and_sync(target, file.bytes) {
@@ -238,8 +256,12 @@ impl<'a> HostConsole<'a> {
             Err(error) if error.kind() == ErrorKind::NotFound => Ok(Replaced::Nothing),
             Err(_) => Ok(Replaced::Other),
             Ok(metadata) if metadata.is_file() && metadata.nlink() == 1 => {
-                OpenOptions::new().write(true).open(self.rt, path)?;
-                Ok(Replaced::File(metadata))
+                let file = OpenOptions::new().write(true).open(self.rt, path)?;
+                if is_mounted(self.rt, path, &file) || stays_in_folder(self.rt, path) {
+                    Ok(Replaced::Other)
+                } else {
+                    Ok(Replaced::File(metadata))
+                }
             }
             Ok(_) => Ok(Replaced::Other),
         }
@@ -250,7 +272,7 @@ impl<'a> HostConsole<'a> {
 #[derive(Drop)]
 enum Replaced {
     Nothing,
-    /// A regular file with no other link, by what the system says of it.
+    /// A regular file with no other link, to which a file can be renamed, by what the system says of it.
     File(Metadata),
     Other,
 }

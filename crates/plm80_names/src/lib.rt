@@ -9,16 +9,19 @@
 //! | [`ProgramTexts`] | the same, from what the files have |
 //! | [`Names`] | the names of an image's addresses, put into texts |
 //! | [`judge`], [`Verdict`], [`named_refusal`] | what the verifier says of an image: it is accepted, or its refusal with a name |
+//! | [`explain_accepted`], [`explain_listed`], [`GapUse`] | what the verdict on an accepted image leaves to its board, and code without content, in words |
 //! | [`explain_given`] | what is at the address of a refusal, and that an image has no names, in words |
 //! | [`named_report`], [`named_refusal_report`] | the report on an image, or its refusal and its procedures, with their names |
 #![tactic(auto)]
 
+mod accepted_words;
 mod named_files;
 mod names;
 mod refusal_words;
 mod refusing;
 mod reports;
 
+pub use accepted_words::{GapUse, explain_accepted, explain_listed};
 pub use named_files::{NAMED_FILES, NAMES, NamedFiles, ProgramTexts};
 pub use names::Names;
 pub use refusal_words::explain_given;

@@ -77,10 +77,29 @@ pub fn explain_given<C: Console>(
         console.explain(
             "plm80 explain shows the way; docs/FAULTS.md says what to change ('Refusals of the verifier')",
         );
+        if is_for_follow(refusal) {
+            console.explain("plm80 follow may take the program: it knows each byte of the stack");
+        }
     }
     if names && given.is_ok() && has_no_names(console, image) {
-        console.explain(format_args!("{image} has no names: locate --publics keeps them"));
+        console.explain(format_args!(
+            "{image} has no names: locate --publics keeps them (bytes of a PROM have none)"
+        ));
     }
+}
+
+/// Whether `follow` may take a program with this refusal: one of what it does with the stack, or of a PCHL.
+fn is_for_follow(refusal: Refusal) -> bool {
+    matches!(
+        refusal,
+        Refusal::Sphl(_)
+            | Refusal::Pchl(_)
+            | Refusal::StackByByte(_)
+            | Refusal::SetsStack(_)
+            | Refusal::ReturnNotOwn(_)
+            | Refusal::ReturnFromMain(_)
+            | Refusal::HeightsDiffer(_)
+    )
 }
 
 /// Whether the file of this path is an image that has no names; `false` if that isn't known.
@@ -100,14 +119,19 @@ fn has_no_names<C: Console>(console: &C, path: &str) -> bool
 fn refused_again<C: Console>(console: &C, image: &str, regions: &str) -> Option<(Image, Refusal)>
     ensures { IfSome result (λ refused. Holds (code_of refused.0) refused.1) }
 {
-    let bytes = console.text_to_explain(image)?;
-    let text = console.text_to_explain(regions)?;
-    let regions = read_regions(console.alloc(), &text).ok()?;
-    let image = read_image(console.alloc(), &bytes, regions).ok()?;
+    let image = image_again(console, image, regions)?;
     match vouch(console.alloc(), image) {
         Ok(_) => None,
         Err(refused) => Some(refused),
     }
+}
+
+/// The image in the files of these paths, with its regions; `None` if faults aren't explained, or if it can't be read again.
+pub(crate) fn image_again<C: Console>(console: &C, image: &str, regions: &str) -> Option<Image> {
+    let bytes = console.text_to_explain(image)?;
+    let text = console.text_to_explain(regions)?;
+    let regions = read_regions(console.alloc(), &text).ok()?;
+    read_image(console.alloc(), &bytes, regions).ok()
 }
 
 /// Says what is at the address of this refusal of the image.

@@ -7,7 +7,7 @@ ghost use Rattle.plm80_objects.specs.Absolute.{AreDumpsRead, AreRomFiles, GivesD
 ghost use Rattle.plm80_objects.specs.{Arguments.AreAbsoluteArguments, RomFaults.IsRefusedWith};
 
 use crate::extract::FIRST;
-use crate::helpers::dump_words::DumpWords;
+use crate::helpers::other_words::explain_dump;
 use crate::helpers::rom_faults::report_rom_fault;
 use clap::ArgMatches;
 use image80_file::write_image;
@@ -41,7 +41,7 @@ Each --rom names another PROM by its address, an equals sign and its file, as
 hexadecimal digits in either case, without h or 0x. suggest prints regions of
 the image to begin with, as docs/FIRMWARE.md shows in 'Absolute firmware'.
 
-Example: plm80 absolute rom.bin rom.img --first 0 --start 0 --name ROM
+Example: plm80 absolute meter.rom old.img --first 0 --start 40 --name OLD
 
 Faults and what to do: docs/FAULTS.md (installed: share/doc/plm80), man plm80.";
 
@@ -116,10 +116,10 @@ pub fn write_absolute<C: Console>(
     ensures fault { IfErr result (λ _. GivesUpDumps arguments.now (C.journal console.old) (C.journal console.new)) }
 {
     let done = write_dumps(console, arguments);
-    console.explain_any(DumpWords::of(console, arguments.bytes));
+    explain_dump(console, arguments.bytes);
     for further in &arguments.further {
         if let Some((_, path)) = further.split_once('=') {
-            console.explain_any(DumpWords::of(console, path));
+            explain_dump(console, path);
         }
     }
     done

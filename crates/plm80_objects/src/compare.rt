@@ -9,7 +9,7 @@ ghost use Rattle.plm80_objects.specs.{Arguments.AreCompareArguments, RomFaults.I
 
 use crate::extract::{FILL, FIRST, fill_of};
 use crate::helpers::byte_words::explain_bytes;
-use crate::helpers::dump_words::DumpWords;
+use crate::helpers::other_words::explain_dump;
 use crate::helpers::rom_faults::report_rom_fault;
 use clap::ArgMatches;
 use image80::Image;
@@ -99,7 +99,7 @@ pub fn compare_files<C: Console>(
         explain_bytes(console, arguments.image, arguments.dump, first, fill);
     }
     explain_given(console, &done, arguments.names, arguments.image, None);
-    console.explain_any(DumpWords::of(console, arguments.dump));
+    explain_dump(console, arguments.dump);
     done
 }
 

@@ -7,6 +7,7 @@ ghost use Rattle.plm80_objects.specs.{Arguments.AreExtractArguments, Arguments.I
 
 use crate::helpers::byte_words::explain_bytes;
 use crate::helpers::decimal_words::DecimalWords;
+use crate::helpers::extent_words::explain_extent;
 use clap::ArgMatches;
 use image80::Image;
 use plm80_console::{Answer, Argument, Console, Kind, OptionText, Reported, Syntax, argument_text};
@@ -107,10 +108,10 @@ pub fn fill_of<'a>(matches: &ArgMatches<'a>) -> OptionText<'a>
 
 /// The numbers of the options of `extract`: the first address, how many bytes, and the byte that stands where the image has none.
 #[derive(Clone, Copy)]
-struct Extent {
-    first: u16,
-    length: u32,
-    fill: u8,
+pub(crate) struct Extent {
+    pub(crate) first: u16,
+    pub(crate) length: u32,
+    pub(crate) fill: u8,
 }
 
 /// Does `extract`: writes the bytes of the image over the range to their file, prints the line of their sum if it is asked for, and returns
@@ -134,6 +135,7 @@ pub fn extract_file<C: Console>(
             if given.is_ok() {
                 let first = arguments.first.text();
                 explain_bytes(console, arguments.image, arguments.out, first, "");
+                explain_extent(console, &image, extent);
                 console.explain_any(DecimalWords::of(arguments.length));
             }
             given

@@ -9,6 +9,7 @@ ghost use Rattle.plm80_objects.specs.{Arguments.AreFindArguments, Compare.IsDump
 use crate::extract::FIRST;
 use crate::helpers::dump_words::DumpWords;
 use crate::helpers::image_words::explain_images;
+use crate::helpers::other_words::explain_other;
 use crate::helpers::rom_faults::report_rom_fault;
 use clap::ArgMatches;
 use omf_core::RecordKind;
@@ -95,10 +96,18 @@ pub fn find_modules<C: Console>(
     let done = find_in_dump(console, arguments);
     let words = DumpWords::of(console, arguments.dump);
     console.explain_any(words);
+    if words.is_none() {
+        explain_other(console, arguments.dump);
+    }
     if let (Err(_), Some(words)) = (&done, words)
         && words.is_of_object_file()
     {
         console.explain("DUMP is the first path");
+    }
+    if let Ok(1) = done {
+        console.explain(
+            "a missing module has other bytes in the dump, or this doesn't begin at --first",
+        );
     }
     explain_libraries(console, &arguments.files);
     explain_images(console, &arguments.files, IMAGE_ADVICE);

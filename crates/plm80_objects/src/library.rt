@@ -5,12 +5,14 @@ ghost use Rattle.omf_library.specs.Writing.{library_bytes, is_too_large};
 ghost use Rattle.plm80_console.specs.Journal.{OnlyReports};
 ghost use Rattle.plm80_objects.specs.{Arguments.AreLibraryArguments, Modules.AreAllRead, Modules.GivesUpLibrary, Modules.WritesLibrary};
 
+use crate::helpers::image_words::explain_images;
+use crate::link::IMAGE_ADVICE;
 use clap::ArgMatches;
 use omf_library::{LibraryPutFault, write_library};
 use omf_module::Module;
 use plm80_console::laws::faults_follow_reading;
 use plm80_console::{Argument, Console, Kind, Reported, Syntax, argument_text, argument_values};
-use plm80_files::{append_modules, read_modules};
+use plm80_files::{append_modules, explain_unread, read_modules};
 use std::alloc::{AllocError, Global};
 use stream80::TEXT_LIMIT;
 
@@ -24,8 +26,9 @@ pub struct LibraryArguments<'a> {
 const ABOUT: &str = "Writes a library of all modules of object files, in order";
 
 const AFTER_HELP: &str = "\
-OUT comes first, and is replaced. If you forget it, the first object file is: a
-copy is kept beside it as OUT~ (OUT~1, OUT~2 .. if that exists).
+OUT comes first, and is replaced. If you forget it, the first object file is: of
+a file that is no library a copy is kept beside it as OUT~ (OUT~1, OUT~2 .. if
+that exists).
 
 The library has the modules of the first file, then those of the second, and so
 on, with an index of their names, places and public names. If a file can't be
@@ -67,7 +70,7 @@ impl<'a> LibraryArguments<'a> {
 }
 
 /// Does `lib`: writes the library of all modules of the object files, and returns the exit status. No file is created or changed before
-/// every other fault is excluded; of an object file in the library's place a copy is kept.
+/// every other fault is excluded; of a file in its place that is no library a copy is kept.
 pub fn write_library_file<C: Console>(
     console: &mut C,
     arguments: &LibraryArguments<'_>,
@@ -79,6 +82,10 @@ pub fn write_library_file<C: Console>(
     match library_of(console.alloc(), &modules) {
         Ok(library) => {
             console.replace_keeping_objects(arguments.library, &library)?;
+            for path in &arguments.files {
+                explain_unread(console, path);
+            }
+            explain_images(console, &arguments.files, IMAGE_ADVICE);
             if library.len() > TEXT_LIMIT {
                 console.explain("it has more than 1048576 bytes, which no command reads: make two");
             }

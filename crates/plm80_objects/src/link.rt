@@ -102,8 +102,8 @@ impl<'a> LinkArguments<'a> {
     }
 }
 
-/// What to do with an image among the files of `link`, in words.
-const IMAGE_ADVICE: &str =
+/// What to do with an image among the files of `link` or `lib`, in words.
+pub(crate) const IMAGE_ADVICE: &str =
     "its bytes keep their addresses; link the object files that it was made of";
 
 /// An object file that is linked whole: its path, and how many modules it has.

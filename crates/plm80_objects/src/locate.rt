@@ -22,10 +22,10 @@ use omf_module::Module;
 use place80::{Options, PlaceFault, layout, locate, locate_with_restart};
 use place80_text::{Board, write_image_with_publics};
 use plm80_console::{
-    Answer, Argument, Console, Kind, Reported, Syntax, WrittenFile, argument_text, argument_values,
-    ranges_of,
+    Answer, Argument, Console, Kind, RangeTexts, Reported, Syntax, WrittenFile, argument_text,
+    argument_values, explain_board, ranges_of,
 };
-use plm80_files::read_modules;
+use plm80_files::{explain_unread, read_modules};
 use std::alloc::{AllocError, Global};
 
 /// The arguments of the command `locate`.
@@ -151,7 +151,19 @@ pub fn locate_file<C: Console>(
     let answer = locate_program(console, arguments, program, &options, board)?;
     let given = console.give(answer);
     if given.is_ok() && console.explains() {
+        explain_unread(console, arguments.object);
         explain_empty_segments(console, program, &options, arguments.options);
+        explain_board(
+            console,
+            RangeTexts {
+                name: ROM_RANGE.name,
+                values: &arguments.rom,
+            },
+            RangeTexts {
+                name: RAM_RANGE.name,
+                values: &arguments.ram,
+            },
+        );
     }
     given
 }
@@ -171,7 +183,11 @@ fn locate_program<'a, C: Console>(
 {
     match image_of(console.alloc(), arguments.restart, program, options) {
         Ok(image) => answer_on_board(console, arguments, program, options, board, &image),
-        Err(fault) => Err(report_place_fault(console, program, options, &fault)),
+        Err(fault) => {
+            let reported = report_place_fault(console, program, options, &fault);
+            explain_unread(console, arguments.object);
+            Err(reported)
+        }
     }
 }
 

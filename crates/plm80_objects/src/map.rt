@@ -17,6 +17,7 @@ use omf_module::Module;
 use place80::{Options, PlaceFault};
 use place80_text::map_text;
 use plm80_console::{Answer, Argument, Console, Kind, Reported, Syntax, argument_text};
+use plm80_files::explain_unread;
 use std::alloc::Global;
 
 /// The arguments of the command `map`.
@@ -29,11 +30,11 @@ pub struct MapArguments<'a> {
 const ABOUT: &str = "Prints where a module's segments and public names would be placed";
 
 const AFTER_HELP: &str = "\
-It takes locate's options except --restart and --publics, and reports the same
-faults; it writes no file. Each segment has a line with its name, its first
-address, its length and the name of a named common, as in COMMON 3100 0010
-TABLE. Then come the public names by address, as in 3040 LIMIT. All numbers are
-hexadecimal.
+It takes locate's options except --restart, --publics, --rom-range and
+--ram-range, and reports the same faults; it writes no file. Each segment has a
+line with its name, its first address, its length and the name of a named
+common, as in COMMON 3100 0010 TABLE. Then come the public names by address, as
+in 3040 LIMIT. All numbers are hexadecimal.
 
 Example: plm80 map control.obj --data 4000
 
@@ -84,8 +85,15 @@ pub fn map_file<C: Console>(console: &mut C, arguments: MapArguments<'_>) -> Res
     let modules = read_program(console, arguments.object)?;
     let program = &modules[0];
     match map_program(console.alloc(), program, &options) {
-        Ok(answer) => console.give(answer),
-        Err(fault) => Err(report_place_fault(console, program, &options, &fault)),
+        Ok(answer) => {
+            explain_unread(console, arguments.object);
+            console.give(answer)
+        }
+        Err(fault) => {
+            let reported = report_place_fault(console, program, &options, &fault);
+            explain_unread(console, arguments.object);
+            Err(reported)
+        }
     }
 }
 

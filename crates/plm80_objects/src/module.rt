@@ -11,7 +11,7 @@ use omf_library::read_library;
 use omf_module::Module;
 use omf_text::append_module_text;
 use plm80_console::{Answer, Argument, Console, Kind, Reported, Syntax, argument_text};
-use plm80_files::read_modules;
+use plm80_files::{explain_unread, read_modules};
 use std::alloc::{AllocError, Global};
 use std::str;
 
@@ -71,6 +71,7 @@ pub fn describe_file<C: Console>(
 {
     match read_modules(console, arguments.object) {
         Ok(modules) => {
+            explain_unread(console, arguments.object);
             let answer = describe_modules(console.alloc(), &modules);
             console.give_if_made(answer)
         }

@@ -19,6 +19,7 @@ pub use Rattle.plm80_names.specs.Arguments.{asks_names, program_paths}
 pub use Rattle.plm80_programs.specs.Arguments.{cases_path, dump_path, run_paths}
 pub use Rattle.plm80_programs.specs.Cases.{AnswersCases, AnswersCasesInPart, AreFoundBelow, BeginsCases, FindsCases, HasLongCases, IsFoundAt, PrintsCases, PrintsCasesInPart}
 pub use Rattle.plm80_programs.specs.Explanations.{PrintsExplanation, ShowsRefused, ShowsWith, count_line, needed_stack, shown_lines}
+pub use Rattle.plm80_programs.specs.Following.{AnswersFollowing, IsFollowedBy, PrintsFollowed, SaysFollowed, followed_lines, stopped_line}
 pub use Rattle.plm80_programs.specs.InputWords.{AnswersWords, IsFirstBadWord, IsGoodWord, IsInputsFile, inputs_named}
 pub use Rattle.plm80_programs.specs.Printed.{AnswersStores, CountsRun, ListsStores, PrintsCalls, PrintsListing, PrintsReport, PrintsText}
 pub use Rattle.plm80_programs.specs.Printed.{PrintsStores, stores_lines}
@@ -27,7 +28,7 @@ pub use Rattle.plm80_programs.specs.Running.{TracesFiles, TracesFilesInPart, Tra
 pub use Rattle.plm80_programs.specs.Running.{ending, trace_ending, trace_lines, with_memory}
 pub use Rattle.plm80_programs.specs.{Status.notes_status, Status.stores_status, Suggest.AnswersAdvice, Written.AnswersRegions}
 pub use Rattle.plm80_programs.specs.{declared.cases.FoundCase.FoundCase, declared.helpers.run_arguments.RunFiles.RunFiles}
-pub use Rattle.plm80_programs.specs.{declared.stores.ListedStores.ListedStores}
+pub use Rattle.plm80_programs.specs.{declared.cover.Covered.Covered, declared.stores.ListedStores.ListedStores}
 pub use Rattle.std.proofs.Common.{ap, append-nil, append_assoc, arith, get_or, inl, inr, refl, rules, subst, sym, ◌∙◌}
 pub use Rattle.std.proofs.lemmas.List.{drop_more, map-append, map_more, take-append-drop, take_all}
 pub use Rattle.std.proofs.Math.Seq.{take-append_seam}

@@ -6,7 +6,7 @@ use Rattle.plm80_console.specs.Arguments.{argument_text, argument_values}
 use Rattle.plm80_names.specs.Arguments.{AreNamedFiles, IsFlag}
 use Rattle.plm80_programs.specs.{declared.calls.CallsArguments.CallsArguments, declared.cases.CasesArguments.CasesArguments}
 use Rattle.plm80_programs.specs.{declared.cover.CoverArguments.CoverArguments, declared.helpers.run_arguments.LimitTexts.LimitTexts}
-use Rattle.plm80_programs.specs.{declared.helpers.run_arguments.RunFiles.RunFiles, declared.explain.ExplainArguments.ExplainArguments}
+use Rattle.plm80_programs.specs.{declared.helpers.run_arguments.RunFiles.RunFiles, declared.explain.ExplainArguments.ExplainArguments, declared.follow.FollowArguments.FollowArguments}
 use Rattle.plm80_programs.specs.{declared.list.ListArguments.ListArguments, declared.regions.RegionsArguments.RegionsArguments}
 use Rattle.plm80_programs.specs.{declared.run.RunArguments.RunArguments, declared.stores.StoresArguments.StoresArguments}
 use Rattle.plm80_programs.specs.{declared.trace.TraceArguments.TraceArguments}
@@ -26,6 +26,11 @@ pub record AreCallsArguments (matches : ArgMatches) (arguments : CallsArguments)
 pub record AreStoresArguments (matches : ArgMatches) (arguments : StoresArguments) : Type 0 where
   pub files : AreNamedFiles matches arguments.files
   pub quiet : map (λ range. range.now) arguments.quiet.items ≡ argument_values matches (codes "quiet-ram")
+
+pub record AreFollowArguments (matches : ArgMatches) (arguments : FollowArguments) : Type 0 where
+  pub files : AreNamedFiles matches arguments.files
+  pub quiet : map (λ range. range.now) arguments.quiet.items ≡ argument_values matches (codes "quiet-ram")
+  pub lists : IsFlag matches (codes "list") arguments.lists
 
 pub record AreRegionsArguments (matches : ArgMatches) (arguments : RegionsArguments) : Type 0 where
   pub old : arguments.old.now ≡ argument_text matches (codes "OLD")

@@ -7,5 +7,6 @@ pub mod Cases
 pub mod Suggest
 pub mod InputWords
 pub mod Written
+pub mod Following
 -- what the crate's own functions promise one another: no public contract cites these
 pub mod Fronts

@@ -14,7 +14,7 @@ use Rattle.loader80.specs.declared.running.Ended.{Ended}
 use Rattle.loader80_trace.specs.{declared.limits.Limits.Limits, Counts.CountsSteps, Cover.CoversReached, Cover.ListsReached, Traces.EndsSo}
 use Rattle.plm80_console.specs.{Answer.AnswerValue, Answer.prints, Journal.FileValue, Ranges.AreRangesOf}
 use Rattle.plm80_names.specs.{Printed.named_report, Verdict.AnswersProgram, Verdict.AnswersVerdict, Arguments.asks_names}
-use Rattle.plm80_programs.specs.{declared.stores.StoresArguments.StoresArguments, Status.stores_status}
+use Rattle.plm80_programs.specs.{declared.stores.StoresArguments.StoresArguments, Status.end_status, Status.stores_status}
 
 -- a text that says something is printed, with status 0
 pub record PrintsText (Says : List ℕ → Type 0) (answer : AnswerValue) : Type 0 where
@@ -98,12 +98,12 @@ pub record AnswersStores (arguments : StoresArguments) (files : List FileValue) 
 
 -- ---- cover
 
--- the instructions to which the program may come, with how often its run on these inputs began each
-pub record CountsRun (inputs : List (ℕ × ℕ)) (limits : Limits) (publics : List Public) (program : Voucher) (text : List ℕ) : Type 0 where
+-- the instructions to which the program may come, with how often its run on these inputs began each; the status is the run's
+pub record CountsRun (inputs : List (ℕ × ℕ)) (limits : Limits) (publics : List Public) (program : Voucher) (answer : AnswerValue) : Type 0 where
   pub ended : Ended
   pub run : EndsSo program.image.regions (Some limits.outputs) (world_at_start program.image (lists_of inputs) []) limits.steps ended
   pub counts : List ℕ
   pub counted : CountsSteps program.image.regions (Some limits.outputs) (world_at_start program.image (lists_of inputs) []) ended.steps counts
   pub listed : List ℕ
   pub covers : CoversReached program.image counts listed
-  pub text_is : text ≡ labelled_text publics false listed
+  pub answer_is : answer ≡ prints (labelled_text publics false listed) (end_status ended.end)

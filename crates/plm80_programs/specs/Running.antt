@@ -22,7 +22,7 @@ use Rattle.plm80_console.specs.declared.read_file.ReadFile.{ReadFile}
 use Rattle.plm80_programs.specs.{declared.cover.CoverArguments.CoverArguments, declared.helpers.run_arguments.LimitTexts.LimitTexts}
 use Rattle.plm80_programs.specs.{declared.helpers.run_arguments.RunFiles.RunFiles, declared.run.RunArguments.RunArguments}
 use Rattle.plm80_programs.specs.{declared.trace.TraceArguments.TraceArguments, declared.helpers.run_arguments.RunTexts.RunTexts}
-use Rattle.plm80_programs.specs.{Arguments.dump_of, Printed.CountsRun, Printed.PrintsText, Status.end_status}
+use Rattle.plm80_programs.specs.{Arguments.dump_of, Printed.CountsRun, Status.end_status}
 
 -- where a program's run on some inputs begins
 abbrev pub start_of : Voucher → List (ℕ × ℕ) → World
@@ -184,7 +184,7 @@ pub record IsSpanOf (arguments : TraceArguments) (span : Span) : Type 0 where
 pub record CoversFiles (arguments : CoverArguments) (files : List FileValue) (answer : AnswerValue) : Type 0 where
   pub limits : Limits
   pub are_limits : AreLimitsOf arguments.limits limits
-  pub answers : AnswersRun (λ inputs publics program. PrintsText (CountsRun inputs limits publics program)) arguments.files.program.names files answer
+  pub answers : AnswersRun (λ inputs. CountsRun inputs limits) arguments.files.program.names files answer
 
 pub record TracesBy (Traces : List (ℕ × ℕ) → Limits → Span → List Public → Voucher → AnswerValue → Type 0) (arguments : TraceArguments)
     (files : List FileValue) (answer : AnswerValue) : Type 0 where

@@ -15,13 +15,14 @@ end_status None = 4
 end_status (Some Halt) = 0
 end_status (Some _) = 3
 
--- of which ends words say where the instruction stands: those at a port, a store or a PCHL
+-- of which ends words say where the instruction stands: those at a port, a store or a PCHL; and that the steps were used up
 abbrev pub end_words : Option End → (at : ℕ) → Option EndWords
 end_words (Some (InputEnd port)) at = Some (words.NoInput at port)
 end_words (Some (OutputRefused port)) at = Some (words.OutputRefused at port)
 end_words (Some (StoreOutside address)) at = Some (words.StoreOutside at)
 end_words (Some (JumpOutside address)) at = Some (words.JumpOutside at)
-end_words other at = None
+end_words (Some other) at = None
+end_words None at = Some words.StepsUsed
 
 -- of the stores of a program: 0 if none of them, no jump and no use of SP is listed
 abbrev pub stores_status : Stores → ℕ

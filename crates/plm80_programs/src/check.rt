@@ -9,7 +9,7 @@ use crate::helpers::printing::{Printing, answer_of};
 use loader80::Vouched;
 use plm80_console::laws::faults_follow_reading;
 use plm80_console::{Console, Reported, Syntax};
-use plm80_names::{NAMED_FILES, NamedFiles, Names, named_report};
+use plm80_names::{GapUse, NAMED_FILES, NamedFiles, Names, explain_accepted, named_report};
 use std::alloc::{AllocError, Global};
 
 const AFTER_HELP: &str = "\
@@ -47,6 +47,7 @@ pub fn check_files<C: Console>(console: &mut C, files: NamedFiles<'_>) -> Result
     let answer = answer_of(console.alloc(), image, &names, Report);
     let given = console.give_if_made(answer);
     files.explain(console, &given);
+    explain_accepted(console, &given, files.image, files.regions, GapUse::Fetched);
     given
 }
 

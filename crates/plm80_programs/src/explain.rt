@@ -17,7 +17,8 @@ use plm80_console::laws::faults_follow_reading;
 use plm80_console::{Answer, Argument, Console, Kind, Reported, Syntax};
 use plm80_files::{IMAGE, REGIONS};
 use plm80_names::{
-    NAMES, NamedFiles, Names, explain_given, named_refusal, named_refusal_report, named_report,
+    GapUse, NAMES, NamedFiles, Names, explain_accepted, explain_given, named_refusal,
+    named_refusal_report, named_report,
 };
 use std::alloc::{AllocError, Global};
 use verify80_explain::measure;
@@ -105,6 +106,12 @@ pub fn explain_files<C: Console>(
     let given = console.give_if_made(answer);
     let files = arguments.files;
     explain_given(console, &given, files.names, files.image, None);
+    if let (true, Ok(1)) = (arguments.all, &given) {
+        console.explain(
+            "a way ends at its refusal, and more may lie behind it: docs/FIRMWARE.md shows how to see that ('An EPROM that is refused')",
+        );
+    }
+    explain_accepted(console, &given, files.image, files.regions, GapUse::Fetched);
     given
 }
 

@@ -11,6 +11,7 @@
 //! | [`suggest_for_files`] | `cases`: the CASE lines that its tables suggest |
 //! | [`advise_file`] | `suggest`: the regions that its bytes suggest |
 //! | [`list_stores`] | `stores`: its stores that may leave data, and its jumps by PCHL |
+//! | [`follow_files`] | `follow`: how its program is followed with its whole stack, or where that stops |
 //! | [`show_calls`] | `calls`: which procedure calls which, and how deep |
 //! | [`run_files`] | `run`: the transcript of a run, its last instructions, the memory that it leaves |
 //! | [`trace_files`] | `trace`: the instructions of a run, a line each |
@@ -25,6 +26,7 @@ mod cases;
 mod check;
 mod cover;
 mod explain;
+mod follow;
 mod helpers;
 mod inputs;
 mod list;
@@ -40,6 +42,7 @@ pub use cases::{CASES, CasesArguments, suggest_for_files};
 pub use check::{CHECK, check_files};
 pub use cover::{COVER, CoverArguments, cover_files};
 pub use explain::{EXPLAIN, ExplainArguments, explain_files};
+pub use follow::{FOLLOW, FollowArguments, follow_files};
 pub use inputs::{INPUTS, InputsArguments, write_inputs_file};
 pub use list::{LIST, ListArguments, list_files};
 pub use regions::{REGIONS, RegionsArguments, migrate_file};

@@ -14,7 +14,7 @@ use loader80_trace::list_reached;
 use plm80_console::laws::faults_follow_reading;
 use plm80_console::{Answer, Argument, Console, Kind, Reported, Syntax};
 use plm80_files::{IMAGE, REGIONS};
-use plm80_names::{NAMES, NamedFiles, Names};
+use plm80_names::{NAMES, NamedFiles, Names, explain_listed};
 use std::alloc::{AllocError, Global};
 
 /// The arguments of the command `list`.
@@ -84,6 +84,7 @@ pub fn list_files<C: Console>(console: &mut C, arguments: ListArguments<'_>) -> 
     let answer = listed(console.alloc(), image, reached, &names);
     let given = console.give_if_made(answer);
     files.explain(console, &given);
+    explain_listed(console, &given, files.image, files.regions);
     given
 }
 

@@ -17,7 +17,8 @@ pub fn status_of(end: Option<End>) -> u8
     }
 }
 
-/// Words on a run that ended at a port, a store or a PCHL: the address of that instruction, which the run's last line doesn't have.
+/// Words on a run that ended otherwise than by HLT: the address of the instruction at a port, a store or a PCHL, which the run's last line
+/// doesn't have; or how to take more steps.
 #[derive(Clone, Copy, Debug, Error)]
 pub enum EndWords {
     #[error("the IN at {at:04X} finds no byte at port {port:02X}: INPUTS has none left for it")]
@@ -28,11 +29,13 @@ pub enum EndWords {
     StoreOutside { at: u16 },
     #[error("the PCHL at {at:04X} goes to no target of its CASE line: that lacks it, or the address is wrong")]
     JumpOutside { at: u16 },
+    #[error("its steps are used up: plm80 run takes more with --steps, and shows the last ones with --last")]
+    StepsUsed,
 }
 
 impl EndWords {
-    /// Words on a run that ended in the way `end`; `None` if that isn't at a port, a store or a PCHL. The program counter before the step
-    /// that ended it was `at`.
+    /// Words on a run that ended in the way `end`; `None` if nothing is to be said of that. The program counter before the step that ended it was
+    /// `at`.
     pub fn of(end: Option<End>, at: u16) -> Option<EndWords>
         ensures { result ≡ end_words «end» at }
     {
@@ -41,7 +44,8 @@ impl EndWords {
             Some(End::OutputRefused(port)) => Some(EndWords::OutputRefused { at, port }),
             Some(End::StoreOutside(_)) => Some(EndWords::StoreOutside { at }),
             Some(End::JumpOutside(_)) => Some(EndWords::JumpOutside { at }),
-            _ => None,
+            Some(_) => None,
+            None => Some(EndWords::StepsUsed),
         }
     }
 }

@@ -15,7 +15,7 @@ use plm80_console::{
     Answer, Argument, Console, Kind, Reported, Syntax, argument_values, ranges_of,
 };
 use plm80_files::{IMAGE, REGIONS};
-use plm80_names::{NAMES, NamedFiles, Names, Verdict, judge};
+use plm80_names::{GapUse, NAMES, NamedFiles, Names, Verdict, explain_accepted, judge};
 use std::alloc::{AllocError, Global};
 use verify80_stores::{Cause, Stores, find_causes, find_stores, first_outside_data, stores_text};
 
@@ -42,7 +42,7 @@ one, or if the image is refused: then the refusal is printed alone, as by check.
 --why names on standard error the instruction that sets the pair of each.
 --names prints behind a line the name of its first address, as check does.
 
-Example: plm80 stores readings.img readings.regions --quiet-ram 2000:0100
+Example: plm80 stores readings.img readings.regions --quiet-ram 3030:0040
 
 Faults and what to do: docs/FAULTS.md (installed: share/doc/plm80), man plm80.";
 
@@ -102,6 +102,7 @@ pub fn list_stores<C: Console>(
     let (image, names) = files.read(console)?;
     let given = print_stores(console, image, &names, &arguments.quiet, &quiet);
     files.explain(console, &given);
+    explain_accepted(console, &given, files.image, files.regions, GapUse::Read);
     given
 }
 
@@ -129,7 +130,7 @@ fn print_stores<C: Console>(
 }
 
 /// Reports the first of the quiet ranges that isn't all data of `regions`; nothing if all of them are.
-fn require_data<C: Console>(
+pub(crate) fn require_data<C: Console>(
     console: &mut C,
     regions: &Regions,
     texts: &[&str],
@@ -194,13 +195,6 @@ fn judged(
     }
 }
 
-/// The address at which a program starts.
-fn start_of(vouched: &Vouched) -> u16
-    ensures { result ≡ vouched.now.image.start }
-{
-    vouched.image().start
-}
-
 /// The lines of a program's stores and jumps, with names, their exit status, and the causes if `explains`.
 fn stores_of(
     alloc: Global,
@@ -227,10 +221,7 @@ fn listed(
     ensures { IfOk result (λ listed.
         listed.answer ≡ prints (stores_lines quiet.now vouched.now.image names.now stores.now) (stores_status stores.now)) }
 {
-    let code = vouched.image().regions.code();
-    let text = stores_text(alloc, stores, quiet, start_of(vouched))?;
-    let text = names.name(alloc, code, b"STORE ", text)?;
-    let text = names.name(alloc, code, b"JUMP ", text)?;
+    let text = stores_lines(alloc, vouched.image(), names, quiet, stores)?;
     let causes = if explains {
         find_causes(alloc, vouched, quiet, stores)?
     } else {
@@ -240,6 +231,22 @@ fn listed(
         answer: Answer::prints(text, stores_status(stores)),
         causes,
     })
+}
+
+/// The lines of these stores and jumps of an image, with names.
+pub(crate) fn stores_lines(
+    alloc: Global,
+    image: &Image,
+    names: &Names,
+    quiet: &[Range],
+    stores: &Stores,
+) -> Result<Vec<u8>, AllocError>
+    ensures { IfOk result (λ text. text.items ≡ stores_lines quiet.now image.now names.now stores.now) }
+{
+    let code = image.regions.code();
+    let text = stores_text(alloc, stores, quiet, image.start)?;
+    let text = names.name(alloc, code, b"STORE ", text)?;
+    names.name(alloc, code, b"JUMP ", text)
 }
 
 /// Says of each listed store and jump what sets its pair, if words are asked for.

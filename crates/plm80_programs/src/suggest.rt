@@ -14,7 +14,8 @@ use image80::{Image, Range, Regions, write_regions};
 use loader80::TEXT_LIMIT;
 use loader80_text::LengthFault;
 use plm80_console::{
-    Answer, Argument, Console, Kind, Reported, Syntax, argument_text, argument_values, ranges_of,
+    Answer, Argument, Console, Kind, RangeTexts, Reported, Syntax, argument_text, argument_values,
+    explain_board, ranges_of,
 };
 use plm80_files::{IMAGE, image_of, regions_of};
 use std::alloc::{AllocError, Global};
@@ -103,10 +104,32 @@ pub fn advise_file<C: Console>(
     let rom = ranges_of(console, ROM, &arguments.rom)?;
     let ram = ranges_of(console, RAM, &arguments.ram)?;
     let mut image = bare_image(console, arguments.image)?;
+    explain_ranges(console, arguments, image.start, &rom);
     match advise(console.alloc(), &mut image, &rom, &ram) {
         Ok(printed) => print_advice(console, printed),
         Err(LengthFault::TooLong) => Err(console.report(LengthFault::TooLong)),
         Err(LengthFault::Memory) => Err(console.report_memory()),
+    }
+}
+
+/// Says which ranges of a board may have been meant otherwise, and that those of ROM lack the start, if they do.
+fn explain_ranges<C: Console>(
+    console: &C,
+    arguments: &SuggestArguments<'_>,
+    start: u16,
+    rom: &[Range],
+) {
+    let rom_texts = RangeTexts {
+        name: ROM,
+        values: &arguments.rom,
+    };
+    let ram_texts = RangeTexts {
+        name: RAM,
+        values: &arguments.ram,
+    };
+    explain_board(console, rom_texts, ram_texts);
+    if !rom.is_empty() && !rom.iter().any(|range| range.contains(start)) {
+        console.explain(format_args!("the start, {start:04X}, is in no --{ROM}"));
     }
 }
 

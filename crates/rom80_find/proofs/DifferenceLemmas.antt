@@ -203,69 +203,16 @@ kept_as code bytes differences others dump same places listed kept reduced h ds 
     ∙ ap (λ (l : List ℕ). filter (λ a. list_all (has_difference dump a) differences) l) ps))))
     (kept_places code bytes differences dump places reduced h)
 
+-- without differences
+pub none_left : (xs : List Difference) → length xs ≡ 0 → [] ≡ xs
+none_left [] e = refl
+none_left (x ∷ xs) e = absurd (omega (arith, e))
+
+pub all_kept : (has : ℕ → Difference → Bool) (places : List ℕ) → places ≡ filter (λ a. list_all (has a) []) places
+all_kept has [] = refl
+all_kept has (p ∷ ps) = ap (λ (l : List ℕ). p ∷ l) (all_kept has ps)
+
 -- ---- a row
-
-pub same_row : (x y z : Bool) → x ≡ ((x || (false && y)) || (false && z))
-same_row true y z = refl
-same_row false y z = refl
-
--- one more address, whose bit stands twice
-module _ (dump : DumpValue) (distance more at : ℕ) (old new : List ℕ) (here : Bool) (below : at < 65536) (is : here ≡ has_pair dump at distance more)
-    (step : (k : ℕ) → bit_in new k ≡ ((bit_in old k || (here && k == at)) || (here && k == at + 65536)))
-    (h : (k : ℕ) → k < 131072 → bit_in old k ≡ (nat_lt (k % 65536) at && has_pair dump (k % 65536) distance more)) where
-  and-none : (x : Bool) → (x && false) ≡ false
-  and-none true = refl
-  and-none false = refl
-
-  or-none : (x : Bool) → (x || false) ≡ x
-  or-none true = refl
-  or-none false = refl
-
-  apart : (k : ℕ) → k < 131072 → k % 65536 ≢ at → nat_lt (k % 65536) at ≡ nat_lt (k % 65536) (at + 1)
-      → bit_in new k ≡ (nat_lt (k % 65536) (at + 1) && has_pair dump (k % 65536) distance more)
-  apart k lt ne same =
-      step k ∙ (ap (λ (t : Bool). (bit_in old k || (here && t)) || (here && k == at + 65536)) (ne_eqb k at (λ e. ne (omega (arith, e, below))))
-      ∙ (ap (λ (t : Bool). (bit_in old k || (here && false)) || (here && t)) (ne_eqb k (at + 65536) (λ e. ne (omega (arith, e, below))))
-      ∙ (ap (λ (t : Bool). (bit_in old k || t) || t) (and-none here)
-      ∙ (or-none (bit_in old k || false) ∙ (or-none (bit_in old k)
-      ∙ (h k lt ∙ ap (λ (t : Bool). t && has_pair dump (k % 65536) distance more) same))))))
-
-  either : (x y : Bool) → (x || y) ≡ true → ((false || (here && x)) || (here && y)) ≡ here
-  either true y e = or-same here y
-    where
-      or-same : (b y : Bool) → ((false || (b && true)) || (b && y)) ≡ b
-      or-same true y = refl
-      or-same false y = refl
-  either false y e = or-only here y e
-    where
-      or-only : (b y : Bool) → y ≡ true → ((false || (b && false)) || (b && y)) ≡ b
-      or-only true y e = e
-      or-only false y e = refl
-
-  exact : (k : ℕ) → k < 131072 → k % 65536 ≡ at
-      → bit_in new k ≡ (nat_lt (k % 65536) (at + 1) && has_pair dump (k % 65536) distance more)
-  exact k lt e =
-      step k ∙ (ap (λ (t : Bool). (t || (here && k == at)) || (here && k == at + 65536))
-      (h k lt ∙ ap (λ (t : Bool). t && has_pair dump (k % 65536) distance more) (le-ltb (k % 65536) at (omega (arith, e))))
-      ∙ (either (k == at) (k == at + 65536) (elim (cases_lt k 65536) [
-        | inl less ↦ ap (λ (t : Bool). t || k == at + 65536) (eq-eqb k at (omega (arith, e, less)))
-        | inr far ↦ or-right (k == at) (k == at + 65536) (eq-eqb k (at + 65536) (omega (arith, e, far, lt)))
-      ])
-      ∙ (is ∙ (ap (λ (n : ℕ). has_pair dump n distance more) (sym e)
-      ∙ ap (λ (t : Bool). t && has_pair dump (k % 65536) distance more) (sym (lt-ltb (k % 65536) (at + 1) (omega (arith, e))))))))
-    where
-      or-right : (x y : Bool) → y ≡ true → (x || y) ≡ true
-      or-right true y e = refl
-      or-right false y e = e
-
-  pub row_more : (k : ℕ) → k < 131072 → bit_in new k ≡ (nat_lt (k % 65536) (at + 1) && has_pair dump (k % 65536) distance more)
-  row_more k lt = elim (cases_lt (k % 65536) at) [
-    | inl less ↦ apart k lt (λ e. omega (arith, less, e)) (lt-ltb (k % 65536) at less ∙ sym (lt-ltb (k % 65536) (at + 1) (omega (arith, less))))
-    | inr le ↦ elim (cases_lt at (k % 65536)) [
-      | inl above ↦ apart k lt (λ e. omega (arith, above, e)) (le-ltb (k % 65536) at le ∙ sym (le-ltb (k % 65536) (at + 1) (omega (arith, above))))
-      | inr same ↦ exact k lt (omega (arith, same, le))
-    ]
-  ]
 
 -- a difference, for terms that need one
 abbrev pub some_difference : Difference

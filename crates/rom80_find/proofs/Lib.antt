@@ -3,6 +3,8 @@ pub mod CodeLieLemmas
 pub mod SieveLemmas
 pub mod BitLemmas
 pub mod MarkLemmas
+pub mod PlaneLemmas
+pub mod SumLemmas
 pub mod LoneLemmas
 pub mod PlaceLemmas
 pub mod WordLemmas

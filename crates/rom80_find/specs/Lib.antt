@@ -12,6 +12,7 @@ pub mod Found
 pub mod Candidates
 pub mod Lone
 pub mod Marks
+pub mod Planes
 pub mod Differences
 pub mod Search
 pub mod Laws

@@ -1,19 +1,22 @@
 //! The addresses at which a dump has a byte and, at a distance behind it, that byte plus a number.
 
-ghost use Rattle.std.specs.Prelude.{◌≡◌, ℕ, ◌+◌, ◌%◌, length, slice_index_or, IfOk, OnOk};
+ghost use Rattle.std.specs.Prelude.{◌≡◌, ◌+◌, ◌%◌, length, IfOk, OnOk};
 ghost use Rattle.rom80_find.specs.Dump.{dump_of};
 ghost use Rattle.rom80_find.specs.Differences.{has_pair, IsDifferenceRow};
 
 use crate::difference::Difference;
 use crate::dump::Dump;
-use crate::indexed_dump::ADDRESSES;
-use crate::marks::set_bit;
+use crate::indexed_dump::{ADDRESSES, IndexedDump};
+use crate::pairs::pairs_from;
 use crate::table::table;
 use std::alloc::{AllocError, Global};
 
 /// The number of 64-bit words in a row. A row has a bit for each address, and then the same bits again, so that the bit of an address
 /// plus an offset is in it.
 const WORDS: usize = 2 * ADDRESSES / 64;
+
+/// The number of 64-bit words in each half of a row.
+const HALF: usize = WORDS / 2;
 
 /// The addresses at which a dump has a byte and, `distance` behind it, that byte plus `more`, modulo 256.
 #[derive(Drop)]
@@ -30,11 +33,11 @@ impl DifferenceRow {
     /// Finds the addresses at which a dump has a byte and, `distance` behind it, that byte plus `more`, modulo 256.
     pub(crate) fn of(
         alloc: Global,
-        dump: Dump<'_>,
+        dump: &IndexedDump<'_>,
         distance: u16,
         more: u8,
     ) -> Result<DifferenceRow, AllocError>
-        ensures row { IfOk result (λ row. IsDifferenceRow (dump_of dump.entry) distance more row.bits.items) }
+        ensures row { IfOk result (λ row. IsDifferenceRow dump.now distance more row.bits.items) }
         ensures distance { IfOk result (λ row. row.distance ≡ distance) }
         ensures more { IfOk result (λ row. row.more ≡ more) }
     {
@@ -51,11 +54,11 @@ impl DifferenceRow {
     pub(crate) fn change_to(
         &mut self,
         alloc: Global,
-        dump: Dump<'_>,
+        dump: &IndexedDump<'_>,
         difference: Difference,
     ) -> Result<(), AllocError>
-        requires { IsDifferenceRow (dump_of dump) self.old.distance self.old.more self.old.bits.items }
-        ensures row { OnOk result (IsDifferenceRow (dump_of dump.entry) difference.distance difference.more self.new.bits.items) }
+        requires { IsDifferenceRow dump.now self.old.distance self.old.more self.old.bits.items }
+        ensures row { OnOk result (IsDifferenceRow dump.now difference.distance difference.more self.new.bits.items) }
         ensures distance { OnOk result (self.new.distance ≡ difference.distance) }
         ensures more { OnOk result (self.new.more ≡ difference.more) }
     {
@@ -66,17 +69,16 @@ impl DifferenceRow {
     }
 }
 
-/// Sets in an empty row the bits of all addresses at which a dump has a byte and, `distance` behind it, that byte plus `more`, modulo 256.
-fn mark_pairs(bits: &mut [u64], dump: Dump<'_>, distance: u16, more: u8)
+/// Makes of a row the bits of all addresses at which a dump has a byte and, `distance` behind it, that byte plus `more`, modulo 256.
+fn mark_pairs(bits: &mut [u64], dump: &IndexedDump<'_>, distance: u16, more: u8)
     requires whole { length bits.old ≡ 2048 }
-    requires none { (k : ℕ) → slice_index_or bits.old k 0 ≡ 0 }
-    ensures { IsDifferenceRow (dump_of dump.entry) distance more bits.new }
+    ensures { IsDifferenceRow dump.now distance more bits.new }
 {
-    for at in 0..ADDRESSES {
-        if has_pair(dump, at as u16, distance, more) {
-            set_bit(bits, at);
-            set_bit(bits, at + ADDRESSES);
-        }
+    let planes = dump.planes();
+    for word in 0..HALF {
+        let pairs = pairs_from(planes, 64 * word, usize::from(distance), more);
+        bits[word] = pairs;
+        bits[word + HALF] = pairs;
     }
 }
 

@@ -9,6 +9,7 @@ ghost use Rattle.rom80_find.specs.Marks.{bit_in};
 use crate::difference::Difference;
 use crate::difference_row::{DifferenceRow, has_pair};
 use crate::dump::Dump;
+use crate::indexed_dump::IndexedDump;
 use crate::sieve::{WORDS, all_addresses, keep_in_row};
 use std::alloc::{AllocError, Global};
 
@@ -26,11 +27,11 @@ pub(crate) fn has_differences(dump: Dump<'_>, differences: &[Difference], addres
 /// which is faster than one by one if the places are many.
 pub(crate) fn keep_by_rows(
     alloc: Global,
-    dump: Dump<'_>,
+    dump: &IndexedDump<'_>,
     differences: &[Difference],
     places: &[u16],
 ) -> Result<Vec<u16>, AllocError>
-    ensures { IfOk result (λ kept. kept.items ≡ filter (λ a. list_all (has_difference (dump_of dump.entry) a) differences.now) places.now) }
+    ensures { IfOk result (λ kept. kept.items ≡ filter (λ a. list_all (has_difference dump.now a) differences.now) places.now) }
 {
     let mut alive = all_addresses(alloc, WORDS)?;
     sieve_by_differences(alloc, &mut alive, dump, differences)?;
@@ -48,12 +49,12 @@ pub(crate) fn keep_by_rows(
 fn sieve_by_differences(
     alloc: Global,
     alive: &mut [u64],
-    dump: Dump<'_>,
+    dump: &IndexedDump<'_>,
     differences: &[Difference],
 ) -> Result<(), AllocError>
     requires all { length alive.old ≡ 1024 }
     ensures whole { length alive.new ≡ 1024 }
-    ensures each { OnOk result ((a : ℕ) → a < 65536 → bit_in alive.new a ≡ (bit_in alive.old a && list_all (has_difference (dump_of dump.entry) a) differences.now)) }
+    ensures each { OnOk result ((a : ℕ) → a < 65536 → bit_in alive.new a ≡ (bit_in alive.old a && list_all (has_difference dump.now a) differences.now)) }
 {
     if differences.is_empty() {
         return Ok(());

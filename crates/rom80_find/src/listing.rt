@@ -1,15 +1,15 @@
 //! The addresses at which a module's code lies in a dump.
 
-ghost use Rattle.std.specs.Prelude.{◌≡◌, ◌<◌, ◌≤◌, ◌+◌, ◌++◌, Bool, List, IfOk, OnOk};
+ghost use Rattle.std.specs.Prelude.{◌≡◌, ◌<◌, ◌≤◌, ◌+◌, ◌++◌, Bool, List, length, IfOk, OnOk};
 ghost use Rattle.rom80_find.specs.Dump.{DumpValue};
 ghost use Rattle.rom80_find.specs.declared.pattern.code_byte.CodeByte.{CodeByte};
 ghost use Rattle.rom80_find.specs.Lone.{AreLone};
 ghost use Rattle.rom80_find.specs.Marks.{IsSievedWord};
 ghost use Rattle.rom80_find.specs.Places.{AreBelow, ArePlaces, place_if};
-ghost use Rattle.rom80_find.specs.Search.{search_of};
+ghost use Rattle.rom80_find.specs.Search.{SearchValue, search_of};
 
 use crate::differences::{has_differences, keep_by_rows};
-use crate::indexed_dump::{ADDRESSES, IndexedDump};
+use crate::indexed_dump::IndexedDump;
 use crate::lone::lone_values;
 use crate::pattern::{CodeByte, number_of};
 use crate::reduced_code::ReducedCode;
@@ -17,16 +17,16 @@ use crate::search::Search;
 use crate::sieve::{WORDS, sieve};
 use std::alloc::{AllocError, Global};
 
-/// About how many comparisons it takes to make one row of the addresses at which a dump has a difference. If comparing each difference at
-/// each place takes fewer, no row is made.
-const ROW_STEPS: usize = 2 * ADDRESSES;
+/// At how many places about as much time goes into comparing a difference as into making the row of all addresses at which a dump has it.
+/// If there are fewer places, no row is made.
+const FEW_PLACES: usize = 2_048;
 
 /// Returns the addresses at which a module's code lies in a dump, in ascending order: those for which there are values of its targets with
 /// which the dump has all its bytes. The targets have numbers below `count`.
 ///
 /// The time grows with the number of bytes of the code times 1,024, in steps of 64 addresses at once, and with the number of
-/// different distances and numbers by which bytes give others, times 65,536. Where the bytes outside fixups fit, it grows with the
-/// number of the others in fixups whose value is of CODE, or has more than a low and a high byte of them.
+/// different distances and numbers by which bytes give others, times eight as many such steps. Where the bytes outside fixups fit, it
+/// grows with the number of the others in fixups whose value is of CODE, or has more than a low and a high byte of them.
 ///
 /// # Errors
 /// `AllocError` only if memory ran out.
@@ -42,8 +42,11 @@ pub(crate) fn places(
 {
     let mut reduced = ReducedCode::of(alloc, code, count)?;
     let mut places = places_by_search(alloc, dump, &reduced.bytes, count)?;
-    let dump = dump.dump();
-    if places.len() < ROW_STEPS / reduced.differences.len().max(1) {
+    if reduced.differences.is_empty() {
+        return Ok(places);
+    }
+    if places.len() < FEW_PLACES {
+        let dump = dump.dump();
         places.retain(|place| has_differences(dump, &reduced.differences, *place));
         return Ok(places);
     }
@@ -93,9 +96,26 @@ fn push_places_of_word(
     if alive == 0 {
         return Ok(());
     }
+    if search.has_no_bytes() {
+        return push_alive(alive, first, places);
+    }
     for index in 0..64u16 {
         let lies = search.lies(first + index, alive >> u32::from(index) & 1 == 1);
         push_place(places, first + index, lies)?;
+    }
+    Ok(())
+}
+
+/// Appends those of the 64 addresses from `first` on whose bit in `alive` is set: a search that has no byte to look for asks no more.
+fn push_alive(alive: u64, first: u16, places: &mut Vec<u16>) -> Result<(), AllocError>
+    requires few { first + 64 ≤ 65536 }
+    ensures { OnOk result ((search : SearchValue) (dump : DumpValue) (lone : List Bool) (code : List CodeByte) → search ≡ search_of dump lone code
+        → length search.known ≡ 0 → length search.free ≡ 0 → IsSievedWord dump lone code first alive → AreLone code lone
+        → ArePlaces dump code first places.old.items → ArePlaces dump code (first + 64) places.new.items) }
+{
+    for index in 0..64u16 {
+        let is_alive = alive >> u32::from(index) & 1 == 1;
+        push_place(places, first + index, is_alive)?;
     }
     Ok(())
 }

@@ -50,6 +50,14 @@ impl<'a> Search<'a> {
         Ok(Search { dump, bytes, table })
     }
 
+    /// Whether the search has no byte to look for: whether the code lies wherever the dump has the bytes that the search leaves out.
+    pub(crate) fn has_no_bytes(&self) -> bool
+        ensures known { result ≡ true → length self.now.known ≡ 0 }
+        ensures free { result ≡ true → length self.now.free ≡ 0 }
+    {
+        self.bytes.known.is_empty() && self.bytes.free.is_empty()
+    }
+
     /// Whether the code lies at `address`: whether there are values of its targets with which the dump has all its bytes. `alive` says
     /// whether the dump has those that this search leaves out, outside fixups and of lone values.
     pub(crate) fn lies(&mut self, address: u16, alive: bool) -> bool

@@ -141,7 +141,7 @@ fn is_shortage<C: Code>(
 
 /// How many words of a caller's frame a callee may take: those above the bottom word, and in the
 /// main program all.
-fn room(frame: &Frame, role: Role) -> usize
+pub(crate) fn room(frame: &Frame, role: Role) -> usize
     ensures { result ≡ room role frame.now.words }
 {
     match role {

@@ -1,6 +1,7 @@
 //! A search for the points that the walks of a program reach, one by one, breadth first. Nothing rests on what it finds: of the points
 //! that show a refusal it is checked that each comes from earlier ones (`reached`).
 
+use crate::evidence::room;
 use crate::fault::Unexplained;
 use crate::groups::Groups;
 use crate::looked::{Looked, frame_after_return, look_at};
@@ -49,6 +50,16 @@ struct Exit {
     taken: u32,
 }
 
+/// A procedure and a number of words: those that a caller of it can give, or those that an exit of it
+/// has taken.
+#[derive(Clone, Copy, PartialEq, Eq, Hash)]
+struct Passing {
+    /// The slot of the procedure.
+    place: usize,
+    /// The number of words.
+    words: usize,
+}
+
 /// What tells a point from others: the slot of its procedure, its address, and the number of its
 /// frame.
 #[derive(Clone, Copy, PartialEq, Eq, Hash)]
@@ -71,12 +82,23 @@ pub(crate) struct Search {
     pub(crate) origins: Vec<Origin>,
     /// The points that call, in order of first sight.
     pub(crate) calls: Vec<CallingPoint>,
-    /// The indices of `calls`, by the slot of the callee.
+    /// What callers can give to callees, each once.
+    offers: IndexSet<Passing>,
+    /// The indices of `offers`, by the slot of the callee.
+    offers_of: Groups,
+    /// The indices of `calls`, by the index of what the caller can give.
     calls_of: Groups,
     /// The points that return, in order of first sight; one for each number of words that a procedure takes.
     exits: Vec<Exit>,
+    /// What the exits have taken.
+    takings: IndexSet<Passing>,
     /// The indices of `exits`, by the slot of the procedure.
     exits_of: Groups,
+    /// Exits by their indices, each for one offer that is enough for it. Calls that can't give what an
+    /// exit has taken are many, and are never gone through.
+    fitting: Vec<usize>,
+    /// The indices of `fitting`, by the index of the offer.
+    fitting_of: Groups,
     /// How many points have been followed.
     followed: usize,
     /// What the points weigh together, `usize::MAX` at most.
@@ -92,9 +114,14 @@ impl Search {
             frames: IndexSet::new(alloc),
             origins: Vec::new(alloc),
             calls: Vec::new(alloc),
+            offers: IndexSet::new(alloc),
+            offers_of: Groups::new(alloc),
             calls_of: Groups::new(alloc),
             exits: Vec::new(alloc),
+            takings: IndexSet::new(alloc),
             exits_of: Groups::new(alloc),
+            fitting: Vec::new(alloc),
+            fitting_of: Groups::new(alloc),
             followed: 0,
             weight: 0,
         }
@@ -267,26 +294,76 @@ impl Search {
             target,
             next,
         };
+        let offer = self.offer_of(alloc, program, point, slot(callee))?;
         self.calls.push(call)?;
-        self.calls_of.push(slot(callee))?;
-        let exits = self.exits_of.of(alloc, slot(callee))?;
-        self.come_back_by(alloc, program, call, &exits)
+        self.calls_of.push(offer)?;
+        let fitting = self.fitting_of.of(alloc, offer)?;
+        self.come_back_by(alloc, program, call, &fitting)
     }
 
-    /// Adds the point after a call for each of the exits with these numbers.
+    /// The index of what the caller at point `number` can give to the procedure with slot `place`, which is added with the known exits
+    /// that it is enough for, if it is new. `AllocError` if memory runs out.
+    fn offer_of<C: Code>(
+        &mut self,
+        alloc: Global,
+        program: &C,
+        number: usize,
+        place: usize,
+    ) -> Result<usize, AllocError> {
+        let words = match self.points.get(number) {
+            Some(caller) => room(&caller.frame, role_of(program, caller.procedure)),
+            None => 0,
+        };
+        let (offer, is_new) = self.offers.insert_full(Passing { place, words })?;
+        if is_new {
+            self.offers_of.push(place)?;
+            let exits = self.exits_of.of(alloc, place)?;
+            self.fit_each(&exits, offer, words)?;
+        }
+        Ok(offer)
+    }
+
+    /// Records which of the exits with these indices an offer of `words` words is enough for. `AllocError` if memory runs out.
+    fn fit_each(&mut self, exits: &[usize], offer: usize, words: usize) -> Result<(), AllocError> {
+        for number in exits {
+            self.fit(*number, offer, words)?;
+        }
+        Ok(())
+    }
+
+    /// Records that an offer of `words` words is enough for the exit with index `number`, if it is. `AllocError` if memory runs out.
+    fn fit(&mut self, number: usize, offer: usize, words: usize) -> Result<(), AllocError> {
+        if let Some(exit) = self.exits.get(number) {
+            if exit.taken as usize <= words {
+                self.fitting.push(number)?;
+                self.fitting_of.push(offer)?;
+            }
+        }
+        Ok(())
+    }
+
+    /// Adds the point after a call for each of the exits that `fitting` has at these indices.
     fn come_back_by<C: Code>(
         &mut self,
         alloc: Global,
         program: &C,
         call: CallingPoint,
-        exits: &[usize],
+        indices: &[usize],
     ) -> Result<(), Unexplained> {
-        for number in exits {
-            if let Some(exit) = self.exits.get(*number).copied() {
+        for index in indices {
+            if let Some(exit) = self.fitting_exit(*index) {
                 self.come_back(alloc, program, call, exit)?;
             }
         }
         Ok(())
+    }
+
+    /// The exit that `fitting` has at this index; `None` if there is none.
+    fn fitting_exit(&self, index: usize) -> Option<Exit> {
+        match self.fitting.get(index) {
+            Some(number) => self.exits.get(*number).copied(),
+            None => None,
+        }
     }
 
     /// Records that a procedure returns from a point with `taken` words taken, unless another exit
@@ -299,14 +376,68 @@ impl Search {
         procedure: Procedure,
         taken: u32,
     ) -> Result<(), Unexplained> {
-        if self.has_exit(alloc, procedure, taken)? {
+        let place = slot(procedure);
+        let words = taken as usize;
+        if !self.is_first_to_take(place, words)? {
             return Ok(());
         }
         let exit = Exit { point, taken };
+        let number = self.exits.len();
         self.exits.push(exit)?;
-        self.exits_of.push(slot(procedure))?;
-        let calls = self.calls_of.of(alloc, slot(procedure))?;
+        self.exits_of.push(place)?;
+        let calls = self.calls_with_room(alloc, place, number, words)?;
         self.come_back_to(alloc, program, &calls, exit)
+    }
+
+    /// Whether no known exit of the procedure with slot `place` has taken as many words; records them. `AllocError` if memory runs out.
+    fn is_first_to_take(&mut self, place: usize, words: usize) -> Result<bool, AllocError> {
+        let is_first = self.takings.insert(Passing { place, words })?;
+        Ok(is_first)
+    }
+
+    /// The indices of the known calls of the procedure with slot `place` whose callers can give `taken` words, ascending; what they offer
+    /// is recorded as enough for the exit with index `number`. `AllocError` if memory runs out.
+    fn calls_with_room(
+        &mut self,
+        alloc: Global,
+        place: usize,
+        number: usize,
+        taken: usize,
+    ) -> Result<Vec<usize>, AllocError> {
+        let offers = self.offers_of.of(alloc, place)?;
+        let mut calls = Vec::new(alloc);
+        self.gather_calls(alloc, &offers, number, taken, &mut calls)?;
+        calls.sort()?;
+        Ok(calls)
+    }
+
+    /// Appends to `calls` the indices of those that make one of these offers, if it is enough for `taken` words, and records that it is
+    /// enough for the exit with index `number`. `AllocError` if memory runs out.
+    fn gather_calls(
+        &mut self,
+        alloc: Global,
+        offers: &[usize],
+        number: usize,
+        taken: usize,
+        calls: &mut Vec<usize>,
+    ) -> Result<(), AllocError> {
+        for offer in offers {
+            let words = self.words_offered(*offer);
+            if taken <= words {
+                self.fit(number, *offer, words)?;
+                let of = self.calls_of.of(alloc, *offer)?;
+                calls.extend_from_slice(&of)?;
+            }
+        }
+        Ok(())
+    }
+
+    /// How many words the offer with this index is of; 0 if there is none.
+    fn words_offered(&self, offer: usize) -> usize {
+        match self.offers.get_index(offer) {
+            Some(offered) => offered.words,
+            None => 0,
+        }
     }
 
     /// Adds the point after each of the calls with these numbers, for an exit of their callee.
@@ -323,23 +454,6 @@ impl Search {
             }
         }
         Ok(())
-    }
-
-    /// Whether a known exit of a procedure has taken `taken` words. `AllocError` if memory runs out.
-    fn has_exit(
-        &self,
-        alloc: Global,
-        procedure: Procedure,
-        taken: u32,
-    ) -> Result<bool, AllocError> {
-        for number in self.exits_of.of(alloc, slot(procedure))? {
-            if let Some(exit) = self.exits.get(number) {
-                if exit.taken == taken {
-                    return Ok(true);
-                }
-            }
-        }
-        Ok(false)
     }
 
     /// Adds the point after a call whose callee returns by `exit`, unless the caller has too few

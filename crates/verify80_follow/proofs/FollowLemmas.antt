@@ -1,11 +1,11 @@
 -- A table that follows a program is an invariant of each board's worlds: one of its states holds of the first one, of one that devices have disturbed,
 -- and of one after an instruction.
-use Rattle.std.specs.Prelude.{◌≡◌, ◌≢◌, ◌⊎◌, ◌≤◌, ◌<◌, ◌==◌, ◌||◌, ℕ, suc, Bool, true, false, not, List, [], ◌∷◌, Option, None, Some, Ok, IfSome, All, Contains, length, slice_get, slice_index, is_some, nat_eq, ◌&&◌, if◌then◌else◌}
+use Rattle.std.specs.Prelude.{◌≡◌, ◌≢◌, ◌⊎◌, ◌≤◌, ◌<◌, ◌==◌, ◌||◌, ℕ, suc, Bool, true, false, not, List, [], ◌∷◌, Option, None, Some, Ok, IfSome, All, Any, Contains, length, slice_get, slice_index, is_some, nat_eq, ◌&&◌, if◌then◌else◌}
 use Rattle.std.specs.{List.list_any, Option.option_map, Option.option_map_or}
 use Rattle.std.proofs.Common.{get_or, ap, arith, inl, inr, refl, subst, sym, true≢false, ◌∙◌}
 use Rattle.std.proofs.lemmas.{Option.get_or_from_slice_get, Option.slice_get_within, Bool.eqb-true, Bool.Decides.nat_tests, Map.Views.Contains-from_any}
-use Rattle.std.proofs.lemmas.List.Elements.{All-nil}
-use Rattle.decode80.specs.{Spelling.HasOperandInRange, Facts.flow, Fetch.FetchReadsCodeAlone, Fetch.ahead, Fetch.direct_bytes, declared.condition.Condition.Condition, declared.fetching.Fetched.Fetched, declared.flow.Flow.Flow, declared.instr.Instr.Instr}
+use Rattle.std.proofs.lemmas.List.Elements.{All-nil, Contains-get_or}
+use Rattle.decode80.specs.{Spelling.HasOperandInRange, Facts.flow, Facts.storing, Fetch.FetchReadsCodeAlone, Fetch.ahead, Fetch.direct_bytes, declared.condition.Condition.Condition, declared.fetching.Fetched.Fetched, declared.flow.Flow.Flow, declared.instr.Instr.Instr}
 use Rattle.decode80.specs.declared.flow.Flow.TheVariants.{Jumps, JumpsIf, JumpsToHl, Calls, CallsIf, Returns, ReturnsIf, Halts}
 use Rattle.decode80.specs.declared.instr.Instr.TheVariants.{Call, CallIf, Dad, Dcx, Ei, Hlt, In, Inx, Lxi, Out, Pchl, Pop, Push, Ret, ReturnIf, Rst, Sphl, Xthl}
 use Rattle.decode80.specs.declared.pair.Pair.TheVariants.{Sp}
@@ -13,23 +13,24 @@ use Rattle.image80.specs.{Range.in_range, Regions.AreRegions, Regions.Areas, Reg
 use Rattle.machine80.specs.{Cpu.hl_of, Flags.flags_byte, Flags.bit_of, Flags.holds as holds_of, Effects.byte_in, Effects.changed, Effects.goes_to, Effects.pointed_bytes, Effects.stack_bytes, Effects.stored, Effects.stores, Effects.target, Effects.touched_by, Effects.word_in, Run.world_of, declared.cpu.Cpu.Cpu, declared.flags.Flags.Flags}
 use Rattle.machine80.specs.Step.{Machine, guard, leads_outside, proceeded}
 use Rattle.machine80.specs.World.{IsJustBelow, World, is_return_taken, places_after}
-use Rattle.verify80.specs.Boards.{Anywhere, Disturbs, Executes, StaysInside, fetched_anywhere, respected_pointer, sets_sp, unguarded, LeavesProgram}
-use Rattle.verify80.specs.{LookLaws.fetch_at, Looking.halt_follows, Looking.is_declared}
+use Rattle.verify80.specs.Boards.{Disturbs, Executes, StaysInside, fetched_anywhere, respected_pointer, sets_sp, unguarded, LeavesProgram}
+use Rattle.verify80.specs.{LookLaws.fetch_at, Looking.declared_targets, Looking.halt_follows, Looking.is_declared, Looking.is_pchl as is_pchl_instr}
 use Rattle.decode80.specs.Spelling.{opcode}
 use Rattle.verify80_spans.specs.declared.byte_span.ByteSpan.{ByteSpan}
-use Rattle.verify80_spans.specs.Span.{Within, ByteWithin, any_byte, byte_alone, is_alone}
+use Rattle.verify80_spans.specs.Span.{Within, ByteWithin, IsInside, any_byte, byte_alone, is_alone}
 use Rattle.verify80_states.specs.{declared.states.known.Known.Known, Bytes.FetchedOperandsAreBounded, Bytes.HasBytes, Bytes.HoldsBytes, Bytes.IsBounded, Following.known_after, Given.given, QuietBoards.StaysQuiet, Steps.HasCode, Steps.ReadsCode, Steps.is_taken}
 use Rattle.verify80_states.specs.Known.{HoldsKnown, HoldsPair, HoldsTop, IsQuietKnown, any_pair, cut, nothing_known}
 use Rattle.verify80_states.specs.{Cells.IsQuietCell, declared.states.cells.Cell.Cell}
 use Rattle.verify80_states.specs.Laws.{ConditionsLeaveKnown, InstructionsAreFollowed, IsFollowedBy, KnownStaysQuiet, WhatHoldsOfBytes}
 use Rattle.verify80_states.specs.Invariants.{invariant_is_kept}
-use Rattle.verify80_follow.specs.declared.{followed.FollowedState.FollowedState, followed.Way.Way}
+use Rattle.verify80_follow.specs.declared.{followed.FollowedState.FollowedState, followed.Listed.Listed, followed.Way.Way}
 use Rattle.verify80_follow.specs.Stack.{AreBytesInside, HoldsFrom, HoldsStack, IsStackInside, bounds_of, if_true, moved_to, pointer_at, return_address, set_stack, stack_after, stack_then, top_of_stack, word_on}
 use Rattle.verify80_follow.specs.Follows.{CoversThen, Follows, FollowsBy, Has, IsWay, JumpsBy, LeadsTo, ReturnsLeft, ReturnsTo, StateFollows, first_stack, stack_of}
-use Rattle.verify80_follow.specs.Promise.{FollowedProgramsKeepThePromise, KeepsFollowed, KnowsWorld, PromiseOfFollowed}
+use Rattle.verify80_follow.specs.Promise.{FollowedProgramsKeepThePromise, GoesToListed, IsLeftOpenAt, KeepsFollowed, KnowsWorld, PromiseOfFollowed}
 use Rattle.verify80_follow.proofs.{GroundLemmas.Ground, FetchLemmas.anywhere_of, FetchLemmas.fetched_here, FetchLemmas.inside_of, StackSteps.stack_holds}
 use Rattle.verify80_follow.proofs.GuardLemmas.{Touches, all_of_list, passes_guard, touched}
 use Rattle.verify80_follow.proofs.StackLemmas.{any_within, byte_at, moved_holds, pointer_is, stays_from}
+use Rattle.verify80_follow.proofs.PointLemmas.{Points, not_outside, points_by, within_outer}
 
 -- small things
 one_of : {A : Type 0} (P : A → Type 0) (xs : List A) (k : ℕ) (x : A) → All P xs → slice_get xs k ≡ Some x → P x
@@ -198,8 +199,8 @@ pub record Laws : Type 0 where
   pub reads : FetchReadsCodeAlone
   pub bounded : FetchedOperandsAreBounded
 
-module _ (laws : Laws) (image : Located) (quiet : ℕ → Bool) (is_set : Bool) (ways : List Way) (table : List FollowedState) (bytes : ℕ) (rules : AreRegions image.regions) (ground : Ground image.regions)
-    (quiet_data : (at : ℕ) → quiet at ≡ true → in_data image.regions at ≡ true) (fits : Follows image quiet is_set ways table bytes) (few : bytes ≤ image.regions.stack.length) where
+module _ (laws : Laws) (image : Located) (quiet : ℕ → Bool) (is_set : Bool) (ways : List Way) (listed : Listed) (table : List FollowedState) (bytes : ℕ) (rules : AreRegions image.regions) (ground : Ground image.regions)
+    (quiet_data : (at : ℕ) → quiet at ≡ true → in_data image.regions at ≡ true) (fits : Follows image quiet is_set ways listed table bytes) (few : bytes ≤ image.regions.stack.length) where
   abbrev Knows : Bool → World → Type 0
   Knows set w = KnowsWorld image table set w
 
@@ -226,8 +227,8 @@ module _ (laws : Laws) (image : Located) (quiet : ℕ → Bool) (is_set : Bool) 
   begun start pc whole code held top = enters is_set (world_of start) nothing_known (first_stack is_set) (subst (λ n. Has table n nothing_known (first_stack is_set)) (sym pc) fits.start) (laws.holds start held).nothing (empty_at_top is_set start.cpu.sp start.memory top) held whole code
 
   -- what devices write leaves what is known
-  entry_of : (set : Bool) (w : World) (k : Knows set w) → StateFollows image quiet fits.code ways table bytes k.state
-  entry_of set w k = one_of (λ s. StateFollows image quiet fits.code ways table bytes s) table k.place k.state fits.states k.there
+  entry_of : (set : Bool) (w : World) (k : Knows set w) → StateFollows image quiet fits.code ways listed table bytes k.state
+  entry_of set w k = one_of (λ s. StateFollows image quiet fits.code ways listed table bytes s) table k.place k.state fits.states k.there
 
   stack_disturbed : (set : Bool) (w : World) (memory : List ℕ) (stack : Option (List ByteSpan)) → (leaves : LeavesProgram image.regions (respected_pointer image.regions set w) w.machine.memory memory) →
       IfSome stack (λ b. HoldsStack (bounds_of image) b w.machine.cpu.sp w.machine.memory × (set ≡ true)) → IfSome stack (λ b. HoldsStack (bounds_of image) b w.machine.cpu.sp memory × (set ≡ true))
@@ -266,7 +267,7 @@ module _ (laws : Laws) (image : Located) (quiet : ℕ → Bool) (is_set : Bool) 
     abbrev m : Machine
     m = w.machine
 
-    entry : StateFollows image quiet fits.code ways table bytes k.state
+    entry : StateFollows image quiet fits.code ways listed table bytes k.state
     entry = entry_of set w k
 
     abbrev found : Fetched
@@ -481,12 +482,50 @@ module _ (laws : Laws) (image : Located) (quiet : ℕ → Bool) (is_set : Bool) 
       halt_here : (at : ℕ) → halt_follows image.regions (memory_of image.chunks) at ≡ true → halt_follows image.regions m.memory at ≡ true
       halt_here at h = halt_by (in_code image.regions (ahead at 1)) at refl h
 
-    keeps : KeepsFollowed image Anywhere bytes ways w
+    -- where a store by a pair goes, and where HL goes that has declared targets
+    points : (address : ℕ) → Contains (pointed_bytes found.instr m.cpu.registers) address → Points (storing found.instr) k.state.known address
+    points address there = points_by (storing found.instr) k.state.known m.cpu.registers address k.known.registers there
+
+    pointed_at : (address : ℕ) (p : Points (storing found.instr) k.state.known address) → ((a : ℕ) → Within p.span a → in_data image.regions a ≡ true) ⊎ Any (λ store. (store.at ≡ k.state.at) × IsInside p.span store.span) listed.stores.items →
+        GoesToListed image.regions listed.stores.items m.cpu.pc address
+    pointed_at address p (inl inside) = inl (inside address p.within)
+    pointed_at address p (inr (j, store, inside, is, of)) = inr (j, store, inside, is, (of.0 ∙ k.at, within_outer p.span store.span address of.1 p.within))
+
+    pointed : All (GoesToListed image.regions listed.stores.items m.cpu.pc) (pointed_bytes found.instr m.cpu.registers)
+    pointed = λ j d inside. let address = get_or (pointed_bytes found.instr m.cpu.registers) j d in let p = points address (Contains-get_or (pointed_bytes found.instr m.cpu.registers) j d inside) in
+        pointed_at address p (entry.shown.stores p.span p.is)
+
+    declared : found.instr ≡ Pchl → is_declared image.regions m.cpu.pc ≡ true → Contains (declared_targets image.regions m.cpu.pc) (hl_of m.cpu.registers) ⊎ Contains listed.jumps.items m.cpu.pc
+    declared is some = by (entry.shown.jumps (ap is_pchl_instr is) (subst (λ n. is_declared image.regions n ≡ true) (sym k.at) some)) where
+      by : ((to : ℕ) → Within k.state.known.hl.words to → Contains (declared_targets image.regions k.state.at) to) ⊎ Contains listed.jumps.items k.state.at → Contains (declared_targets image.regions m.cpu.pc) (hl_of m.cpu.registers) ⊎ Contains listed.jumps.items m.cpu.pc
+      by (inl goes) = inl (subst (λ n. Contains (declared_targets image.regions n) (hl_of m.cpu.registers)) k.at (goes (hl_of m.cpu.registers) k.known.registers.hl.words))
+      by (inr there) = inr (subst (λ n. Contains listed.jumps.items n) k.at there)
+
+    -- so it stays inside, if it does where it is listed
+    stays_inside : (IsLeftOpenAt listed m.cpu.pc → StaysInside image.regions m found.instr) → StaysInside image.regions m found.instr
+    stays_inside if_listed = record { stores = λ j d inside. store_by j d inside (pointed j d inside); jumps = jump_by } where
+      store_by : (j d : ℕ) → j < length (pointed_bytes found.instr m.cpu.registers) → GoesToListed image.regions listed.stores.items m.cpu.pc (get_or (pointed_bytes found.instr m.cpu.registers) j d) →
+          in_data image.regions (get_or (pointed_bytes found.instr m.cpu.registers) j d) ≡ true
+      store_by j d inside (inl there) = there
+      store_by j d inside (inr (i, store, there, is, of)) = (if_listed (inl (i, store, there, is, of.0))).stores j d inside
+
+      jump_by : found.instr ≡ Pchl → leads_outside (targets_at image.regions m.cpu.pc) (hl_of m.cpu.registers) ≡ false
+      jump_by is = of (targets_at image.regions m.cpu.pc) refl where
+        of : (o : Option (List ℕ)) → targets_at image.regions m.cpu.pc ≡ o → leads_outside (targets_at image.regions m.cpu.pc) (hl_of m.cpu.registers) ≡ false
+        of None none = ap (λ (o : Option (List ℕ)). leads_outside o (hl_of m.cpu.registers)) none
+        of (Some targets) some = by (declared is (ap (λ (o : Option (List ℕ)). is_some o) some)) where
+          by : Contains (declared_targets image.regions m.cpu.pc) (hl_of m.cpu.registers) ⊎ Contains listed.jumps.items m.cpu.pc → leads_outside (targets_at image.regions m.cpu.pc) (hl_of m.cpu.registers) ≡ false
+          by (inl target) = not_outside (targets_at image.regions m.cpu.pc) (hl_of m.cpu.registers) target
+          by (inr there) = (if_listed (inr there)).jumps is
+
+    keeps : KeepsFollowed image bytes ways listed w
     keeps = record {
       found = found;
       anywhere = anywhere;
       of_image = inside_of image.regions (memory_of image.chunks) m.cpu.pc found (subst (λ n. fetch_at image.regions (memory_of image.chunks) n ≡ Ok found) k.at entry.executed.fetched);
       direct = direct;
+      pointed = pointed;
+      declared = declared;
       returning = λ taken. subst (λ n. IsWay image ways m.cpu.pc n) (sym (return_target (flow found.instr) found.next m.memory m.cpu taken)) (returning_by (flow found.instr) entry.follows taken);
       jumping = jumping;
       stack = stack_by (flow found.instr) refl entry.follows;
@@ -500,24 +539,24 @@ module _ (laws : Laws) (image : Located) (quiet : ℕ → Bool) (is_set : Bool) 
           };
     }
 
-    executes_found : (v : World) (by : Executes image.regions Anywhere w v) → by.found ≡ found → Knows (set || sets_sp by.found.instr) v
+    executes_found : (v : World) (by : Executes image.regions (IsLeftOpenAt listed) w v) → by.found ≡ found → Knows (set || sets_sp by.found.instr) v
     executes_found v by same = subst (λ (f : Fetched). Knows (set || sets_sp f.instr) v) (sym same)
         (subst (λ (u : World). Knows (set || sets_sp found.instr) u) (sym by.is)
         (lands by.byte by.after by.small inside goes (places_after by.found.instr by.found.next m.cpu.registers.flags w.places)
         (way_of (flow found.instr) refl (no_halt found.instr by.byte found.next m by.after goes) inside.jumps entry.follows))) where
           inside : StaysInside image.regions m found.instr
-          inside = subst (λ (f : Fetched). StaysInside image.regions m f.instr) same (by.inside tt)
+          inside = stays_inside (λ at. subst (λ (f : Fetched). StaysInside image.regions m f.instr) same (by.inside at))
 
           goes : unguarded found.instr by.byte found.next m ≡ Some by.after
           goes = subst (λ (f : Fetched). unguarded f.instr by.byte f.next m ≡ Some by.after) same by.goes
 
-  executes : (before : Bool) (w v : World) → Knows before w → (by : Executes image.regions Anywhere w v) → Knows (before || sets_sp by.found.instr) v
+  executes : (before : Bool) (w v : World) → Knows before w → (by : Executes image.regions (IsLeftOpenAt listed) w v) → Knows (before || sets_sp by.found.instr) v
   executes before w v k by = executes_found before w k v by (same_some _ _ (sym by.fetched ∙ anywhere before w k))
 
-  pub promise_is_kept : PromiseOfFollowed image quiet is_set ways bytes
+  pub promise_is_kept : PromiseOfFollowed image quiet is_set ways listed bytes
   promise_is_kept start pc whole code held top w set on =
-      invariant_is_kept image quiet Anywhere start is_set Knows (λ v. KeepsFollowed image Anywhere bytes ways v)
+      invariant_is_kept image quiet (IsLeftOpenAt listed) start is_set Knows (λ v. KeepsFollowed image bytes ways listed v)
       (record { begun = begun start pc whole code held top; disturbs = disturbs; executes = executes; keeps = λ s v k. keeps s v k }) w set on
 
 pub promise : Laws → ((regions : Areas) → AreRegions regions → Ground regions) → FollowedProgramsKeepThePromise
-promise laws ground image quiet is_set ways table bytes rules quiet_data fits few = promise_is_kept laws image quiet is_set ways table bytes rules (ground image.regions rules) quiet_data fits few
+promise laws ground image quiet is_set ways listed table bytes rules quiet_data fits few = promise_is_kept laws image quiet is_set ways listed table bytes rules (ground image.regions rules) quiet_data fits few

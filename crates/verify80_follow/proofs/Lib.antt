@@ -3,5 +3,7 @@ mod StackLemmas
 mod FetchLemmas
 mod GuardLemmas
 mod StackSteps
+mod PointLemmas
 mod FollowLemmas
 mod FitLemmas
+mod ReachLemmas

@@ -1,16 +1,19 @@
 -- A table of states that follows a program: the start is in it, and wherever an instruction leads from a state, what it makes of the state is covered
 -- there. There are no procedures: a call pushes a number, and a return goes to the number that the state knows. (This project's own.)
-use Rattle.std.specs.Prelude.{◌≡◌, ◌≤◌, ◌⊎◌, ℕ, Bool, true, false, List, [], All, Contains, Option, None, Some, Ok, IfSome, length, slice_get}
+use Rattle.std.specs.Prelude.{◌≡◌, ◌≤◌, ◌⊎◌, ℕ, Bool, true, false, List, [], All, Any, Contains, Option, None, Some, Ok, IfSome, length, slice_get}
 use Rattle.std.specs.Option.{option_map}
-use Rattle.decode80.specs.{declared.fetching.Fetched.Fetched, declared.flow.Flow.Flow, Facts.flow}
+use Rattle.decode80.specs.{declared.condition.Condition.Condition, declared.fetching.Fetched.Fetched, declared.flow.Flow.Flow, Facts.flow}
 use Rattle.decode80.specs.declared.flow.Flow.TheVariants.{Jumps, JumpsIf, JumpsToHl, Calls, CallsIf, Returns, ReturnsIf, Halts}
+use Rattle.decode80.specs.declared.instr.Instr.{Instr}
 use Rattle.decode80.specs.declared.instr.Instr.TheVariants.{Ei}
-use Rattle.image80.specs.{Image.Located, Image.memory_of}
-use Rattle.verify80.specs.{LookLaws.fetch_at, Looking.declared_targets, Looking.halt_follows, Looking.is_declared, Looking.stores_in_data}
+use Rattle.image80.specs.{Image.Located, Image.memory_of, Regions.Areas, Regions.in_data}
+use Rattle.verify80.specs.{LookLaws.fetch_at, Looking.declared_targets, Looking.halt_follows, Looking.is_declared, Looking.is_pchl, Looking.stores_in_data}
 use Rattle.verify80_spans.specs.declared.byte_span.ByteSpan.{ByteSpan}
-use Rattle.verify80_spans.specs.Span.{Within, ByteWithin, byte_alone, is_alone}
+use Rattle.verify80_spans.specs.declared.span.Span.{Span}
+use Rattle.verify80_spans.specs.Span.{Within, ByteWithin, IsInside, byte_alone, is_alone}
 use Rattle.verify80_states.specs.{declared.states.known.Known.Known, Known.IsKnownInside, Known.IsQuietKnown, Known.cut, Known.nothing_known, Given.given, Following.known_after, Steps.AreCodeBytes}
-use Rattle.verify80_follow.specs.declared.{followed.FollowedState.FollowedState, followed.Way.Way}
+use Rattle.verify80_stores.specs.Opening.{pointer_span}
+use Rattle.verify80_follow.specs.declared.{followed.FollowedState.FollowedState, followed.Listed.Listed, followed.Way.Way}
 use Rattle.verify80_follow.specs.Stack.{IsStackInside, bounds_of, return_address, stack_then, top_of_stack}
 
 -- the bytes of a state's stack
@@ -63,6 +66,10 @@ module _ (image : Located) (code : List (Option ℕ)) (ways : List Way) (table :
   abbrev pub LeadsTo : (taken : Bool) → (to : ℕ) → Option Known → Type 0
   LeadsTo taken to left = IfSome left (λ known. CoversThen taken to known)
 
+  -- of an instruction under a condition, as far as something is left with the condition and without it
+  abbrev pub LeadsIf : Condition → (to : ℕ) → Type 0
+  LeadsIf condition to = LeadsTo true to (given condition true s.known) × LeadsTo false found.next (given condition false s.known)
+
   -- a return that is taken goes where the state knows
   pub record ReturnsTo (known : Known) : Type 0 where
     pub stacked : List ByteSpan
@@ -87,10 +94,10 @@ module _ (image : Located) (code : List (Option ℕ)) (ways : List Way) (table :
 
   abbrev pub FollowsBy : Flow → Type 0
   FollowsBy (Jumps to) = LeadsTo false to (Some s.known)
-  FollowsBy (JumpsIf condition to) = LeadsTo true to (given condition true s.known) × LeadsTo false found.next (given condition false s.known)
+  FollowsBy (JumpsIf condition to) = LeadsIf condition to
   FollowsBy JumpsToHl = JumpsBy (is_declared image.regions s.at)
   FollowsBy (Calls to) = LeadsTo true to (Some s.known)
-  FollowsBy (CallsIf condition to) = LeadsTo true to (given condition true s.known) × LeadsTo false found.next (given condition false s.known)
+  FollowsBy (CallsIf condition to) = LeadsIf condition to
   FollowsBy Returns = ReturnsLeft (Some s.known)
   FollowsBy (ReturnsIf condition) = ReturnsLeft (given condition true s.known) × LeadsTo false found.next (given condition false s.known)
   FollowsBy Halts = Unit {0}
@@ -102,10 +109,19 @@ pub record IsExecuted (image : Located) (at : ℕ) (found : Fetched) : Type 0 wh
   pub stores : stores_in_data image.regions found.instr ≡ true
   pub halts : found.instr ≡ Ei → halt_follows image.regions (memory_of image.chunks) at ≡ true
 
+-- a store by a pair goes to data in a state, or it is listed with the state's addresses; and a PCHL with declared targets goes to one of them, or
+-- it is listed
+pub record IsShownOrListed (regions : Areas) (listed : Listed) (instr : Instr) (s : FollowedState) : Type 0 where
+  pub stores : (span : Span) → pointer_span instr s.known ≡ Some span →
+      ((address : ℕ) → Within span address → in_data regions address ≡ true) ⊎ Any (λ store. (store.at ≡ s.at) × IsInside span store.span) listed.stores.items
+  pub jumps : is_pchl instr ≡ true → is_declared regions s.at ≡ true →
+      ((to : ℕ) → Within s.known.hl.words to → Contains (declared_targets regions s.at) to) ⊎ Contains listed.jumps.items s.at
+
 -- a state fits the instruction at its address, which is the image's
-pub record StateFollows (image : Located) (quiet : ℕ → Bool) (code : List (Option ℕ)) (ways : List Way) (table : List FollowedState) (bytes : ℕ) (s : FollowedState) : Type 0 where
+pub record StateFollows (image : Located) (quiet : ℕ → Bool) (code : List (Option ℕ)) (ways : List Way) (listed : Listed) (table : List FollowedState) (bytes : ℕ) (s : FollowedState) : Type 0 where
   pub found : Fetched
   pub executed : IsExecuted image s.at found
+  pub shown : IsShownOrListed image.regions listed found.instr s
   pub follows : FollowsBy image code ways table bytes s found (flow found.instr)
   pub depth : IfSome (stack_of s) (λ stack. length stack ≤ bytes)
   pub knows : IsQuietKnown quiet s.known
@@ -116,8 +132,8 @@ first_stack true = Some []
 first_stack false = None
 
 -- a table follows an image, with no more bytes on the stack than these
-pub record Follows (image : Located) (quiet : ℕ → Bool) (is_set : Bool) (ways : List Way) (table : List FollowedState) (bytes : ℕ) : Type 0 where
+pub record Follows (image : Located) (quiet : ℕ → Bool) (is_set : Bool) (ways : List Way) (listed : Listed) (table : List FollowedState) (bytes : ℕ) : Type 0 where
   pub code : List (Option ℕ)
   pub are_code : AreCodeBytes image code
   pub start : Has table image.start nothing_known (first_stack is_set)
-  pub states : All (λ s. StateFollows image quiet code ways table bytes s) table
+  pub states : All (λ s. StateFollows image quiet code ways listed table bytes s) table

@@ -1,31 +1,45 @@
 -- What is promised of a program that a table follows, on every board whose devices leave quiet memory alone. (This project's own; what a board is and
 -- does stands in verify80, specs/Boards.)
-use Rattle.std.specs.Prelude.{◌≡◌, ◌≢◌, ◌≤◌, ◌<◌, ℕ, Bool, true, List, All, None, Some, IfSome, length, slice_get}
+use Rattle.std.specs.Prelude.{◌≡◌, ◌≢◌, ◌⊎◌, ◌≤◌, ◌<◌, ℕ, Bool, true, List, All, Any, Contains, None, Some, IfSome, length, slice_get}
 use Rattle.decode80.specs.{declared.fetching.Fetched.Fetched, Fetch.direct_bytes}
 use Rattle.decode80.specs.declared.instr.Instr.TheVariants.{Ei, Hlt, Pchl}
-use Rattle.image80.specs.{Regions.AreRegions, Regions.in_data, Regions.targets_at, Regions.top_of, Image.Located, Image.memory_of}
-use Rattle.machine80.specs.{Cpu.hl_of, Effects.stack_bytes, Effects.target, Step.Machine, Step.fetch, World.World, World.returns, World.IsJustBelow}
-use Rattle.verify80.specs.Looking.{halt_follows}
-use Rattle.verify80.specs.Boards.{IsFollowed, StaysInside, Anywhere, fetched_anywhere}
+use Rattle.image80.specs.{Regions.AreRegions, Regions.Areas, Regions.in_data, Regions.targets_at, Regions.top_of, Image.Located, Image.memory_of}
+use Rattle.machine80.specs.{Cpu.hl_of, Effects.pointed_bytes, Effects.stack_bytes, Effects.target, Step.Machine, Step.fetch, World.World, World.returns, World.IsJustBelow}
+use Rattle.verify80.specs.Looking.{declared_targets, halt_follows, is_declared}
+use Rattle.verify80.specs.Boards.{IsFollowed, StaysInside, fetched_anywhere}
+use Rattle.verify80_spans.specs.Span.{Within}
 use Rattle.verify80_states.specs.{Bytes.HoldsBytes, Known.HoldsKnown, QuietBoards.OnQuietBoard, Steps.HasCode}
-use Rattle.verify80_follow.specs.declared.{followed.FollowedState.FollowedState, followed.Way.Way}
+use Rattle.verify80_stores.specs.{declared.stores.OpenStore.OpenStore, Boards.IsListedAt}
+use Rattle.verify80_follow.specs.declared.{followed.FollowedState.FollowedState, followed.Listed.Listed, followed.Way.Way}
 use Rattle.verify80_follow.specs.{Stack.HoldsStack, Stack.bounds_of, Follows.Follows, Follows.IsWay, Follows.stack_of}
 
--- what is promised of each world: its next instruction is fetched inside code, and is the image's; it stores directly to data alone; a return that is
--- taken, and a PCHL without declared targets, goes behind a call or by a listed way; as stack it touches only a given number of bytes just below the
--- stack's top; if it is EI, the byte behind it is a HLT in the code; and unless it is HLT, the run goes on, whatever byte comes in
-pub record KeepsFollowed (image : Located) (listed : ℕ → Type 0) (bytes : ℕ) (ways : List Way) (w : World) : Type 0 where
+-- a store is listed at an address, or a PCHL is
+abbrev pub IsLeftOpenAt : Listed → ℕ → Type 0
+IsLeftOpenAt listed at = IsListedAt listed.stores.items listed.jumps.items at
+
+-- an address that the instruction at `at` stores to by a pair is data, or one of the addresses of a store that is listed there
+abbrev pub GoesToListed : Areas → List OpenStore → (at address : ℕ) → Type 0
+GoesToListed regions stores at address = (in_data regions address ≡ true) ⊎ Any (λ store. (store.at ≡ at) × Within store.span address) stores
+
+-- what is promised of each world: its next instruction is fetched inside code, and is the image's; it stores directly to data alone, and by a pair to
+-- data or where that is listed; a return that is taken, and a PCHL without declared targets, goes behind a call or by a listed way; a PCHL with declared
+-- targets is listed, or goes to one of them; as stack it touches only a given number of bytes just below the stack's top; if it is EI, the byte
+-- behind it is a HLT in the code; and unless it is HLT, the run goes on, whatever byte comes in, if it stays inside where it is listed
+pub record KeepsFollowed (image : Located) (bytes : ℕ) (ways : List Way) (listed : Listed) (w : World) : Type 0 where
   pub found : Fetched
   pub anywhere : fetched_anywhere w.machine.memory w.machine.cpu.pc ≡ Some found
   pub of_image : fetch image.regions (memory_of image.chunks) w.machine.cpu.pc ≡ Some found
   pub direct : All (λ address. in_data image.regions address ≡ true) (direct_bytes found.instr)
+  pub pointed : All (GoesToListed image.regions listed.stores.items w.machine.cpu.pc) (pointed_bytes found.instr w.machine.cpu.registers)
   pub returning : returns found.instr w.machine.cpu.registers.flags ≡ true →
       IsWay image ways w.machine.cpu.pc (target found.instr found.next w.machine.memory w.machine.cpu)
   pub jumping : found.instr ≡ Pchl → targets_at image.regions w.machine.cpu.pc ≡ None → IsWay image ways w.machine.cpu.pc (hl_of w.machine.cpu.registers)
+  pub declared : found.instr ≡ Pchl → is_declared image.regions w.machine.cpu.pc ≡ true →
+      Contains (declared_targets image.regions w.machine.cpu.pc) (hl_of w.machine.cpu.registers) ⊎ Contains listed.jumps.items w.machine.cpu.pc
   pub stack : All (λ address. IsJustBelow (top_of image.regions) bytes address) (stack_bytes found.instr w.machine.cpu)
   pub halts : found.instr ≡ Ei → halt_follows image.regions w.machine.memory w.machine.cpu.pc ≡ true
-  pub goes_on : found.instr ≢ Hlt → (listed w.machine.cpu.pc → StaysInside image.regions w.machine found.instr) →
-      (byte : ℕ) → byte < 256 → IsFollowed image.regions listed byte w
+  pub goes_on : found.instr ≢ Hlt → (IsLeftOpenAt listed w.machine.cpu.pc → StaysInside image.regions w.machine found.instr) →
+      (byte : ℕ) → byte < 256 → IsFollowed image.regions (IsLeftOpenAt listed) byte w
 
 -- a state of the table holds of a world; as long as SP isn't set, nothing is known of the stack
 pub record KnowsWorld (image : Located) (table : List FollowedState) (set : Bool) (w : World) : Type 0 where
@@ -40,13 +54,13 @@ pub record KnowsWorld (image : Located) (table : List FollowedState) (set : Bool
   pub code : HasCode image w.machine.memory
 
 -- On every board whose devices leave quiet addresses as they are, from the image's start, with SP at the stack's top or anywhere, whatever registers and flags are and memory outside the
--- code holds: up to the first store through a pair outside data, or PCHL outside its declared targets, a program that a table follows keeps that
--- promise.
-abbrev pub PromiseOfFollowed : Located → (quiet : ℕ → Bool) → (is_set : Bool) → List Way → (bytes : ℕ) → Type 0
-PromiseOfFollowed image quiet is_set ways bytes = (start : Machine) → start.cpu.pc ≡ image.start → length start.memory ≡ 65536 → HasCode image start.memory → HoldsBytes start →
-    (is_set ≡ true → start.cpu.sp ≡ top_of image.regions) → (w : World) (set : Bool) → OnQuietBoard image.regions quiet Anywhere start is_set set w → KeepsFollowed image Anywhere bytes ways w
+-- code holds: up to the first step at a listed address that stores outside data or jumps by HL to none of its declared targets, a program that a
+-- table follows keeps that promise. If nothing is listed, that is each world of the run.
+abbrev pub PromiseOfFollowed : Located → (quiet : ℕ → Bool) → (is_set : Bool) → List Way → Listed → (bytes : ℕ) → Type 0
+PromiseOfFollowed image quiet is_set ways listed bytes = (start : Machine) → start.cpu.pc ≡ image.start → length start.memory ≡ 65536 → HasCode image start.memory → HoldsBytes start →
+    (is_set ≡ true → start.cpu.sp ≡ top_of image.regions) → (w : World) (set : Bool) → OnQuietBoard image.regions quiet (IsLeftOpenAt listed) start is_set set w → KeepsFollowed image bytes ways listed w
 
 abbrev pub FollowedProgramsKeepThePromise : Type 0
-FollowedProgramsKeepThePromise = (image : Located) (quiet : ℕ → Bool) (is_set : Bool) (ways : List Way) (table : List FollowedState) (bytes : ℕ) → AreRegions image.regions →
-    ((at : ℕ) → quiet at ≡ true → in_data image.regions at ≡ true) → Follows image quiet is_set ways table bytes → bytes ≤ image.regions.stack.length →
-    PromiseOfFollowed image quiet is_set ways bytes
+FollowedProgramsKeepThePromise = (image : Located) (quiet : ℕ → Bool) (is_set : Bool) (ways : List Way) (listed : Listed) (table : List FollowedState) (bytes : ℕ) → AreRegions image.regions →
+    ((at : ℕ) → quiet at ≡ true → in_data image.regions at ≡ true) → Follows image quiet is_set ways listed table bytes → bytes ≤ image.regions.stack.length →
+    PromiseOfFollowed image quiet is_set ways listed bytes

@@ -1,28 +1,30 @@
 //! Whether a table of states follows an image.
 
-ghost use Rattle.std.specs.Prelude.{◌≡◌, ◌≤◌, ℕ, Bool, false, true, All, Contains, IfOk, IfSome, length};
+ghost use Rattle.std.specs.Prelude.{◌≡◌, ◌⊎◌, ◌≤◌, ℕ, Bool, false, true, All, Any, Contains, IfOk, IfSome, Ok, length};
 ghost use Rattle.std.specs.Option.{option_map};
 ghost use Rattle.image80.specs.{Image.memory_of, Regions.AreRegions, Regions.in_data};
-ghost use Rattle.verify80_spans.specs.Span.{Within, ByteWithin, byte_alone};
-ghost use Rattle.verify80_states.specs.{Known.cut, Known.nothing_known, Following.known_after, Marks.is_marked, Steps.AreCodeBytes};
-ghost use Rattle.verify80_follow.specs.Follows.{Covers, CoversStack, CoversThen, FollowsBy, Has, IsBehindCall, IsWay, JumpsBy, JumpsByNumber, LeadsTo, ReturnsLeft, ReturnsTo, StateFollows, first_stack, is_call};
+ghost use Rattle.verify80_spans.specs.Span.{Within, ByteWithin, IsInside, byte_alone};
+ghost use Rattle.verify80_states.specs.{Known.cut, Known.nothing_known, Following.known_after, Marks.is_marked, QuietBoards.is_quiet, Steps.AreCodeBytes};
+ghost use Rattle.verify80_follow.specs.Follows.{Covers, CoversStack, CoversThen, FollowsBy, Has, IsBehindCall, IsWay, JumpsBy, IsShownOrListed, JumpsByNumber, LeadsIf, LeadsTo, ReturnsLeft, ReturnsTo, StateFollows, first_stack, is_call};
 ghost use Rattle.verify80_follow.specs.Promise.{PromiseOfFollowed};
 ghost use Rattle.verify80_follow.specs.Stack.{after_of, bounds_of};
 ghost use Rattle.decode80.specs.{Facts.flow, declared.flow.Flow.TheVariants.JumpsToHl};
-ghost use Rattle.verify80.specs.Looking.{is_declared};
+ghost use Rattle.verify80.specs.{LookLaws.fetch_at, Looking.declared_targets, Looking.is_declared};
+ghost use Rattle.verify80_stores.specs.DataReach.{AreDataEnds};
 
-use crate::followed::{FollowedState, Way};
+use crate::followed::{FollowedState, Listed, Way};
 use crate::laws::followed_programs_keep_the_promise;
 use crate::stack::{
     StackAfter, StackBounds, is_stack_inside, return_address, stack_then, top_of_stack,
 };
-use decode80::{Fetched, Flow, behind, fetch};
+use decode80::{Condition, Fetched, Flow, Instr, behind, fetch};
 use frames80::{Code, LookFault};
-use image80::Image;
+use image80::{Image, Range, Regions};
 use std::alloc::{AllocError, Global};
 use verify80::{ImageCode, looks_are_exact};
 use verify80_spans::ByteSpan;
-use verify80_states::{APART, Known, given, known_after};
+use verify80_states::{APART, Known, Span, code_bytes, given, known_after, mark_quiet};
+use verify80_stores::{find_data_ends, is_all_data, is_target, pointer_span};
 
 /// A table of states, as a search proposes it.
 #[derive(Debug, Drop)]
@@ -33,6 +35,8 @@ pub struct Table {
     pub hints: Vec<u32>,
     /// Where returns, and PCHLs without declared targets, go beside the addresses behind calls.
     pub ways: Vec<Way>,
+    /// The stores and jumps that the states leave open.
+    pub listed: Listed,
     /// How many bytes the stack has, at most.
     pub bytes: u16,
 }
@@ -43,13 +47,68 @@ struct Fit<'a> {
     table: &'a [FollowedState],
     hints: &'a [u32],
     ways: &'a [Way],
+    listed: &'a Listed,
     bytes: u16,
     /// The bytes of code, by address.
     code: &'a [Option<u8>],
     /// The image, address by address.
     program: &'a ImageCode<'a>,
+    /// The regions of the image.
+    regions: &'a Regions,
+    /// For each address the first one from there on that is not data.
+    ends: &'a [u32],
     /// Marks of the quiet addresses.
     quiet: &'a [bool],
+}
+
+/// A state with the instruction at its address.
+#[derive(Clone, Copy)]
+struct Standing<'a> {
+    state: &'a FollowedState,
+    found: Fetched,
+}
+
+/// A way on from a state: where it leads, whether a call or return is taken on it, and which hint names the states there.
+#[derive(Clone, Copy)]
+struct Onward {
+    hint: u32,
+    taken: bool,
+    to: u16,
+}
+
+impl Standing<'_> {
+    /// The way of a jump, call or return that is taken to an address, by the state's first hint.
+    fn taken(&self, to: u16) -> Onward
+        ensures taken { result.taken ≡ true }
+        ensures to { result.to ≡ to }
+    {
+        Onward {
+            hint: self.state.hint,
+            taken: true,
+            to,
+        }
+    }
+
+    /// The way of a jump to an address, by the hint at this place of the state's.
+    fn jumped(&self, place: usize, to: u16) -> Onward
+        ensures taken { result.taken ≡ false }
+        ensures to { result.to ≡ to }
+    {
+        let place = u32::try_from(place).unwrap_or(u32::MAX);
+        Onward {
+            hint: self.state.hint.saturating_add(place),
+            taken: false,
+            to,
+        }
+    }
+
+    /// The way to the next instruction, by the hint at this place of the state's.
+    fn passed(&self, place: usize) -> Onward
+        ensures taken { result.taken ≡ false }
+        ensures to { result.to ≡ self.now.found.next }
+    {
+        self.jumped(place, self.found.next)
+    }
 }
 
 impl Fit<'_> {
@@ -108,25 +167,22 @@ impl Fit<'_> {
         true
     }
 
-    /// Whether a hint names states at `to` that together say no more than what the instruction at a state makes of `known`, its call or
-    /// return taken or not.
+    /// Whether a way's hint names states that together say no more than what the instruction at a state makes of `known` on that way.
     fn covers_then(
         &self,
         alloc: Global,
-        state: &FollowedState,
-        found: Fetched,
-        hint: u32,
-        taken: bool,
-        to: u16,
+        here: Standing<'_>,
+        way: Onward,
         known: Known,
     ) -> Result<bool, AllocError>
-        ensures { IfOk result (λ covers. covers ≡ true → CoversThen self.now.program.now self.now.code.now self.now.ways.now self.now.table.now self.now.bytes state.now found taken to known) }
+        ensures { IfOk result (λ covers. covers ≡ true → CoversThen self.now.program.now self.now.code.now self.now.ways.now self.now.table.now self.now.bytes here.entry.state.now here.entry.found way.taken way.to known) }
     {
+        let Standing { state, found } = here;
         let bounds = self.bounds();
         let top = top_of_stack(bounds, state.bytes());
         let after = known_after(self.code, found.instr, top, known);
-        let stack = stack_then(alloc, bounds, found, taken, known, state.bytes())?;
-        let covers = self.covers_stack(hint, to, after, &stack);
+        let stack = stack_then(alloc, bounds, found, way.taken, known, state.bytes())?;
+        let covers = self.covers_stack(way.hint, way.to, after, &stack);
         Ok(covers)
     }
 
@@ -153,23 +209,38 @@ impl Fit<'_> {
         }
     }
 
-    /// The same of what is left of a state; true if nothing is.
+    /// Whether a way's hint names states that cover what is left of a state on that way; true if nothing is left.
     fn leads_to(
         &self,
         alloc: Global,
-        state: &FollowedState,
-        found: Fetched,
-        hint: u32,
-        taken: bool,
-        to: u16,
+        here: Standing<'_>,
+        way: Onward,
         left: Option<Known>,
     ) -> Result<bool, AllocError>
-        ensures { IfOk result (λ leads. leads ≡ true → LeadsTo self.now.program.now self.now.code.now self.now.ways.now self.now.table.now self.now.bytes state.now found taken to left) }
+        ensures { IfOk result (λ leads. leads ≡ true → LeadsTo self.now.program.now self.now.code.now self.now.ways.now self.now.table.now self.now.bytes here.entry.state.now here.entry.found way.taken way.to left) }
     {
         match left {
             None => Ok(true),
-            Some(known) => self.covers_then(alloc, state, found, hint, taken, to, known),
+            Some(known) => self.covers_then(alloc, here, way, known),
         }
+    }
+
+    /// Whether a jump or call under a condition is covered where it leads and behind it.
+    fn leads_if(
+        &self,
+        alloc: Global,
+        here: Standing<'_>,
+        condition: Condition,
+        to: u16,
+    ) -> Result<bool, AllocError>
+        ensures { IfOk result (λ leads. leads ≡ true → LeadsIf self.now.program.now self.now.code.now self.now.ways.now self.now.table.now self.now.bytes here.entry.state.now here.entry.found condition to) }
+    {
+        let known = here.state.known;
+        let taken = self.leads_to(alloc, here, here.taken(to), given(condition, true, known))?;
+        if !taken {
+            return Ok(false);
+        }
+        self.leads_to(alloc, here, here.passed(1), given(condition, false, known))
     }
 
     /// Whether the code has a call at an address that returns to another.
@@ -208,59 +279,42 @@ impl Fit<'_> {
     fn returns_to(
         &self,
         alloc: Global,
-        state: &FollowedState,
-        found: Fetched,
+        here: Standing<'_>,
         left: Option<Known>,
     ) -> Result<bool, AllocError>
-        ensures { IfOk result (λ returns. returns ≡ true → ReturnsLeft self.now.program.now self.now.code.now self.now.ways.now self.now.table.now self.now.bytes state.now found left) }
+        ensures { IfOk result (λ returns. returns ≡ true → ReturnsLeft self.now.program.now self.now.code.now self.now.ways.now self.now.table.now self.now.bytes here.entry.state.now here.entry.found left) }
     {
         let Some(known) = left else {
             return Ok(true);
         };
+        let state = here.state;
         match state.bytes().and_then(return_address) {
             Some(to) if self.is_way(state.hint.saturating_add(1), state.at, to) => {
-                self.covers_then(alloc, state, found, state.hint, true, to, known)
+                self.covers_then(alloc, here, here.taken(to), known)
             }
             _ => Ok(false),
         }
     }
 
     /// Whether a PCHL without declared targets goes where HL is known to be, may go there, and the state is covered there.
-    fn jumps_by_number(
-        &self,
-        alloc: Global,
-        state: &FollowedState,
-        found: Fetched,
-    ) -> Result<bool, AllocError>
-        ensures { IfOk result (λ jumps. jumps ≡ true → JumpsByNumber self.now.program.now self.now.code.now self.now.ways.now self.now.table.now self.now.bytes state.now found) }
+    fn jumps_by_number(&self, alloc: Global, here: Standing<'_>) -> Result<bool, AllocError>
+        ensures { IfOk result (λ jumps. jumps ≡ true → JumpsByNumber self.now.program.now self.now.code.now self.now.ways.now self.now.table.now self.now.bytes here.entry.state.now here.entry.found) }
     {
+        let state = here.state;
         let words = state.known.hl.words;
         if !words.is_alone() || !self.is_way(state.hint.saturating_add(1), state.at, words.first) {
             return Ok(false);
         }
-        self.covers_then(
-            alloc,
-            state,
-            found,
-            state.hint,
-            false,
-            words.first,
-            state.known,
-        )
+        self.covers_then(alloc, here, here.jumped(0, words.first), state.known)
     }
 
     /// Whether a PCHL is covered at each of its declared targets that HL may be.
-    fn jumps_to_each(
-        &self,
-        alloc: Global,
-        state: &FollowedState,
-        found: Fetched,
-    ) -> Result<bool, AllocError>
-        ensures { IfOk result (λ jumps. jumps ≡ true → JumpsBy self.now.program.now self.now.code.now self.now.ways.now self.now.table.now self.now.bytes state.now found true) }
+    fn jumps_to_each(&self, alloc: Global, here: Standing<'_>) -> Result<bool, AllocError>
+        ensures { IfOk result (λ jumps. jumps ≡ true → JumpsBy self.now.program.now self.now.code.now self.now.ways.now self.now.table.now self.now.bytes here.entry.state.now here.entry.found true) }
     {
-        let targets = self.program.targets(state.at);
+        let targets = self.program.targets(here.state.at);
         for place in 0..targets.len() {
-            if !self.covers_target(alloc, state, found, place, targets[place])? {
+            if !self.covers_target(alloc, here, place, targets[place])? {
                 return Ok(false);
             }
         }
@@ -271,115 +325,132 @@ impl Fit<'_> {
     fn covers_target(
         &self,
         alloc: Global,
-        state: &FollowedState,
-        found: Fetched,
+        here: Standing<'_>,
         place: usize,
         to: u16,
     ) -> Result<bool, AllocError>
-        ensures { IfOk result (λ covers. covers ≡ true → Within state.now.known.hl.words to → CoversThen self.now.program.now self.now.code.now self.now.ways.now self.now.table.now self.now.bytes state.now found false to state.now.known) }
+        ensures { IfOk result (λ covers. covers ≡ true → Within here.entry.state.now.known.hl.words to → CoversThen self.now.program.now self.now.code.now self.now.ways.now self.now.table.now self.now.bytes here.entry.state.now here.entry.found false to here.entry.state.now.known) }
     {
-        let words = state.known.hl.words;
-        let hint = state
-            .hint
-            .saturating_add(u32::try_from(place).unwrap_or(u32::MAX));
+        let known = here.state.known;
+        let words = known.hl.words;
         if !(words.first <= to && to <= words.last) {
             return Ok(true);
         }
-        self.covers_then(alloc, state, found, hint, false, to, state.known)
+        self.covers_then(alloc, here, here.jumped(place, to), known)
     }
 
     /// Whether what an instruction makes of a state is covered wherever it leads; `by_targets` says whether targets are declared for a PCHL.
     fn follows_by(
         &self,
         alloc: Global,
-        state: &FollowedState,
-        found: Fetched,
+        here: Standing<'_>,
         by_targets: bool,
     ) -> Result<bool, AllocError>
-        requires declared { flow found.instr ≡ JumpsToHl → is_declared self.now.program.now.regions state.now.at ≡ by_targets }
-        ensures { IfOk result (λ follows. follows ≡ true → FollowsBy self.now.program.now self.now.code.now self.now.ways.now self.now.table.now self.now.bytes state.now found (flow found.instr)) }
+        requires declared { flow here.found.instr ≡ JumpsToHl → is_declared self.now.program.now.regions here.state.now.at ≡ by_targets }
+        ensures { IfOk result (λ follows. follows ≡ true → FollowsBy self.now.program.now self.now.code.now self.now.ways.now self.now.table.now self.now.bytes here.entry.state.now here.entry.found (flow here.entry.found.instr)) }
     {
-        let known = state.known;
-        let next = found.next;
-        let second = state.hint.saturating_add(1);
-        match found.instr.flow() {
-            Flow::Jumps(to) => self.leads_to(
-                alloc,
-                state,
-                found,
-                state.hint,
-                false,
-                to,
-                Some(known),
-            ),
-            Flow::Calls(to) => self.leads_to(
-                alloc,
-                state,
-                found,
-                state.hint,
-                true,
-                to,
-                Some(known),
-            ),
+        let known = here.state.known;
+        match here.found.instr.flow() {
+            Flow::Jumps(to) => self.leads_to(alloc, here, here.jumped(0, to), Some(known)),
+            Flow::Calls(to) => self.leads_to(alloc, here, here.taken(to), Some(known)),
             Flow::JumpsIf(condition, to) | Flow::CallsIf(condition, to) => {
-                if !self.leads_to(
-                    alloc,
-                    state,
-                    found,
-                    state.hint,
-                    true,
-                    to,
-                    given(condition, true, known),
-                )? {
-                    return Ok(false);
-                }
-                self.leads_to(
-                    alloc,
-                    state,
-                    found,
-                    second,
-                    false,
-                    next,
-                    given(condition, false, known),
-                )
+                self.leads_if(alloc, here, condition, to)
             }
-            Flow::JumpsToHl if by_targets => self.jumps_to_each(alloc, state, found),
-            Flow::JumpsToHl => self.jumps_by_number(alloc, state, found),
-            Flow::Returns => self.returns_to(alloc, state, found, Some(known)),
+            Flow::JumpsToHl if by_targets => self.jumps_to_each(alloc, here),
+            Flow::JumpsToHl => self.jumps_by_number(alloc, here),
+            Flow::Returns => self.returns_to(alloc, here, Some(known)),
             Flow::ReturnsIf(condition) => {
-                if !self.returns_to(alloc, state, found, given(condition, true, known))? {
+                if !self.returns_to(alloc, here, given(condition, true, known))? {
                     return Ok(false);
                 }
-                let third = state.hint.saturating_add(2);
-                self.leads_to(
-                    alloc,
-                    state,
-                    found,
-                    third,
-                    false,
-                    next,
-                    given(condition, false, known),
-                )
+                self.leads_to(alloc, here, here.passed(2), given(condition, false, known))
             }
             Flow::Halts => Ok(true),
             Flow::Continues | Flow::Pushes | Flow::Pops | Flow::Exchanges => {
-                self.leads_to(alloc, state, found, state.hint, false, next, Some(known))
+                self.leads_to(alloc, here, here.passed(0), Some(known))
             }
+        }
+    }
+
+    /// Whether the instruction at a state stores by a pair to data, and jumps to a declared target if such are declared, or is listed.
+    fn is_shown(&self, state: &FollowedState) -> bool
+        requires ends { AreDataEnds self.now.regions.now self.now.ends.now }
+        ensures { result ≡ true → (found : Fetched) → fetch_at self.now.program.now.regions (memory_of self.now.program.now.chunks) state.now.at ≡ Ok found →
+            IsShownOrListed self.now.regions.now self.now.listed.now found.instr state.now }
+    {
+        match fetch(state.at, self.program) {
+            Ok(found) => self.is_shown_or_listed(found.instr, state),
+            Err(_) => true,
+        }
+    }
+
+    /// Whether an instruction in a state stores by a pair to data, and jumps to a declared target if such are declared, or is listed.
+    fn is_shown_or_listed(&self, instr: Instr, state: &FollowedState) -> bool
+        requires ends { AreDataEnds self.now.regions.now self.now.ends.now }
+        ensures { result ≡ true → IsShownOrListed self.now.regions.now self.now.listed.now instr state.now }
+    {
+        match pointer_span(instr, state.known) {
+            Some(span) => {
+                is_all_data(self.regions, self.ends, span) || self.lists_store(state.at, span)
+            }
+            None => !matches!(instr, Instr::Pchl) || self.jumps_as_listed(state),
+        }
+    }
+
+    /// Whether a store is listed at an address with each of these addresses.
+    fn lists_store(&self, at: u16, span: Span) -> bool
+        ensures { result ≡ true → Any (λ store. (store.at ≡ at) × IsInside span store.span) self.now.listed.now.stores.items }
+    {
+        let stores = self.listed.stores.as_slice();
+        let place = stores.partition_point(|store| store.at < at);
+        match stores.get(place) {
+            Some(store) => store.at == at && span.is_inside(store.span),
+            None => false,
+        }
+    }
+
+    /// Whether HL is a declared target at a state, if such are declared there, or the PCHL is listed.
+    fn jumps_as_listed(&self, state: &FollowedState) -> bool
+        ensures { result ≡ true → is_declared self.now.regions.now state.now.at ≡ true →
+            ((to : ℕ) → Within state.now.known.hl.words to → Contains (declared_targets self.now.regions.now state.now.at) to) ⊎ Contains self.now.listed.now.jumps.items state.now.at }
+    {
+        match self.regions.targets(state.at) {
+            Some(targets) => {
+                is_target(targets, state.known.hl.words) || self.lists_jump(state.at)
+            }
+            None => true,
+        }
+    }
+
+    /// Whether a PCHL is listed.
+    fn lists_jump(&self, at: u16) -> bool
+        ensures { result ≡ true → Contains self.now.listed.now.jumps.items at }
+    {
+        let jumps = self.listed.jumps.as_slice();
+        let place = jumps.partition_point(|jump| *jump < at);
+        match jumps.get(place) {
+            Some(jump) => *jump == at,
+            None => false,
         }
     }
 
     /// Whether a state fits the instruction at its address.
     fn state_follows(&self, alloc: Global, state: &FollowedState) -> Result<bool, AllocError>
-        ensures { IfOk result (λ follows. follows ≡ true → StateFollows self.now.program.now (is_marked self.now.quiet.now) self.now.code.now self.now.ways.now self.now.table.now self.now.bytes state.now) }
+        requires regions { self.now.regions.now ≡ self.now.program.now.regions }
+        requires ends { AreDataEnds self.now.regions.now self.now.ends.now }
+        ensures { IfOk result (λ follows. follows ≡ true → StateFollows self.now.program.now (is_marked self.now.quiet.now) self.now.code.now self.now.ways.now self.now.listed.now self.now.table.now self.now.bytes state.now) }
     {
         looks_are_exact();
-        if !state.known.is_quiet(self.quiet) || !is_within(state.bytes(), self.bytes) {
+        if !state.known.is_quiet(self.quiet)
+            || !is_within(state.bytes(), self.bytes)
+            || !self.is_shown(state)
+        {
             return Ok(false);
         }
         match self.program.look(state.at) {
-            Ok(found) => self.follows_by(alloc, state, found, true),
+            Ok(found) => self.follows_by(alloc, Standing { state, found }, true),
             Err(LookFault::Pchl) => match fetch(state.at, self.program) {
-                Ok(found) => self.follows_by(alloc, state, found, false),
+                Ok(found) => self.follows_by(alloc, Standing { state, found }, false),
                 Err(_) => Ok(false),
             },
             Err(_) => Ok(false),
@@ -388,7 +459,9 @@ impl Fit<'_> {
 
     /// Whether each state of the table fits.
     fn all_follow(&self, alloc: Global) -> Result<bool, AllocError>
-        ensures { IfOk result (λ follow. follow ≡ true → All (λ s. StateFollows self.now.program.now (is_marked self.now.quiet.now) self.now.code.now self.now.ways.now self.now.table.now self.now.bytes s) self.now.table.now) }
+        requires regions { self.now.regions.now ≡ self.now.program.now.regions }
+        requires ends { AreDataEnds self.now.regions.now self.now.ends.now }
+        ensures { IfOk result (λ follow. follow ≡ true → All (λ s. StateFollows self.now.program.now (is_marked self.now.quiet.now) self.now.code.now self.now.ways.now self.now.listed.now self.now.table.now self.now.bytes s) self.now.table.now) }
     {
         for place in 0..self.table.len() {
             if !self.state_follows(alloc, &self.table[place])? {
@@ -416,14 +489,31 @@ fn is_within(bytes: Option<&[ByteSpan]>, most: u16) -> bool
     }
 }
 
-/// Whether a table follows an image, so that every run of the image on a board that leaves quiet memory alone keeps the promise.
+/// Whether a table follows an image, so that every run of the image on a board that leaves the quiet addresses alone keeps the promise: those
+/// of data in the ranges `quiet`.
 ///
-/// `code` has the image's code by address, and `quiet` marks the quiet addresses. `is_set` says whether SP is at the stack's top when a run
-/// begins; else it may be anywhere.
+/// `is_set` says whether SP is at the stack's top when a run begins; else it may be anywhere.
 ///
 /// # Errors
 /// `AllocError` if memory runs out.
 pub fn follows(
+    alloc: Global,
+    image: &Image,
+    table: &Table,
+    quiet: &[Range],
+    is_set: bool,
+) -> Result<bool, AllocError>
+    ensures promise { IfOk result (λ follows. follows ≡ true →
+        PromiseOfFollowed image.now (is_quiet image.now.regions quiet.now) is_set table.now.ways.items table.now.listed table.now.bytes) }
+{
+    image.regions.stack();
+    let code = code_bytes(alloc, image)?;
+    let marks = mark_quiet(alloc, &image.regions, quiet)?;
+    follows_marked(alloc, image, table, &code, &marks, is_set)
+}
+
+/// Whether a table follows an image, with the image's code by address, and marks of the quiet addresses.
+fn follows_marked(
     alloc: Global,
     image: &Image,
     table: &Table,
@@ -434,17 +524,21 @@ pub fn follows(
     requires rules { AreRegions image.now.regions }
     requires code { AreCodeBytes image.now code.now }
     requires quiet { (at : ℕ) → is_marked quiet.now at ≡ true → in_data image.now.regions at ≡ true }
-    ensures promise { IfOk result (λ follows. follows ≡ true → PromiseOfFollowed image.now (is_marked quiet.now) is_set table.now.ways.items table.now.bytes) }
+    ensures promise { IfOk result (λ follows. follows ≡ true → PromiseOfFollowed image.now (is_marked quiet.now) is_set table.now.ways.items table.now.listed table.now.bytes) }
 {
     followed_programs_keep_the_promise();
     let program = ImageCode::new(alloc, image)?;
+    let ends = find_data_ends(alloc, &image.regions)?;
     let fit = Fit {
         table: &table.states,
         hints: &table.hints,
         ways: &table.ways,
+        listed: &table.listed,
         bytes: table.bytes,
         code,
         program: &program,
+        regions: &image.regions,
+        ends: &ends,
         quiet,
     };
     if table.bytes > program.stack() || !fit.has_start(program.start(), is_set) {

@@ -2,6 +2,7 @@
 
 use verify80_spans::ByteSpan;
 use verify80_states::Known;
+use verify80_stores::OpenStore;
 
 /// What is known of a machine before the instruction at an address.
 #[derive(Debug, Drop)]
@@ -21,6 +22,15 @@ pub struct Way {
     /// The address of the return or PCHL.
     pub at: u16,
     pub to: u16,
+}
+
+/// The stores and jumps by register pairs that a table leaves open, each list by address.
+#[derive(Debug, Drop)]
+pub struct Listed {
+    /// The stores that may leave data: each with the addresses that it may have.
+    pub stores: Vec<OpenStore>,
+    /// The PCHLs with declared targets that may go elsewhere.
+    pub jumps: Vec<u16>,
 }
 
 impl FollowedState {

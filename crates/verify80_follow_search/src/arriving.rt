@@ -27,7 +27,7 @@ pub(crate) struct Arrival {
 }
 
 impl Arrival {
-    /// The same with one byte alone in A, which is marked.
+    /// A state with one byte alone in A, which is marked.
     ///
     /// # Errors
     /// `AllocError` if memory runs out.

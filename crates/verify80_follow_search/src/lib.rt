@@ -16,6 +16,7 @@ mod arriving;
 mod growing;
 mod marks;
 mod nodes;
+mod opening;
 mod program;
 mod searching;
 mod stop;

@@ -13,7 +13,7 @@ pub(crate) const NOWHERE: u32 = u32::MAX;
 /// How many states there are, at most.
 const STATES: usize = 262_144;
 /// How many bytes they have, at most, all together.
-const BYTES: usize = 16_777_216;
+const BYTES: usize = 8_388_608;
 
 /// A number as a place of a list.
 pub(crate) fn place_of(number: usize) -> u32 {

@@ -3,6 +3,7 @@
 use crate::stop::StopReason;
 use decode80::{Fetched, Flow, Instr, ahead, behind, fetch};
 use frames80::{Code, LookFault};
+use image80::Regions;
 use verify80::ImageCode;
 use verify80_follow::{FollowedState, return_address};
 use verify80_states::{Known, Span, given};
@@ -11,6 +12,7 @@ use verify80_states::{Known, Span, given};
 #[derive(Clone, Copy)]
 pub(crate) struct FollowedProgram<'a> {
     pub image: &'a ImageCode<'a>,
+    pub regions: &'a Regions,
     /// The bytes of code, by address.
     pub code: &'a [Option<u8>],
     /// Marks of the quiet addresses.

@@ -3,25 +3,27 @@
 use crate::program::FollowedProgram;
 use crate::stop::{SearchResult, Stop, StopReason};
 use crate::trial::{WAYS, follow_from};
-use image80::Image;
+use image80::{Image, Range};
 use std::alloc::{AllocError, Global};
 use verify80::ImageCode;
+use verify80_states::{code_bytes, mark_quiet};
 
 /// Whether addresses that LXI names and few bytes of A tell states apart, in one trial after the other.
 const TRIALS: [(bool, bool); 4] = [(false, false), (true, false), (false, true), (true, true)];
 
-/// Searches for a table of states that follows an image. `code` has its code by address, `quiet` marks the quiet addresses, and `is_set` says
-/// whether SP is the stack's top at the start: else it may be anything.
+/// Searches for a table of states that follows an image, on boards that leave the quiet addresses alone: those of data in the ranges `quiet`.
+/// `is_set` says whether SP is at the stack's top at the start: else it may be anywhere.
 ///
 /// # Errors
 /// `AllocError` if memory runs out.
 pub fn search(
     alloc: Global,
     image: &Image,
-    code: &[Option<u8>],
-    quiet: &[bool],
+    quiet: &[Range],
     is_set: bool,
 ) -> Result<SearchResult, AllocError> {
+    let code = code_bytes(alloc, image)?;
+    let marks = mark_quiet(alloc, &image.regions, quiet)?;
     let program = ImageCode::new(alloc, image)?;
     let mut left = WAYS;
     let mut are_many = [false; 2];
@@ -37,8 +39,9 @@ pub fn search(
         }
         let followed = FollowedProgram {
             image: &program,
-            code,
-            quiet,
+            regions: &image.regions,
+            code: &code,
+            quiet: &marks,
             splits_addresses,
             splits_bytes,
         };

@@ -1,6 +1,7 @@
 //! What a search finds, or where it stops.
 
 use std::alloc::{AllocError, AllocFailed};
+use std::fmt;
 use verify80_follow::Table;
 
 /// Why a search goes on no further.
@@ -26,6 +27,8 @@ pub enum StopReason {
     UnknownPointer,
     /// There are too many states; the address has the most of them.
     TooManyStates,
+    /// The table that was found doesn't follow the program.
+    Unfit,
 }
 
 /// The first place that isn't known, or at which there are too many states.
@@ -35,6 +38,52 @@ pub struct Stop {
     pub reason: StopReason,
     /// The addresses of a way there, from the image's start on.
     pub way: Vec<u16>,
+}
+
+impl StopReason {
+    /// What the reason means.
+    fn words(self) -> &'static str {
+        match self {
+            StopReason::FetchOutside => "an instruction has a byte outside CODE, or past FFFF",
+            StopReason::UnusedOpcode => "the byte begins no instruction of the 8080",
+            StopReason::EnablesInterrupts => "EI enables interrupts, and no HLT is behind it",
+            StopReason::DirectStore => "STA or SHLD stores outside DATA",
+            StopReason::StackNotSet => "the stack is used before LXI SP sets SP",
+            StopReason::LeavesStack => "SP leaves STACK: too much is pushed, or popped",
+            StopReason::UnknownReturn =>
+                "it isn't known where the return goes: the word at SP may be several",
+            StopReason::UnknownJump =>
+                "it isn't known where the PCHL goes: HL may be several, and no CASE line names its targets",
+            StopReason::UnknownPointer => "it isn't known what SPHL sets SP to: HL may be several",
+            StopReason::TooManyStates =>
+                "the program is in too many states; this address has the most of them",
+            StopReason::Unfit => "the states that were found don't follow the program",
+        }
+    }
+}
+
+/// How many addresses of a way are shown at its end.
+const SHOWN: usize = 12;
+
+/// The place, what is wrong there, and the end of a way to it, as words of a line each.
+impl fmt::Display for Stop {
+    fn fmt<W: fmt::Write>(&self, f: &mut fmt::Formatter<W>) -> fmt::Result {
+        let (at, words) = (self.at, self.reason.words());
+        write!(f, "{at:04X}: {words}")?;
+        if self.way.is_empty() {
+            return Ok(());
+        }
+        let first = self.way.len().saturating_sub(SHOWN);
+        f.write_str(if first == 0 {
+            "; a way there:"
+        } else {
+            "; the end of a way there:"
+        })?;
+        for at in &self.way[first..] {
+            write!(f, " {at:04X}")?;
+        }
+        Ok(())
+    }
 }
 
 /// What a search finds.

@@ -3,6 +3,7 @@
 use crate::arriving::Arrival;
 use crate::marks::{AT_SP, count_bytes};
 use crate::nodes::{NOWHERE, Nodes, place_of};
+use crate::opening::list_open;
 use crate::program::FollowedProgram;
 use crate::stop::{SearchResult, Stop, StopReason, Unfollowed};
 use decode80::Fetched;
@@ -114,10 +115,12 @@ impl Trial<'_> {
             }
             self.follow(place_of(number), &ways)?;
         }
+        let listed = list_open(self.alloc, self.program, &self.nodes.states)?;
         Ok(Table {
             states: mem::replace(&mut self.nodes.states, Vec::new(self.alloc)),
             hints: mem::replace(&mut self.hints, Vec::new(self.alloc)),
             ways,
+            listed,
             bytes: u16::try_from(most.saturating_sub(AT_SP)).unwrap_or(u16::MAX),
         })
     }

@@ -14,7 +14,6 @@ use crate::asks::Asks;
 use crate::cases::Cases;
 use crate::hubs::Hubs;
 use crate::lists::Lists;
-use crate::marks::Marks;
 use crate::order::rank_addresses;
 use crate::place_sets::PlaceSets;
 use crate::point::{Counts, Point};
@@ -48,12 +47,10 @@ pub(crate) struct Search<'a, C> {
     steps: Vec<Step>,
     /// For each point the ways that lead to it, but for those from PCHLs.
     leading: Lists,
-    /// For each address the PCHLs that lead to it.
+    /// The PCHLs that were reached, and those that lead to each address.
     cases: Cases,
-    /// What was asked for at the PCHLs of each of these lists.
+    /// Which PCHLs were reached, and what was asked for at them.
     hubs: Hubs,
-    /// The addresses of the PCHLs that are in `cases`.
-    noted: Marks,
     /// For each entry how its procedure returns, if that is known.
     exits: Vec<Option<Exit>>,
     /// For each entry the calls that wait for its procedure to return.
@@ -109,7 +106,6 @@ impl<'a, C: Code> Search<'a, C> {
             leading: Lists::new(alloc),
             cases,
             hubs: Hubs::new(alloc),
-            noted: Marks::new(alloc),
             exits,
             callers: Lists::new(alloc),
             left: Vec::new(alloc),

@@ -15,6 +15,7 @@ impl Nodes<'_> {
         let before = group.joined;
         let places = mem::replace(&mut group.places, Vec::new(alloc));
         let joined = self.parts_to_join(alloc, before, &places, self.most(at, true))?;
+        self.enters_exact = false;
         if let Some(group) = self.groups.get_mut(usize::from(at)) {
             group.joined = joined;
         }

@@ -9,8 +9,8 @@
 //!
 //! | Item | What it is |
 //! |---|---|
-//! | [`propose_table`] | one table after the other |
-//! | [`crowded_states`] | where states are joined, since there are too many |
+//! | [`Search`] | proposes one table after the other, within the ways that are left to it |
+//! | [`SearchNotes`] | where states are joined, since there are too many, and which conditions none decides |
 //! | [`Proposal`] | a table of states, and its hints |
 //! | [`ReachedProgram`], [`mark`] | the program that they are proposed for; marks an address |
 //! | [`Groups`] | which of its procedures return |
@@ -19,10 +19,10 @@
 mod groups;
 mod joining;
 mod nodes;
-mod proposals;
 mod proposing;
+mod search;
 
 pub use groups::Groups;
-pub use proposals::{crowded_states, propose_table};
 pub use proposing::Proposal;
+pub use search::{Search, SearchNotes};
 pub use verify80_needs::{ReachedProgram, mark};

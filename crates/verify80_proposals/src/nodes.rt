@@ -1,5 +1,6 @@
 //! The states that are known so far, by address.
 
+use decode80::{Flow, Instr};
 use std::alloc::{AllocError, Global};
 use std::collections::HashMap;
 use verify80_needs::{
@@ -48,6 +49,19 @@ pub(crate) struct Node {
     pub taken_by: u32,
     /// Whether others have still to be followed from this state.
     pub is_waiting: bool,
+    /// Whether neither this state nor one that it comes from has taken in another.
+    pub is_exact: bool,
+}
+
+/// What the states at an address make of the condition that the instruction there asks.
+#[derive(Clone, Copy)]
+pub(crate) enum Decision {
+    /// No exact state was followed.
+    Unseen,
+    /// An exact state leaves the condition open, and no state decides it.
+    Open,
+    /// A state decides the condition.
+    Decided,
 }
 
 /// The states at one address.
@@ -88,6 +102,10 @@ pub(crate) struct Nodes<'a> {
     pub(crate) followed: usize,
     /// Whether each address has one state from now on, and spans grow at once to any word.
     pub(crate) is_late: bool,
+    /// Whether states that are entered are exact, unless they are joined.
+    pub(crate) enters_exact: bool,
+    /// By address what was made of the condition there.
+    pub(crate) decisions: Vec<Decision>,
 }
 
 impl<'a> Nodes<'a> {
@@ -128,6 +146,8 @@ impl<'a> Nodes<'a> {
             spent: vec![in alloc; 0; 65_536]?,
             followed: 0,
             is_late: false,
+            enters_exact: true,
+            decisions: vec![in alloc; Decision::Unseen; 65_536]?,
         })
     }
 
@@ -149,6 +169,24 @@ impl<'a> Nodes<'a> {
             && let Some(spent) = self.spent.get_mut(usize::from(*number))
         {
             *spent = spent.saturating_add(ways);
+        }
+    }
+
+    /// Notes whether a state decides the condition that the instruction at its address asks.
+    pub fn note_condition(&mut self, at: u16, instr: Instr, state: State) {
+        let condition = match instr.flow() {
+            Flow::JumpsIf(condition, _) | Flow::ReturnsIf(condition) => condition,
+            _ => return,
+        };
+        let decides = state.given(condition, true).is_none()
+            || state.given(condition, false).is_none();
+        let is_exact = self.enters_exact;
+        if let Some(decision) = self.decisions.get_mut(usize::from(at)) {
+            *decision = match *decision {
+                _ if decides => Decision::Decided,
+                Decision::Unseen if is_exact => Decision::Open,
+                before => before,
+            };
         }
     }
 
@@ -197,6 +235,7 @@ impl<'a> Nodes<'a> {
                 let growths = growths.max(node.growths);
                 node.placed.state = self.landmarks.grown(node.placed.state, state, growths);
                 node.growths = node.growths.saturating_add(1);
+                node.is_exact = false;
             }
             None => {
                 self.by_sum.insert(sum, place)?;
@@ -212,6 +251,7 @@ impl<'a> Nodes<'a> {
                     growths: 0,
                     taken_by: place,
                     is_waiting: false,
+                    is_exact: self.enters_exact,
                 })?;
             }
         }

@@ -1,6 +1,7 @@
 mod ListLemmas
 mod AddressLemmas
 mod ReachedLemmas
+mod CauseLemmas
 mod TallyLemmas
 mod ShownLemmas
 mod StoreLemmas

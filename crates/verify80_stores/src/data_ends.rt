@@ -13,7 +13,7 @@ use verify80_states::Span;
 ///
 /// # Errors
 /// `AllocError` if memory runs out.
-pub(crate) fn data_ends(alloc: Global, regions: &Regions) -> Result<Vec<u32>, AllocError>
+pub fn find_data_ends(alloc: Global, regions: &Regions) -> Result<Vec<u32>, AllocError>
     ensures { IfOk result (λ ends. AreDataEnds regions.now ends.items) }
 {
     let map = RegionMap::new(alloc, regions)?;
@@ -48,8 +48,8 @@ fn zeros(alloc: Global, count: usize) -> Result<Vec<u32>, AllocError>
     Ok(vec![in alloc; 0; count]?)
 }
 
-/// Whether each address of a span is data.
-pub(crate) fn is_all_data(regions: &Regions, ends: &[u32], span: Span) -> bool
+/// Whether each address of a span is data, by what [`find_data_ends`] answers.
+pub fn is_all_data(regions: &Regions, ends: &[u32], span: Span) -> bool
     requires { AreDataEnds regions.now ends.now }
     ensures inside { result ≡ true → (address : ℕ) → Within span address → in_data regions.now address ≡ true }
     ensures outside { result ≡ false → (address : ℕ) × Within span address × (in_data regions.now address ≡ false) }

@@ -18,6 +18,7 @@ use verify80::{
     Vouched, accepted_images_stay_on_walks, find_reached, images_never_go_wrong_from_power_on,
     promise_is_kept_on_boards, walks_are_kept_on_boards,
 };
+use verify80_proposals::Search;
 use verify80_states::{bytes_stay_bytes, fitting_states_hold};
 
 /// Goes over a vouched image, and answers where its register-indirect stores may go. In the quiet ranges of data nobody but the program
@@ -64,7 +65,8 @@ pub fn find_stores(alloc: Global, vouched: &Vouched, quiet: &[Range]) -> Result<
     holds_bytes(alloc, image)?;
     let found = find_reached(alloc, vouched)?;
     let reached = found.instructions();
-    let shown = show(alloc, image, vouched.rows(), reached, quiet)?;
+    let mut search = Search::new();
+    let shown = show(alloc, image, vouched.rows(), reached, quiet, &mut search)?;
     let addresses = addresses_of(alloc, Kind::Store, false, reached, &shown)?;
     let open = open_stores(alloc, reached, &shown)?;
     let jumps = addresses_of(alloc, Kind::Jump, false, reached, &shown)?;
@@ -75,6 +77,7 @@ pub fn find_stores(alloc: Global, vouched: &Vouched, quiet: &[Range]) -> Result<
         jumps,
         open_jumps,
         sets_stack: sets_stack(alloc, image, vouched.rows(), reached)?,
+        search: search.into_notes(),
     })
 }
 

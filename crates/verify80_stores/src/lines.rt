@@ -58,7 +58,8 @@ fn jumps_text(alloc: Global, shown: usize, all: usize) -> Result<Vec<u8>, AllocE
     Ok(line.into_bytes())
 }
 
-/// Appends the lines of what the list rests on.
+/// Appends the lines of what the list rests on: `SP NOT SET` unless `sets_stack`, each quiet range, and where the program begins, unless that
+/// is 0000.
 fn append_premises(
     text: &mut Vec<u8>,
     sets_stack: bool,

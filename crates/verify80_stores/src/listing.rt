@@ -7,7 +7,7 @@ ghost use Rattle.verify80_stores.specs.DataReach.{AreDataEnds};
 ghost use Rattle.verify80_stores.specs.Opening.{joined, pointer_span, span_in, StaysIn, IsLeftOpen};
 ghost use Rattle.verify80_stores.specs.Listing.{AreNotes, AreOpen, addresses_where, is_at, is_listed, is_of, note_at, store_at};
 
-use crate::data_ends::{data_ends, is_all_data};
+use crate::data_ends::{find_data_ends, is_all_data};
 use crate::stores::OpenStore;
 use decode80::{Fetched, Instr, Storing};
 use image80::Regions;
@@ -40,7 +40,7 @@ pub(crate) fn note_at(notes: &[Note], at: u16) -> Note
 
 /// The kinds of instructions that are listed.
 #[derive(Clone, Copy)]
-pub(crate) enum Kind {
+pub enum Kind {
     /// A register-indirect store.
     Store,
     /// PCHL, which goes on where HL points to.
@@ -77,6 +77,20 @@ pub(crate) fn addresses_of(
         .map(|at| at as u16)
         .filter(|at| is_listed(kind, only_open, reached, notes, *at))
         .collect(alloc)
+}
+
+/// The addresses of the instructions of a kind that are reached, ascending.
+///
+/// # Errors
+/// `AllocError` if memory runs out.
+pub fn addresses_of_kind(
+    alloc: Global,
+    kind: Kind,
+    reached: &[Option<Fetched>],
+) -> Result<Vec<u16>, AllocError>
+    ensures { IfOk result (λ addresses. addresses.items ≡ addresses_where (is_at (is_of kind) reached.now)) }
+{
+    addresses_of(alloc, kind, false, reached, &[])
 }
 
 /// Whether an instruction of a kind is reached at an address.
@@ -120,8 +134,8 @@ fn stays_in(regions: &Regions, ends: &[u32], targets: &[u16], instr: Instr, stat
     }
 }
 
-/// Where an instruction may store by a pair in a state; `None` if it stores by none.
-fn pointer_span(instr: Instr, state: Known) -> Option<Span>
+/// Where an instruction may store by a pair, given what is known of the registers; `None` if it stores by none.
+pub fn pointer_span(instr: Instr, state: Known) -> Option<Span>
     ensures { result ≡ pointer_span instr state }
 {
     match instr.storing() {
@@ -132,7 +146,7 @@ fn pointer_span(instr: Instr, state: Known) -> Option<Span>
 }
 
 /// Whether a pair is one of these targets, and no other word.
-fn is_target(targets: &[u16], words: Span) -> bool
+pub fn is_target(targets: &[u16], words: Span) -> bool
     ensures { result ≡ true → (to : ℕ) → Within words to → Contains targets.now to }
 {
     words.is_alone() && targets.contains(&words.first)
@@ -151,7 +165,7 @@ pub(crate) fn notes_of(
 ) -> Result<Vec<Note>, AllocError>
     ensures { IfOk result (λ notes. AreNotes regions.now reached.now table.now notes.items) }
 {
-    let ends = data_ends(alloc, regions)?;
+    let ends = find_data_ends(alloc, regions)?;
     let mut notes = no_notes(alloc, 65_536)?;
     for placed in table {
         let note = note_at(&notes, placed.at);

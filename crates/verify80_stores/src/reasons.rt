@@ -1,11 +1,12 @@
 //! Why nothing is known of the pair of a store or a jump. This is a search, of which nothing is promised.
 
+use crate::loops::unknown_ends;
 use crate::setters::{Place, Setters};
 use crate::ways::find_marked;
 use decode80::{IndexPair, Instr, Operand, Pair};
 use image80::{Image, Range};
 use std::alloc::{AllocError, Global};
-use verify80_proposals::{Groups, ReachedProgram, crowded_states};
+use verify80_proposals::{Groups, ReachedProgram, SearchNotes};
 use verify80_states::{entry_at, is_quiet};
 
 /// Why nothing is known of a pair.
@@ -15,6 +16,8 @@ pub enum Reason {
     NotQuiet(u16),
     /// The pair comes from the byte of the image at this address, which is outside CODE, as of a table.
     NotCode(u16),
+    /// The pair is counted in a loop that ends by what isn't known alone, as an input: at this jump or return.
+    UnknownEnd(u16),
     /// Too many states came to this address, where they were joined.
     TooManyStates(u16),
     /// Too many ways would have to be followed.
@@ -31,12 +34,52 @@ pub(crate) struct Reasons<'a> {
     /// The ranges of data that are quiet.
     quiet: &'a [Range],
     setters: Setters<'a>,
-    /// By address the nearest one before it at which states were joined; `None` if too many ways would have to be followed.
-    joined: Option<Vec<Option<u16>>>,
+    /// What was noted of the search; `None` if too many ways would have to be followed.
+    noted: Option<Noted>,
+}
+
+/// What the notes of a search say at each address.
+#[derive(Drop)]
+struct Noted {
+    /// The nearest address before it at which states were joined.
+    joined: Vec<Option<u16>>,
+    /// What ends the loop there in which BC is counted, if that isn't known; and so for DE and HL.
+    bc_ends: Vec<Option<u16>>,
+    de_ends: Vec<Option<u16>>,
+    hl_ends: Vec<Option<u16>>,
+}
+
+impl Noted {
+    /// What the notes of a search say.
+    ///
+    /// # Errors
+    /// `AllocError` if memory runs out.
+    fn new(
+        alloc: Global,
+        program: ReachedProgram<'_>,
+        groups: &Groups,
+        notes: &SearchNotes,
+    ) -> Result<Noted, AllocError> {
+        Ok(Noted {
+            joined: find_marked(alloc, program, groups, &notes.joined)?,
+            bc_ends: unknown_ends(alloc, program, notes, Pair::Bc)?,
+            de_ends: unknown_ends(alloc, program, notes, Pair::De)?,
+            hl_ends: unknown_ends(alloc, program, notes, Pair::Hl)?,
+        })
+    }
+
+    /// What ends the loop at an address in which a pair is counted, if that isn't known.
+    fn unknown_end(&self, at: u16, pair: Pair) -> Option<u16> {
+        match pair {
+            Pair::Bc => entry_at(&self.bc_ends, at),
+            Pair::De => entry_at(&self.de_ends, at),
+            Pair::Hl | Pair::Sp => entry_at(&self.hl_ends, at),
+        }
+    }
 }
 
 impl<'a> Reasons<'a> {
-    /// The reasons of a program, whose states are searched once more.
+    /// The reasons of a program, of whose search these notes were made.
     ///
     /// # Errors
     /// `AllocError` if memory runs out.
@@ -46,16 +89,17 @@ impl<'a> Reasons<'a> {
         quiet: &'a [Range],
         program: ReachedProgram<'a>,
         groups: &Groups,
+        search: &Option<SearchNotes>,
     ) -> Result<Reasons<'a>, AllocError> {
-        let joined = match crowded_states(alloc, program, groups)? {
-            Some(marks) => Some(find_marked(alloc, program, groups, &marks)?),
+        let noted = match search {
+            Some(notes) => Some(Noted::new(alloc, program, groups, notes)?),
             None => None,
         };
         Ok(Reasons {
             image,
             quiet,
             setters: Setters::new(alloc, program, groups)?,
-            joined,
+            noted,
         })
     }
 
@@ -92,9 +136,18 @@ impl<'a> Reasons<'a> {
                 _ => Some((by, place)),
             };
         }
-        match &self.joined {
-            Some(joined) => Some(Reason::TooManyStates(entry_at(joined, at)?)),
-            None => Some(Reason::TooManyWays),
+        self.search_reason(at, pair)
+    }
+
+    /// Why the search doesn't know a pair before an address; `None` if that isn't seen.
+    fn search_reason(&self, at: u16, pair: Pair) -> Option<Reason> {
+        let Some(noted) = &self.noted else {
+            return Some(Reason::TooManyWays);
+        };
+        let setter = self.setter(at, pair);
+        match setter.and_then(|by| noted.unknown_end(by, pair)) {
+            Some(end) => Some(Reason::UnknownEnd(end)),
+            None => Some(Reason::TooManyStates(entry_at(&noted.joined, at)?)),
         }
     }
 

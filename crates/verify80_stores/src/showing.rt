@@ -12,7 +12,7 @@ use decode80::Fetched;
 use image80::{Image, Range};
 use std::alloc::{AllocError, Global};
 use verify80::ProcRow;
-use verify80_proposals::{Groups, Proposal, ReachedProgram, propose_table};
+use verify80_proposals::{Groups, Proposal, ReachedProgram, Search};
 use verify80_states::{Placed, anything, code_bytes, fits, mark_quiet};
 
 /// How many tables are tried.
@@ -32,6 +32,7 @@ pub(crate) fn show(
     rows: &[ProcRow],
     reached: &[Option<Fetched>],
     quiet: &[Range],
+    search: &mut Search,
 ) -> Result<Vec<Note>, AllocError>
     requires reached { AreReached (code_of image.now) reached.now }
     requires whole { length reached.now ≡ 65536 }
@@ -46,7 +47,7 @@ pub(crate) fn show(
     let mut shown = None;
     for number in 0..TABLES {
         if is_searched && is_open(&shown) {
-            let found = propose_table(alloc, program, &groups, number)?;
+            let found = search.propose(alloc, program, &groups, number)?;
             shown = show_more(alloc, image, reached, quiet, &code, &marks, found, shown)?;
         }
     }

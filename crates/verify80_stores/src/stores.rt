@@ -1,6 +1,7 @@
 //! What is found of a program's register-indirect stores.
 
 use decode80::Instr;
+use verify80_proposals::SearchNotes;
 use verify80_states::Span;
 
 /// The register-indirect stores of a program, and its jumps by PCHL, as far as its walks reach them. All lists are by address.
@@ -16,6 +17,8 @@ pub struct Stores {
     pub open_jumps: Vec<u16>,
     /// Whether the program sets SP on each way before it uses it.
     pub sets_stack: bool,
+    /// What the search for states noted; `None` if too many ways would have had to be followed, or if there is no such store and no PCHL.
+    pub search: Option<SearchNotes>,
 }
 
 /// A register-indirect store that isn't shown to stay in data. It may be harmless.

@@ -1,12 +1,13 @@
 //! The lines of an image's code.
 
-ghost use Rattle.std.specs.Prelude.{◌≡◌, ◌<◌, ◌≤◌, ◌++◌, IfOk, OnOk, length, slice_index, true, if◌then◌else◌};
+ghost use Rattle.std.specs.Prelude.{◌≡◌, ◌<◌, ◌≤◌, ◌++◌, false, [], IfOk, OnOk, length, slice_index, true, if◌then◌else◌};
 ghost use Rattle.image80.specs.Image.{memory_of};
 ghost use Rattle.loader80_trace.specs.Cover.{CoversReached, ListsReached, cover_lines, data_before, is_begun, is_data, is_instruction, line_of, sums_line, tally};
 ghost use Rattle.verify80.specs.Reached.{found_at};
 
 use crate::covering::line::{append_data, append_instruction};
-use crate::covering::places::{Layout, data_behind, is_data};
+use crate::covering::places::{Layout, data_behind, is_data, reached_at};
+use decode80::Fetched;
 use image80::Image;
 use loader80::Vouched;
 use machine80::FlatBus;
@@ -24,7 +25,21 @@ pub fn list_reached(alloc: Global, vouched: &Vouched) -> Result<Vec<u8>, AllocEr
     ensures { IfOk result (λ listed. ListsReached vouched.now.image listed.items) }
 {
     let reached = find_reached(alloc, vouched)?;
-    lines_of(alloc, vouched.image(), &reached, false, &[])
+    list_instructions(alloc, vouched.image(), reached.instructions())
+}
+
+/// The lines of an image's code by the instructions that `reached` has, by address, as [`list_reached`] has them.
+///
+/// # Errors
+/// `AllocError` only if memory runs out.
+pub fn list_instructions(
+    alloc: Global,
+    image: &Image,
+    reached: &[Option<Fetched>],
+) -> Result<Vec<u8>, AllocError>
+    ensures { IfOk result (λ listed. listed.items ≡ cover_lines false [] image.now.regions (memory_of image.now.chunks) reached.now) }
+{
+    lines_of(alloc, image, reached, false, &[])
 }
 
 /// The lines of [`list_reached`], each instruction with how often a run began it by `counts`, or `-` if it didn't; and
@@ -38,17 +53,17 @@ pub fn cover(alloc: Global, vouched: &Vouched, counts: &[u64]) -> Result<Vec<u8>
     ensures { IfOk result (λ listed. CoversReached vouched.now.image counts.now listed.items) }
 {
     let reached = find_reached(alloc, vouched)?;
-    let mut lines = lines_of(alloc, vouched.image(), &reached, true, counts)?;
+    let mut lines = lines_of(alloc, vouched.image(), reached.instructions(), true, counts)?;
     append_sums(alloc, &reached, counts, &mut lines)?;
     Ok(lines)
 }
 
-/// The lines of an image's code, by the instructions that walks reach; with counts if `shown`. If `shown`, `counts`
+/// The lines of an image's code, by the instructions that are reached; with counts if `shown`. If `shown`, `counts`
 /// must have 65536 entries.
 fn lines_of(
     alloc: Global,
     image: &Image,
-    reached: &Reached,
+    reached: &[Option<Fetched>],
     shown: bool,
     counts: &[u64],
 ) -> Result<Vec<u8>, AllocError>
@@ -119,7 +134,7 @@ fn append_line(
         ++ line_of shown count (is_data layout.now.regions.now layout.now.reached.now) layout.now.memory.now at
         (found_at layout.now.reached.now at)) }
 {
-    if let Some(found) = layout.reached.at(at) {
+    if let Some(found) = reached_at(layout.reached, at) {
         return append_instruction(alloc, shown, count, at, found.instr, lines);
     }
     if is_data(layout, usize::from(at)) && before % 8 == 0 {

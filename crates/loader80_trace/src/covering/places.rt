@@ -4,23 +4,29 @@ ghost use Rattle.std.specs.Prelude.{◌≡◌, ◌+◌, ◌<◌, ◌≤◌, true
 ghost use Rattle.loader80_trace.specs.Cover.{data_before, is_covered, is_data, size_of};
 ghost use Rattle.verify80.specs.Reached.{found_at};
 
-use decode80::encode;
+use decode80::{Fetched, encode};
 use image80::Regions;
 use machine80::FlatBus;
-use verify80::Reached;
 
-/// An image's code, with the instructions that walks reach.
+/// An image's code, with the instructions that are reached.
 #[derive(Drop)]
 pub(crate) struct Layout<'a> {
     /// The image's regions.
     pub regions: &'a Regions,
     /// The image's memory.
     pub memory: &'a FlatBus,
-    /// The instructions that walks reach.
-    pub reached: &'a Reached,
+    /// The instruction at each address, if one is reached there.
+    pub reached: &'a [Option<Fetched>],
 }
 
-/// Whether an address has a byte of code that is in no instruction that walks reach.
+/// The instruction that is reached at an address.
+pub(crate) fn reached_at(reached: &[Option<Fetched>], at: u16) -> Option<Fetched>
+    ensures { result ≡ found_at reached.now at }
+{
+    reached.get(usize::from(at)).copied().flatten()
+}
+
+/// Whether an address has a byte of code that is in no instruction that is reached.
 #[tactic(auto, unfolding(crate::specs::Cover::is_data))]
 pub(crate) fn is_data(layout: &Layout<'_>, at: usize) -> bool
     ensures value { result ≡ is_data layout.now.regions.now layout.now.reached.now at }
@@ -44,21 +50,21 @@ pub(crate) fn data_behind(layout: &Layout<'_>, at: usize, before: usize) -> usiz
     0
 }
 
-/// Whether an address is in an instruction that walks reach: one that begins there, or one or two addresses before it.
+/// Whether an address is in an instruction that is reached: one that begins there, or one or two addresses before it.
 #[tactic(auto, unfolding(crate::specs::Cover::is_covered))]
-fn is_covered(reached: &Reached, at: u16) -> bool
+fn is_covered(reached: &[Option<Fetched>], at: u16) -> bool
     ensures { result ≡ is_covered reached.now at }
 {
-    reached.at(at).is_some()
+    reached_at(reached, at).is_some()
         || at >= 1 && size_at(reached, at - 1) >= 2
         || at >= 2 && size_at(reached, at - 2) >= 3
 }
 
-/// How many bytes the instruction at an address has; 0 if walks don't reach it.
-fn size_at(reached: &Reached, at: u16) -> usize
+/// How many bytes the instruction at an address has; 0 if none is reached there.
+fn size_at(reached: &[Option<Fetched>], at: u16) -> usize
     ensures { result ≡ size_of (found_at reached.now at) }
 {
-    match reached.at(at) {
+    match reached_at(reached, at) {
         Some(found) => encode(found.instr).1,
         None => 0,
     }

@@ -15,9 +15,9 @@ use plm80_objects::{
     LINK, LOCATE, LibraryArguments, LinkArguments, LocateArguments, MapArguments, ModuleArguments,
 };
 use plm80_programs::{
-    CASES, CallsArguments, CasesArguments, CoverArguments, ExplainArguments, InputsArguments,
-    ListArguments, RUN, RegionsArguments, RunArguments, StoresArguments, SuggestArguments,
-    TraceArguments,
+    CASES, CallsArguments, CasesArguments, CoverArguments, ExplainArguments, FollowArguments,
+    InputsArguments, ListArguments, RUN, RegionsArguments, RunArguments, StoresArguments,
+    SuggestArguments, TraceArguments,
 };
 use std::alloc::{AllocError, Global};
 
@@ -37,6 +37,7 @@ pub enum Request<'a> {
     Extract(ExtractArguments<'a>),
     Absolute(AbsoluteArguments<'a>),
     Stores(StoresArguments<'a>),
+    Follow(FollowArguments<'a>),
     Compare(CompareArguments<'a>),
     Inputs(InputsArguments<'a>),
     Calls(CallsArguments<'a>),
@@ -181,6 +182,7 @@ fn request_of<'a>(
         "extract" => Ok(Some(Request::Extract(ExtractArguments::of(arguments)))),
         "absolute" => Ok(Some(Request::Absolute(AbsoluteArguments::of(alloc, arguments)?))),
         "stores" => Ok(Some(Request::Stores(StoresArguments::of(alloc, arguments)?))),
+        "follow" => Ok(Some(Request::Follow(FollowArguments::of(alloc, arguments)?))),
         "compare" => Ok(Some(Request::Compare(CompareArguments::of(arguments)))),
         "inputs" => Ok(Some(Request::Inputs(InputsArguments::of(alloc, arguments)?))),
         "calls" => Ok(Some(Request::Calls(CallsArguments::of(arguments)))),

@@ -6,7 +6,7 @@ use clap::{Command, Error};
 use plm80_console::{OneLine, Syntax};
 use plm80_objects::{ABSOLUTE, COMPARE, EXTRACT, FIND, LIB, LINK, LOCATE, MAP, MODULE};
 use plm80_programs::{
-    CALLS, CASES, CHECK, COVER, EXPLAIN, INPUTS, LIST, REGIONS, RUN, STORES, SUGGEST, TRACE,
+    CALLS, CASES, CHECK, COVER, EXPLAIN, FOLLOW, INPUTS, LIST, REGIONS, RUN, STORES, SUGGEST, TRACE,
 };
 use std::alloc::{AllocError, Global};
 
@@ -21,10 +21,10 @@ the environment; PLM80_WHY=0 leaves them out. Files have at most 1048576 bytes,
 a bundle 4194312.
 
 The exit status is 0 if the command succeeded or the program halted; 1 if the
-verifier refuses the program, or as the help of stores, cases, suggest, compare
-and find says; 2 for a fault of the arguments or of a file, and for help; 3 if
-the program stops at an empty port, a refused output, a store outside data or a
-jump outside its declared targets; and 4 if its steps are used up.
+verifier refuses the program, or as the help of stores, follow, cases, suggest,
+compare and find says; 2 for a fault of the arguments or of a file, and for
+help; 3 if the program stops at an empty port, a refused output, a store outside
+data or a jump outside its declared targets; and 4 if its steps are used up.
 
 Example: plm80 locate readings.obj readings.img readings.regions
          plm80 run readings.img readings.regions readings.inputs
@@ -40,10 +40,10 @@ pub(crate) fn object_commands() -> [Syntax<'static>; 5]
 }
 
 /// The commands that verify a located program, in the order of the help text.
-pub(crate) fn verifier_commands() -> [Syntax<'static>; 4]
-    ensures { map (λ command. command.name.now) result ≡ codes "check" ∷ codes "explain" ∷ codes "calls" ∷ codes "stores" ∷ [] }
+pub(crate) fn verifier_commands() -> [Syntax<'static>; 5]
+    ensures { map (λ command. command.name.now) result ≡ codes "check" ∷ codes "explain" ∷ codes "calls" ∷ codes "stores" ∷ codes "follow" ∷ [] }
 {
-    [CHECK, EXPLAIN, CALLS, STORES]
+    [CHECK, EXPLAIN, CALLS, STORES, FOLLOW]
 }
 
 /// The commands that run a located program, in the order of the help text.

@@ -98,12 +98,23 @@ pub(crate) fn report_place_fault<C: Console>(
         (PlaceFault::NoStart, _) => console.explain(
             "it isn't the main program, which ends with END and a label: link it with that one",
         ),
-        (PlaceFault::StartNotCode, Some((ABSOLUTE, _))) => {
-            console.explain("an image is located already: check, list and run take it");
-        }
+        (PlaceFault::StartNotCode, Some((ABSOLUTE, _))) => explain_start(console, program, options),
         _ => {}
     }
     reported
+}
+
+/// Says of a program with an absolute start outside CODE that it is an image already; or, if it has segments, what its start has to be.
+fn explain_start<C: Console>(console: &C, program: &Module, options: &Options) {
+    if let Ok(layout) = layout(console.alloc(), program, options) {
+        if layout.segments.iter().all(|placed| placed.length == 0) {
+            console.explain(
+                "an image is located already: plm80 suggest prints its regions; check, list and run take both",
+            );
+        } else {
+            console.explain("its start is no address of CODE: END has to name a label of CODE");
+        }
+    }
 }
 
 /// The lines that show where the cause of a fault of placing `program` is.

@@ -11,9 +11,7 @@ use crate::{EndWords, status_of};
 use loader80::{Outcome, SessionFault, session};
 use loader80_trace::Limits;
 use plm80_console::{Console, ReadFile, Reported};
-use plm80_files::{
-    FileRole, UnreadBytes, explain_file, explain_inputs, explain_regions, place_of_regions,
-};
+use plm80_files::{UnreadBytes, explain_image, explain_inputs, explain_regions, place_of_regions};
 use std::alloc::Global;
 use std::io::ErrorKind;
 use stream80::{Reading, Sink};
@@ -130,9 +128,7 @@ fn report_text<C: Console>(console: &mut C, file: &ReadFile<'_>, fault: SessionF
 {
     let reported = console.report_file(file.path, fault);
     match fault {
-        SessionFault::Image(_) => {
-            explain_file(console, &file.bytes, FileRole::Image);
-        }
+        SessionFault::Image(fault) => explain_image(console, &file.bytes, fault),
         SessionFault::Regions(fault) => {
             explain_regions(console, &file.bytes, fault);
             console.explain_any(place_of_regions(&file.bytes));

@@ -52,8 +52,7 @@ impl<'a, C: Code> Search<'a, C> {
         let way = self.leading.only(places.point as usize)?;
         let from = self.point(way.from)?;
         let point = self.point(places.point)?;
-        let list = self.cases.list_of(point.at);
-        if !from.leads_straight() || self.cases.newest(list).is_some() {
+        if !from.leads_straight() || self.cases.newest(point.at).is_some() {
             return None;
         }
         if from.keeps(way.turn) || from.writes(way.turn).kept_of(places) == places.bits {
@@ -63,24 +62,44 @@ impl<'a, C: Code> Search<'a, C> {
         None
     }
 
-    /// Asks for places of a point at each PCHL that leads to it. What another target of the same
-    /// PCHLs has asked for there isn't asked for again. `AllocError` if memory runs out.
+    /// Asks for places of a point at each PCHL that leads to it. `AllocError` if memory runs out.
     fn go_back_to_cases(&mut self, places: Places, point: Point) -> Result<(), AllocError> {
-        let mut list = self.cases.list_of(point.at);
-        if self.cases.newest(list).is_none() {
+        let mut link = self.cases.newest(point.at);
+        if link.is_none() {
             return Ok(());
         }
-        let bits = self.hubs.add(list, point, places)?;
-        if bits == 0 {
+        let Some(hub) = self.hubs.hub_of(point) else {
             return Ok(());
-        }
-        let places = Places { bits, ..places };
+        };
         for _ in 0..u32::MAX {
-            let Some((pchl, before)) = self.cases.newest(list) else {
+            let Some(group) = link else {
                 break;
             };
-            self.go_back_to_case(pchl, places, point)?;
-            list = before;
+            let pchls = self.hubs.take_unasked(hub, group, places)?;
+            self.go_back_to_group(group.number, pchls, places, point)?;
+            link = self.cases.before(group);
+        }
+        Ok(())
+    }
+
+    /// Asks for places of a point at these PCHLs of a group, the newest first. `AllocError` if memory
+    /// runs out.
+    fn go_back_to_group(
+        &mut self,
+        group: u32,
+        pchls: u64,
+        places: Places,
+        point: Point,
+    ) -> Result<(), AllocError> {
+        let mut left = pchls;
+        for _ in 0..64 {
+            let Some(bit) = left.checked_ilog2() else {
+                break;
+            };
+            if let Some(pchl) = self.cases.pchl(group, bit) {
+                self.go_back_to_case(pchl, places, point)?;
+            }
+            left &= !1u64.wrapping_shl(bit);
         }
         Ok(())
     }
@@ -106,10 +125,13 @@ impl<'a, C: Code> Search<'a, C> {
     }
 
     /// Which of the declared targets of a PCHL this one is, counted from 0; 0 if it is none of
-    /// them.
+    /// them. They must ascend, as those of `Regions` do.
     fn choice_of_target(&self, pchl: u16, target: u16) -> u16 {
-        let mut targets = self.program.targets(pchl).iter();
-        let choice = targets.position(|at| *at == target).unwrap_or(0);
+        let choice = self
+            .program
+            .targets(pchl)
+            .binary_search(&target)
+            .unwrap_or(0);
         u16::try_from(choice).unwrap_or(0)
     }
 

@@ -47,17 +47,27 @@ impl<'a, C: Code> Search<'a, C> {
 
     /// Follows the ways on from a PCHL to each declared target. `AllocError` if memory runs out.
     fn go_to_each(&mut self, number: u32, from: Point) -> Result<(), AllocError> {
-        let is_noted = self.noted.add(usize::from(from.at))?;
+        self.note_case(from)?;
         let program = self.program;
         let mut choice: u16 = 0;
         for at in program.targets(from.at) {
-            if !is_noted {
-                self.cases.add(*at, from.at)?;
-            }
             self.go_to(number, from, *at, choice)?;
             choice = choice.wrapping_add(1);
         }
         Ok(())
+    }
+
+    /// Records that a PCHL is reached and, the first time, that it leads to its targets. `AllocError`
+    /// if memory runs out.
+    fn note_case(&mut self, from: Point) -> Result<(), AllocError> {
+        if let Some(number) = self.cases.number_of(from.at) {
+            return self.hubs.reach(number, from);
+        }
+        let number = self.cases.add(from.at)?;
+        for at in self.program.targets(from.at) {
+            self.cases.add_target(number, *at)?;
+        }
+        self.hubs.reach(number, from)
     }
 
     /// Enters a callee, and follows the way on to the address after the call if the callee is known

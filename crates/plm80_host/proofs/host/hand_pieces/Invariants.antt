@@ -1,5 +1,5 @@
 -- the pieces that were handed on
-use Rattle.std.proofs.Common.{◌≡◌, ℕ, ◌+◌, ◌-◌, ◌≤◌, []}
+use Rattle.std.proofs.Common.{◌+◌, ◌-◌, ◌≤◌, []}
 use Rattle.plm80_host.proofs.host.hand_pieces.Given as goal
 
 abbrev pub invariant-pieces : goal.invariant-pieces

@@ -26,7 +26,7 @@ returns-clause-fault g c =
     let read = c.in_ok-modules.ensures.read in
     before
     (read_it (file_value asked.object.now read.0 ∷ []) [] refl
-    (c.report_place_fault.ensures ∙ ap and_reported (read.1
+    (c.report_place_fault-reported.ensures ∙ ap and_reported (read.1
     ∙ ap (λ (j : Journal). and_read j asked.object.now read.0) c.in_ok-options.ensures.unchanged)))
 
 pub returns-in_err-modules-clause-fault : goal.returns-in_err-modules-clause-fault

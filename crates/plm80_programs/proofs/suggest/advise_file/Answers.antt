@@ -24,7 +24,7 @@ returns-in-Ok g c =
       ram = ram;
       is_ram = simp (c.deref-2.ensures.value) at c.in_ok-ram.ensures.ranges;
       advice = printed.advice;
-      advises = simp (c.deref-3.ensures.value, c.deref-4.ensures.value) at c.in-Ok.ensures;
+      advises = simp (c.deref-4.ensures.value, c.deref-5.ensures.value) at c.in-Ok.ensures;
     } in
     let both = gives_or_gives_up (AnswersAdvice asked) (asked.image.now ∷ []) (g.C.Console.journal c.args.console.now) (g.C.Console.journal c.bare_image.new.console)
     (g.C.Console.journal c.print_advice.new.console) (file ∷ []) refl

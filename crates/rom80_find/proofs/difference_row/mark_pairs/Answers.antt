@@ -1,28 +1,21 @@
-use Rattle.std.proofs.Common.{◌∙◌, ◌||◌, ◌==◌, ◌+◌, true, false, length, ap, sym}
-use Rattle.rom80_find.specs.Dump.{dump_of}
-use Rattle.rom80_find.specs.Marks.{bit_in}
-use Rattle.rom80_find.proofs.DifferenceLemmas.{row_more, same_row}
+use Rattle.std.proofs.Common.{◌≡◌, ◌+◌, ◌*◌, ◌<◌, ◌∙◌, ap, arith, ℕ}
+use Rattle.rom80_find.specs.Differences.{has_pair}
+use Rattle.rom80_find.specs.Marks.{has_bit}
+use Rattle.rom80_find.proofs.PlaneLemmas.{twice_more, twice_whole}
 use Rattle.rom80_find.proofs.difference_row.mark_pairs.Goals as goal
-use Rattle.rom80_find.proofs.difference_row.mark_pairs.Goals.{then-has_pair, else-has_pair}
 
-pub loop-at-preserved : goal.loop-at-preserved
-loop-at-preserved c =
-    let old = c.loop-at.bits in
-    let at = c.loop-at.at in
-    elim c.if-has_pair.branch [
-      | then-has_pair w ↦ record {
-        whole = ap (λ v. length v) w.bits-is ∙ (w.set_bit-then-has_pair.ensures.whole ∙ (w.set_bit.ensures.whole ∙ c.loop-at.invariant.whole));
-        each = row_more (dump_of c.args.dump) c.args.distance c.args.more at old c.if-has_pair.bits true c.loop-at-test.true
-            (sym w.if-has_pair.true ∙ c.has_pair.ensures)
-            (λ k. ap (λ v. bit_in v k) w.bits-is
-            ∙ (w.set_bit-then-has_pair.ensures.each k ∙ ap (λ t. t || k == at + 65536) (w.set_bit.ensures.each k)))
-            c.loop-at.invariant.each;
-      }
-      | else-has_pair w ↦ record {
-        whole = ap (λ v. length v) w.bits-is ∙ c.loop-at.invariant.whole;
-        each = row_more (dump_of c.args.dump) c.args.distance c.args.more at old c.if-has_pair.bits false c.loop-at-test.true
-            (sym w.if-has_pair.false ∙ c.has_pair.ensures)
-            (λ k. ap (λ v. bit_in v k) w.bits-is ∙ same_row (bit_in old k) (k == at) (k == at + 65536))
-            c.loop-at.invariant.each;
-      }
-    ]
+pub loop-word-preserved : goal.loop-word-preserved
+loop-word-preserved c =
+    let has = has_pair c.args.dump.now in
+    let at = c.loop-word.bits in
+    let word = c.loop-word.word in
+    let pairs = c.pairs_from-pairs.result in
+    let are : (i : ℕ) → i < 64 → has_bit pairs i ≡ has (64 * word + i) c.args.distance c.args.more =
+    λ i lt. c.pairs_from-pairs.ensures c.args.dump.now c.planes-planes.ensures i lt ∙ ap (λ (n : ℕ). has (64 * word + i) n c.args.more) c.from.ensures in
+    record {
+      whole = twice_whole at word pairs (λ a. has a c.args.distance c.args.more) c.loop-word-test.true c.loop-word.invariant.whole are c.loop-word.invariant.each;
+      each = twice_more at word pairs (λ a. has a c.args.distance c.args.more) c.loop-word-test.true c.loop-word.invariant.whole are c.loop-word.invariant.each;
+    }
+
+pub returns : goal.returns
+returns c = record { whole = c.loop-word.invariant.whole; each = λ k lt. c.loop-word.invariant.each k lt (omega (arith, c.loop-word-test.false)) }

@@ -1,33 +1,21 @@
-use Rattle.std.specs.Prelude.{◌≡◌, ◌≤◌, All, List, ℕ, true}
-use Rattle.std.proofs.Common.{arith, refl, subst}
-use Rattle.std.proofs.lemmas.Bool.Decides.{nat_tests}
+use Rattle.std.specs.Prelude.{◌≡◌, ℕ, Bool, true, List}
+use Rattle.std.proofs.Common.{subst}
 use Rattle.image80.specs.Image.{Located}
-use Rattle.verify80_states.specs.{Known.nothing_known, Marks.is_marked}
-use Rattle.verify80_follow.specs.declared.{followed.Way.Way}
-use Rattle.verify80_follow.specs.Follows.{Has, StateFollows, first_stack}
+use Rattle.verify80_states.specs.{Marks.is_marked, QuietBoards.is_quiet}
 use Rattle.verify80_follow.specs.Promise.{PromiseOfFollowed}
-use Rattle.verify80_follow.proofs.FitLemmas.{ok_maps}
+use Rattle.verify80_follow.proofs.FitLemmas.{ok_maps, promise_of_more}
 use Rattle.verify80_follow.proofs.fit.follows.Goals as goal
 
 pub returns : goal.returns
 returns c =
     let image = c.args.image.now in
-    let bytes = c.args.table.now.bytes in
-    let quiet = is_marked c.args.quiet.now in
-    let is_set = c.args.is_set in
-    let states = c.deref.result.now in
-    let ways = c.deref-3.result.now in
-    let same : c.in_ok-program.program ≡ image = c.in_ok-program.ensures in
-    let within = c.if-table-stack.false in
-    let stack = c.stack.ensures in
+    let table = c.args.table.now in
+    let marked = is_marked c.deref-2.result.now in
+    let quiet = is_quiet image.regions c.args.quiet.now in
+    let within : (at : ℕ) → is_marked c.in_ok-marks.marks.items at ≡ true → quiet at ≡ true = λ at is. subst (λ (i : Located). is_quiet i.regions c.args.quiet.now at ≡ true) c.image.view_is (c.in_ok-marks.ensures at is) in
     record {
-      promise = ok_maps c.all_follow.result (λ f. f ≡ true → All (λ s. StateFollows c.in_ok-program.program quiet c.args.code.now ways states bytes s) states)
-          (λ f. f ≡ true → PromiseOfFollowed image quiet is_set c.args.table.now.ways.items bytes)
-          (λ f follow is. subst (λ (l : List Way). PromiseOfFollowed image quiet is_set l bytes) c.deref-3.ensures.value
-          (c.followed_programs_keep_the_promise.ensures.promise image quiet is_set ways states bytes c.requires.rules c.requires.quiet (record {
-            code = c.args.code.now;
-            are_code = c.requires.code;
-            start = subst (λ (i : Located). Has states i.start nothing_known (first_stack is_set)) same (subst (λ (n : ℕ). Has states n nothing_known (first_stack is_set)) c.start.ensures (c.if-not-has_start.ensures refl));
-            states = subst (λ (i : Located). All (λ s. StateFollows i quiet c.args.code.now ways states bytes s) states) same (follow is);
-          }) (subst (λ (i : Located). bytes ≤ i.regions.stack.length) same (grind (arith, nat_tests, within, stack))))) c.all_follow.ensures;
+      promise = ok_maps c.follows_marked.result (λ f. f ≡ true → PromiseOfFollowed image marked c.args.is_set table.ways.items table.listed table.bytes)
+          (λ f. f ≡ true → PromiseOfFollowed image quiet c.args.is_set table.ways.items table.listed table.bytes)
+          (λ f promise is. promise_of_more image marked quiet c.args.is_set table.ways.items table.listed table.bytes (λ at marked_here. within at (subst (λ (l : List Bool). is_marked l at ≡ true) c.deref-2.ensures.value marked_here)) (promise is))
+          c.follows_marked.ensures.promise;
     }

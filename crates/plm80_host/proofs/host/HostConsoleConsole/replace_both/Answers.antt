@@ -5,10 +5,10 @@ use Rattle.plm80_host.specs.Drafts.{NotBothSettled}
 use Rattle.plm80_host.proofs.DraftLemmas.{both_values, first_unwritten, not_both, on_fault, second_unwritten}
 use Rattle.plm80_host.proofs.host.HostConsoleConsole.replace_both.Goals as goal
 
-pub returns-then-eq-clause-fault : goal.returns-then-eq-clause-fault
-returns-then-eq-clause-fault c =
-    second_unwritten c.args.first c.args.second c.args.self.now.notes.journal c.report_dash.new.self.notes.journal
-    (false, c.report_dash.ensures ∙ ap and_reported c.note.ensures)
+pub returns-then-is_no_path-clause-fault : goal.returns-then-is_no_path-clause-fault
+returns-then-is_no_path-clause-fault c =
+    second_unwritten c.args.first c.args.second c.args.self.now.notes.journal c.report_no_path.new.self.notes.journal
+    (false, c.report_no_path.ensures ∙ ap and_reported c.note.ensures)
 
 pub returns-in_err-first_draft-clause-fault : goal.returns-in_err-first_draft-clause-fault
 returns-in_err-first_draft-clause-fault c =

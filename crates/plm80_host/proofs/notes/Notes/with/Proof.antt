@@ -1,5 +1,5 @@
 -- `with` picks the journal with one note more. Assumes `Logic`.
-use Rattle.std.proofs.Common.{ℕ, ◌+◌, List, [], ◌∷◌, ◌++◌, refl}
+use Rattle.std.proofs.Common.{List, [], ◌∷◌, ◌++◌, refl}
 use seplogic.Ra.Ura.{Ura}
 use mir.{Syntax.Fn, Val.Val, Val.vptr}
 use base.Logic.{SProp, ent}

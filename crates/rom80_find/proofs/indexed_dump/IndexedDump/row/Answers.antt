@@ -7,4 +7,4 @@ pub returns : goal.returns
 returns c =
     let dump = dump_of c.self.inside.dump in
     subst (λ (d : DumpValue). IsRow d c.args.row c.row_of_marks.result.now) c.self.view_is
-    (c.row_of_marks.ensures dump (subst (λ (l : List ℕ). AreMarks dump 131072 l) (sym c.deref.ensures.value) c.self.invariant))
+    (c.row_of_marks.ensures dump (subst (λ (l : List ℕ). AreMarks dump 131072 l) (sym c.deref.ensures.value) c.self.invariant.marks))

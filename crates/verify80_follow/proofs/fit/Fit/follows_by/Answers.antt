@@ -8,5 +8,5 @@ pub returns-in-JumpsToHl : goal.returns-in-JumpsToHl
 returns-in-JumpsToHl c =
     let fit = c.args.self.now in
     let flows = sym c.in-JumpsToHl.is ∙ c.flow.ensures in
-    subst (λ (w : Flow). IfOk c.jumps_to_each.result (λ follows. follows ≡ true → FollowsBy fit.program.now fit.code.now fit.ways.now fit.table.now fit.bytes c.args.state.now c.args.found w)) flows
-    (subst (λ (b : Bool). IfOk c.jumps_to_each.result (λ jumps. jumps ≡ true → JumpsBy fit.program.now fit.code.now fit.ways.now fit.table.now fit.bytes c.args.state.now c.args.found b)) (sym (c.requires.declared (sym flows) ∙ c.if-by_targets.true)) c.jumps_to_each.ensures)
+    subst (λ (w : Flow). IfOk c.jumps_to_each.result (λ follows. follows ≡ true → FollowsBy fit.program.now fit.code.now fit.ways.now fit.table.now fit.bytes c.args.here.state.now c.args.here.found w)) flows
+    (subst (λ (b : Bool). IfOk c.jumps_to_each.result (λ jumps. jumps ≡ true → JumpsBy fit.program.now fit.code.now fit.ways.now fit.table.now fit.bytes c.args.here.state.now c.args.here.found b)) (sym (c.requires.declared (sym flows) ∙ c.if-by_targets.true)) c.jumps_to_each.ensures)

@@ -1,5 +1,5 @@
 use Rattle.verify80_stores.proofs.Names.{◌≡◌, ℕ, ◌-◌, ◌<◌, ◌≤◌, length, get_or, ReachesTo}
-use Rattle.verify80_stores.proofs.data_ends.data_ends.Given as goal
+use Rattle.verify80_stores.proofs.data_ends.find_data_ends.Given as goal
 
 abbrev pub invariant-loop-above : goal.invariant-loop-above
 invariant-loop-above l = record {

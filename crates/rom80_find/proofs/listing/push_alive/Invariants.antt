@@ -1,0 +1,14 @@
+-- the addresses so far
+use Rattle.std.proofs.Common.{◌≡◌, ◌+◌, Bool, List, length}
+use Rattle.rom80_find.specs.Dump.{DumpValue}
+use Rattle.rom80_find.specs.declared.pattern.code_byte.CodeByte.{CodeByte}
+use Rattle.rom80_find.specs.Lone.{AreLone}
+use Rattle.rom80_find.specs.Marks.{IsSievedWord}
+use Rattle.rom80_find.specs.Places.{ArePlaces}
+use Rattle.rom80_find.specs.Search.{SearchValue, search_of}
+use Rattle.rom80_find.proofs.listing.push_alive.Given as goal
+
+abbrev pub invariant-loop-index : goal.invariant-loop-index
+invariant-loop-index l = (search : SearchValue) (dump : DumpValue) (lone : List Bool) (code : List CodeByte) → search ≡ search_of dump lone code
+    → length search.known ≡ 0 → length search.free ≡ 0 → IsSievedWord dump lone code l.first l.alive → AreLone code lone
+    → ArePlaces dump code l.first l.fn.places.items → ArePlaces dump code (l.first + l.index) l.places.items

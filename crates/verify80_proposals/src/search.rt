@@ -1,0 +1,138 @@
+//! Tables of states are proposed, one after the other.
+
+use crate::groups::Groups;
+use crate::nodes::Limits;
+use crate::proposing::{Proposal, propose};
+use std::alloc::{AllocError, Global};
+use verify80_needs::{Named, ReachedProgram};
+
+/// How often it is tried which procedures know where they return to.
+const TRIALS: usize = 3;
+/// How many ways are followed in a procedure and in all if calls are distinguished, each as often as its state grows.
+const TRIAL_WAYS: (usize, usize) = (120_000, 240_000);
+/// How many ways are followed in a procedure and in all if calls aren't distinguished, before the search hurries.
+const WAYS: (usize, usize) = (200_000, 400_000);
+/// How many ways are followed then, at most.
+const LATE_WAYS: usize = 1_000_000;
+/// How many ways are followed for all tables of a program, at most.
+const ALL_WAYS: usize = 4_000_000;
+
+/// What the search for a program's first table noted, by address: 65,536 places each.
+#[derive(Debug, Drop)]
+pub struct SearchNotes {
+    /// Whether states were joined there, since there were too many.
+    pub joined: Vec<bool>,
+    /// Whether a conditional jump or return there was left open by a state that comes from no joined one, and decided by none.
+    pub undecided: Vec<bool>,
+}
+
+/// The search for tables of one program.
+#[derive(Debug, Drop)]
+pub struct Search {
+    /// How many ways may still be followed.
+    left: usize,
+    /// What was noted of the first table.
+    notes: Option<SearchNotes>,
+}
+
+impl Search {
+    /// A search that hasn't begun.
+    pub fn new() -> Search {
+        Search {
+            left: ALL_WAYS,
+            notes: None,
+        }
+    }
+
+    /// What was noted of the first table; `None` if there is none, or if too many ways would have had to be followed.
+    pub fn into_notes(self) -> Option<SearchNotes> {
+        self.notes
+    }
+
+    /// The table with a number from 0 to 7: 0 with calls distinguished, 1 with calls joined, 2 and 3 these two as if no address were
+    /// quiet, 4 and 5 these two with variables, 6 and 7 these two with all bytes of memory that are read later. `None` if too many ways
+    /// would have to be followed; for 0, 2, 4 and 6 also if no calls can be distinguished; for 2 to 7 also if no address is quiet.
+    ///
+    /// # Errors
+    /// `AllocError` only if memory runs out.
+    pub fn propose(
+        &mut self,
+        alloc: Global,
+        program: ReachedProgram<'_>,
+        groups: &Groups,
+        number: usize,
+    ) -> Result<Option<Proposal>, AllocError> {
+        let unquiet = ReachedProgram {
+            quiet: &[],
+            ..program
+        };
+        let (program, memory) = match number {
+            0 | 1 => (program, Named::Needed),
+            _ if !program.quiet.contains(&true) => return Ok(None),
+            2 | 3 => (unquiet, Named::Needed),
+            4 | 5 => (program, Named::Next),
+            _ => (program, Named::Read),
+        };
+        let mut found = if number % 2 == 0 {
+            self.propose_distinguished(alloc, program, groups, memory)?
+        } else {
+            self.propose_joined(alloc, program, groups, memory)?
+        };
+        if number < 2 && self.notes.is_none() {
+            if let Some(proposal) = &mut found {
+                self.notes = proposal.notes.take();
+            }
+        }
+        Ok(found)
+    }
+
+    /// A table in which calls are distinguished, with as many states at an address as can be followed; `None` if no calls can be.
+    ///
+    /// At first each procedure is to know where it returns to, so that what its callers know is distinguished. If states were joined, or
+    /// words are too deep on the stack, some don't: nothing is known behind their calls.
+    fn propose_distinguished(
+        &mut self,
+        alloc: Global,
+        program: ReachedProgram<'_>,
+        groups: &Groups,
+        memory: Named,
+    ) -> Result<Option<Proposal>, AllocError> {
+        let mut limits = Limits {
+            procedure: TRIAL_WAYS.0,
+            all: TRIAL_WAYS.1,
+            late: 0,
+            memory,
+        };
+        let mut knows = groups.marks_of_called(alloc)?;
+        for _ in 0..TRIALS {
+            if !knows.contains(&true) {
+                break;
+            }
+            let found = propose(alloc, program, groups, &knows, &mut limits, &mut self.left)?;
+            let Some(proposal) = found else {
+                break;
+            };
+            if !groups.take_marks(program, &proposal.table, &mut knows) {
+                return Ok(Some(proposal));
+            }
+        }
+        Ok(None)
+    }
+
+    /// A table in which calls aren't distinguished: each procedure is followed by itself.
+    fn propose_joined(
+        &mut self,
+        alloc: Global,
+        program: ReachedProgram<'_>,
+        groups: &Groups,
+        memory: Named,
+    ) -> Result<Option<Proposal>, AllocError> {
+        let mut limits = Limits {
+            procedure: WAYS.0,
+            all: WAYS.1,
+            late: LATE_WAYS,
+            memory,
+        };
+        propose(alloc, program, groups, &[], &mut limits, &mut self.left)
+    }
+}
