@@ -26,7 +26,7 @@ use plm80_names::{NAMES, NamedFiles, Names, explain_given};
 use std::alloc::{AllocError, Global};
 use text80::word_digits;
 use verify80_follow::{
-    Table, Way, append_ways, bounds_text, followed_instructions, followed_stores, follows,
+    RunKind, Table, Way, append_ways, bounds_text, followed_instructions, followed_stores, follows,
 };
 use verify80_follow_search::{SearchResult, Stop, StopReason, search};
 use verify80_stores::Stores;
@@ -53,6 +53,13 @@ begins, if that isn't 0000.
 Devices may write to DATA at any time, so what a program keeps there isn't
 believed. --quiet-ram names RAM that only the program writes, as for stores: a
 byte that it stores there is remembered. Each range has a line QUIET.
+
+--interrupted follows a program to which interrupts come: EI may stand anywhere
+once SP is set, and a run goes on behind a HLT, unless DI came last. The promise
+is that of the program between its interrupts, on every board whose handlers give
+back SP, registers, flags and what is pushed, and store only where devices may.
+HANDLERS NOT VERIFIED says that no handler was looked at. STACK doesn't count
+them: below its bytes there must be room for 2 and what a handler uses.
 
 The exit status is 0 if the program is followed. Else it is 1, and one line says
 where the search stopped and why, as in STOPPED 3009 RETURN UNKNOWN: that is
@@ -84,6 +91,11 @@ pub const FOLLOW: Syntax<'static> = Syntax {
             kind: Kind::Flag,
             help: "List the code to which the program may come",
         },
+        Argument {
+            name: "interrupted",
+            kind: Kind::Flag,
+            help: "Interrupts come: allow EI, and go on behind HLT; handlers aren't verified",
+        },
     ],
 };
 
@@ -95,6 +107,8 @@ pub struct FollowArguments<'a> {
     quiet: Vec<&'a str>,
     /// Whether the code is listed to which the program may come.
     lists: bool,
+    /// Whether the program is interrupted.
+    interrupted: bool,
 }
 
 impl<'a> FollowArguments<'a> {
@@ -106,6 +120,7 @@ impl<'a> FollowArguments<'a> {
             files: NamedFiles::of(matches),
             quiet: argument_values(alloc, matches, "quiet-ram")?,
             lists: matches.get_flag("list"),
+            interrupted: matches.get_flag("interrupted"),
         })
     }
 }
@@ -127,6 +142,7 @@ pub fn follow_files<C: Console>(
     let asked = Asked {
         quiet: &quiet,
         lists: arguments.lists,
+        interrupted: arguments.interrupted,
     };
     let given = print_followed(console, &image, &names, &arguments.quiet, asked);
     explain_given(console, &given, files.names, files.image, None);
@@ -140,6 +156,8 @@ struct Asked<'a> {
     quiet: &'a [Range],
     /// Whether the code is listed to which the program may come.
     lists: bool,
+    /// Whether the program is interrupted.
+    interrupted: bool,
 }
 
 /// Prints how the program of `image` is followed, or where that stops, and returns the exit status. The quiet ranges are those that `texts`
@@ -151,8 +169,8 @@ fn print_followed<C: Console>(
     texts: &[&str],
     asked: Asked<'_>,
 ) -> Result<u8, Reported>
-    ensures done { IfOk result (IsAnswered (PrintsFollowed asked.entry.quiet.now asked.entry.lists image.now names.now) (C.journal console.old) (C.journal console.new)) }
-    ensures fault { IfErr result (λ _. IsGivenUp (PrintsFollowed asked.entry.quiet.now asked.entry.lists image.now names.now) (C.journal console.old) (C.journal console.new)) }
+    ensures done { IfOk result (IsAnswered (PrintsFollowed asked.entry.quiet.now asked.entry.interrupted asked.entry.lists image.now names.now) (C.journal console.old) (C.journal console.new)) }
+    ensures fault { IfErr result (λ _. IsGivenUp (PrintsFollowed asked.entry.quiet.now asked.entry.interrupted asked.entry.lists image.now names.now) (C.journal console.old) (C.journal console.new)) }
 {
     require_data(console, &image.regions, texts, asked.quiet)?;
     match answer_of_following(console.alloc(), image, names, asked) {
@@ -179,13 +197,13 @@ fn answer_of_following(
     names: &Names,
     asked: Asked<'_>,
 ) -> Result<FollowedAnswer, AllocError>
-    ensures { IfOk result (λ followed. SaysFollowed asked.entry.quiet.now asked.entry.lists image.now names.now followed.answer) }
+    ensures { IfOk result (λ followed. SaysFollowed asked.entry.quiet.now asked.entry.interrupted asked.entry.lists image.now names.now followed.answer) }
 {
-    match find_table(alloc, image, asked.quiet)? {
+    match find_table(alloc, image, asked)? {
         Followed::By(table, is_set) => {
             let reached = followed_instructions(alloc, image, &table)?;
             let stores = followed_stores(alloc, &table.listed, &reached, !is_set)?;
-            let mut text = followed_text(alloc, image, names, &table, asked.quiet, &stores)?;
+            let mut text = followed_text(alloc, image, names, &table, asked, &stores)?;
             let listing = listing_of(alloc, image, names, &reached, asked.lists)?;
             text.extend_from_slice(&listing)?;
             Ok(FollowedAnswer {
@@ -230,33 +248,45 @@ enum Followed {
 }
 
 /// Searches for a table that follows the program of `image`: with SP anywhere at its start, or else with SP at the stack's top.
-fn find_table(alloc: Global, image: &Image, quiet: &[Range]) -> Result<Followed, AllocError>
-    ensures { IfOk result (IsFollowedBy quiet.now image.now) }
+fn find_table(alloc: Global, image: &Image, asked: Asked<'_>) -> Result<Followed, AllocError>
+    ensures { IfOk result (IsFollowedBy asked.entry.interrupted asked.entry.quiet.now image.now) }
 {
-    match table_from(alloc, image, quiet, false)? {
+    let run = RunKind {
+        is_set: false,
+        interrupted: asked.interrupted,
+    };
+    match table_from(alloc, image, asked.quiet, run)? {
         Followed::Stopped(
             Stop {
                 reason: StopReason::StackNotSet,
                 ..
             },
-        ) => table_from(alloc, image, quiet, true),
+        ) => table_from(
+            alloc,
+            image,
+            asked.quiet,
+            RunKind {
+                is_set: true,
+                ..run
+            },
+        ),
         found => Ok(found),
     }
 }
 
-/// Searches for a table that follows the program of `image`, with SP at the stack's top at its start if `is_set`, and else anywhere.
+/// Searches for a table that follows the program of `image` in runs of this kind.
 fn table_from(
     alloc: Global,
     image: &Image,
     quiet: &[Range],
-    is_set: bool,
+    run: RunKind,
 ) -> Result<Followed, AllocError>
-    ensures { IfOk result (IsFollowedBy quiet.now image.now) }
+    ensures { IfOk result (IsFollowedBy run.interrupted quiet.now image.now) }
 {
-    match search(alloc, image, quiet, is_set)? {
+    match search(alloc, image, quiet, run)? {
         SearchResult::Found(table) => {
-            if follows(alloc, image, &table, quiet, is_set)? {
-                Ok(Followed::By(table, is_set))
+            if follows(alloc, image, &table, quiet, run)? {
+                Ok(Followed::By(table, run.is_set))
             } else {
                 Ok(Followed::Stopped(Stop {
                     at: image.start,
@@ -275,13 +305,14 @@ fn followed_text(
     image: &Image,
     names: &Names,
     table: &Table,
-    quiet: &[Range],
+    asked: Asked<'_>,
     stores: &Stores,
 ) -> Result<Vec<u8>, AllocError>
-    ensures { IfOk result (λ text. text.items ≡ followed_lines quiet.now image.now names.now table.now stores.now) }
+    ensures { IfOk result (λ text. text.items ≡ followed_lines asked.entry.interrupted asked.entry.quiet.now image.now names.now table.now stores.now) }
 {
-    let mut text = bounds_text(alloc, table, image.regions.stack().length)?;
-    let mut lines = stores_lines(alloc, image, names, quiet, stores)?;
+    let room = image.regions.stack().length;
+    let mut text = bounds_text(alloc, table, room, asked.interrupted)?;
+    let mut lines = stores_lines(alloc, image, names, asked.quiet, stores)?;
     let ways = ways_text(alloc, image, names, &table.ways)?;
     lines.extend_from_slice(&ways)?;
     text.extend_from_slice(&lines)?;

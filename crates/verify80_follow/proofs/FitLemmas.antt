@@ -1,26 +1,32 @@
 -- What a look at an address says of the instruction there.
-use Rattle.std.specs.Prelude.{◌≡◌, ℕ, Bool, true, false, List, [], ◌∷◌, zero, suc, Contains, Some, Result, Ok, Err, IfOk, slice_get}
-use Rattle.std.proofs.Common.{ap, arith, ◌∙◌}
+use Rattle.std.specs.Prelude.{◌≡◌, ℕ, Bool, true, false, List, [], ◌∷◌, zero, suc, Contains, Option, None, Some, Result, Ok, Err, IfOk, IfSome, slice_get}
+use Rattle.std.proofs.Common.{ap, arith, sym, true≢false, ◌∙◌}
 use Rattle.decode80.specs.{Facts.flow, declared.fetching.Fetched.Fetched}
 use Rattle.decode80.specs.declared.flow.Flow.TheVariants.{JumpsToHl}
-use Rattle.decode80.specs.declared.instr.Instr.TheVariants.{Pchl}
-use Rattle.frames80.specs.declared.code.LookFault.TheVariants.{Pchl as PchlUndeclared}
+use Rattle.decode80.specs.declared.instr.Instr.TheVariants.{Ei, Pchl}
+use Rattle.frames80.specs.declared.code.LookFault.TheVariants.{EnablesInterrupts, Pchl as PchlUndeclared}
 use Rattle.image80.specs.{Image.Located, Image.memory_of, Regions.Areas}
 use Rattle.machine80.specs.{Step.Machine, World.World}
 use Rattle.verify80_states.specs.QuietBoards.{OnQuietBoard, begins, disturbed, executed as executed_quiet}
 use Rattle.verify80.specs.{Looking.is_declared, Looking.look_at, Looking.stores_in_data}
-use Rattle.verify80.specs.LookLaws.{IsPchlUndeclared, LooksAnswerFaultsThatHold, LooksFindWhatIsAdmitted, fetch_at}
+use Rattle.verify80.specs.LookLaws.{IsEiAlone, IsPchlUndeclared, LooksAnswerFaultsThatHold, LooksFindWhatIsAdmitted, fetch_at}
 use Rattle.verify80_follow.specs.declared.followed.{Listed.Listed, Way.Way}
-use Rattle.verify80_follow.specs.{Follows.IsExecuted, Promise.IsLeftOpenAt, Promise.PromiseOfFollowed}
+use Rattle.verify80_follow.specs.{Follows.IsExecuted, Promise.IsLeftOpenAt, Promise.PromiseOf}
+use Rattle.verify80_follow.specs.InterruptedBoards.{OnInterruptedBoard, begins as begins_interrupted, disturbed as disturbed_interrupted, executed as executed_interrupted, woken}
 use Rattle.verify80_follow.proofs.FollowLemmas.{is_pchl}
+
+-- what a value says, if there is one
+pub some_maps : {A : Type 0} (o : Option A) (P Q : A → Type 0) → ((x : A) → P x → Q x) → IfSome o P → IfSome o Q
+some_maps (Some x) P Q more holds = more x holds
+some_maps None P Q more holds = tt
 
 -- what an answer says, if there is one
 pub ok_maps : {A E : Type 0} (r : Result A E) (P Q : A → Type 0) → ((x : A) → P x → Q x) → IfOk r P → IfOk r Q
 ok_maps (Ok x) P Q more holds = more x holds
 ok_maps (Err e) P Q more holds = tt
 
-pub executed : (image : Located) (at : ℕ) (found : Fetched) → LooksFindWhatIsAdmitted → look_at image.regions (memory_of image.chunks) at ≡ Ok found → IsExecuted image at found
-executed image at found law is = let admitted = (law image.regions (memory_of image.chunks) at found).0 is in record { fetched = admitted.fetched; stores = admitted.stores; halts = admitted.halts }
+pub executed : (image : Located) (interrupted : Bool) (at : ℕ) (found : Fetched) → LooksFindWhatIsAdmitted → look_at image.regions (memory_of image.chunks) at ≡ Ok found → IsExecuted image interrupted at found
+executed image interrupted at found law is = let admitted = (law image.regions (memory_of image.chunks) at found).0 is in record { fetched = admitted.fetched; stores = admitted.stores; halts = λ off. admitted.halts }
 
 pub declared : (image : Located) (at : ℕ) (found : Fetched) → LooksFindWhatIsAdmitted → look_at image.regions (memory_of image.chunks) at ≡ Ok found → flow found.instr ≡ JumpsToHl → is_declared image.regions at ≡ true
 declared image at found law is jumps = let admitted = (law image.regions (memory_of image.chunks) at found).0 is in admitted.declared (is_pchl found.instr jumps)
@@ -35,8 +41,21 @@ module _ (image : Located) (at : ℕ) (found : Fetched) (law : LooksAnswerFaults
   pub undeclared : flow found.instr ≡ JumpsToHl → is_declared image.regions at ≡ false
   undeclared jumps = holds.undeclared
 
-  pub executed_pchl : IsExecuted image at found
-  executed_pchl = record { fetched = fetched; stores = ap (λ i. stores_in_data image.regions i) is_it; halts = λ ei. absurd (let it = is_it in cc) }
+  pub executed_pchl : (interrupted : Bool) → IsExecuted image interrupted at found
+  executed_pchl interrupted = record { fetched = fetched; stores = ap (λ i. stores_in_data image.regions i) is_it; halts = λ off ei. absurd (let it = is_it in cc) }
+
+module _ (image : Located) (at : ℕ) (found : Fetched) (law : LooksAnswerFaultsThatHold) (fault : look_at image.regions (memory_of image.chunks) at ≡ Err EnablesInterrupts) (fetched : fetch_at image.regions (memory_of image.chunks) at ≡ Ok found) where
+  lets : IsEiAlone image.regions (memory_of image.chunks) at
+  lets = (law image.regions (memory_of image.chunks) at EnablesInterrupts).0 fault
+
+  is_ei : found.instr ≡ Ei
+  is_ei = let same : found ≡ lets.found = (let it = lets.fetched in cc) in ap (λ (f : Fetched). f.instr) same ∙ lets.is_ei
+
+  pub executed_ei : (interrupted : Bool) → interrupted ≡ true → IsExecuted image interrupted at found
+  executed_ei interrupted on = record { fetched = fetched; stores = ap (λ i. stores_in_data image.regions i) is_ei; halts = λ off. absurd (true≢false (sym on ∙ off)) }
+
+  pub no_jump : flow found.instr ≡ JumpsToHl → is_declared image.regions at ≡ true
+  no_jump jumps = absurd (let it = is_ei in let here : flow Ei ≡ JumpsToHl = sym (ap flow is_ei) ∙ jumps in cc)
 
 -- where a list has what it contains
 pub at_place : (xs : List ℕ) (x : ℕ) → (has : Contains xs x) → slice_get xs has.0 ≡ Some x
@@ -51,7 +70,19 @@ quieter regions quiet more listed start began inside set w (begins _ _ is same) 
 quieter regions quiet more listed start began inside set w (disturbed _ v _ on by stays) = disturbed set v w (quieter regions quiet more listed start began inside set v on) by (λ at is. stays at (inside at is))
 quieter regions quiet more listed start began inside set w (executed_quiet before _ v _ on by is) = executed_quiet before set v w (quieter regions quiet more listed start began inside before v on) by is
 
-pub promise_of_more : (image : Located) (quiet more : ℕ → Bool) (is_set : Bool) (ways : List Way) (listed : Listed) (bytes : ℕ) → ((at : ℕ) → quiet at ≡ true → more at ≡ true) →
-    PromiseOfFollowed image quiet is_set ways listed bytes → PromiseOfFollowed image more is_set ways listed bytes
-promise_of_more image quiet more is_set ways listed bytes inside promise start pc whole code holds top w set on =
+-- and so is one on which a program is interrupted
+quieter_interrupted : (regions : Areas) (quiet more : ℕ → Bool) (listed : ℕ → Type 0) (start : Machine) (began : Bool) → ((at : ℕ) → quiet at ≡ true → more at ≡ true) → (set enabled : Bool) (w : World) →
+    OnInterruptedBoard regions more listed start began set enabled w → OnInterruptedBoard regions quiet listed start began set enabled w
+quieter_interrupted regions quiet more listed start began inside set enabled w (begins_interrupted _ _ _ is same off) = begins_interrupted set enabled w is same off
+quieter_interrupted regions quiet more listed start began inside set enabled w (disturbed_interrupted _ _ v _ on by stays) =
+    disturbed_interrupted set enabled v w (quieter_interrupted regions quiet more listed start began inside set enabled v on) by (λ at is. stays at (inside at is))
+quieter_interrupted regions quiet more listed start began inside set enabled w (executed_interrupted before _ may _ v _ on by is after) =
+    executed_interrupted before set may enabled v w (quieter_interrupted regions quiet more listed start began inside before may v on) by is after
+quieter_interrupted regions quiet more listed start began inside set enabled w (woken _ _ v _ on may by) = woken set enabled v w (quieter_interrupted regions quiet more listed start began inside set enabled v on) may by
+
+pub promise_of_more : (interrupted : Bool) (image : Located) (quiet more : ℕ → Bool) (is_set : Bool) (ways : List Way) (listed : Listed) (bytes : ℕ) → ((at : ℕ) → quiet at ≡ true → more at ≡ true) →
+    PromiseOf interrupted image quiet is_set ways listed bytes → PromiseOf interrupted image more is_set ways listed bytes
+promise_of_more false image quiet more is_set ways listed bytes inside promise = λ start pc whole code holds top w set on.
     promise start pc whole code holds top w set (quieter image.regions quiet more (IsLeftOpenAt listed) start is_set inside set w on)
+promise_of_more true image quiet more is_set ways listed bytes inside promise = λ start pc whole code holds top w set enabled on.
+    promise start pc whole code holds top w set enabled (quieter_interrupted image.regions quiet more (IsLeftOpenAt listed) start is_set inside set enabled w on)

@@ -1,13 +1,13 @@
 -- A table that follows a program is an invariant of each board's worlds: one of its states holds of the first one, of one that devices have disturbed,
--- and of one after an instruction.
-use Rattle.std.specs.Prelude.{◌≡◌, ◌≢◌, ◌⊎◌, ◌≤◌, ◌<◌, ◌==◌, ◌||◌, ℕ, suc, Bool, true, false, not, List, [], ◌∷◌, Option, None, Some, Ok, IfSome, All, Any, Contains, length, slice_get, slice_index, is_some, nat_eq, ◌&&◌, if◌then◌else◌}
+-- of one after an instruction, and of one behind a HLT that was interrupted.
+use Rattle.std.specs.Prelude.{◌≡◌, ◌≢◌, ◌⊎◌, ◌≤◌, ◌<◌, ◌==◌, ◌||◌, ℕ, suc, Bool, true, false, not, List, [], ◌∷◌, Option, None, Some, Ok, IfSome, IsSome, All, Any, Contains, length, slice_get, slice_index, is_some, nat_eq, ◌&&◌, if◌then◌else◌}
 use Rattle.std.specs.{List.list_any, Option.option_map, Option.option_map_or}
 use Rattle.std.proofs.Common.{get_or, ap, arith, inl, inr, refl, subst, sym, true≢false, ◌∙◌}
 use Rattle.std.proofs.lemmas.{Option.get_or_from_slice_get, Option.slice_get_within, Bool.eqb-true, Bool.Decides.nat_tests, Map.Views.Contains-from_any}
 use Rattle.std.proofs.lemmas.List.Elements.{All-nil, Contains-get_or}
 use Rattle.decode80.specs.{Spelling.HasOperandInRange, Facts.flow, Facts.storing, Fetch.FetchReadsCodeAlone, Fetch.ahead, Fetch.direct_bytes, declared.condition.Condition.Condition, declared.fetching.Fetched.Fetched, declared.flow.Flow.Flow, declared.instr.Instr.Instr}
 use Rattle.decode80.specs.declared.flow.Flow.TheVariants.{Jumps, JumpsIf, JumpsToHl, Calls, CallsIf, Returns, ReturnsIf, Halts}
-use Rattle.decode80.specs.declared.instr.Instr.TheVariants.{Call, CallIf, Dad, Dcx, Ei, Hlt, In, Inx, Lxi, Out, Pchl, Pop, Push, Ret, ReturnIf, Rst, Sphl, Xthl}
+use Rattle.decode80.specs.declared.instr.Instr.TheVariants.{Call, CallIf, Dad, Dcx, Di, Ei, Hlt, In, Inx, Lxi, Out, Pchl, Pop, Push, Ret, ReturnIf, Rst, Sphl, Xthl}
 use Rattle.decode80.specs.declared.pair.Pair.TheVariants.{Sp}
 use Rattle.image80.specs.{Range.in_range, Regions.AreRegions, Regions.Areas, Regions.in_code, Regions.in_data, Regions.targets_at, Regions.top_of, Image.Located, Image.memory_of}
 use Rattle.machine80.specs.{Cpu.hl_of, Flags.flags_byte, Flags.bit_of, Flags.holds as holds_of, Effects.byte_in, Effects.changed, Effects.goes_to, Effects.pointed_bytes, Effects.stack_bytes, Effects.stored, Effects.stores, Effects.target, Effects.touched_by, Effects.word_in, Run.world_of, declared.cpu.Cpu.Cpu, declared.flags.Flags.Flags}
@@ -25,8 +25,9 @@ use Rattle.verify80_states.specs.Laws.{ConditionsLeaveKnown, InstructionsAreFoll
 use Rattle.verify80_states.specs.Invariants.{invariant_is_kept}
 use Rattle.verify80_follow.specs.declared.{followed.FollowedState.FollowedState, followed.Listed.Listed, followed.Way.Way}
 use Rattle.verify80_follow.specs.Stack.{AreBytesInside, HoldsFrom, HoldsStack, IsStackInside, bounds_of, if_true, moved_to, pointer_at, return_address, set_stack, stack_after, stack_then, top_of_stack, word_on}
-use Rattle.verify80_follow.specs.Follows.{CoversThen, Follows, FollowsBy, Has, IsWay, JumpsBy, LeadsTo, ReturnsLeft, ReturnsTo, StateFollows, first_stack, stack_of}
-use Rattle.verify80_follow.specs.Promise.{FollowedProgramsKeepThePromise, GoesToListed, IsLeftOpenAt, KeepsFollowed, KnowsWorld, PromiseOfFollowed}
+use Rattle.verify80_follow.specs.InterruptedBoards.{OnInterruptedBoard, Wakes, begins, disturbed, enabled_after, executed, with_pc, woken}
+use Rattle.verify80_follow.specs.Follows.{Covers, CoversThen, Follows, FollowsBy, Has, IsWay, JumpsBy, LeadsTo, ReturnsLeft, ReturnsTo, StateFollows, first_stack, stack_of}
+use Rattle.verify80_follow.specs.Promise.{FollowedProgramsKeepThePromise, GoesToListed, IsLeftOpenAt, KeepsFollowed, KnowsWorld, PromiseOf, PromiseOfFollowed, PromiseOfInterrupted}
 use Rattle.verify80_follow.proofs.{GroundLemmas.Ground, FetchLemmas.anywhere_of, FetchLemmas.fetched_here, FetchLemmas.inside_of, StackSteps.stack_holds}
 use Rattle.verify80_follow.proofs.GuardLemmas.{Touches, all_of_list, passes_guard, touched}
 use Rattle.verify80_follow.proofs.StackLemmas.{any_within, byte_at, moved_holds, pointer_is, stays_from}
@@ -57,6 +58,12 @@ flags_are_byte f =
     let p = bit_is_small f.parity in
     let c = bit_is_small f.carry in
     omega (arith, s, z, a, p, c)
+
+-- where more interrupts may come before an instruction, more may after it
+enables_more : (i : Instr) (a b : Bool) → (a ≡ true → b ≡ true) → enabled_after i a ≡ true → enabled_after i b ≡ true
+enables_more Ei a b more is = refl
+enables_more Di a b more is = is
+enables_more i a b more is = more is
 
 -- what an unguarded step leaves, IN and OUT too
 record Leaves (i : Instr) (next : ℕ) (m after : Machine) : Type 0 where
@@ -199,20 +206,23 @@ pub record Laws : Type 0 where
   pub reads : FetchReadsCodeAlone
   pub bounded : FetchedOperandsAreBounded
 
-module _ (laws : Laws) (image : Located) (quiet : ℕ → Bool) (is_set : Bool) (ways : List Way) (listed : Listed) (table : List FollowedState) (bytes : ℕ) (rules : AreRegions image.regions) (ground : Ground image.regions)
-    (quiet_data : (at : ℕ) → quiet at ≡ true → in_data image.regions at ≡ true) (fits : Follows image quiet is_set ways listed table bytes) (few : bytes ≤ image.regions.stack.length) where
-  abbrev Knows : Bool → World → Type 0
-  Knows set w = KnowsWorld image table set w
+module _ (laws : Laws) (image : Located) (interrupted : Bool) (quiet : ℕ → Bool) (is_set : Bool) (ways : List Way) (listed : Listed) (table : List FollowedState) (bytes : ℕ) (rules : AreRegions image.regions) (ground : Ground image.regions)
+    (quiet_data : (at : ℕ) → quiet at ≡ true → in_data image.regions at ≡ true) (fits : Follows image interrupted quiet is_set ways listed table bytes) (few : bytes ≤ image.regions.stack.length) where
+  abbrev Knows : (set enabled : Bool) → World → Type 0
+  Knows set enabled w = KnowsWorld image interrupted table set enabled w
 
   -- what the table has at an address, holding of a machine, is known of it
-  enters : (set : Bool) (w : World) (known : Known) (stack : Option (List ByteSpan)) → Has table w.machine.cpu.pc known stack → HoldsKnown known w.machine → IfSome stack (λ b. HoldsStack (bounds_of image) b w.machine.cpu.sp w.machine.memory × (set ≡ true)) →
-      HoldsBytes w.machine → length w.machine.memory ≡ 65536 → HasCode image w.machine.memory → Knows set w
-  enters set w known stack has holds stands held whole code = record {
+  enters : (set enabled may : Bool) (w : World) (known : Known) (stack : Option (List ByteSpan)) → Has table w.machine.cpu.pc known may stack → (enabled ≡ true → may ≡ true) →
+      (interrupted ≡ true → enabled ≡ true → set ≡ true) → HoldsKnown known w.machine → IfSome stack (λ b. HoldsStack (bounds_of image) b w.machine.cpu.sp w.machine.memory × (set ≡ true)) →
+      HoldsBytes w.machine → length w.machine.memory ≡ 65536 → HasCode image w.machine.memory → Knows set enabled w
+  enters set enabled may w known stack has more serves holds stands held whole code = record {
     place = has.place;
     state = has.state;
     there = has.there;
     at = has.at;
     known = (laws.holds w.machine held).around known has.state.known has.inside holds;
+    enables = λ is. has.enables (more is);
+    serves = serves;
     stack = stack_around image (set ≡ true) stack (stack_of has.state) w.machine.cpu.sp w.machine.memory has.stacked stands;
     bytes = held;
     whole = whole;
@@ -223,12 +233,12 @@ module _ (laws : Laws) (image : Located) (quiet : ℕ → Bool) (is_set : Bool) 
   empty_at_top false sp m top = tt
   empty_at_top true sp m top = (record { pointer = top refl ∙ omega arith; within = omega arith; each = tt }, refl)
 
-  begun : (start : Machine) → start.cpu.pc ≡ image.start → length start.memory ≡ 65536 → HasCode image start.memory → HoldsBytes start → (is_set ≡ true → start.cpu.sp ≡ top_of image.regions) → Knows is_set (world_of start)
-  begun start pc whole code held top = enters is_set (world_of start) nothing_known (first_stack is_set) (subst (λ n. Has table n nothing_known (first_stack is_set)) (sym pc) fits.start) (laws.holds start held).nothing (empty_at_top is_set start.cpu.sp start.memory top) held whole code
+  begun : (start : Machine) → start.cpu.pc ≡ image.start → length start.memory ≡ 65536 → HasCode image start.memory → HoldsBytes start → (is_set ≡ true → start.cpu.sp ≡ top_of image.regions) → Knows is_set false (world_of start)
+  begun start pc whole code held top = enters is_set false false (world_of start) nothing_known (first_stack is_set) (subst (λ n. Has table n nothing_known false (first_stack is_set)) (sym pc) fits.start) (λ is. is) (λ on is. cc) (laws.holds start held).nothing (empty_at_top is_set start.cpu.sp start.memory top) held whole code
 
   -- what devices write leaves what is known
-  entry_of : (set : Bool) (w : World) (k : Knows set w) → StateFollows image quiet fits.code ways listed table bytes k.state
-  entry_of set w k = one_of (λ s. StateFollows image quiet fits.code ways listed table bytes s) table k.place k.state fits.states k.there
+  entry_of : (set enabled : Bool) (w : World) (k : Knows set enabled w) → StateFollows image interrupted quiet fits.code ways listed table bytes k.state
+  entry_of set enabled w k = one_of (λ s. StateFollows image interrupted quiet fits.code ways listed table bytes s) table k.place k.state fits.states k.there
 
   stack_disturbed : (set : Bool) (w : World) (memory : List ℕ) (stack : Option (List ByteSpan)) → (leaves : LeavesProgram image.regions (respected_pointer image.regions set w) w.machine.memory memory) →
       IfSome stack (λ b. HoldsStack (bounds_of image) b w.machine.cpu.sp w.machine.memory × (set ≡ true)) → IfSome stack (λ b. HoldsStack (bounds_of image) b w.machine.cpu.sp memory × (set ≡ true))
@@ -249,13 +259,15 @@ module _ (laws : Laws) (image : Located) (quiet : ℕ → Bool) (is_set : Bool) 
         stands.1,
       )
 
-  disturbs : (set : Bool) (w v : World) → Knows set w → (by : Disturbs image.regions (respected_pointer image.regions set w) w v) → StaysQuiet quiet w.machine.memory by.memory → Knows set v
-  disturbs set w v k by stays = subst (λ (u : World). Knows set u) (sym by.is) (record {
+  disturbs : (set enabled : Bool) (w v : World) → Knows set enabled w → (by : Disturbs image.regions (respected_pointer image.regions set w) w v) → StaysQuiet quiet w.machine.memory by.memory → Knows set enabled v
+  disturbs set enabled w v k by stays = subst (λ (u : World). Knows set enabled u) (sym by.is) (record {
     place = k.place;
     state = k.state;
     there = k.there;
     at = k.at;
-    known = laws.quiet quiet w.machine by.memory k.state.known stays by.leaves.bytes (entry_of set w k).knows k.known;
+    known = laws.quiet quiet w.machine by.memory k.state.known stays by.leaves.bytes (entry_of set enabled w k).knows k.known;
+    enables = k.enables;
+    serves = k.serves;
     stack = stack_disturbed set w by.memory (stack_of k.state) by.leaves k.stack;
     bytes = record { registers = k.bytes.registers; memory = by.leaves.bytes; inputs = k.bytes.inputs };
     whole = by.leaves.size ∙ k.whole;
@@ -263,12 +275,12 @@ module _ (laws : Laws) (image : Located) (quiet : ℕ → Bool) (is_set : Bool) 
   })
 
   -- a world of which one state is known
-  module _ (set : Bool) (w : World) (k : KnowsWorld image table set w) where
+  module _ (set enabled : Bool) (w : World) (k : KnowsWorld image interrupted table set enabled w) where
     abbrev m : Machine
     m = w.machine
 
-    entry : StateFollows image quiet fits.code ways listed table bytes k.state
-    entry = entry_of set w k
+    entry : StateFollows image interrupted quiet fits.code ways listed table bytes k.state
+    entry = entry_of set enabled w k
 
     abbrev found : Fetched
     found = entry.found
@@ -296,7 +308,7 @@ module _ (laws : Laws) (image : Located) (quiet : ℕ → Bool) (is_set : Bool) 
       taken : Bool
       to : ℕ
       known : Known
-      covers : CoversThen image fits.code ways table bytes k.state found taken to known
+      covers : CoversThen image interrupted fits.code ways table bytes k.state found taken to known
       is : is_taken (flow found.instr) m.cpu.registers.flags ≡ taken
       holds : HoldsKnown known m
       are : IsQuietKnown quiet known
@@ -346,7 +358,16 @@ module _ (laws : Laws) (image : Located) (quiet : ℕ → Bool) (is_set : Bool) 
       on_stack_bytes : (xs : List ℕ) → All (Touches image.regions ground bytes) xs → All (λ a. in_range image.regions.stack a ≡ true) xs
       on_stack_bytes xs each = λ k d within. (each k d within).there
 
-      lands : Taken → Knows (set || sets_sp found.instr) v
+      -- interrupts may come only once SP is set
+      served : (i : Instr) → found.instr ≡ i → interrupted ≡ true → enabled_after i enabled ≡ true → set ≡ true
+      served Ei is on may = is_set_by (stack_of k.state) (entry.serves on is) k.stack where
+        is_set_by : (stack : Option (List ByteSpan)) → IsSome stack → IfSome stack (λ b. HoldsStack (bounds_of image) b m.cpu.sp m.memory × (set ≡ true)) → set ≡ true
+        is_set_by (Some b) some stands = stands.1
+        is_set_by None some stands = cc
+      served Di is on may = cc
+      served i is on may = k.serves on may
+
+      lands : Taken → Knows (set || sets_sp found.instr) (enabled_after found.instr enabled) v
       lands t = by t.covers.covers.either where
         guarded : guard image.regions found.instr m.cpu ≡ None
         guarded = passes_guard image.regions found.instr m.cpu (on_stack_bytes (stack_bytes found.instr m.cpu) (stands t).touches) direct inside.stores
@@ -365,47 +386,55 @@ module _ (laws : Laws) (image : Located) (quiet : ℕ → Bool) (is_set : Bool) 
         there : after.cpu.pc ≡ t.to
         there = left.pc ∙ t.goes
 
-        with_has : (known : Known) → HoldsKnown known after → Has table t.to known t.covers.stack → Knows (set || sets_sp found.instr) v
-        with_has known holds has = enters (set || sets_sp found.instr) v known t.covers.stack (subst (λ n. Has table n known t.covers.stack) (sym there) has) holds stack_now followed.bytes followed.whole (λ address here. followed.same_code address here ∙ k.code address here)
+        may : Bool
+        may = enabled_after found.instr k.state.is_enabled
 
-        by : Has table t.to now t.covers.stack ⊎ ((byte : ℕ) → ByteWithin now.a byte → Has table t.to (cut now (byte_alone byte)) t.covers.stack) → Knows (set || sets_sp found.instr) v
+        still_set : set ≡ true → (set || sets_sp found.instr) ≡ true
+        still_set is = ap (λ (b : Bool). b || sets_sp found.instr) is
+
+        with_has : (known : Known) → HoldsKnown known after → Has table t.to known may t.covers.stack → Knows (set || sets_sp found.instr) (enabled_after found.instr enabled) v
+        with_has known holds has =
+            enters (set || sets_sp found.instr) (enabled_after found.instr enabled) may v known t.covers.stack (subst (λ n. Has table n known may t.covers.stack) (sym there) has) (enables_more found.instr enabled k.state.is_enabled k.enables)
+            (λ on is. still_set (served found.instr refl on is)) holds stack_now followed.bytes followed.whole (λ address here. followed.same_code address here ∙ k.code address here)
+
+        by : Has table t.to now may t.covers.stack ⊎ ((byte : ℕ) → ByteWithin now.a byte → Has table t.to (cut now (byte_alone byte)) may t.covers.stack) → Knows (set || sets_sp found.instr) (enabled_after found.instr enabled) v
         by (inl has) = with_has now followed.known has
         by (inr each) =
             let a = after.cpu.registers.a in
             with_has (cut now (byte_alone a)) ((laws.holds after followed.bytes).cuts now a followed.known refl) (each a followed.known.registers.a)
 
     -- which way that is
-    always : (taken : Bool) (to : ℕ) → CoversThen image fits.code ways table bytes k.state found taken to k.state.known → is_taken (flow found.instr) m.cpu.registers.flags ≡ taken → goes_to (flow found.instr) found.next m.memory m.cpu ≡ to → Taken
+    always : (taken : Bool) (to : ℕ) → CoversThen image interrupted fits.code ways table bytes k.state found taken to k.state.known → is_taken (flow found.instr) m.cpu.registers.flags ≡ taken → goes_to (flow found.instr) found.next m.memory m.cpu ≡ to → Taken
     always taken to covers is goes = record { taken = taken; to = to; known = k.state.known; covers = covers; is = is; holds = k.known; are = entry.knows; goes = goes }
 
-    if_given : (condition : Condition) (b : Bool) (to : ℕ) → holds_of condition m.cpu.registers.flags ≡ b → LeadsTo image fits.code ways table bytes k.state found b to (given condition b k.state.known) → is_taken (flow found.instr) m.cpu.registers.flags ≡ b →
+    if_given : (condition : Condition) (b : Bool) (to : ℕ) → holds_of condition m.cpu.registers.flags ≡ b → LeadsTo image interrupted fits.code ways table bytes k.state found b to (given condition b k.state.known) → is_taken (flow found.instr) m.cpu.registers.flags ≡ b →
         goes_to (flow found.instr) found.next m.memory m.cpu ≡ to → Taken
     if_given condition b to is leads taken goes =
         let left = laws.conditions quiet condition b k.state.known m k.bytes k.known entry.knows is in
-        record { taken = b; to = to; known = left.left; covers = subst (λ (o : Option Known). LeadsTo image fits.code ways table bytes k.state found b to o) left.is leads; is = taken; holds = left.holds; are = left.are; goes = goes }
+        record { taken = b; to = to; known = left.left; covers = subst (λ (o : Option Known). LeadsTo image interrupted fits.code ways table bytes k.state found b to o) left.is leads; is = taken; holds = left.holds; are = left.are; goes = goes }
 
     -- a return that is taken
-    returned_to : (known : Known) (back : ReturnsTo image fits.code ways table bytes k.state found known) → back.to ≡ word_in m.memory m.cpu.sp
+    returned_to : (known : Known) (back : ReturnsTo image interrupted fits.code ways table bytes k.state found known) → back.to ≡ word_in m.memory m.cpu.sp
     returned_to known back = returns_where back.stacked back.to m.cpu.sp m.memory k.bytes.memory back.is here where
       here : HoldsFrom m.memory m.cpu.sp back.stacked
       here = (subst (λ (o : Option (List ByteSpan)). IfSome o (λ b. HoldsStack (bounds_of image) b m.cpu.sp m.memory × (set ≡ true))) back.stack k.stack).0.each
 
     record Back (condition_holds : Bool) : Type 0 where
       known : Known
-      back : ReturnsTo image fits.code ways table bytes k.state found known
+      back : ReturnsTo image interrupted fits.code ways table bytes k.state found known
       holds : HoldsKnown known m
       are : IsQuietKnown quiet known
 
-    back_given : (condition : Condition) → holds_of condition m.cpu.registers.flags ≡ true → ReturnsLeft image fits.code ways table bytes k.state found (given condition true k.state.known) → Back true
+    back_given : (condition : Condition) → holds_of condition m.cpu.registers.flags ≡ true → ReturnsLeft image interrupted fits.code ways table bytes k.state found (given condition true k.state.known) → Back true
     back_given condition is left_back =
         let left = laws.conditions quiet condition true k.state.known m k.bytes k.known entry.knows is in
-        record { known = left.left; back = subst (λ (o : Option Known). ReturnsLeft image fits.code ways table bytes k.state found o) left.is left_back; holds = left.holds; are = left.are }
+        record { known = left.left; back = subst (λ (o : Option Known). ReturnsLeft image interrupted fits.code ways table bytes k.state found o) left.is left_back; holds = left.holds; are = left.are }
 
     by_back : (b : Back true) → is_taken (flow found.instr) m.cpu.registers.flags ≡ true → goes_to (flow found.instr) found.next m.memory m.cpu ≡ word_in m.memory m.cpu.sp → Taken
     by_back b is goes = record { taken = true; to = b.back.to; known = b.known; covers = b.back.leads; is = is; holds = b.holds; are = b.are; goes = goes ∙ sym (returned_to b.known b.back) }
 
     -- HL goes where it is known to be, or to a declared target
-    by_hl : (declared : Bool) → is_declared image.regions k.state.at ≡ declared → JumpsBy image fits.code ways table bytes k.state found declared → (flow found.instr ≡ JumpsToHl) → (found.instr ≡ Pchl → leads_outside (targets_at image.regions m.cpu.pc) (hl_of m.cpu.registers) ≡ false) → Taken
+    by_hl : (declared : Bool) → is_declared image.regions k.state.at ≡ declared → JumpsBy image interrupted fits.code ways table bytes k.state found declared → (flow found.instr ≡ JumpsToHl) → (found.instr ≡ Pchl → leads_outside (targets_at image.regions m.cpu.pc) (hl_of m.cpu.registers) ≡ false) → Taken
     by_hl false is jumps flows inside =
         let above = k.known.registers.hl.words.above in
         let below = k.known.registers.hl.words.below in
@@ -420,7 +449,7 @@ module _ (laws : Laws) (image : Located) (quiet : ℕ → Bool) (is_set : Bool) 
     abbrev JumpsInside : Type 0
     JumpsInside = found.instr ≡ Pchl → leads_outside (targets_at image.regions m.cpu.pc) (hl_of m.cpu.registers) ≡ false
 
-    way_of : (f : Flow) → flow found.instr ≡ f → f ≢ Halts → JumpsInside → FollowsBy image fits.code ways table bytes k.state found f → Taken
+    way_of : (f : Flow) → flow found.instr ≡ f → f ≢ Halts → JumpsInside → FollowsBy image interrupted fits.code ways table bytes k.state found f → Taken
     way_of (Jumps to) is on inside follows = always false to follows (ap (λ (f : Flow). is_taken f m.cpu.registers.flags) is) (ap (λ (f : Flow). goes_to f found.next m.memory m.cpu) is)
     way_of (JumpsIf condition to) is on inside follows = by (holds_of condition m.cpu.registers.flags) refl where
       by : (b : Bool) → holds_of condition m.cpu.registers.flags ≡ b → Taken
@@ -447,12 +476,12 @@ module _ (laws : Laws) (image : Located) (quiet : ℕ → Bool) (is_set : Bool) 
     back_way : (b : Back true) → Behind (word_in m.memory m.cpu.sp)
     back_way b = subst (λ n. IsWay image ways n (word_in m.memory m.cpu.sp)) k.at (subst (λ n. IsWay image ways k.state.at n) (returned_to b.known b.back) b.back.way)
 
-    returning_by : (f : Flow) → FollowsBy image fits.code ways table bytes k.state found f → is_return_taken f m.cpu.registers.flags ≡ true → Behind (word_in m.memory m.cpu.sp)
+    returning_by : (f : Flow) → FollowsBy image interrupted fits.code ways table bytes k.state found f → is_return_taken f m.cpu.registers.flags ≡ true → Behind (word_in m.memory m.cpu.sp)
     returning_by Returns follows taken = back_way (record { known = k.state.known; back = follows; holds = k.known; are = entry.knows })
     returning_by (ReturnsIf condition) follows taken = back_way (back_given condition taken follows.0)
     returning_by f follows taken = absurd (true≢false (sym taken))
 
-    jumping_by : (declared : Bool) → is_declared image.regions k.state.at ≡ declared → JumpsBy image fits.code ways table bytes k.state found declared → targets_at image.regions k.state.at ≡ None → Behind (hl_of m.cpu.registers)
+    jumping_by : (declared : Bool) → is_declared image.regions k.state.at ≡ declared → JumpsBy image interrupted fits.code ways table bytes k.state found declared → targets_at image.regions k.state.at ≡ None → Behind (hl_of m.cpu.registers)
     jumping_by false is jumps none =
         let above = k.known.registers.hl.words.above in
         let below = k.known.registers.hl.words.below in
@@ -463,18 +492,18 @@ module _ (laws : Laws) (image : Located) (quiet : ℕ → Bool) (is_set : Bool) 
 
     jumping : found.instr ≡ Pchl → targets_at image.regions m.cpu.pc ≡ None → Behind (hl_of m.cpu.registers)
     jumping is none =
-        jumping_by (is_declared image.regions k.state.at) refl (subst (λ (f : Flow). FollowsBy image fits.code ways table bytes k.state found f) (ap (λ (i : Instr). flow i) is) entry.follows) (subst (λ n. targets_at image.regions n ≡ None) (sym k.at) none)
+        jumping_by (is_declared image.regions k.state.at) refl (subst (λ (f : Flow). FollowsBy image interrupted fits.code ways table bytes k.state found f) (ap (λ (i : Instr). flow i) is) entry.follows) (subst (λ n. targets_at image.regions n ≡ None) (sym k.at) none)
 
     just_below : (xs : List ℕ) → All (Touches image.regions ground bytes) xs → All (λ a. IsJustBelow (top_of image.regions) bytes a) xs
     just_below xs each = λ k d within. (each k d within).below
 
-    stack_by : (f : Flow) → flow found.instr ≡ f → FollowsBy image fits.code ways table bytes k.state found f → All (λ a. IsJustBelow (top_of image.regions) bytes a) (stack_bytes found.instr m.cpu)
+    stack_by : (f : Flow) → flow found.instr ≡ f → FollowsBy image interrupted fits.code ways table bytes k.state found f → All (λ a. IsJustBelow (top_of image.regions) bytes a) (stack_bytes found.instr m.cpu)
     stack_by Halts is follows = subst (λ (l : List ℕ). All (λ a. IsJustBelow (top_of image.regions) bytes a) l) (sym (ap (λ (f : Flow). touched_by f m.cpu) is)) (All-nil (λ a. IsJustBelow (top_of image.regions) bytes a))
     stack_by JumpsToHl is follows = subst (λ (l : List ℕ). All (λ a. IsJustBelow (top_of image.regions) bytes a) l) (sym (ap (λ (f : Flow). touched_by f m.cpu) is)) (All-nil (λ a. IsJustBelow (top_of image.regions) bytes a))
     stack_by f is follows = just_below (stack_bytes found.instr m.cpu) (stands (way_of f is (λ e. cc) (λ e. absurd (let jumps : flow found.instr ≡ JumpsToHl = ap (λ (i : Instr). flow i) e in cc)) follows)).touches
 
-    halts : found.instr ≡ Ei → halt_follows image.regions m.memory m.cpu.pc ≡ true
-    halts is = subst (λ n. halt_follows image.regions m.memory n ≡ true) k.at (halt_here k.state.at (entry.executed.halts is)) where
+    halts : interrupted ≡ false → found.instr ≡ Ei → halt_follows image.regions m.memory m.cpu.pc ≡ true
+    halts off is = subst (λ n. halt_follows image.regions m.memory n ≡ true) k.at (halt_here k.state.at (entry.executed.halts off is)) where
       halt_by : (b : Bool) (at : ℕ) → in_code image.regions (ahead at 1) ≡ b → (b && nat_eq (slice_index (memory_of image.chunks) (ahead at 1)) (opcode Hlt)) ≡ true → (b && nat_eq (slice_index m.memory (ahead at 1)) (opcode Hlt)) ≡ true
       halt_by true at there h = subst (λ n. nat_eq n (opcode Hlt) ≡ true) (sym (k.code (ahead at 1) there)) h
       halt_by false at there h = cc
@@ -518,7 +547,7 @@ module _ (laws : Laws) (image : Located) (quiet : ℕ → Bool) (is_set : Bool) 
           by (inl target) = not_outside (targets_at image.regions m.cpu.pc) (hl_of m.cpu.registers) target
           by (inr there) = (if_listed (inr there)).jumps is
 
-    keeps : KeepsFollowed image bytes ways listed w
+    keeps : KeepsFollowed image interrupted bytes ways listed w
     keeps = record {
       found = found;
       anywhere = anywhere;
@@ -539,9 +568,9 @@ module _ (laws : Laws) (image : Located) (quiet : ℕ → Bool) (is_set : Bool) 
           };
     }
 
-    executes_found : (v : World) (by : Executes image.regions (IsLeftOpenAt listed) w v) → by.found ≡ found → Knows (set || sets_sp by.found.instr) v
-    executes_found v by same = subst (λ (f : Fetched). Knows (set || sets_sp f.instr) v) (sym same)
-        (subst (λ (u : World). Knows (set || sets_sp found.instr) u) (sym by.is)
+    executes_found : (v : World) (by : Executes image.regions (IsLeftOpenAt listed) w v) → by.found ≡ found → Knows (set || sets_sp by.found.instr) (enabled_after by.found.instr enabled) v
+    executes_found v by same = subst (λ (f : Fetched). Knows (set || sets_sp f.instr) (enabled_after f.instr enabled) v) (sym same)
+        (subst (λ (u : World). Knows (set || sets_sp found.instr) (enabled_after found.instr enabled) u) (sym by.is)
         (lands by.byte by.after by.small inside goes (places_after by.found.instr by.found.next m.cpu.registers.flags w.places)
         (way_of (flow found.instr) refl (no_halt found.instr by.byte found.next m by.after goes) inside.jumps entry.follows))) where
           inside : StaysInside image.regions m found.instr
@@ -550,13 +579,67 @@ module _ (laws : Laws) (image : Located) (quiet : ℕ → Bool) (is_set : Bool) 
           goes : unguarded found.instr by.byte found.next m ≡ Some by.after
           goes = subst (λ (f : Fetched). unguarded f.instr by.byte f.next m ≡ Some by.after) same by.goes
 
-  executes : (before : Bool) (w v : World) → Knows before w → (by : Executes image.regions (IsLeftOpenAt listed) w v) → Knows (before || sets_sp by.found.instr) v
-  executes before w v k by = executes_found before w k v by (same_some _ _ (sym by.fetched ∙ anywhere before w k))
+    -- behind a HLT all is as it was
+    wakes_found : (v : World) → interrupted ≡ true → enabled ≡ true → (by : Wakes w v) → by.found ≡ found → Knows set enabled v
+    wakes_found v on may by same = subst (λ (u : World). Knows set enabled u) (sym by.is) (subst (λ (f : Fetched). Knows set enabled (with_pc w f.next)) (sym same) (back covers.either)) where
+      halts_here : flow found.instr ≡ Halts
+      halts_here = ap (λ (f : Fetched). flow f.instr) (sym same) ∙ ap (λ (i : Instr). flow i) by.halts
 
-  pub promise_is_kept : PromiseOfFollowed image quiet is_set ways listed bytes
-  promise_is_kept start pc whole code held top w set on =
-      invariant_is_kept image quiet (IsLeftOpenAt listed) start is_set Knows (λ v. KeepsFollowed image bytes ways listed v)
-      (record { begun = begun start pc whole code held top; disturbs = disturbs; executes = executes; keeps = λ s v k. keeps s v k }) w set on
+      covers : Covers table found.next k.state.known true (stack_of k.state)
+      covers = (subst (λ (f : Flow). FollowsBy image interrupted fits.code ways table bytes k.state found f) halts_here entry.follows) on (k.enables may)
+
+      here : Machine
+      here = (with_pc w found.next).machine
+
+      held : HoldsBytes here
+      held = record { registers = k.bytes.registers; memory = k.bytes.memory; inputs = k.bytes.inputs }
+
+      holds : HoldsKnown k.state.known here
+      holds = record { registers = k.known.registers; cells = k.known.cells; source = k.known.source }
+
+      behind : (known : Known) → HoldsKnown known here → Has table found.next known true (stack_of k.state) → Knows set enabled (with_pc w found.next)
+      behind known is has = enters set enabled true (with_pc w found.next) known (stack_of k.state) has (λ yes. refl) k.serves is k.stack held k.whole k.code
+
+      back : Has table found.next k.state.known true (stack_of k.state) ⊎ ((byte : ℕ) → ByteWithin k.state.known.a byte → Has table found.next (cut k.state.known (byte_alone byte)) true (stack_of k.state)) →
+          Knows set enabled (with_pc w found.next)
+      back (inl has) = behind k.state.known holds has
+      back (inr each) =
+          let a = m.cpu.registers.a in
+          behind (cut k.state.known (byte_alone a)) ((laws.holds here held).cuts k.state.known a holds refl) (each a k.known.registers.a)
+
+  executes : (before may : Bool) (w v : World) → Knows before may w → (by : Executes image.regions (IsLeftOpenAt listed) w v) → Knows (before || sets_sp by.found.instr) (enabled_after by.found.instr may) v
+  executes before may w v k by = executes_found before may w k v by (same_some _ _ (sym by.fetched ∙ anywhere before may w k))
+
+  wakes : (set enabled : Bool) (w v : World) → Knows set enabled w → interrupted ≡ true → enabled ≡ true → Wakes w v → Knows set enabled v
+  wakes set enabled w v k on may by = wakes_found set enabled w k v on may by (same_some _ _ (sym by.fetched ∙ anywhere set enabled w k))
+
+  -- one that isn't interrupted
+  abbrev KnowsSome : (set : Bool) → World → Type 0
+  KnowsSome set w = (enabled : Bool) × Knows set enabled w
+
+  pub followed_keeps : interrupted ≡ false → PromiseOfFollowed image quiet is_set ways listed bytes
+  followed_keeps off start pc whole code held top w set on =
+      invariant_is_kept image quiet (IsLeftOpenAt listed) start is_set KnowsSome (λ v. KeepsFollowed image false bytes ways listed v)
+      (record {
+        begun = (false, begun start pc whole code held top);
+        disturbs = λ s v u k by stays. (k.0, disturbs s k.0 v u k.1 by stays);
+        executes = λ s v u k by. (enabled_after by.found.instr k.0, executes s k.0 v u k.1 by);
+        keeps = λ s v k. subst (λ (b : Bool). KeepsFollowed image b bytes ways listed v) off (keeps s k.0 v k.1);
+      }) w set on
+
+  -- one that is
+  module _ (on : interrupted ≡ true) (start : Machine) (pc : start.cpu.pc ≡ image.start) (whole : length start.memory ≡ 65536) (code : HasCode image start.memory) (held : HoldsBytes start) (top : is_set ≡ true → start.cpu.sp ≡ top_of image.regions) where
+    knows : (set enabled : Bool) (w : World) → OnInterruptedBoard image.regions quiet (IsLeftOpenAt listed) start is_set set enabled w → Knows set enabled w
+    knows set enabled w (begins _ _ _ is same off) = subst (λ (u : World). Knows set enabled u) (sym is) (subst (λ (b : Bool). Knows set b (world_of start)) (sym off) (subst (λ (b : Bool). Knows b false (world_of start)) (sym same) (begun start pc whole code held top)))
+    knows set enabled w (disturbed _ _ u _ before by stays) = disturbs set enabled u w (knows set enabled u before) by stays
+    knows set enabled w (executed was _ may _ u _ before by is after) = subst (λ (b : Bool). Knows set b w) (sym after) (subst (λ (b : Bool). Knows b (enabled_after by.found.instr may) w) (sym is) (executes was may u w (knows was may u before) by))
+    knows set enabled w (woken _ _ u _ before may by) = wakes set enabled u w (knows set enabled u before) on may by
+
+  pub interrupted_keeps : interrupted ≡ true → PromiseOfInterrupted image quiet is_set ways listed bytes
+  interrupted_keeps on start pc whole code held top w set enabled board =
+      let k = knows on start pc whole code held top set enabled w board in
+      (subst (λ (b : Bool). KeepsFollowed image b bytes ways listed w) on (keeps set enabled w k), k.serves on)
 
 pub promise : Laws → ((regions : Areas) → AreRegions regions → Ground regions) → FollowedProgramsKeepThePromise
-promise laws ground image quiet is_set ways listed table bytes rules quiet_data fits few = promise_is_kept laws image quiet is_set ways listed table bytes rules (ground image.regions rules) quiet_data fits few
+promise laws ground false image quiet is_set ways listed table bytes rules quiet_data fits few = followed_keeps laws image false quiet is_set ways listed table bytes rules (ground image.regions rules) quiet_data fits few refl
+promise laws ground true image quiet is_set ways listed table bytes rules quiet_data fits few = interrupted_keeps laws image true quiet is_set ways listed table bytes rules (ground image.regions rules) quiet_data fits few refl

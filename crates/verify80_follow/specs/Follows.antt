@@ -1,6 +1,7 @@
 -- A table of states that follows a program: the start is in it, and wherever an instruction leads from a state, what it makes of the state is covered
--- there. There are no procedures: a call pushes a number, and a return goes to the number that the state knows. (This project's own.)
-use Rattle.std.specs.Prelude.{◌≡◌, ◌≤◌, ◌⊎◌, ℕ, Bool, true, false, List, [], All, Any, Contains, Option, None, Some, Ok, IfSome, length, slice_get}
+-- there. There are no procedures: a call pushes a number, and a return goes to the number that the state knows. If the program is interrupted, a HLT at
+-- which interrupts may come leads on. (This project's own.)
+use Rattle.std.specs.Prelude.{◌≡◌, ◌≤◌, ◌⊎◌, ℕ, Bool, true, false, List, [], All, Any, Contains, Option, None, Some, Ok, IfSome, IsSome, length, slice_get}
 use Rattle.std.specs.Option.{option_map}
 use Rattle.decode80.specs.{declared.condition.Condition.Condition, declared.fetching.Fetched.Fetched, declared.flow.Flow.Flow, Facts.flow}
 use Rattle.decode80.specs.declared.flow.Flow.TheVariants.{Jumps, JumpsIf, JumpsToHl, Calls, CallsIf, Returns, ReturnsIf, Halts}
@@ -14,24 +15,26 @@ use Rattle.verify80_spans.specs.Span.{Within, ByteWithin, IsInside, byte_alone, 
 use Rattle.verify80_states.specs.{declared.states.known.Known.Known, Known.IsKnownInside, Known.IsQuietKnown, Known.cut, Known.nothing_known, Given.given, Following.known_after, Steps.AreCodeBytes}
 use Rattle.verify80_stores.specs.Opening.{pointer_span}
 use Rattle.verify80_follow.specs.declared.{followed.FollowedState.FollowedState, followed.Listed.Listed, followed.Way.Way}
+use Rattle.verify80_follow.specs.InterruptedBoards.{enabled_after}
 use Rattle.verify80_follow.specs.Stack.{IsStackInside, bounds_of, return_address, stack_then, top_of_stack}
 
 -- the bytes of a state's stack
 abbrev pub stack_of : FollowedState → Option (List ByteSpan)
 stack_of s = option_map (λ bytes. bytes.items) s.stack
 
--- the table has a state at an address that says no more than this
-pub record Has (table : List FollowedState) (to : ℕ) (known : Known) (stack : Option (List ByteSpan)) : Type 0 where
+-- the table has a state at an address that says no more than this, and at which interrupts may come if they may
+pub record Has (table : List FollowedState) (to : ℕ) (known : Known) (enabled : Bool) (stack : Option (List ByteSpan)) : Type 0 where
   pub place : ℕ
   pub state : FollowedState
   pub there : slice_get table place ≡ Some state
   pub at : state.at ≡ to
   pub inside : IsKnownInside [] known state.known
+  pub enables : enabled ≡ true → state.is_enabled ≡ true
   pub stacked : IsStackInside stack (stack_of state)
 
 -- states at an address that together say no more than this: one of them, or one for each byte that A may be
-pub record Covers (table : List FollowedState) (to : ℕ) (known : Known) (stack : Option (List ByteSpan)) : Type 0 where
-  pub either : Has table to known stack ⊎ ((byte : ℕ) → ByteWithin known.a byte → Has table to (cut known (byte_alone byte)) stack)
+pub record Covers (table : List FollowedState) (to : ℕ) (known : Known) (enabled : Bool) (stack : Option (List ByteSpan)) : Type 0 where
+  pub either : Has table to known enabled stack ⊎ ((byte : ℕ) → ByteWithin known.a byte → Has table to (cut known (byte_alone byte)) enabled stack)
 
 -- whether an instruction calls
 abbrev pub is_call : Flow → Bool
@@ -52,16 +55,17 @@ abbrev pub IsWay : Located → List Way → (at to : ℕ) → Type 0
 IsWay image ways at to = IsBehindCall image to ⊎ Contains ways (record { at = at; to = to })
 
 -- the same of what is left of a stack, if something is, which has no more bytes than these
-pub record CoversStack (table : List FollowedState) (bytes to : ℕ) (known : Known) (after : Option (Option (List ByteSpan))) : Type 0 where
+pub record CoversStack (table : List FollowedState) (bytes to : ℕ) (known : Known) (enabled : Bool) (after : Option (Option (List ByteSpan))) : Type 0 where
   pub stack : Option (List ByteSpan)
   pub is : after ≡ Some stack
   pub depth : IfSome stack (λ left. length left ≤ bytes)
-  pub covers : Covers table to known stack
+  pub covers : Covers table to known enabled stack
 
 -- what an instruction makes of what is left of a state, if something is, is covered where it leads
-module _ (image : Located) (code : List (Option ℕ)) (ways : List Way) (table : List FollowedState) (bytes : ℕ) (s : FollowedState) (found : Fetched) where
+module _ (image : Located) (interrupted : Bool) (code : List (Option ℕ)) (ways : List Way) (table : List FollowedState) (bytes : ℕ) (s : FollowedState) (found : Fetched) where
   abbrev pub CoversThen : (taken : Bool) → (to : ℕ) → Known → Type 0
-  CoversThen taken to known = CoversStack table bytes to (known_after code found.instr (top_of_stack (bounds_of image) (stack_of s)) known) (stack_then (bounds_of image) found.instr taken found.next known (stack_of s))
+  CoversThen taken to known = CoversStack table bytes to (known_after code found.instr (top_of_stack (bounds_of image) (stack_of s)) known) (enabled_after found.instr s.is_enabled)
+      (stack_then (bounds_of image) found.instr taken found.next known (stack_of s))
 
   abbrev pub LeadsTo : (taken : Bool) → (to : ℕ) → Option Known → Type 0
   LeadsTo taken to left = IfSome left (λ known. CoversThen taken to known)
@@ -92,6 +96,10 @@ module _ (image : Located) (code : List (Option ℕ)) (ways : List Way) (table :
   JumpsBy false = JumpsByNumber
   JumpsBy true = (to : ℕ) → Contains (declared_targets image.regions s.at) to → Within s.known.hl.words to → CoversThen false to s.known
 
+  -- a HLT is left as it was come to, if the program is interrupted and interrupts may come
+  abbrev pub LeavesHalt : Type 0
+  LeavesHalt = interrupted ≡ true → s.is_enabled ≡ true → Covers table found.next s.known true (stack_of s)
+
   abbrev pub FollowsBy : Flow → Type 0
   FollowsBy (Jumps to) = LeadsTo false to (Some s.known)
   FollowsBy (JumpsIf condition to) = LeadsIf condition to
@@ -100,14 +108,15 @@ module _ (image : Located) (code : List (Option ℕ)) (ways : List Way) (table :
   FollowsBy (CallsIf condition to) = LeadsIf condition to
   FollowsBy Returns = ReturnsLeft (Some s.known)
   FollowsBy (ReturnsIf condition) = ReturnsLeft (given condition true s.known) × LeadsTo false found.next (given condition false s.known)
-  FollowsBy Halts = Unit {0}
+  FollowsBy Halts = LeavesHalt
   FollowsBy w = LeadsTo false found.next (Some s.known)
 
--- an instruction of the image is inside the code, stores directly to data alone, and is no EI but one that a HLT follows
-pub record IsExecuted (image : Located) (at : ℕ) (found : Fetched) : Type 0 where
+-- an instruction of the image is inside the code, stores directly to data alone, and if the program isn't interrupted it is no EI but one that a HLT
+-- follows
+pub record IsExecuted (image : Located) (interrupted : Bool) (at : ℕ) (found : Fetched) : Type 0 where
   pub fetched : fetch_at image.regions (memory_of image.chunks) at ≡ Ok found
   pub stores : stores_in_data image.regions found.instr ≡ true
-  pub halts : found.instr ≡ Ei → halt_follows image.regions (memory_of image.chunks) at ≡ true
+  pub halts : interrupted ≡ false → found.instr ≡ Ei → halt_follows image.regions (memory_of image.chunks) at ≡ true
 
 -- a store by a pair goes to data in a state, or it is listed with the state's addresses; and a PCHL with declared targets goes to one of them, or
 -- it is listed
@@ -117,12 +126,13 @@ pub record IsShownOrListed (regions : Areas) (listed : Listed) (instr : Instr) (
   pub jumps : is_pchl instr ≡ true → is_declared regions s.at ≡ true →
       ((to : ℕ) → Within s.known.hl.words to → Contains (declared_targets regions s.at) to) ⊎ Contains listed.jumps.items s.at
 
--- a state fits the instruction at its address, which is the image's
-pub record StateFollows (image : Located) (quiet : ℕ → Bool) (code : List (Option ℕ)) (ways : List Way) (listed : Listed) (table : List FollowedState) (bytes : ℕ) (s : FollowedState) : Type 0 where
+-- a state fits the instruction at its address, which is the image's; an interrupted program lets interrupts in only once SP is set
+pub record StateFollows (image : Located) (interrupted : Bool) (quiet : ℕ → Bool) (code : List (Option ℕ)) (ways : List Way) (listed : Listed) (table : List FollowedState) (bytes : ℕ) (s : FollowedState) : Type 0 where
   pub found : Fetched
-  pub executed : IsExecuted image s.at found
+  pub executed : IsExecuted image interrupted s.at found
+  pub serves : interrupted ≡ true → found.instr ≡ Ei → IsSome (stack_of s)
   pub shown : IsShownOrListed image.regions listed found.instr s
-  pub follows : FollowsBy image code ways table bytes s found (flow found.instr)
+  pub follows : FollowsBy image interrupted code ways table bytes s found (flow found.instr)
   pub depth : IfSome (stack_of s) (λ stack. length stack ≤ bytes)
   pub knows : IsQuietKnown quiet s.known
 
@@ -132,8 +142,8 @@ first_stack true = Some []
 first_stack false = None
 
 -- a table follows an image, with no more bytes on the stack than these
-pub record Follows (image : Located) (quiet : ℕ → Bool) (is_set : Bool) (ways : List Way) (listed : Listed) (table : List FollowedState) (bytes : ℕ) : Type 0 where
+pub record Follows (image : Located) (interrupted : Bool) (quiet : ℕ → Bool) (is_set : Bool) (ways : List Way) (listed : Listed) (table : List FollowedState) (bytes : ℕ) : Type 0 where
   pub code : List (Option ℕ)
   pub are_code : AreCodeBytes image code
-  pub start : Has table image.start nothing_known (first_stack is_set)
-  pub states : All (λ s. StateFollows image quiet code ways listed table bytes s) table
+  pub start : Has table image.start nothing_known false (first_stack is_set)
+  pub states : All (λ s. StateFollows image interrupted quiet code ways listed table bytes s) table

@@ -1,4 +1,5 @@
 pub mod Stack
+pub mod InterruptedBoards
 pub mod Follows
 pub mod Promise
 pub mod FollowText

@@ -1,6 +1,6 @@
 -- What is promised of a program that a table follows, on every board whose devices leave quiet memory alone. (This project's own; what a board is and
--- does stands in verify80, specs/Boards.)
-use Rattle.std.specs.Prelude.{◌≡◌, ◌≢◌, ◌⊎◌, ◌≤◌, ◌<◌, ℕ, Bool, true, List, All, Any, Contains, None, Some, IfSome, length, slice_get}
+-- does stands in verify80, specs/Boards; what interrupts are there in specs/InterruptedBoards.)
+use Rattle.std.specs.Prelude.{◌≡◌, ◌≢◌, ◌⊎◌, ◌≤◌, ◌<◌, ℕ, Bool, true, false, List, All, Any, Contains, None, Some, IfSome, length, slice_get}
 use Rattle.decode80.specs.{declared.fetching.Fetched.Fetched, Fetch.direct_bytes}
 use Rattle.decode80.specs.declared.instr.Instr.TheVariants.{Ei, Hlt, Pchl}
 use Rattle.image80.specs.{Regions.AreRegions, Regions.Areas, Regions.in_data, Regions.targets_at, Regions.top_of, Image.Located, Image.memory_of}
@@ -11,7 +11,7 @@ use Rattle.verify80_spans.specs.Span.{Within}
 use Rattle.verify80_states.specs.{Bytes.HoldsBytes, Known.HoldsKnown, QuietBoards.OnQuietBoard, Steps.HasCode}
 use Rattle.verify80_stores.specs.{declared.stores.OpenStore.OpenStore, Boards.IsListedAt}
 use Rattle.verify80_follow.specs.declared.{followed.FollowedState.FollowedState, followed.Listed.Listed, followed.Way.Way}
-use Rattle.verify80_follow.specs.{Stack.HoldsStack, Stack.bounds_of, Follows.Follows, Follows.IsWay, Follows.stack_of}
+use Rattle.verify80_follow.specs.{InterruptedBoards.OnInterruptedBoard, Stack.HoldsStack, Stack.bounds_of, Follows.Follows, Follows.IsWay, Follows.stack_of}
 
 -- a store is listed at an address, or a PCHL is
 abbrev pub IsLeftOpenAt : Listed → ℕ → Type 0
@@ -23,9 +23,10 @@ GoesToListed regions stores at address = (in_data regions address ≡ true) ⊎ 
 
 -- what is promised of each world: its next instruction is fetched inside code, and is the image's; it stores directly to data alone, and by a pair to
 -- data or where that is listed; a return that is taken, and a PCHL without declared targets, goes behind a call or by a listed way; a PCHL with declared
--- targets is listed, or goes to one of them; as stack it touches only a given number of bytes just below the stack's top; if it is EI, the byte
--- behind it is a HLT in the code; and unless it is HLT, the run goes on, whatever byte comes in, if it stays inside where it is listed
-pub record KeepsFollowed (image : Located) (bytes : ℕ) (ways : List Way) (listed : Listed) (w : World) : Type 0 where
+-- targets is listed, or goes to one of them; as stack it touches only a given number of bytes just below the stack's top; if it is EI of a program that
+-- isn't interrupted, the byte behind it is a HLT in the code; and unless it is HLT, the run goes on, whatever byte comes in, if it stays inside where
+-- it is listed
+pub record KeepsFollowed (image : Located) (interrupted : Bool) (bytes : ℕ) (ways : List Way) (listed : Listed) (w : World) : Type 0 where
   pub found : Fetched
   pub anywhere : fetched_anywhere w.machine.memory w.machine.cpu.pc ≡ Some found
   pub of_image : fetch image.regions (memory_of image.chunks) w.machine.cpu.pc ≡ Some found
@@ -37,17 +38,19 @@ pub record KeepsFollowed (image : Located) (bytes : ℕ) (ways : List Way) (list
   pub declared : found.instr ≡ Pchl → is_declared image.regions w.machine.cpu.pc ≡ true →
       Contains (declared_targets image.regions w.machine.cpu.pc) (hl_of w.machine.cpu.registers) ⊎ Contains listed.jumps.items w.machine.cpu.pc
   pub stack : All (λ address. IsJustBelow (top_of image.regions) bytes address) (stack_bytes found.instr w.machine.cpu)
-  pub halts : found.instr ≡ Ei → halt_follows image.regions w.machine.memory w.machine.cpu.pc ≡ true
+  pub halts : interrupted ≡ false → found.instr ≡ Ei → halt_follows image.regions w.machine.memory w.machine.cpu.pc ≡ true
   pub goes_on : found.instr ≢ Hlt → (IsLeftOpenAt listed w.machine.cpu.pc → StaysInside image.regions w.machine found.instr) →
       (byte : ℕ) → byte < 256 → IsFollowed image.regions (IsLeftOpenAt listed) byte w
 
--- a state of the table holds of a world; as long as SP isn't set, nothing is known of the stack
-pub record KnowsWorld (image : Located) (table : List FollowedState) (set : Bool) (w : World) : Type 0 where
+-- a state of the table holds of a world; as long as SP isn't set, nothing is known of the stack, and no interrupt may come if the program is interrupted
+pub record KnowsWorld (image : Located) (interrupted : Bool) (table : List FollowedState) (set enabled : Bool) (w : World) : Type 0 where
   pub place : ℕ
   pub state : FollowedState
   pub there : slice_get table place ≡ Some state
   pub at : state.at ≡ w.machine.cpu.pc
   pub known : HoldsKnown state.known w.machine
+  pub enables : enabled ≡ true → state.is_enabled ≡ true
+  pub serves : interrupted ≡ true → enabled ≡ true → set ≡ true
   pub stack : IfSome (stack_of state) (λ bytes. HoldsStack (bounds_of image) bytes w.machine.cpu.sp w.machine.memory × (set ≡ true))
   pub bytes : HoldsBytes w.machine
   pub whole : length w.machine.memory ≡ 65536
@@ -58,9 +61,21 @@ pub record KnowsWorld (image : Located) (table : List FollowedState) (set : Bool
 -- table follows keeps that promise. If nothing is listed, that is each world of the run.
 abbrev pub PromiseOfFollowed : Located → (quiet : ℕ → Bool) → (is_set : Bool) → List Way → Listed → (bytes : ℕ) → Type 0
 PromiseOfFollowed image quiet is_set ways listed bytes = (start : Machine) → start.cpu.pc ≡ image.start → length start.memory ≡ 65536 → HasCode image start.memory → HoldsBytes start →
-    (is_set ≡ true → start.cpu.sp ≡ top_of image.regions) → (w : World) (set : Bool) → OnQuietBoard image.regions quiet (IsLeftOpenAt listed) start is_set set w → KeepsFollowed image bytes ways listed w
+    (is_set ≡ true → start.cpu.sp ≡ top_of image.regions) → (w : World) (set : Bool) → OnQuietBoard image.regions quiet (IsLeftOpenAt listed) start is_set set w → KeepsFollowed image false bytes ways listed w
+
+-- The same on every board on which it is interrupted by what gives back SP, registers, flags and what is pushed, and stores to data that isn't quiet:
+-- the run goes on behind a HLT if interrupts may come, and they may only once SP is set.
+abbrev pub PromiseOfInterrupted : Located → (quiet : ℕ → Bool) → (is_set : Bool) → List Way → Listed → (bytes : ℕ) → Type 0
+PromiseOfInterrupted image quiet is_set ways listed bytes = (start : Machine) → start.cpu.pc ≡ image.start → length start.memory ≡ 65536 → HasCode image start.memory → HoldsBytes start →
+    (is_set ≡ true → start.cpu.sp ≡ top_of image.regions) → (w : World) (set enabled : Bool) → OnInterruptedBoard image.regions quiet (IsLeftOpenAt listed) start is_set set enabled w →
+    KeepsFollowed image true bytes ways listed w × (enabled ≡ true → set ≡ true)
+
+-- what is promised of a program that is interrupted, or isn't
+abbrev pub PromiseOf : (interrupted : Bool) → Located → (quiet : ℕ → Bool) → (is_set : Bool) → List Way → Listed → (bytes : ℕ) → Type 0
+PromiseOf false image quiet is_set ways listed bytes = PromiseOfFollowed image quiet is_set ways listed bytes
+PromiseOf true image quiet is_set ways listed bytes = PromiseOfInterrupted image quiet is_set ways listed bytes
 
 abbrev pub FollowedProgramsKeepThePromise : Type 0
-FollowedProgramsKeepThePromise = (image : Located) (quiet : ℕ → Bool) (is_set : Bool) (ways : List Way) (listed : Listed) (table : List FollowedState) (bytes : ℕ) → AreRegions image.regions →
-    ((at : ℕ) → quiet at ≡ true → in_data image.regions at ≡ true) → Follows image quiet is_set ways listed table bytes → bytes ≤ image.regions.stack.length →
-    PromiseOfFollowed image quiet is_set ways listed bytes
+FollowedProgramsKeepThePromise = (interrupted : Bool) (image : Located) (quiet : ℕ → Bool) (is_set : Bool) (ways : List Way) (listed : Listed) (table : List FollowedState) (bytes : ℕ) → AreRegions image.regions →
+    ((at : ℕ) → quiet at ≡ true → in_data image.regions at ≡ true) → Follows image interrupted quiet is_set ways listed table bytes → bytes ≤ image.regions.stack.length →
+    PromiseOf interrupted image quiet is_set ways listed bytes

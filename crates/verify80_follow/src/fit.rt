@@ -1,18 +1,20 @@
 //! Whether a table of states follows an image.
 
-ghost use Rattle.std.specs.Prelude.{◌≡◌, ◌⊎◌, ◌≤◌, ℕ, Bool, false, true, All, Any, Contains, IfOk, IfSome, Ok, length};
+ghost use Rattle.std.specs.Prelude.{◌≡◌, ◌⊎◌, ◌≤◌, ℕ, Bool, false, true, All, Any, Contains, IfOk, IfSome, IsSome, length};
 ghost use Rattle.std.specs.Option.{option_map};
 ghost use Rattle.image80.specs.{Image.memory_of, Regions.AreRegions, Regions.in_data};
 ghost use Rattle.verify80_spans.specs.Span.{Within, ByteWithin, IsInside, byte_alone};
 ghost use Rattle.verify80_states.specs.{Known.cut, Known.nothing_known, Following.known_after, Marks.is_marked, QuietBoards.is_quiet, Steps.AreCodeBytes};
-ghost use Rattle.verify80_follow.specs.Follows.{Covers, CoversStack, CoversThen, FollowsBy, Has, IsBehindCall, IsWay, JumpsBy, IsShownOrListed, JumpsByNumber, LeadsIf, LeadsTo, ReturnsLeft, ReturnsTo, StateFollows, first_stack, is_call};
-ghost use Rattle.verify80_follow.specs.Promise.{PromiseOfFollowed};
+ghost use Rattle.verify80_follow.specs.Follows.{Covers, CoversStack, CoversThen, FollowsBy, Has, IsBehindCall, IsWay, JumpsBy, IsExecuted, IsShownOrListed, JumpsByNumber, LeadsIf, LeadsTo, LeavesHalt, ReturnsLeft, ReturnsTo, StateFollows, first_stack, is_call, stack_of};
+ghost use Rattle.verify80_follow.specs.InterruptedBoards.{enabled_after};
+ghost use Rattle.verify80_follow.specs.Promise.{PromiseOf};
 ghost use Rattle.verify80_follow.specs.Stack.{after_of, bounds_of};
-ghost use Rattle.decode80.specs.{Facts.flow, declared.flow.Flow.TheVariants.JumpsToHl};
+ghost use Rattle.decode80.specs.{Facts.flow, declared.flow.Flow.TheVariants.JumpsToHl, declared.instr.Instr.TheVariants.Ei};
 ghost use Rattle.verify80.specs.{LookLaws.fetch_at, Looking.declared_targets, Looking.is_declared};
 ghost use Rattle.verify80_stores.specs.DataReach.{AreDataEnds};
 
-use crate::followed::{FollowedState, Listed, Way};
+use crate::followed::{FollowedState, Listed, RunKind, Way};
+use crate::interrupts::enabled_after;
 use crate::laws::followed_programs_keep_the_promise;
 use crate::stack::{
     StackAfter, StackBounds, is_stack_inside, return_address, stack_then, top_of_stack,
@@ -49,6 +51,8 @@ struct Fit<'a> {
     ways: &'a [Way],
     listed: &'a Listed,
     bytes: u16,
+    /// Whether the program is interrupted.
+    interrupted: bool,
     /// The bytes of code, by address.
     code: &'a [Option<u8>],
     /// The image, address by address.
@@ -66,6 +70,13 @@ struct Fit<'a> {
 struct Standing<'a> {
     state: &'a FollowedState,
     found: Fetched,
+}
+
+/// An instruction that may be executed, and whether targets are declared for it, if it is a PCHL.
+#[derive(Clone, Copy)]
+struct Executed {
+    found: Fetched,
+    by_targets: bool,
 }
 
 /// A way on from a state: where it leads, whether a call or return is taken on it, and which hint names the states there.
@@ -112,9 +123,16 @@ impl Standing<'_> {
 }
 
 impl Fit<'_> {
-    /// Whether a hint names a place of the table with a state at `to` that says no more than this.
-    fn has(&self, hint: u32, to: u16, known: Known, stack: Option<&[ByteSpan]>) -> bool
-        ensures { result ≡ true → Has self.now.table.now to known (option_map (λ bytes. bytes.now) stack.entry) }
+    /// Whether a hint names a place of the table with a state at `to` that says no more than this, and at which interrupts may come if they may.
+    fn has(
+        &self,
+        hint: u32,
+        to: u16,
+        known: Known,
+        enabled: bool,
+        stack: Option<&[ByteSpan]>,
+    ) -> bool
+        ensures { result ≡ true → Has self.now.table.now to known enabled (option_map (λ bytes. bytes.now) stack.entry) }
     {
         let Some(place) = self.hints.get(hint as usize) else {
             return false;
@@ -123,6 +141,7 @@ impl Fit<'_> {
             Some(state) => {
                 state.at == to
                     && known.is_inside(state.known, &[])
+                    && state.allows(enabled)
                     && is_stack_inside(stack, state.bytes())
             }
             None => false,
@@ -131,25 +150,39 @@ impl Fit<'_> {
 
     /// Whether the first hint names a state at the start that says nothing but, if SP is set there, that the stack is empty.
     fn has_start(&self, start: u16, is_set: bool) -> bool
-        ensures { result ≡ true → Has self.now.table.now start nothing_known (first_stack is_set) }
+        ensures { result ≡ true → Has self.now.table.now start nothing_known false (first_stack is_set) }
     {
         if is_set {
-            self.has(0, start, Known::ANY, Some(&[]))
+            self.has(0, start, Known::ANY, false, Some(&[]))
         } else {
-            self.has(0, start, Known::ANY, None)
+            self.has(0, start, Known::ANY, false, None)
         }
     }
 
     /// Whether a hint names states at `to` that together say no more than this: one, or one for each byte that A may be.
-    fn covers(&self, hint: u32, to: u16, known: Known, stack: Option<&[ByteSpan]>) -> bool
-        ensures { result ≡ true → Covers self.now.table.now to known (option_map (λ bytes. bytes.now) stack.entry) }
+    fn covers(
+        &self,
+        hint: u32,
+        to: u16,
+        known: Known,
+        enabled: bool,
+        stack: Option<&[ByteSpan]>,
+    ) -> bool
+        ensures { result ≡ true → Covers self.now.table.now to known enabled (option_map (λ bytes. bytes.now) stack.entry) }
     {
-        self.has(hint, to, known, stack) || self.has_each(hint, to, known, stack)
+        self.has(hint, to, known, enabled, stack) || self.has_each(hint, to, known, enabled, stack)
     }
 
     /// Whether a hint names a state at `to` for each byte that A may be, which says no more than this with that byte in A.
-    fn has_each(&self, hint: u32, to: u16, known: Known, stack: Option<&[ByteSpan]>) -> bool
-        ensures { result ≡ true → (byte : ℕ) → ByteWithin known.a byte → Has self.now.table.now to (cut known (byte_alone byte)) (option_map (λ bytes. bytes.now) stack.entry) }
+    fn has_each(
+        &self,
+        hint: u32,
+        to: u16,
+        known: Known,
+        enabled: bool,
+        stack: Option<&[ByteSpan]>,
+    ) -> bool
+        ensures { result ≡ true → (byte : ℕ) → ByteWithin known.a byte → Has self.now.table.now to (cut known (byte_alone byte)) enabled (option_map (λ bytes. bytes.now) stack.entry) }
     {
         let Some(first) = self.hints.get(hint as usize) else {
             return false;
@@ -159,7 +192,13 @@ impl Fit<'_> {
         }
         let mut next = *first - APART;
         for number in u32::from(known.a.first)..u32::from(known.a.last) + 1 {
-            if !self.has(next, to, known.cut(ByteSpan::alone(number as u8)), stack) {
+            if !self.has(
+                next,
+                to,
+                known.cut(ByteSpan::alone(number as u8)),
+                enabled,
+                stack,
+            ) {
                 return false;
             }
             next = next.saturating_add(1);
@@ -175,26 +214,35 @@ impl Fit<'_> {
         way: Onward,
         known: Known,
     ) -> Result<bool, AllocError>
-        ensures { IfOk result (λ covers. covers ≡ true → CoversThen self.now.program.now self.now.code.now self.now.ways.now self.now.table.now self.now.bytes here.entry.state.now here.entry.found way.taken way.to known) }
+        ensures { IfOk result (λ covers. covers ≡ true → CoversThen self.now.program.now self.now.interrupted self.now.code.now self.now.ways.now self.now.table.now self.now.bytes here.entry.state.now here.entry.found way.taken way.to known) }
     {
         let Standing { state, found } = here;
         let bounds = self.bounds();
         let top = top_of_stack(bounds, state.bytes());
         let after = known_after(self.code, found.instr, top, known);
+        let enabled = enabled_after(found.instr, state.is_enabled);
         let stack = stack_then(alloc, bounds, found, way.taken, known, state.bytes())?;
-        let covers = self.covers_stack(way.hint, way.to, after, &stack);
+        let covers = self.covers_stack(way.hint, way.to, after, enabled, &stack);
         Ok(covers)
     }
 
     /// Whether a hint names states at `to` that together say no more than this with what is left of a stack, which isn't too deep.
-    fn covers_stack(&self, hint: u32, to: u16, known: Known, stack: &StackAfter) -> bool
-        ensures { result ≡ true → CoversStack self.now.table.now self.now.bytes to known (after_of stack.now) }
+    fn covers_stack(
+        &self,
+        hint: u32,
+        to: u16,
+        known: Known,
+        enabled: bool,
+        stack: &StackAfter,
+    ) -> bool
+        ensures { result ≡ true → CoversStack self.now.table.now self.now.bytes to known enabled (after_of stack.now) }
     {
         match stack {
             StackAfter::Refused => false,
-            StackAfter::Unset => self.covers(hint, to, known, None),
+            StackAfter::Unset => self.covers(hint, to, known, enabled, None),
             StackAfter::Set(bytes) => {
-                is_within(Some(bytes), self.bytes) && self.covers(hint, to, known, Some(bytes))
+                is_within(Some(bytes), self.bytes)
+                    && self.covers(hint, to, known, enabled, Some(bytes))
             }
         }
     }
@@ -217,7 +265,7 @@ impl Fit<'_> {
         way: Onward,
         left: Option<Known>,
     ) -> Result<bool, AllocError>
-        ensures { IfOk result (λ leads. leads ≡ true → LeadsTo self.now.program.now self.now.code.now self.now.ways.now self.now.table.now self.now.bytes here.entry.state.now here.entry.found way.taken way.to left) }
+        ensures { IfOk result (λ leads. leads ≡ true → LeadsTo self.now.program.now self.now.interrupted self.now.code.now self.now.ways.now self.now.table.now self.now.bytes here.entry.state.now here.entry.found way.taken way.to left) }
     {
         match left {
             None => Ok(true),
@@ -233,7 +281,7 @@ impl Fit<'_> {
         condition: Condition,
         to: u16,
     ) -> Result<bool, AllocError>
-        ensures { IfOk result (λ leads. leads ≡ true → LeadsIf self.now.program.now self.now.code.now self.now.ways.now self.now.table.now self.now.bytes here.entry.state.now here.entry.found condition to) }
+        ensures { IfOk result (λ leads. leads ≡ true → LeadsIf self.now.program.now self.now.interrupted self.now.code.now self.now.ways.now self.now.table.now self.now.bytes here.entry.state.now here.entry.found condition to) }
     {
         let known = here.state.known;
         let taken = self.leads_to(alloc, here, here.taken(to), given(condition, true, known))?;
@@ -282,7 +330,7 @@ impl Fit<'_> {
         here: Standing<'_>,
         left: Option<Known>,
     ) -> Result<bool, AllocError>
-        ensures { IfOk result (λ returns. returns ≡ true → ReturnsLeft self.now.program.now self.now.code.now self.now.ways.now self.now.table.now self.now.bytes here.entry.state.now here.entry.found left) }
+        ensures { IfOk result (λ returns. returns ≡ true → ReturnsLeft self.now.program.now self.now.interrupted self.now.code.now self.now.ways.now self.now.table.now self.now.bytes here.entry.state.now here.entry.found left) }
     {
         let Some(known) = left else {
             return Ok(true);
@@ -298,7 +346,7 @@ impl Fit<'_> {
 
     /// Whether a PCHL without declared targets goes where HL is known to be, may go there, and the state is covered there.
     fn jumps_by_number(&self, alloc: Global, here: Standing<'_>) -> Result<bool, AllocError>
-        ensures { IfOk result (λ jumps. jumps ≡ true → JumpsByNumber self.now.program.now self.now.code.now self.now.ways.now self.now.table.now self.now.bytes here.entry.state.now here.entry.found) }
+        ensures { IfOk result (λ jumps. jumps ≡ true → JumpsByNumber self.now.program.now self.now.interrupted self.now.code.now self.now.ways.now self.now.table.now self.now.bytes here.entry.state.now here.entry.found) }
     {
         let state = here.state;
         let words = state.known.hl.words;
@@ -310,7 +358,7 @@ impl Fit<'_> {
 
     /// Whether a PCHL is covered at each of its declared targets that HL may be.
     fn jumps_to_each(&self, alloc: Global, here: Standing<'_>) -> Result<bool, AllocError>
-        ensures { IfOk result (λ jumps. jumps ≡ true → JumpsBy self.now.program.now self.now.code.now self.now.ways.now self.now.table.now self.now.bytes here.entry.state.now here.entry.found true) }
+        ensures { IfOk result (λ jumps. jumps ≡ true → JumpsBy self.now.program.now self.now.interrupted self.now.code.now self.now.ways.now self.now.table.now self.now.bytes here.entry.state.now here.entry.found true) }
     {
         let targets = self.program.targets(here.state.at);
         for place in 0..targets.len() {
@@ -329,7 +377,7 @@ impl Fit<'_> {
         place: usize,
         to: u16,
     ) -> Result<bool, AllocError>
-        ensures { IfOk result (λ covers. covers ≡ true → Within here.entry.state.now.known.hl.words to → CoversThen self.now.program.now self.now.code.now self.now.ways.now self.now.table.now self.now.bytes here.entry.state.now here.entry.found false to here.entry.state.now.known) }
+        ensures { IfOk result (λ covers. covers ≡ true → Within here.entry.state.now.known.hl.words to → CoversThen self.now.program.now self.now.interrupted self.now.code.now self.now.ways.now self.now.table.now self.now.bytes here.entry.state.now here.entry.found false to here.entry.state.now.known) }
     {
         let known = here.state.known;
         let words = known.hl.words;
@@ -347,7 +395,7 @@ impl Fit<'_> {
         by_targets: bool,
     ) -> Result<bool, AllocError>
         requires declared { flow here.found.instr ≡ JumpsToHl → is_declared self.now.program.now.regions here.state.now.at ≡ by_targets }
-        ensures { IfOk result (λ follows. follows ≡ true → FollowsBy self.now.program.now self.now.code.now self.now.ways.now self.now.table.now self.now.bytes here.entry.state.now here.entry.found (flow here.entry.found.instr)) }
+        ensures { IfOk result (λ follows. follows ≡ true → FollowsBy self.now.program.now self.now.interrupted self.now.code.now self.now.ways.now self.now.table.now self.now.bytes here.entry.state.now here.entry.found (flow here.entry.found.instr)) }
     {
         let known = here.state.known;
         match here.found.instr.flow() {
@@ -365,23 +413,21 @@ impl Fit<'_> {
                 }
                 self.leads_to(alloc, here, here.passed(2), given(condition, false, known))
             }
-            Flow::Halts => Ok(true),
+            Flow::Halts => Ok(self.leaves_halt(here)),
             Flow::Continues | Flow::Pushes | Flow::Pops | Flow::Exchanges => {
                 self.leads_to(alloc, here, here.passed(0), Some(known))
             }
         }
     }
 
-    /// Whether the instruction at a state stores by a pair to data, and jumps to a declared target if such are declared, or is listed.
-    fn is_shown(&self, state: &FollowedState) -> bool
-        requires ends { AreDataEnds self.now.regions.now self.now.ends.now }
-        ensures { result ≡ true → (found : Fetched) → fetch_at self.now.program.now.regions (memory_of self.now.program.now.chunks) state.now.at ≡ Ok found →
-            IsShownOrListed self.now.regions.now self.now.listed.now found.instr state.now }
+    /// Whether a HLT is covered behind it as it is come to, if the program is interrupted and interrupts may come.
+    fn leaves_halt(&self, here: Standing<'_>) -> bool
+        ensures { result ≡ true → LeavesHalt self.now.program.now self.now.interrupted self.now.code.now self.now.ways.now self.now.table.now self.now.bytes here.entry.state.now here.entry.found }
     {
-        match fetch(state.at, self.program) {
-            Ok(found) => self.is_shown_or_listed(found.instr, state),
-            Err(_) => true,
-        }
+        let Standing { state, found } = here;
+        !self.interrupted
+            || !state.is_enabled
+            || self.covers(state.hint, found.next, state.known, true, state.bytes())
     }
 
     /// Whether an instruction in a state stores by a pair to data, and jumps to a declared target if such are declared, or is listed.
@@ -434,34 +480,65 @@ impl Fit<'_> {
         }
     }
 
+    /// Whether an instruction lets no interrupts in before SP is set, if the program is interrupted.
+    fn serves(&self, instr: Instr, state: &FollowedState) -> bool
+        ensures { result ≡ true → self.now.interrupted ≡ true → instr ≡ Ei → IsSome (stack_of state.now) }
+    {
+        !self.interrupted || !matches!(instr, Instr::Ei) || state.bytes().is_some()
+    }
+
+    /// The instruction that is fetched at an address, with whether targets are declared.
+    fn executed_by(&self, at: u16, by_targets: bool) -> Option<Executed>
+        ensures { IfSome result (λ it. (fetch_at self.now.program.now.regions (memory_of self.now.program.now.chunks) at ≡ Ok it.found) × (it.by_targets ≡ by_targets)) }
+    {
+        match fetch(at, self.program) {
+            Ok(found) => Some(Executed { found, by_targets }),
+            Err(_) => None,
+        }
+    }
+
+    /// The instruction at an address, if one may be executed there.
+    fn executed(&self, at: u16) -> Option<Executed>
+        ensures executed { IfSome result (λ it. IsExecuted self.now.program.now self.now.interrupted at it.found) }
+        ensures declared { IfSome result (λ it. flow it.found.instr ≡ JumpsToHl → is_declared self.now.program.now.regions at ≡ it.by_targets) }
+    {
+        looks_are_exact();
+        match self.program.look(at) {
+            Ok(found) => Some(Executed {
+                found,
+                by_targets: true,
+            }),
+            Err(LookFault::Pchl) => self.executed_by(at, false),
+            Err(LookFault::EnablesInterrupts) if self.interrupted => self.executed_by(at, true),
+            Err(_) => None,
+        }
+    }
+
     /// Whether a state fits the instruction at its address.
     fn state_follows(&self, alloc: Global, state: &FollowedState) -> Result<bool, AllocError>
         requires regions { self.now.regions.now ≡ self.now.program.now.regions }
         requires ends { AreDataEnds self.now.regions.now self.now.ends.now }
-        ensures { IfOk result (λ follows. follows ≡ true → StateFollows self.now.program.now (is_marked self.now.quiet.now) self.now.code.now self.now.ways.now self.now.listed.now self.now.table.now self.now.bytes state.now) }
+        ensures { IfOk result (λ follows. follows ≡ true → StateFollows self.now.program.now self.now.interrupted (is_marked self.now.quiet.now) self.now.code.now self.now.ways.now self.now.listed.now self.now.table.now self.now.bytes state.now) }
     {
-        looks_are_exact();
+        let Some(executed) = self.executed(state.at) else {
+            return Ok(false);
+        };
+        let found = executed.found;
         if !state.known.is_quiet(self.quiet)
             || !is_within(state.bytes(), self.bytes)
-            || !self.is_shown(state)
+            || !self.is_shown_or_listed(found.instr, state)
+            || !self.serves(found.instr, state)
         {
             return Ok(false);
         }
-        match self.program.look(state.at) {
-            Ok(found) => self.follows_by(alloc, Standing { state, found }, true),
-            Err(LookFault::Pchl) => match fetch(state.at, self.program) {
-                Ok(found) => self.follows_by(alloc, Standing { state, found }, false),
-                Err(_) => Ok(false),
-            },
-            Err(_) => Ok(false),
-        }
+        self.follows_by(alloc, Standing { state, found }, executed.by_targets)
     }
 
     /// Whether each state of the table fits.
     fn all_follow(&self, alloc: Global) -> Result<bool, AllocError>
         requires regions { self.now.regions.now ≡ self.now.program.now.regions }
         requires ends { AreDataEnds self.now.regions.now self.now.ends.now }
-        ensures { IfOk result (λ follow. follow ≡ true → All (λ s. StateFollows self.now.program.now (is_marked self.now.quiet.now) self.now.code.now self.now.ways.now self.now.listed.now self.now.table.now self.now.bytes s) self.now.table.now) }
+        ensures { IfOk result (λ follow. follow ≡ true → All (λ s. StateFollows self.now.program.now self.now.interrupted (is_marked self.now.quiet.now) self.now.code.now self.now.ways.now self.now.listed.now self.now.table.now self.now.bytes s) self.now.table.now) }
     {
         for place in 0..self.table.len() {
             if !self.state_follows(alloc, &self.table[place])? {
@@ -492,7 +569,8 @@ fn is_within(bytes: Option<&[ByteSpan]>, most: u16) -> bool
 /// Whether a table follows an image, so that every run of the image on a board that leaves the quiet addresses alone keeps the promise: those
 /// of data in the ranges `quiet`.
 ///
-/// `is_set` says whether SP is at the stack's top when a run begins; else it may be anywhere.
+/// `run.is_set` says whether SP is at the stack's top when a run begins; else it may be anywhere. `run.interrupted` says whether the program is
+/// interrupted, by what gives back all but the bytes that devices may write, too.
 ///
 /// # Errors
 /// `AllocError` if memory runs out.
@@ -501,15 +579,15 @@ pub fn follows(
     image: &Image,
     table: &Table,
     quiet: &[Range],
-    is_set: bool,
+    run: RunKind,
 ) -> Result<bool, AllocError>
     ensures promise { IfOk result (λ follows. follows ≡ true →
-        PromiseOfFollowed image.now (is_quiet image.now.regions quiet.now) is_set table.now.ways.items table.now.listed table.now.bytes) }
+        PromiseOf run.interrupted image.now (is_quiet image.now.regions quiet.now) run.is_set table.now.ways.items table.now.listed table.now.bytes) }
 {
     image.regions.stack();
     let code = code_bytes(alloc, image)?;
     let marks = mark_quiet(alloc, &image.regions, quiet)?;
-    follows_marked(alloc, image, table, &code, &marks, is_set)
+    follows_marked(alloc, image, table, &code, &marks, run)
 }
 
 /// Whether a table follows an image, with the image's code by address, and marks of the quiet addresses.
@@ -519,12 +597,12 @@ fn follows_marked(
     table: &Table,
     code: &[Option<u8>],
     quiet: &[bool],
-    is_set: bool,
+    run: RunKind,
 ) -> Result<bool, AllocError>
     requires rules { AreRegions image.now.regions }
     requires code { AreCodeBytes image.now code.now }
     requires quiet { (at : ℕ) → is_marked quiet.now at ≡ true → in_data image.now.regions at ≡ true }
-    ensures promise { IfOk result (λ follows. follows ≡ true → PromiseOfFollowed image.now (is_marked quiet.now) is_set table.now.ways.items table.now.listed table.now.bytes) }
+    ensures promise { IfOk result (λ follows. follows ≡ true → PromiseOf run.interrupted image.now (is_marked quiet.now) run.is_set table.now.ways.items table.now.listed table.now.bytes) }
 {
     followed_programs_keep_the_promise();
     let program = ImageCode::new(alloc, image)?;
@@ -535,13 +613,14 @@ fn follows_marked(
         ways: &table.ways,
         listed: &table.listed,
         bytes: table.bytes,
+        interrupted: run.interrupted,
         code,
         program: &program,
         regions: &image.regions,
         ends: &ends,
         quiet,
     };
-    if table.bytes > program.stack() || !fit.has_start(program.start(), is_set) {
+    if table.bytes > program.stack() || !fit.has_start(program.start(), run.is_set) {
         return Ok(false);
     }
     fit.all_follow(alloc)

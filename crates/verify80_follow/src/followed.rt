@@ -11,7 +11,9 @@ pub struct FollowedState {
     pub known: Known,
     /// What each byte of the stack may be, from SP up to the stack's top; `None` as long as SP isn't set.
     pub stack: Option<Vec<ByteSpan>>,
-    /// Where the state's hints begin: one for each way on, which names a state that says no more, or one such state for each byte of A;
+    /// Whether interrupts may come, by EI and DI.
+    pub is_enabled: bool,
+    /// Where the state's hints begin: one for each way on, which names a state that says no more, or one such state for each byte of A, that of a HLT too;
     /// and behind that of a return, or of a PCHL without declared targets, the place of its way in the list of ways.
     pub hint: u32,
 }
@@ -33,10 +35,27 @@ pub struct Listed {
     pub jumps: Vec<u16>,
 }
 
+/// The runs for which a program is followed.
+#[derive(Clone, Copy, Debug, PartialEq, Eq)]
+pub struct RunKind {
+    /// Whether SP is at the stack's top when a run begins; else it may be anywhere.
+    pub is_set: bool,
+    /// Whether the program is interrupted: a HLT at which interrupts may come leads on. Handlers must give back SP, registers, flags and what is
+    /// pushed, and may store where devices may.
+    pub interrupted: bool,
+}
+
 impl FollowedState {
-    ghost use Rattle.std.specs.Prelude.{◌≡◌};
+    ghost use Rattle.std.specs.Prelude.{◌≡◌, true};
     ghost use Rattle.std.specs.Option.{option_map};
     ghost use Rattle.verify80_follow.specs.Follows.{stack_of};
+
+    /// Whether interrupts may come here, if they may by `enabled`.
+    pub(crate) fn allows(&self, enabled: bool) -> bool
+        ensures { result ≡ true → enabled ≡ true → self.now.is_enabled ≡ true }
+    {
+        self.is_enabled || !enabled
+    }
 
     /// The bytes of the stack; `None` as long as SP isn't set.
     pub fn bytes(&self) -> Option<&[ByteSpan]>

@@ -12,17 +12,37 @@ use text80::word_digits;
 use verify80_stores::{Kind, Stores, addresses_of_kind};
 
 /// The lines of a table: how many states it has, and how many bytes the stack has at most, of how many, such as `FOLLOWED 146 STATES` and
-/// `STACK 4 OF 256 AT MOST`.
+/// `STACK 4 OF 256 AT MOST`; and of a
+/// program that is interrupted, that its handlers aren't verified.
 ///
 /// # Errors
 /// `AllocError` only if memory runs out.
-pub fn bounds_text(alloc: Global, table: &Table, room: u16) -> Result<Vec<u8>, AllocError>
-    ensures { IfOk result (λ text. text.items ≡ bounds_lines (length table.now.states.items) table.now.bytes room) }
+pub fn bounds_text(
+    alloc: Global,
+    table: &Table,
+    room: u16,
+    interrupted: bool,
+) -> Result<Vec<u8>, AllocError>
+    ensures { IfOk result (λ text. text.items ≡ bounds_lines interrupted (length table.now.states.items) table.now.bytes room) }
 {
     let states = table.states.len();
     let bytes = table.bytes;
-    let lines = format!(in alloc; "FOLLOWED {states} STATES\nSTACK {bytes} OF {room} AT MOST\n")?;
+    let handlers = handlers_line(interrupted);
+    let lines = format!(in alloc;
+        "FOLLOWED {states} STATES\nSTACK {bytes} OF {room} AT MOST\n{handlers}"
+    )?;
     Ok(lines.into_bytes())
+}
+
+/// What is said of the handlers of a program that is interrupted.
+fn handlers_line(interrupted: bool) -> &'static str
+    ensures { result.now ≡ handlers_line interrupted }
+{
+    if interrupted {
+        "HANDLERS NOT VERIFIED\n"
+    } else {
+        ""
+    }
 }
 
 /// The stores and jumps by register pairs among the instructions to which a followed program may come, with those that its table leaves open.

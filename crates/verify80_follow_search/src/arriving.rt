@@ -6,7 +6,9 @@ use crate::stop::{StopReason, Unfollowed};
 use decode80::{Fetched, Instr, Operand, Operation, Pair, Register, fetch};
 use frames80::Code;
 use std::alloc::{AllocError, Global};
-use verify80_follow::{FollowedState, StackAfter, StackBounds, stack_then, top_of_stack};
+use verify80_follow::{
+    FollowedState, StackAfter, StackBounds, enabled_after, stack_then, top_of_stack,
+};
 use verify80_states::{
     ByteSpan, Cell, Cells, Known, PairSpan, entry_at, is_marked, known_after, stored_bytes,
 };
@@ -104,6 +106,7 @@ impl FollowedProgram<'_> {
             at: lead.to,
             known: self.named(lead.to, after),
             stack,
+            is_enabled: enabled_after(found.instr, state.is_enabled),
             hint: 0,
         })
     }

@@ -38,6 +38,7 @@ pub(crate) fn grow(state: &mut FollowedState, marks: &[bool], other: &FollowedSt
         source: same(old.source, new.source),
         set: 0,
     };
+    state.is_enabled |= other.is_enabled;
     if let (Some(bytes), Some(others)) = (&mut state.stack, &other.stack) {
         for (byte, other) in bytes.iter_mut().zip(others.iter()) {
             *byte = grown_bytes(*byte, *other, growths);
@@ -93,6 +94,7 @@ fn same<T: Copy + PartialEq>(old: Option<T>, new: Option<T>) -> Option<T> {
 pub(crate) fn is_inside(inner: &FollowedState, outer: &FollowedState) -> bool {
     let (bytes, others) = (inner.bytes().unwrap_or(&[]), outer.bytes().unwrap_or(&[]));
     inner.known.is_inside(outer.known, &[])
+        && (outer.is_enabled || !inner.is_enabled)
         && bytes
             .iter()
             .zip(others.iter())

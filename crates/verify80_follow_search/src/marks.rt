@@ -109,6 +109,7 @@ pub(crate) fn with_known(
         at: state.at,
         known,
         stack,
+        is_enabled: state.is_enabled,
         hint: 0,
     })
 }

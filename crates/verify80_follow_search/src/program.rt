@@ -17,6 +17,8 @@ pub(crate) struct FollowedProgram<'a> {
     pub code: &'a [Option<u8>],
     /// Marks of the quiet addresses.
     pub quiet: &'a [bool],
+    /// Whether the program is interrupted.
+    pub interrupted: bool,
     /// Whether addresses of code that LXI names tell states apart.
     pub splits_addresses: bool,
     /// Whether bytes of A tell states apart, where ANA or a comparison leaves few of them.
@@ -43,6 +45,10 @@ impl FollowedProgram<'_> {
                 instr: Instr::Pchl,
                 next: ahead(at, 1),
             }),
+            Err(LookFault::EnablesInterrupts) if self.interrupted => Ok(Fetched {
+                instr: Instr::Ei,
+                next: ahead(at, 1),
+            }),
             Err(LookFault::Outside) => Err(StopReason::FetchOutside),
             Err(LookFault::Unused) => Err(StopReason::UnusedOpcode),
             Err(LookFault::EnablesInterrupts) => Err(StopReason::EnablesInterrupts),
@@ -53,7 +59,7 @@ impl FollowedProgram<'_> {
     /// How many hints the ways of an instruction have.
     pub fn count_hints(self, at: u16, instr: Instr) -> usize {
         match instr.flow() {
-            Flow::Halts => 0,
+            Flow::Halts => usize::from(self.interrupted),
             Flow::JumpsIf(_, _) | Flow::CallsIf(_, _) | Flow::Returns => 2,
             Flow::ReturnsIf(_) => 3,
             Flow::JumpsToHl => self.image.targets(at).len().max(2),
@@ -93,6 +99,9 @@ impl FollowedProgram<'_> {
     ) -> Result<Option<Lead>, StopReason> {
         let Fetched { instr, next } = found;
         let known = state.known;
+        if self.interrupted && matches!(instr, Instr::Ei) && state.stack.is_none() {
+            return Err(StopReason::StackNotSet);
+        }
         let (to, taken, left) = match (instr.flow(), number) {
             (Flow::Calls(to), 0) => (Some(to), true, Some(known)),
             (Flow::Jumps(to), 0) => (Some(to), false, Some(known)),
@@ -108,6 +117,9 @@ impl FollowedProgram<'_> {
                 Some(left) => (Some(returned_to(state)?), true, Some(left)),
                 None => (None, true, None),
             },
+            (Flow::Halts, 0) if self.interrupted && state.is_enabled => {
+                (Some(next), false, Some(known))
+            }
             (Flow::JumpsToHl, number) => (self.jumped_to(state, number)?, false, Some(known)),
             (Flow::Continues | Flow::Pushes | Flow::Pops | Flow::Exchanges, 0) => {
                 (Some(next), false, Some(known))

@@ -6,13 +6,14 @@ use crate::trial::{WAYS, follow_from};
 use image80::{Image, Range};
 use std::alloc::{AllocError, Global};
 use verify80::ImageCode;
+use verify80_follow::RunKind;
 use verify80_states::{code_bytes, mark_quiet};
 
 /// Whether addresses that LXI names and few bytes of A tell states apart, in one trial after the other.
 const TRIALS: [(bool, bool); 4] = [(false, false), (true, false), (false, true), (true, true)];
 
 /// Searches for a table of states that follows an image, on boards that leave the quiet addresses alone: those of data in the ranges `quiet`.
-/// `is_set` says whether SP is at the stack's top at the start: else it may be anywhere.
+/// `run` says whether SP is at the stack's top at the start, else it may be anywhere, and whether the program is interrupted.
 ///
 /// # Errors
 /// `AllocError` if memory runs out.
@@ -20,7 +21,7 @@ pub fn search(
     alloc: Global,
     image: &Image,
     quiet: &[Range],
-    is_set: bool,
+    run: RunKind,
 ) -> Result<SearchResult, AllocError> {
     let code = code_bytes(alloc, image)?;
     let marks = mark_quiet(alloc, &image.regions, quiet)?;
@@ -42,10 +43,11 @@ pub fn search(
             regions: &image.regions,
             code: &code,
             quiet: &marks,
+            interrupted: run.interrupted,
             splits_addresses,
             splits_bytes,
         };
-        let stop = match follow_from(alloc, followed, image.start, is_set, &mut left)? {
+        let stop = match follow_from(alloc, followed, image.start, run.is_set, &mut left)? {
             SearchResult::Found(table) => return Ok(SearchResult::Found(table)),
             SearchResult::Stopped(stop) => stop,
         };

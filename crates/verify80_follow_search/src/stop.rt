@@ -11,11 +11,11 @@ pub enum StopReason {
     FetchOutside,
     /// The byte begins no instruction.
     UnusedOpcode,
-    /// EI without a HLT behind it.
+    /// EI without a HLT behind it, in a program that isn't interrupted.
     EnablesInterrupts,
     /// STA or SHLD stores outside data.
     DirectStore,
-    /// The stack is used before SP is set.
+    /// The stack is used, or interrupts are enabled, before SP is set.
     StackNotSet,
     /// SP leaves the stack.
     LeavesStack,
@@ -46,9 +46,9 @@ impl StopReason {
         match self {
             StopReason::FetchOutside => "an instruction has a byte outside CODE, or past FFFF",
             StopReason::UnusedOpcode => "the byte begins no instruction of the 8080",
-            StopReason::EnablesInterrupts => "EI enables interrupts, and no HLT is behind it",
+            StopReason::EnablesInterrupts => "EI enables interrupts, and no HLT is behind it: --interrupted follows a program that is interrupted",
             StopReason::DirectStore => "STA or SHLD stores outside DATA",
-            StopReason::StackNotSet => "the stack is used before LXI SP sets SP",
+            StopReason::StackNotSet => "the stack is used before LXI SP sets SP, or an interrupt may use it",
             StopReason::LeavesStack => "SP leaves STACK: too much is pushed, or popped",
             StopReason::UnknownReturn =>
                 "it isn't known where the return goes: the word at SP may be several",

@@ -86,6 +86,7 @@ impl Trial<'_> {
                 at: start,
                 known: Known::ANY,
                 stack: is_set.then_some(Vec::new(self.alloc)),
+                is_enabled: false,
                 hint: 0,
             },
             marks: vec![in self.alloc; false; AT_SP]?,

@@ -14,12 +14,13 @@ returns-in_ok-extend_from_slice-in-By c =
     let names = c.args.names.now in
     let quiet = c.args.asked.quiet.now in
     let lists = c.args.asked.lists in
+    let interrupted = c.args.asked.interrupted in
     let table = c.in-By.table in
     let stores = c.in_ok-stores-in-By.stores in
     let reached = c.in_ok-reached-in-By.reached.items in
     let listing : c.in_ok-listing-in-By.listing.items ≡ listing_lines lists image names reached =
     c.in_ok-listing-in-By.ensures ∙ ap (λ (r : List (Option Fetched)). listing_lines lists image names r) c.deref-in-By.ensures.value in
-    followed table c.in-By.is_set stores reached (subst (IsFollowedBy quiet image) c.in-By.is c.in_ok-table.ensures) c.in_ok-reached-in-By.ensures
+    followed table c.in-By.is_set stores reached (subst (IsFollowedBy interrupted quiet image) c.in-By.is c.in_ok-table.ensures) c.in_ok-reached-in-By.ensures
     (subst (λ (r : List (Option Fetched)). AreStoresFollowed table.listed (not c.in-By.is_set) r stores) c.deref.ensures.value c.in_ok-stores-in-By.ensures)
     (c.prints.ensures
     ∙ ap (λ (l : List ℕ). prints l 0)

@@ -8,13 +8,13 @@ returns g c =
     let asked = c.args.arguments.now in
     let quiet = c.in_ok-quiet.quiet.items in
     let new = g.C.Console.journal c.print_followed-given.new.console in
-    let both = more_or_gives_up (AnswersProgram (PrintsFollowed quiet asked.lists) (asks_names asked.files)) (AnswersFollowing asked) (program_paths asked.files)
+    let both = more_or_gives_up (AnswersProgram (PrintsFollowed quiet asked.interrupted asked.lists) (asks_names asked.files)) (AnswersFollowing asked) (program_paths asked.files)
     (g.C.Console.journal c.args.console.now) (g.C.Console.journal c.ranges_of.new.console) new
     (λ files given is. record { quiet = quiet; written = simp (c.deref.ensures.value) at c.in_ok-quiet.ensures.ranges; is = is })
     c.in_ok-quiet.ensures.unchanged c.print_followed-given.result (
-      program_answered c.in_ok-image.ensures.read new (PrintsFollowed quiet asked.lists) c.print_followed-given.result
+      program_answered c.in_ok-image.ensures.read new (PrintsFollowed quiet asked.interrupted asked.lists) c.print_followed-given.result
           (simp (c.deref-2.ensures.value) at c.print_followed-given.ensures.done),
-      program_given_up c.in_ok-image.ensures.read new (PrintsFollowed quiet asked.lists) c.print_followed-given.result
+      program_given_up c.in_ok-image.ensures.read new (PrintsFollowed quiet asked.interrupted asked.lists) c.print_followed-given.result
           (simp (c.deref-2.ensures.value) at c.print_followed-given.ensures.fault),
     ) in
     record { done = both.0; fault = both.1 }

@@ -13,11 +13,11 @@ returns c =
     let image = c.args.image.now in
     let names = c.args.names.now in
     let table = c.args.table.now in
-    let stores = stores_lines c.args.quiet.now image names c.args.stores.now in
+    let stores = stores_lines c.args.asked.quiet.now image names c.args.stores.now in
     let ways = named_text image.regions.code names (codes "WAY ") (flat_map way_line table.ways.items) in
     let room : c.stack.result.length ≡ image.regions.stack.length = ap (λ (r : Range). r.length) c.stack.ensures.range ∙ ap (λ (i : Located). i.regions.stack.length) c.image.view_is in
     c.in_ok-extend_from_slice-2.ensures.items
     ∙ ap (λ (l : List ℕ). c.in_ok-text.text.items ++ l)
     (c.deref-3.ensures.value ∙ c.in_ok-extend_from_slice.ensures.items ∙ ap (λ (l : List ℕ). c.in_ok-lines.lines.items ++ l) (c.deref-2.ensures.value ∙ c.in_ok-ways.ensures ∙ ap (λ (w : List Way). named_text image.regions.code names (codes "WAY ") (flat_map way_line w)) c.deref.ensures.value)
     ∙ ap (λ (l : List ℕ). l ++ ways) c.in_ok-lines.ensures)
-    ∙ ap (λ (l : List ℕ). l ++ (stores ++ ways)) (c.in_ok-text.ensures ∙ ap (λ n. bounds_lines (length table.states.items) table.bytes n) room)
+    ∙ ap (λ (l : List ℕ). l ++ (stores ++ ways)) (c.in_ok-text.ensures ∙ ap (λ n. bounds_lines c.args.asked.interrupted (length table.states.items) table.bytes n) room)
