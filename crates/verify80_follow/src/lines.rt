@@ -2,7 +2,7 @@
 
 ghost use Rattle.std.specs.Prelude.{◌≡◌, ◌++◌, IfOk, OnOk, length};
 ghost use Rattle.std.specs.List.{flat_map};
-ghost use Rattle.verify80_follow.specs.{FollowText.bounds_lines, FollowText.way_line, Reaching.AreStoresFollowed};
+ghost use Rattle.verify80_follow.specs.{FollowText.bounds_lines, FollowText.handlers_line, FollowText.way_line, Reaching.AreStoresFollowed};
 
 use crate::fit::Table;
 use crate::followed::{Listed, Way};
