@@ -23,11 +23,11 @@ use Rattle.verify80_states.specs.Known.{HoldsKnown, HoldsPair, HoldsTop, IsQuiet
 use Rattle.verify80_states.specs.{Cells.IsQuietCell, declared.states.cells.Cell.Cell}
 use Rattle.verify80_states.specs.Laws.{ConditionsLeaveKnown, InstructionsAreFollowed, IsFollowedBy, KnownStaysQuiet, WhatHoldsOfBytes}
 use Rattle.verify80_states.specs.Invariants.{invariant_is_kept}
-use Rattle.verify80_follow.specs.declared.{followed.FollowedState.FollowedState, followed.Listed.Listed, followed.Way.Way}
+use Rattle.verify80_follow.specs.declared.{stack.StackBounds.StackBounds, followed.FollowedState.FollowedState, followed.Listed.Listed, followed.Way.Way}
 use Rattle.verify80_follow.specs.Stack.{AreBytesInside, HoldsFrom, HoldsStack, IsStackInside, bounds_of, if_true, moved_to, pointer_at, return_address, set_stack, stack_after, stack_then, top_of_stack, word_on}
 use Rattle.verify80_follow.specs.InterruptedBoards.{OnInterruptedBoard, Wakes, begins, disturbed, enabled_after, executed, with_pc, woken}
 use Rattle.verify80_follow.specs.Follows.{Covers, CoversThen, Follows, FollowsBy, Has, IsWay, JumpsBy, LeadsTo, ReturnsLeft, ReturnsTo, StateFollows, first_stack, stack_of}
-use Rattle.verify80_follow.specs.Promise.{FollowedProgramsKeepThePromise, GoesToListed, IsLeftOpenAt, KeepsFollowed, KnowsWorld, PromiseOf, PromiseOfFollowed, PromiseOfInterrupted}
+use Rattle.verify80_follow.specs.Promise.{FollowedProgramsKeepThePromise, GoesToListed, IsLeftOpenAt, IsReady, KeepsFollowed, KnowsWorld, PromiseOf, PromiseOfFollowed, PromiseOfInterrupted}
 use Rattle.verify80_follow.proofs.{GroundLemmas.Ground, FetchLemmas.anywhere_of, FetchLemmas.fetched_here, FetchLemmas.inside_of, StackSteps.stack_holds}
 use Rattle.verify80_follow.proofs.GuardLemmas.{Touches, all_of_list, passes_guard, touched}
 use Rattle.verify80_follow.proofs.StackLemmas.{any_within, byte_at, moved_holds, pointer_is, stays_from}
@@ -103,6 +103,12 @@ from_around (p ∷ a) (q ∷ b) at m inside holds =
     let long = inside.long in
     (record { above = omega (arith, above, low); below = omega (arith, below, high) }, from_around a b (ahead at 1) m (record { long = omega (arith, long); each = λ k x y. inside.each (suc k) x y }) holds.1)
 
+some_around : (inner outer : Option (List ByteSpan)) → IsStackInside inner outer → IsSome inner → IsSome outer
+some_around None None inside some = some
+some_around None (Some b) inside some = absurd inside
+some_around (Some a) None inside some = absurd inside
+some_around (Some a) (Some b) inside some = refl
+
 stack_around : (image : Located) (Q : Type 0) (inner outer : Option (List ByteSpan)) (sp : ℕ) (m : List ℕ) → IsStackInside inner outer → IfSome inner (λ bytes. HoldsStack (bounds_of image) bytes sp m × Q) → IfSome outer (λ bytes. HoldsStack (bounds_of image) bytes sp m × Q)
 stack_around image Q None None sp m inside holds = tt
 stack_around image Q None (Some b) sp m inside holds = absurd inside
@@ -111,6 +117,14 @@ stack_around image Q (Some a) (Some b) sp m inside holds =
     let long = inside.long in
     let within = holds.0.within in
     (record { pointer = holds.0.pointer ∙ ap (λ n. pointer_at (bounds_of image) n) long; within = omega (arith, long, within); each = from_around a b sp m inside holds.0.each }, holds.1)
+
+-- once SP is set it stays so
+still_some : (bounds : StackBounds) (i : Instr) (taken : Bool) (next : ℕ) (s : Known) (before stack : Option (List ByteSpan)) → IsSome before → stack_then bounds i taken next s before ≡ Some stack → IsSome stack
+still_some bounds i taken next s None stack some is = cc
+still_some bounds i taken next s (Some b) stack some is = by (stack_after bounds i taken next s b) is where
+  by : (o : Option (List ByteSpan)) → option_map (λ after. Some after) o ≡ Some stack → IsSome stack
+  by None none = cc
+  by (Some after) one = subst (λ (o : Option (List ByteSpan)). IsSome o) (same_some (Some after) stack one) refl
 
 -- what is known of quiet addresses is known of data
 quieter : (quiet other : ℕ → Bool) (s : Known) → ((at : ℕ) → quiet at ≡ true → other at ≡ true) → IsQuietKnown quiet s → IsQuietKnown other s
@@ -213,7 +227,7 @@ module _ (laws : Laws) (image : Located) (interrupted : Bool) (quiet : ℕ → B
 
   -- what the table has at an address, holding of a machine, is known of it
   enters : (set enabled may : Bool) (w : World) (known : Known) (stack : Option (List ByteSpan)) → Has table w.machine.cpu.pc known may stack → (enabled ≡ true → may ≡ true) →
-      (interrupted ≡ true → enabled ≡ true → set ≡ true) → HoldsKnown known w.machine → IfSome stack (λ b. HoldsStack (bounds_of image) b w.machine.cpu.sp w.machine.memory × (set ≡ true)) →
+      (interrupted ≡ true → enabled ≡ true → IsSome stack) → HoldsKnown known w.machine → IfSome stack (λ b. HoldsStack (bounds_of image) b w.machine.cpu.sp w.machine.memory × (set ≡ true)) →
       HoldsBytes w.machine → length w.machine.memory ≡ 65536 → HasCode image w.machine.memory → Knows set enabled w
   enters set enabled may w known stack has more serves holds stands held whole code = record {
     place = has.place;
@@ -222,7 +236,7 @@ module _ (laws : Laws) (image : Located) (interrupted : Bool) (quiet : ℕ → B
     at = has.at;
     known = (laws.holds w.machine held).around known has.state.known has.inside holds;
     enables = λ is. has.enables (more is);
-    serves = serves;
+    serves = λ on is. some_around stack (stack_of has.state) has.stacked (serves on is);
     stack = stack_around image (set ≡ true) stack (stack_of has.state) w.machine.cpu.sp w.machine.memory has.stacked stands;
     bytes = held;
     whole = whole;
@@ -359,11 +373,8 @@ module _ (laws : Laws) (image : Located) (interrupted : Bool) (quiet : ℕ → B
       on_stack_bytes xs each = λ k d within. (each k d within).there
 
       -- interrupts may come only once SP is set
-      served : (i : Instr) → found.instr ≡ i → interrupted ≡ true → enabled_after i enabled ≡ true → set ≡ true
-      served Ei is on may = is_set_by (stack_of k.state) (entry.serves on is) k.stack where
-        is_set_by : (stack : Option (List ByteSpan)) → IsSome stack → IfSome stack (λ b. HoldsStack (bounds_of image) b m.cpu.sp m.memory × (set ≡ true)) → set ≡ true
-        is_set_by (Some b) some stands = stands.1
-        is_set_by None some stands = cc
+      served : (i : Instr) → found.instr ≡ i → interrupted ≡ true → enabled_after i enabled ≡ true → IsSome (stack_of k.state)
+      served Ei is on may = entry.serves on is
       served Di is on may = cc
       served i is on may = k.serves on may
 
@@ -389,13 +400,10 @@ module _ (laws : Laws) (image : Located) (interrupted : Bool) (quiet : ℕ → B
         may : Bool
         may = enabled_after found.instr k.state.is_enabled
 
-        still_set : set ≡ true → (set || sets_sp found.instr) ≡ true
-        still_set is = ap (λ (b : Bool). b || sets_sp found.instr) is
-
         with_has : (known : Known) → HoldsKnown known after → Has table t.to known may t.covers.stack → Knows (set || sets_sp found.instr) (enabled_after found.instr enabled) v
         with_has known holds has =
             enters (set || sets_sp found.instr) (enabled_after found.instr enabled) may v known t.covers.stack (subst (λ n. Has table n known may t.covers.stack) (sym there) has) (enables_more found.instr enabled k.state.is_enabled k.enables)
-            (λ on is. still_set (served found.instr refl on is)) holds stack_now followed.bytes followed.whole (λ address here. followed.same_code address here ∙ k.code address here)
+            (λ on is. still_some (bounds_of image) found.instr t.taken found.next t.known (stack_of k.state) t.covers.stack (served found.instr refl on is) t.covers.is) holds stack_now followed.bytes followed.whole (λ address here. followed.same_code address here ∙ k.code address here)
 
         by : Has table t.to now may t.covers.stack ⊎ ((byte : ℕ) → ByteWithin now.a byte → Has table t.to (cut now (byte_alone byte)) may t.covers.stack) → Knows (set || sets_sp found.instr) (enabled_after found.instr enabled) v
         by (inl has) = with_has now followed.known has
@@ -635,10 +643,15 @@ module _ (laws : Laws) (image : Located) (interrupted : Bool) (quiet : ℕ → B
     knows set enabled w (executed was _ may _ u _ before by is after) = subst (λ (b : Bool). Knows set b w) (sym after) (subst (λ (b : Bool). Knows b (enabled_after by.found.instr may) w) (sym is) (executes was may u w (knows was may u before) by))
     knows set enabled w (woken _ _ u _ before may by) = wakes set enabled u w (knows set enabled u before) on may by
 
+  ready : (set : Bool) (w : World) (stack : Option (List ByteSpan)) → IsSome stack → IfSome stack (λ b. HoldsStack (bounds_of image) b w.machine.cpu.sp w.machine.memory × (set ≡ true)) → IfSome stack (λ b. length b ≤ bytes) →
+      IsReady image bytes set w
+  ready set w None some stands few = cc
+  ready set w (Some b) some stands few = record { is_set = stands.1; count = length b; few = few; pointer = stands.0.pointer }
+
   pub interrupted_keeps : interrupted ≡ true → PromiseOfInterrupted image quiet is_set ways listed bytes
   interrupted_keeps on start pc whole code held top w set enabled board =
       let k = knows on start pc whole code held top set enabled w board in
-      (subst (λ (b : Bool). KeepsFollowed image b bytes ways listed w) on (keeps set enabled w k), k.serves on)
+      (subst (λ (b : Bool). KeepsFollowed image b bytes ways listed w) on (keeps set enabled w k), λ may. ready set w (stack_of k.state) (k.serves on may) k.stack (entry_of set enabled w k).depth)
 
 pub promise : Laws → ((regions : Areas) → AreRegions regions → Ground regions) → FollowedProgramsKeepThePromise
 promise laws ground false image quiet is_set ways listed table bytes rules quiet_data fits few = followed_keeps laws image false quiet is_set ways listed table bytes rules (ground image.regions rules) quiet_data fits few refl

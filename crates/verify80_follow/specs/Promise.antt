@@ -1,6 +1,6 @@
 -- What is promised of a program that a table follows, on every board whose devices leave quiet memory alone. (This project's own; what a board is and
 -- does stands in verify80, specs/Boards; what interrupts are there in specs/InterruptedBoards.)
-use Rattle.std.specs.Prelude.{◌≡◌, ◌≢◌, ◌⊎◌, ◌≤◌, ◌<◌, ℕ, Bool, true, false, List, All, Any, Contains, None, Some, IfSome, length, slice_get}
+use Rattle.std.specs.Prelude.{◌≡◌, ◌≢◌, ◌⊎◌, ◌≤◌, ◌<◌, ℕ, Bool, true, false, List, All, Any, Contains, None, Some, IfSome, IsSome, length, slice_get}
 use Rattle.decode80.specs.{declared.fetching.Fetched.Fetched, Fetch.direct_bytes}
 use Rattle.decode80.specs.declared.instr.Instr.TheVariants.{Ei, Hlt, Pchl}
 use Rattle.image80.specs.{Regions.AreRegions, Regions.Areas, Regions.in_data, Regions.targets_at, Regions.top_of, Image.Located, Image.memory_of}
@@ -11,7 +11,7 @@ use Rattle.verify80_spans.specs.Span.{Within}
 use Rattle.verify80_states.specs.{Bytes.HoldsBytes, Known.HoldsKnown, QuietBoards.OnQuietBoard, Steps.HasCode}
 use Rattle.verify80_stores.specs.{declared.stores.OpenStore.OpenStore, Boards.IsListedAt}
 use Rattle.verify80_follow.specs.declared.{followed.FollowedState.FollowedState, followed.Listed.Listed, followed.Way.Way}
-use Rattle.verify80_follow.specs.{InterruptedBoards.OnInterruptedBoard, Stack.HoldsStack, Stack.bounds_of, Follows.Follows, Follows.IsWay, Follows.stack_of}
+use Rattle.verify80_follow.specs.{InterruptedBoards.OnInterruptedBoard, Stack.HoldsStack, Stack.bounds_of, Stack.pointer_at, Follows.Follows, Follows.IsWay, Follows.stack_of}
 
 -- a store is listed at an address, or a PCHL is
 abbrev pub IsLeftOpenAt : Listed → ℕ → Type 0
@@ -42,6 +42,13 @@ pub record KeepsFollowed (image : Located) (interrupted : Bool) (bytes : ℕ) (w
   pub goes_on : found.instr ≢ Hlt → (IsLeftOpenAt listed w.machine.cpu.pc → StaysInside image.regions w.machine found.instr) →
       (byte : ℕ) → byte < 256 → IsFollowed image.regions (IsLeftOpenAt listed) byte w
 
+-- an interrupt finds SP set, and at most so many bytes below the stack's top
+pub record IsReady (image : Located) (bytes : ℕ) (set : Bool) (w : World) : Type 0 where
+  pub is_set : set ≡ true
+  pub count : ℕ
+  pub few : count ≤ bytes
+  pub pointer : w.machine.cpu.sp ≡ pointer_at (bounds_of image) count
+
 -- a state of the table holds of a world; as long as SP isn't set, nothing is known of the stack, and no interrupt may come if the program is interrupted
 pub record KnowsWorld (image : Located) (interrupted : Bool) (table : List FollowedState) (set enabled : Bool) (w : World) : Type 0 where
   pub place : ℕ
@@ -50,7 +57,7 @@ pub record KnowsWorld (image : Located) (interrupted : Bool) (table : List Follo
   pub at : state.at ≡ w.machine.cpu.pc
   pub known : HoldsKnown state.known w.machine
   pub enables : enabled ≡ true → state.is_enabled ≡ true
-  pub serves : interrupted ≡ true → enabled ≡ true → set ≡ true
+  pub serves : interrupted ≡ true → enabled ≡ true → IsSome (stack_of state)
   pub stack : IfSome (stack_of state) (λ bytes. HoldsStack (bounds_of image) bytes w.machine.cpu.sp w.machine.memory × (set ≡ true))
   pub bytes : HoldsBytes w.machine
   pub whole : length w.machine.memory ≡ 65536
@@ -64,11 +71,11 @@ PromiseOfFollowed image quiet is_set ways listed bytes = (start : Machine) → s
     (is_set ≡ true → start.cpu.sp ≡ top_of image.regions) → (w : World) (set : Bool) → OnQuietBoard image.regions quiet (IsLeftOpenAt listed) start is_set set w → KeepsFollowed image false bytes ways listed w
 
 -- The same on every board on which it is interrupted by what gives back SP, registers, flags and what is pushed, and stores to data that isn't quiet:
--- the run goes on behind a HLT if interrupts may come, and they may only once SP is set.
+-- the run goes on behind a HLT if interrupts may come, and wherever they may, SP is set, and no deeper than the stack's bound.
 abbrev pub PromiseOfInterrupted : Located → (quiet : ℕ → Bool) → (is_set : Bool) → List Way → Listed → (bytes : ℕ) → Type 0
 PromiseOfInterrupted image quiet is_set ways listed bytes = (start : Machine) → start.cpu.pc ≡ image.start → length start.memory ≡ 65536 → HasCode image start.memory → HoldsBytes start →
     (is_set ≡ true → start.cpu.sp ≡ top_of image.regions) → (w : World) (set enabled : Bool) → OnInterruptedBoard image.regions quiet (IsLeftOpenAt listed) start is_set set enabled w →
-    KeepsFollowed image true bytes ways listed w × (enabled ≡ true → set ≡ true)
+    KeepsFollowed image true bytes ways listed w × (enabled ≡ true → IsReady image bytes set w)
 
 -- what is promised of a program that is interrupted, or isn't
 abbrev pub PromiseOf : (interrupted : Bool) → Located → (quiet : ℕ → Bool) → (is_set : Bool) → List Way → Listed → (bytes : ℕ) → Type 0

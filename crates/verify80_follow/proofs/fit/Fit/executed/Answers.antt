@@ -39,7 +39,7 @@ returns-in-Err-EnablesInterrupts-clause-executed c =
     let at = c.args.at in
     let fault = sym c.look.ensures ∙ c.in-Err-EnablesInterrupts.is ∙ ap (λ (f : LookFault). Err f) c.in-Err-EnablesInterrupts.field-0-is in
     some_maps c.executed_by-in-Err-EnablesInterrupts.result (λ it. (fetch_at image.regions (memory_of image.chunks) at ≡ Ok it.found) × (it.by_targets ≡ true)) (λ it. IsExecuted image fit.interrupted at it.found)
-    (λ it is. executed_ei image at it.found c.looks_are_exact.ensures.fault fault is.0 fit.interrupted c.if-self-interrupted.true) c.executed_by-in-Err-EnablesInterrupts.ensures
+    (λ it is. executed_ei image at it.found c.looks_are_exact.ensures.fault fault is.0 fit.interrupted c.if-self.true) c.executed_by-in-Err-EnablesInterrupts.ensures
 
 pub returns-in-Err-EnablesInterrupts-clause-declared : goal.returns-in-Err-EnablesInterrupts-clause-declared
 returns-in-Err-EnablesInterrupts-clause-declared c =
