@@ -4,6 +4,7 @@ ghost use Rattle.std.specs.Prelude.{◌≡◌, ℕ, IfErr, IfOk, string_bytes};
 ghost use Rattle.plm80_console.specs.Journal.{and_copied, and_reported};
 ghost use Rattle.plm80_console.specs.Replaced.{IsKept, kept_text};
 
+use crate::files::NotedReader;
 use crate::host::HostConsole;
 use crate::notes::Note;
 use crate::path_parts::folder_and_name;
@@ -113,9 +114,12 @@ impl<'a> HostConsole<'a> {
                 self.explain(format_args!("{path} was no library: a copy of it is {kept}"));
                 Ok(())
             }
-            Err(error) => {
+            Err(fault) => {
                 let _ = fs::remove_file(self.rt, kept);
-                Err(self.report_unkept(path, kept, error.kind()))
+                match fault {
+                    Uncopied::Read(kind) => Err(self.report_system(path, "Read", Some(kind))),
+                    Uncopied::Write(kind) => Err(self.report_unkept(path, kept, kind)),
+                }
             }
         }
     }
@@ -147,14 +151,37 @@ impl From<AllocError> for CopyFault {
     }
 }
 
-/// Writes all bytes of the file to the copy and to the disk. The copy gets the file's permissions first. An error if a file
+/// Why a file wasn't copied.
+#[derive(Drop)]
+enum Uncopied {
+    /// The file isn't read to its end.
+    Read(ErrorKind),
+    /// The copy isn't written, or not to the disk.
+    Write(ErrorKind),
+}
+
+/// A fault of the copy.
+impl From<io::Error> for Uncopied {
+    fn from(error: io::Error) -> Uncopied {
+        Uncopied::Write(error.kind())
+    }
+}
+
+/// Writes all bytes of the file to the copy and to the disk. The copy gets the file's permissions first. A fault if a file
 /// of that length is too long for the system, or if the system fails.
-fn copy_and_sync(rt: &HostRuntime, mut object: File, mut copy: File) -> io::Result<()> {
+fn copy_and_sync(rt: &HostRuntime, object: File, mut copy: File) -> Result<(), Uncopied> {
     let metadata = object.metadata()?;
     if is_past_limit(rt, metadata.len()) {
-        return Err(io::Error::from(ErrorKind::FileTooLarge));
+        return Err(Uncopied::Write(ErrorKind::FileTooLarge));
     }
     copy.set_permissions(Permissions::from_mode(metadata.permissions().mode() & 0o777))?;
-    io::copy(&mut object, &mut copy)?;
-    copy.sync_all()
+    let mut object = NotedReader::new(object);
+    if let Err(error) = io::copy(&mut object, &mut copy) {
+        return Err(match object.failure() {
+            Some(kind) => Uncopied::Read(kind),
+            None => Uncopied::from(error),
+        });
+    }
+    copy.sync_all()?;
+    Ok(())
 }
