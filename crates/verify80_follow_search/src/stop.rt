@@ -46,9 +46,11 @@ impl StopReason {
         match self {
             StopReason::FetchOutside => "an instruction has a byte outside CODE, or past FFFF",
             StopReason::UnusedOpcode => "the byte begins no instruction of the 8080",
-            StopReason::EnablesInterrupts => "EI enables interrupts, and no HLT is behind it: --interrupted follows a program that is interrupted",
+            StopReason::EnablesInterrupts =>
+                "EI enables interrupts, and no HLT is behind it: --interrupted follows a program that is interrupted",
             StopReason::DirectStore => "STA or SHLD stores outside DATA",
-            StopReason::StackNotSet => "the stack is used before LXI SP sets SP, or an interrupt may use it",
+            StopReason::StackNotSet =>
+                "the stack is used before LXI SP sets SP, or an interrupt may use it",
             StopReason::LeavesStack => "SP leaves STACK: too much is pushed, or popped",
             StopReason::UnknownReturn =>
                 "it isn't known where the return goes: the word at SP may be several",
