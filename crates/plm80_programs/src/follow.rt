@@ -1,9 +1,7 @@
 //! `plm80 follow`: a program followed by what is known of each byte of its stack.
 
-ghost use Rattle.std.specs.Prelude.{◌≡◌, ◌++◌, ◌≤◌, IfErr, IfOk, OnOk, codes};
+ghost use Rattle.std.specs.Prelude.{◌≡◌, IfErr, IfOk, codes};
 ghost use Rattle.std.specs.List.{flat_map};
-ghost use Rattle.image80.specs.Image.{Located};
-ghost use Rattle.image80.specs.Regions.{AreRegions};
 ghost use Rattle.plm80_console.specs.{Answer.Gives, Answer.GivesUp, Answer.IsAnswered, Answer.IsGivenUp};
 ghost use Rattle.image80_text.specs.NameText.{named_text};
 ghost use Rattle.plm80_names.specs.Arguments.{program_paths};

@@ -27,7 +27,7 @@ use Rattle.verify80_follow.specs.declared.{stack.StackBounds.StackBounds, follow
 use Rattle.verify80_follow.specs.Stack.{AreBytesInside, HoldsFrom, HoldsStack, IsStackInside, bounds_of, if_true, moved_to, pointer_at, return_address, set_stack, stack_after, stack_then, top_of_stack, word_on}
 use Rattle.verify80_follow.specs.InterruptedBoards.{OnInterruptedBoard, Wakes, begins, disturbed, enabled_after, executed, with_pc, woken}
 use Rattle.verify80_follow.specs.Follows.{Covers, CoversThen, Follows, FollowsBy, Has, IsWay, JumpsBy, LeadsTo, ReturnsLeft, ReturnsTo, StateFollows, first_stack, stack_of}
-use Rattle.verify80_follow.specs.Promise.{FollowedProgramsKeepThePromise, GoesToListed, IsLeftOpenAt, IsReady, KeepsFollowed, KnowsWorld, PromiseOf, PromiseOfFollowed, PromiseOfInterrupted}
+use Rattle.verify80_follow.specs.Promise.{FollowedProgramsKeepThePromise, GoesToListed, IsLeftOpenAt, IsReady, KeepsFollowed, KnowsWorld, PromiseOfFollowed, PromiseOfInterrupted}
 use Rattle.verify80_follow.proofs.{GroundLemmas.Ground, FetchLemmas.anywhere_of, FetchLemmas.fetched_here, FetchLemmas.inside_of, StackSteps.stack_holds}
 use Rattle.verify80_follow.proofs.GuardLemmas.{Touches, all_of_list, passes_guard, touched}
 use Rattle.verify80_follow.proofs.StackLemmas.{any_within, byte_at, moved_holds, pointer_is, stays_from}

@@ -1,11 +1,11 @@
 //! Whether a table of states follows an image.
 
-ghost use Rattle.std.specs.Prelude.{◌≡◌, ◌⊎◌, ◌≤◌, ℕ, Bool, false, true, All, Any, Contains, IfOk, IfSome, IsSome, length};
+ghost use Rattle.std.specs.Prelude.{◌≡◌, ◌⊎◌, ◌≤◌, ℕ, false, true, All, Any, Contains, IfOk, IfSome, IsSome, length};
 ghost use Rattle.std.specs.Option.{option_map};
 ghost use Rattle.image80.specs.{Image.memory_of, Regions.AreRegions, Regions.in_data};
 ghost use Rattle.verify80_spans.specs.Span.{Within, ByteWithin, IsInside, byte_alone};
 ghost use Rattle.verify80_states.specs.{Known.cut, Known.nothing_known, Following.known_after, Marks.is_marked, QuietBoards.is_quiet, Steps.AreCodeBytes};
-ghost use Rattle.verify80_follow.specs.Follows.{Covers, CoversStack, CoversThen, FollowsBy, Has, IsBehindCall, IsWay, JumpsBy, IsExecuted, IsShownOrListed, JumpsByNumber, LeadsIf, LeadsTo, LeavesHalt, ReturnsLeft, ReturnsTo, StateFollows, first_stack, is_call, stack_of};
+ghost use Rattle.verify80_follow.specs.Follows.{Covers, CoversStack, CoversThen, FollowsBy, Has, IsBehindCall, IsWay, JumpsBy, IsExecuted, IsShownOrListed, JumpsByNumber, LeadsIf, LeadsTo, LeavesHalt, ReturnsLeft, StateFollows, first_stack, is_call, stack_of};
 ghost use Rattle.verify80_follow.specs.InterruptedBoards.{enabled_after};
 ghost use Rattle.verify80_follow.specs.Promise.{PromiseOf};
 ghost use Rattle.verify80_follow.specs.Stack.{after_of, bounds_of};

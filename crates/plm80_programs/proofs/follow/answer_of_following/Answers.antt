@@ -1,5 +1,5 @@
 use Rattle.std.specs.Prelude.{Option, not}
-use Rattle.plm80_programs.proofs.Names.{◌≡◌, ◌++◌, ◌∙◌, ap, subst, codes, prints, List, Located, ℕ, IsFollowedBy, followed_lines}
+use Rattle.plm80_programs.proofs.Names.{◌≡◌, ◌++◌, ◌∙◌, ap, subst, codes, prints, List, Located, ℕ, IsFollowedBy}
 use Rattle.decode80.specs.declared.fetching.Fetched.{Fetched}
 use Rattle.image80.specs.declared.range.Range.{Range}
 use Rattle.image80_text.specs.NameText.{named_text}
