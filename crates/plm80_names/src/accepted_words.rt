@@ -104,14 +104,19 @@ fn accepted_again<C: Console>(console: &C, image: &str, regions: &str) -> Option
     vouch(console.alloc(), image).ok()
 }
 
-/// Says which HLT that the program may reach is directly behind an EI.
+/// Says which HLT that the program may reach is directly behind an EI, and which command goes on there.
 fn explain_interrupts<C: Console>(console: &C, reached: &Reached) {
+    let mut waits = false;
     for at in 0..65536usize {
         if let Some(halt) = halt_behind(reached, at as u16) {
+            waits = true;
             console.explain(format_args!(
                 "the HLT at {halt:04X} is directly behind an EI: what stands behind it, and any handler, wasn't verified"
             ));
         }
+    }
+    if waits {
+        console.explain("plm80 follow --interrupted goes on behind a HLT that an interrupt ends");
     }
 }
 
