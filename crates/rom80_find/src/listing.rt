@@ -8,6 +8,8 @@ ghost use Rattle.rom80_find.specs.Marks.{IsSievedWord};
 ghost use Rattle.rom80_find.specs.Places.{AreBelow, ArePlaces, place_if};
 ghost use Rattle.rom80_find.specs.Search.{SearchValue, search_of};
 
+use crate::carried_code::CarriedCode;
+use crate::carries::{has_carries, keep_with_carries};
 use crate::differences::{has_differences, keep_by_rows};
 use crate::indexed_dump::IndexedDump;
 use crate::lone::lone_values;
@@ -41,7 +43,7 @@ pub(crate) fn places(
     ensures { IfOk result (λ places. ArePlaces dump.now code.now 65536 places.items) }
 {
     let mut reduced = ReducedCode::of(alloc, code, count)?;
-    let mut places = places_by_search(alloc, dump, &reduced.bytes, count)?;
+    let mut places = places_by_carries(alloc, dump, &reduced.bytes, count)?;
     if reduced.differences.is_empty() {
         return Ok(places);
     }
@@ -54,6 +56,29 @@ pub(crate) fn places(
         .differences
         .sort_by_key(|difference| (difference.distance, difference.more))?;
     let kept = keep_by_rows(alloc, dump, &reduced.differences, &places)?;
+    Ok(kept)
+}
+
+/// Returns the addresses at which a module's code lies in a dump, in ascending order, found from each of its bytes but for high ones that
+/// others give by carries. Its bytes are sorted by target and half, and the targets have numbers below `count`.
+fn places_by_carries(
+    alloc: Global,
+    dump: &IndexedDump<'_>,
+    code: &[CodeByte],
+    count: usize,
+) -> Result<Vec<u16>, AllocError>
+    requires two { 2 ≤ count }
+    requires below { AreBelow count code.now }
+    ensures { IfOk result (λ places. ArePlaces dump.now code.now 65536 places.items) }
+{
+    let carried = CarriedCode::of(alloc, code, count)?;
+    let mut places = places_by_search(alloc, dump, &carried.bytes, count)?;
+    if places.len() < FEW_PLACES {
+        let dump = dump.dump();
+        places.retain(|place| has_carries(dump, &carried.carries, *place));
+        return Ok(places);
+    }
+    let kept = keep_with_carries(alloc, dump, &carried.carries, &places)?;
     Ok(kept)
 }
 
