@@ -11,7 +11,7 @@ use Rattle.rom80_find.specs.declared.carry.Carry.{Carry}
 use Rattle.rom80_find.specs.declared.difference.Difference.{Difference}
 use Rattle.rom80_find.specs.Carries.{is_within, has_within, chosen, has_carry}
 use Rattle.rom80_find.specs.Differences.{has_difference, IsDifferenceRow}
-use Rattle.rom80_find.specs.Marks.{bit_in, has_bit}
+use Rattle.rom80_find.specs.Marks.{bit_in, has_bit, is_in_row}
 use Rattle.rom80_find.proofs.BitLemmas.{both_have}
 use Rattle.rom80_find.proofs.DifferenceLemmas.{row_has, some_difference}
 use Rattle.rom80_find.proofs.PlaneLemmas.{carry_of}
@@ -108,6 +108,27 @@ within_has past short from to i byte bit lf lo bytes is shorts pasts =
     by_byte (Some x) are =
         ap (λ (t : Bool). t && not ((x % 256 + from % 256) / 256 == 1)) (carries x to (are x refl) lo)
         ∙ ap (λ (t : Bool). not (nat_lt (x + to) 256) && t) (ap (λ (t : Bool). not t) (carries x from (are x refl) lf) ∙ not_not (nat_lt (x + from) 256))
+
+-- of one byte
+pub one_within : (from to byte : ℕ) (found : Option ℕ) → from < 255 → to ≡ from + 1 → byte ≡ 255 - from
+    → option_map_or (is_in_row byte) found false ≡ option_map_or (is_within from to) found false
+one_within from to byte None lf et eb = refl
+one_within from to byte (Some d) lf et eb = elim (cases_lt (d + to) 256) [
+  | inl less ↦
+      ap (λ (t : Bool). (t || byte == 256) && nat_lt d 256) (ne_eqb byte d (λ e. omega (arith, e, less, lf, et, eb)))
+      ∙ (ap (λ (t : Bool). t && nat_lt d 256) (ne_eqb byte 256 (λ e. omega (arith, e, eb)))
+      ∙ sym (ap (λ (t : Bool). not t && nat_lt (d + from) 256) (lt-ltb (d + to) 256 less)))
+  | inr past ↦ elim (cases_lt (d + from) 256) [
+    | inl short ↦
+        ap (λ (t : Bool). (t || byte == 256) && nat_lt d 256) (eq-eqb byte d (omega (arith, past, short, lf, et, eb)))
+        ∙ (lt-ltb d 256 (omega (arith, short))
+        ∙ sym (ap (λ (t : Bool). not t && nat_lt (d + from) 256) (le-ltb (d + to) 256 past) ∙ lt-ltb (d + from) 256 short))
+    | inr both ↦
+        ap (λ (t : Bool). (t || byte == 256) && nat_lt d 256) (ne_eqb byte d (λ e. omega (arith, e, both, lf, et, eb)))
+        ∙ (ap (λ (t : Bool). t && nat_lt d 256) (ne_eqb byte 256 (λ e. omega (arith, e, eb)))
+        ∙ sym (ap (λ (t : Bool). not t && nat_lt (d + from) 256) (le-ltb (d + to) 256 past) ∙ le-ltb (d + from) 256 both))
+  ]
+]
 
 -- ---- a carry
 

@@ -1,9 +1,9 @@
 //! The addresses at which a dump has the carries between the bytes of a module's code.
 
-ghost use Rattle.std.specs.Prelude.{◌≡◌, ℕ, ◌+◌, ◌<◌, ◌≤◌, ◌&&◌, length, filter, true, slice_index_or, IfOk, OnOk};
+ghost use Rattle.std.specs.Prelude.{◌≡◌, ℕ, ◌+◌, ◌%◌, ◌<◌, ◌≤◌, ◌&&◌, length, filter, true, slice_index_or, IfOk, OnOk};
 ghost use Rattle.std.specs.List.{list_all};
 ghost use Rattle.rom80_find.specs.Dump.{DumpValue, dump_of};
-ghost use Rattle.rom80_find.specs.Carries.{has_carry};
+ghost use Rattle.rom80_find.specs.Carries.{has_carry, has_within};
 ghost use Rattle.rom80_find.specs.Differences.{IsDifferenceRow};
 ghost use Rattle.rom80_find.specs.Marks.{bit_in, has_bit};
 ghost use Rattle.rom80_find.specs.Planes.{ArePlanes};
@@ -89,26 +89,27 @@ fn sieve_by_carries(
     for carry in carries {
         outside.change_to(alloc, dump, carry.outside)?;
         within.change_to(alloc, dump, carry.within)?;
-        sieve_by_carry(alive, dump.planes(), *carry, &outside.bits, &within.bits);
+        sieve_by_carry(alive, dump, *carry, &outside.bits, &within.bits);
     }
     Ok(())
 }
 
-/// Clears the bit in `alive` of each address at which a dump lacks a carry. `planes` are the rows of the bits of the dump's bytes, and
-/// `outside` and `within` the rows of the carry's two differences.
-fn sieve_by_carry(alive: &mut [u64], planes: &[u64], carry: Carry, outside: &[u64], within: &[u64])
+/// Clears the bit in `alive` of each address at which a dump lacks a carry. `outside` and `within` are the rows of its two differences.
+fn sieve_by_carry(
+    alive: &mut [u64],
+    dump: &IndexedDump<'_>,
+    carry: Carry,
+    outside: &[u64],
+    within: &[u64],
+)
     requires all { length alive.old ≡ 1024 }
-    requires planes { length planes.now ≡ 18432 }
-    requires outside { length outside.now ≡ 2048 }
-    requires within { length within.now ≡ 2048 }
+    requires outside { IsDifferenceRow dump.now carry.outside.distance carry.outside.more outside.now }
+    requires within { IsDifferenceRow dump.now carry.within.distance carry.within.more within.now }
     ensures whole { length alive.new ≡ 1024 }
-    ensures each { (dump : DumpValue) → ArePlanes dump 1179648 planes.now
-        → IsDifferenceRow dump carry.outside.distance carry.outside.more outside.now
-        → IsDifferenceRow dump carry.within.distance carry.within.more within.now
-        → (a : ℕ) → a < 65536 → bit_in alive.new a ≡ (bit_in alive.old a && has_carry dump a carry) }
+    ensures each { (a : ℕ) → a < 65536 → bit_in alive.new a ≡ (bit_in alive.old a && has_carry dump.now a carry) }
 {
     for word in 0..WORDS {
-        alive[word] = with_carry(alive[word], 64 * word, planes, carry, outside, within);
+        alive[word] = with_carry(alive[word], 64 * word, dump, carry, outside, within);
     }
 }
 
@@ -116,25 +117,33 @@ fn sieve_by_carry(alive: &mut [u64], planes: &[u64], carry: Carry, outside: &[u6
 fn with_carry(
     alive: u64,
     first: usize,
-    planes: &[u64],
+    dump: &IndexedDump<'_>,
     carry: Carry,
     outside: &[u64],
     within: &[u64],
 ) -> u64
     requires first { first + 64 ≤ 65536 }
-    requires planes { length planes.now ≡ 18432 }
-    requires outside { length outside.now ≡ 2048 }
-    requires within { length within.now ≡ 2048 }
-    ensures { (dump : DumpValue) → ArePlanes dump 1179648 planes.now
-        → IsDifferenceRow dump carry.outside.distance carry.outside.more outside.now
-        → IsDifferenceRow dump carry.within.distance carry.within.more within.now
-        → (i : ℕ) → i < 64 → has_bit result i ≡ (has_bit alive i && has_carry dump (first + i) carry) }
+    requires outside { IsDifferenceRow dump.now carry.outside.distance carry.outside.more outside.now }
+    requires within { IsDifferenceRow dump.now carry.within.distance carry.within.more within.now }
+    ensures { (i : ℕ) → i < 64 → has_bit result i ≡ (has_bit alive i && has_carry dump.now (first + i) carry) }
 {
     if alive == 0 {
         return 0;
     }
-    let low = bytes_within(planes, first + usize::from(carry.low), carry.from, carry.to);
+    let low = low_bytes_within(dump, first + usize::from(carry.low), carry.from, carry.to);
     let less = bits_from(outside, first + usize::from(carry.outside.offset));
     let more = bits_from(within, first + usize::from(carry.within.offset));
     alive & chosen_bits(low, more, less)
+}
+
+/// Returns a bit for each of the 64 addresses from `first` on, set if a dump has a byte there whose sum with `from` is at most 255, and
+/// whose sum with `to` is more. If that is only one byte, it is looked up in its row.
+fn low_bytes_within(dump: &IndexedDump<'_>, first: usize, from: u8, to: u8) -> u64
+    requires first { first + 64 < 131072 }
+    ensures { (i : ℕ) → i < 64 → has_bit result i ≡ has_within dump.now from to ((first + i) % 65536) }
+{
+    if usize::from(to) == usize::from(from) + 1 {
+        return bits_from(dump.row(255 - usize::from(from)), first);
+    }
+    bytes_within(dump.planes(), first, from, to)
 }

@@ -29,9 +29,7 @@ loop-carry-preserved c =
       each = λ a lt.
           sieved_more (has_carry dump a) cs i some_carry (bit_in c.args.alive.now a) (bit_in c.loop-carry.alive a) (bit_in c.sieve_by_carry.new.alive a) c.loop-carry-test.true
           (c.loop-carry.invariant.each a lt)
-          (c.sieve_by_carry.ensures.each dump c.planes.ensures
-          (subst (λ (l : List ℕ). IsDifferenceRow dump carry.outside.distance carry.outside.more l) (sym c.deref.ensures.value) c.in_ok-change_to.ensures.row)
-          (subst (λ (l : List ℕ). IsDifferenceRow dump carry.within.distance carry.within.more l) (sym c.deref-in-loop-carry.ensures.value) c.in_ok-change_to-2.ensures.row) a lt);
+          (c.sieve_by_carry.ensures.each a lt);
     }
 
 pub returns-clause-each : goal.returns-clause-each

@@ -11,8 +11,6 @@ loop-word-preserved c =
     let n = c.with_carry.result in
     record {
       whole = length-set alive w n ∙ now.whole;
-      done = λ dump planes outside within.
-          done_more c.args.alive.now alive w n (λ a. has_carry dump a c.args.carry) c.loop-word-test.true now.whole
-          (c.with_carry.ensures dump planes outside within) now.rest (now.done dump planes outside within);
+      done = done_more c.args.alive.now alive w n (λ a. has_carry c.args.dump.now a c.args.carry) c.loop-word-test.true now.whole c.with_carry.ensures now.rest now.done;
       rest = rest_more c.args.alive.now alive w n now.rest;
     }
