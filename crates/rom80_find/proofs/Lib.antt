@@ -12,6 +12,7 @@ pub mod PartLemmas
 pub mod DifferenceLemmas
 pub mod CarryLemmas
 pub mod CarryRowLemmas
+pub mod UniformLemmas
 pub mod ReadingLemmas
 pub mod NameLemmas
 pub mod ExternalLemmas
