@@ -1,20 +1,16 @@
 -- High bytes that others give by carries.
-use Rattle.std.specs.Prelude.{◌≡◌, ℕ, ◌+◌, ◌-◌, ◌/◌, ◌%◌, ◌<◌, ◌≤◌, ◌==◌, ◌&&◌, not, nat_lt, Bool, true, false, if◌then◌else◌, Option, Some, None, List, [], ◌∷◌, ◌++◌, filter}
+use Rattle.std.specs.Prelude.{◌≡◌, ℕ, ◌+◌, ◌%◌, true, Option, Some, List, [], ◌∷◌, ◌++◌, filter}
 use Rattle.std.specs.List.{Contains, list_all}
-use Rattle.std.proofs.Common.{refl, sym, ◌∙◌, ap, subst, arith, inl, inr}
-use Rattle.std.proofs.lemmas.Bool.{and_from, cases_lt, lt-ltb, le-ltb}
+use Rattle.std.proofs.Common.{refl, sym, ◌∙◌, ap, subst}
+use Rattle.std.proofs.lemmas.Bool.{and_from}
 use Rattle.std.proofs.lemmas.List.Folds.{list_all-append}
-use Rattle.omf_model.specs.declared.fixup.Target.{Target}
-use Rattle.rom80_find.specs.declared.pattern.code_byte.Half.{Half}
-use Rattle.rom80_find.specs.declared.pattern.code_byte.Half.TheVariants.{Low, High}
 use Rattle.rom80_find.specs.declared.pattern.code_byte.CodeByte.{CodeByte}
-use Rattle.rom80_find.specs.declared.difference.Difference.{Difference}
 use Rattle.rom80_find.specs.declared.carry.Carry.{Carry}
-use Rattle.rom80_find.specs.CodeBytes.{number_of, half_of, byte_by}
+use Rattle.rom80_find.specs.CodeBytes.{byte_by}
 use Rattle.rom80_find.specs.Dump.{DumpValue, dump_byte}
-use Rattle.rom80_find.specs.Places.{LiesWith, ArePlaces}
+use Rattle.rom80_find.specs.Places.{ArePlaces}
 use Rattle.rom80_find.specs.Differences.{has_difference}
-use Rattle.rom80_find.specs.Carries.{is_within, chosen, has_carry, IsCarry, IsCarried}
+use Rattle.rom80_find.specs.Carries.{chosen, has_carry, IsCarry, IsCarried}
 use Rattle.rom80_find.proofs.DifferenceLemmas.{Lies, last_of, contained, lies_and, lies_but, to_more, from_more, all_first, kept_places}
 
 -- ---- one more byte

@@ -8,7 +8,6 @@ use Rattle.std.proofs.lemmas.Bool.{cases_lt, eq-eqb, ne_eqb, lt-ltb, le-ltb}
 use Rattle.std.proofs.lemmas.Nat.Bits.{bit_at_or, bit_at_not, bit_at-lt, bit_at-zero}
 use Rattle.rom80_find.specs.Dump.{DumpValue, dump_byte}
 use Rattle.rom80_find.specs.declared.carry.Carry.{Carry}
-use Rattle.rom80_find.specs.declared.difference.Difference.{Difference}
 use Rattle.rom80_find.specs.Carries.{is_within, has_within, chosen, has_carry}
 use Rattle.rom80_find.specs.Differences.{has_difference, IsDifferenceRow}
 use Rattle.rom80_find.specs.Marks.{bit_in, has_bit, is_in_row}

@@ -1,5 +1,5 @@
 -- The rows of the bits of a dump's bytes, and sums and comparisons by them.
-use Rattle.std.specs.Prelude.{◌≡◌, ◌≢◌, ℕ, zero, suc, ◌+◌, ◌-◌, ◌*◌, ◌/◌, ◌%◌, ◌^◌, ◌<◌, ◌≤◌, ◌==◌, ◌&&◌, ◌||◌, min, max, nat_lt, Bool, true, false, if◌then◌else◌, Option, Some, None, List, length, bit_and, slice_index_or}
+use Rattle.std.specs.Prelude.{◌≡◌, ℕ, zero, suc, ◌+◌, ◌-◌, ◌*◌, ◌/◌, ◌%◌, ◌^◌, ◌<◌, ◌≤◌, ◌==◌, ◌&&◌, ◌||◌, min, max, nat_lt, Bool, true, false, Option, Some, None, List, length, bit_and, slice_index_or}
 use Rattle.std.specs.Int.{bit_at, w64, bit_not}
 use Rattle.std.specs.Int.RustNames.{bit_or}
 use Rattle.std.specs.Int.Bits.{bit_xor}
@@ -9,7 +9,7 @@ use Rattle.std.proofs.lemmas.Bool.{cases_lt, eqb-true, eq-eqb, ne_eqb, lt-ltb, l
 use Rattle.std.proofs.lemmas.Nat.{pow_pos}
 use Rattle.std.proofs.lemmas.Nat.Bits.{bit_at_and, bit_at_or, bit_at_xor, bit_at_not, bit_at-lt, bit_at-zero}
 use Rattle.rom80_find.specs.Dump.{DumpValue, dump_byte}
-use Rattle.rom80_find.specs.Differences.{is_more, has_pair}
+use Rattle.rom80_find.specs.Differences.{is_more}
 use Rattle.rom80_find.specs.Marks.{bit_in, has_bit}
 use Rattle.rom80_find.specs.Planes.{ArePlanes, bit_of, has_plane, is_in_plane}
 use Rattle.rom80_find.proofs.SolveLemmas.{iff_bool}

@@ -1,4 +1,4 @@
-use Rattle.std.proofs.Common.{◌≡◌, ◌+◌, ◌-◌, ◌%◌, ◌<◌, ◌∙◌, arith, ℕ}
+use Rattle.std.proofs.Common.{◌+◌, ◌-◌, ◌%◌, ◌∙◌, arith}
 use Rattle.rom80_find.specs.Dump.{dump_byte}
 use Rattle.rom80_find.proofs.CarryRowLemmas.{one_within}
 use Rattle.rom80_find.proofs.carries.low_bytes_within.Goals as goal

@@ -1,4 +1,4 @@
-use Rattle.std.proofs.Common.{◌≡◌, ◌<◌, ◌∙◌, ap, sym, subst, arith, ℕ, List, ◌&&◌, take, take_all, get_or, length, eqb-true}
+use Rattle.std.proofs.Common.{◌≡◌, ◌∙◌, ap, sym, subst, arith, ℕ, List, ◌&&◌, take, take_all, get_or, length, eqb-true}
 use Rattle.std.specs.List.{list_all}
 use Rattle.rom80_find.specs.declared.carry.Carry.{Carry}
 use Rattle.rom80_find.specs.Marks.{bit_in}

@@ -1,4 +1,4 @@
-use Rattle.std.proofs.Common.{◌≡◌, ◌+◌, ◌%◌, ◌&&◌, ◌∙◌, ap, sym, arith, ℕ, Bool}
+use Rattle.std.proofs.Common.{◌+◌, ◌%◌, ◌&&◌, ◌∙◌, ap, sym, arith, ℕ, Bool}
 use Rattle.rom80_find.specs.Marks.{bit_in, has_bit}
 use Rattle.rom80_find.specs.Carries.{has_carry, has_within}
 use Rattle.rom80_find.proofs.CarryRowLemmas.{carries_by_rows, no_bit}

@@ -1,4 +1,4 @@
-use Rattle.std.proofs.Common.{◌≡◌, ◌+◌, ◌*◌, ◌<◌, ◌∙◌, ap, arith, ℕ}
+use Rattle.std.proofs.Common.{◌≡◌, ◌+◌, ◌*◌, ◌<◌, arith, ℕ}
 use Rattle.rom80_find.specs.Differences.{has_pair}
 use Rattle.rom80_find.specs.Marks.{has_bit}
 use Rattle.rom80_find.proofs.PlaneLemmas.{twice_more, twice_whole}

@@ -1,4 +1,4 @@
-use Rattle.std.proofs.Common.{◌≡◌, ℕ, ◌+◌, ◌*◌, ◌%◌, ◌<◌, ◌∙◌, ap, subst, arith}
+use Rattle.std.proofs.Common.{ℕ, ◌+◌, ◌*◌, ◌∙◌, ap, subst, arith}
 use Rattle.rom80_find.specs.Marks.{IsRow, bit_in}
 use Rattle.rom80_find.proofs.UniformLemmas.{pairs_by_row}
 use Rattle.rom80_find.proofs.difference_row.pairs_of_word.Goals as goal

@@ -1,4 +1,4 @@
-use Rattle.std.proofs.Common.{subst, ℕ, List, refl, rules}
+use Rattle.std.proofs.Common.{subst, List, refl, rules}
 use Rattle.std.specs.List.{list_all}
 use Rattle.std.proofs.lemmas.Fn.{filter_same}
 use Rattle.rom80_find.specs.declared.pattern.code_byte.CodeByte.{CodeByte}
