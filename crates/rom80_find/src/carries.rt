@@ -69,7 +69,7 @@ fn bits_of_places(alloc: Global, places: &[u16]) -> Result<Vec<u64>, AllocError>
     Ok(alive)
 }
 
-/// Clears the bit in `alive` of each address at which a dump lacks one of the `carries`. If an error comes, some are cleared.
+/// Clears the bit in `alive` of each address at which a dump lacks one of the `carries`. If an error comes, none is cleared.
 fn sieve_by_carries(
     alloc: Global,
     alive: &mut [u64],
@@ -87,8 +87,8 @@ fn sieve_by_carries(
     let mut outside = DifferenceRow::of(alloc, dump, first.outside.distance, first.outside.more)?;
     let mut within = DifferenceRow::of(alloc, dump, first.within.distance, first.within.more)?;
     for carry in carries {
-        outside.change_to(alloc, dump, carry.outside)?;
-        within.change_to(alloc, dump, carry.within)?;
+        outside.change_to(dump, carry.outside);
+        within.change_to(dump, carry.within);
         sieve_by_carry(alive, dump, *carry, &outside.bits, &within.bits);
     }
     Ok(())

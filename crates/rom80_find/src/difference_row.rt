@@ -1,6 +1,6 @@
 //! The addresses at which a dump has a byte and, at a distance behind it, that byte plus a number.
 
-ghost use Rattle.std.specs.Prelude.{◌≡◌, ℕ, ◌+◌, ◌*◌, ◌%◌, ◌<◌, length, IfOk, OnOk};
+ghost use Rattle.std.specs.Prelude.{◌≡◌, ℕ, ◌+◌, ◌*◌, ◌%◌, ◌<◌, length, IfOk};
 ghost use Rattle.rom80_find.specs.Dump.{dump_of};
 ghost use Rattle.rom80_find.specs.Differences.{has_pair, IsDifferenceRow};
 ghost use Rattle.rom80_find.specs.Marks.{has_bit};
@@ -52,22 +52,18 @@ impl DifferenceRow {
         })
     }
 
-    /// Replaces the row by that of a difference's distance and number in the same dump, unless it is for these already.
-    pub(crate) fn change_to(
-        &mut self,
-        alloc: Global,
-        dump: &IndexedDump<'_>,
-        difference: Difference,
-    ) -> Result<(), AllocError>
+    /// Makes the row that of a difference's distance and number in the same dump, unless it is for these already.
+    pub(crate) fn change_to(&mut self, dump: &IndexedDump<'_>, difference: Difference)
         requires { IsDifferenceRow dump.now self.old.distance self.old.more self.old.bits.items }
-        ensures row { OnOk result (IsDifferenceRow dump.now difference.distance difference.more self.new.bits.items) }
-        ensures distance { OnOk result (self.new.distance ≡ difference.distance) }
-        ensures more { OnOk result (self.new.more ≡ difference.more) }
+        ensures row { IsDifferenceRow dump.now difference.distance difference.more self.new.bits.items }
+        ensures distance { self.new.distance ≡ difference.distance }
+        ensures more { self.new.more ≡ difference.more }
     {
         if self.distance != difference.distance || self.more != difference.more {
-            *self = DifferenceRow::of(alloc, dump, difference.distance, difference.more)?;
+            mark_pairs(&mut self.bits, dump, difference.distance, difference.more);
+            self.distance = difference.distance;
+            self.more = difference.more;
         }
-        Ok(())
     }
 }
 

@@ -22,10 +22,10 @@ loop-carry-preserved c =
     let carry : Carry = get_or cs i some_carry in
     record {
       whole = c.sieve_by_carry.ensures.whole;
-      outside = subst (λ (n : ℕ). IsDifferenceRow dump n c.change_to.new.self.more c.change_to.new.self.bits.items) (sym c.in_ok-change_to.ensures.distance)
-          (subst (λ (n : ℕ). IsDifferenceRow dump carry.outside.distance n c.change_to.new.self.bits.items) (sym c.in_ok-change_to.ensures.more) c.in_ok-change_to.ensures.row);
-      within = subst (λ (n : ℕ). IsDifferenceRow dump n c.change_to-in-loop-carry.new.self.more c.change_to-in-loop-carry.new.self.bits.items) (sym c.in_ok-change_to-2.ensures.distance)
-          (subst (λ (n : ℕ). IsDifferenceRow dump carry.within.distance n c.change_to-in-loop-carry.new.self.bits.items) (sym c.in_ok-change_to-2.ensures.more) c.in_ok-change_to-2.ensures.row);
+      outside = subst (λ (n : ℕ). IsDifferenceRow dump n c.change_to.new.self.more c.change_to.new.self.bits.items) (sym c.change_to.ensures.distance)
+          (subst (λ (n : ℕ). IsDifferenceRow dump carry.outside.distance n c.change_to.new.self.bits.items) (sym c.change_to.ensures.more) c.change_to.ensures.row);
+      within = subst (λ (n : ℕ). IsDifferenceRow dump n c.change_to-in-loop-carry.new.self.more c.change_to-in-loop-carry.new.self.bits.items) (sym c.change_to-in-loop-carry.ensures.distance)
+          (subst (λ (n : ℕ). IsDifferenceRow dump carry.within.distance n c.change_to-in-loop-carry.new.self.bits.items) (sym c.change_to-in-loop-carry.ensures.more) c.change_to-in-loop-carry.ensures.row);
       each = λ a lt.
           sieved_more (has_carry dump a) cs i some_carry (bit_in c.args.alive.now a) (bit_in c.loop-carry.alive a) (bit_in c.sieve_by_carry.new.alive a) c.loop-carry-test.true
           (c.loop-carry.invariant.each a lt)
