@@ -14,9 +14,10 @@ use crate::pattern::{CodeByte, Half};
 pub(crate) struct Carry {
     /// The offset of the low byte in CODE.
     pub low: u16,
-    /// A low byte is within the range if its sum with this is at most 255,
+    /// What is added to the low byte in the sum for one of the high bytes: up to 255 there is no carry.
     pub from: u8,
-    /// and its sum with this is more.
+    /// What is added to the low byte in the sum for the other high byte, at least `from`: the low byte is within the range if only this sum
+    /// carries.
     pub to: u8,
     /// The difference if the low byte is outside the range.
     pub outside: Difference,
