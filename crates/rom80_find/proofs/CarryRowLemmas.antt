@@ -4,7 +4,7 @@ use Rattle.std.specs.Int.{bit_at, w64, bit_not}
 use Rattle.std.specs.Int.RustNames.{bit_or}
 use Rattle.std.specs.Option.{option_map_or}
 use Rattle.std.proofs.Common.{refl, sym, ◌∙◌, ap, arith, set, get_or-set_same, get_or-set_other, inl, inr}
-use Rattle.std.proofs.lemmas.Bool.{cases_lt, eq-eqb, ne_eqb, lt-ltb, le-ltb}
+use Rattle.std.proofs.lemmas.Bool.{cases_lt, eqb-true, eq-eqb, ne_eqb, true≢false, lt-ltb, le-ltb}
 use Rattle.std.proofs.lemmas.Nat.Bits.{bit_at_or, bit_at_not, bit_at-lt, bit_at-zero}
 use Rattle.rom80_find.specs.Dump.{DumpValue, dump_byte}
 use Rattle.rom80_find.specs.declared.carry.Carry.{Carry}
@@ -191,3 +191,20 @@ carries_by_rows dump c outside within first i alive chosen low more less lf li o
     ∙ (ap (λ (t : Bool). if has_within dump c.from c.to ((first + i + c.low) % 65536) then has_difference dump (first + i) c.within else t)
     (lesses ∙ (ap (λ (n : ℕ). bit_in outside n) out_at ∙ row_has dump c.outside outside outside c.outside.offset (first + i) out refl refl (omega arith)))
     ∙ carry_as dump (first + i) c))))
+
+pub none_more : (alive : List ℕ) (w n : ℕ) → w < 1024 → length alive ≡ 1024 → (any : Bool)
+    → (any ≡ false → (a : ℕ) → a < 64 * w → bit_in alive a ≡ false) → (any || not (n == 0)) ≡ false
+    → (a : ℕ) → a < 64 * (w + 1) → bit_in (set alive w n) a ≡ false
+none_more alive w n lt whole any none e a la = elim (cases_lt a (64 * w)) [
+  | inl below ↦
+      ap (λ (v : ℕ). has_bit v (a % 64)) (get_or-set_other alive w (a / 64) n 0 (omega arith))
+      ∙ none (neither any (not (n == 0)) e).0 a below
+  | inr from ↦
+      let word : a / 64 ≡ w = omega arith in
+      ap (λ (v : ℕ). has_bit v (a % 64)) (ap (λ (k : ℕ). slice_index_or (set alive w n) k 0) word ∙ get_or-set_same alive w n 0 (omega (arith, lt, whole)))
+      ∙ (ap (λ (v : ℕ). has_bit v (a % 64)) (eqb-true n 0 (sym (not_not (n == 0)) ∙ ap (λ (t : Bool). not t) (neither any (not (n == 0)) e).1)) ∙ no_bit (a % 64))
+]
+  where
+    neither : (x y : Bool) → (x || y) ≡ false → (x ≡ false) × (y ≡ false)
+    neither true y h = (h, elim (true≢false h) [ ])
+    neither false y h = (refl, h)

@@ -1,6 +1,6 @@
 //! The addresses at which a dump has the carries between the bytes of a module's code.
 
-ghost use Rattle.std.specs.Prelude.{◌≡◌, ℕ, ◌+◌, ◌%◌, ◌<◌, ◌≤◌, ◌&&◌, length, filter, true, slice_index_or, IfOk, OnOk};
+ghost use Rattle.std.specs.Prelude.{◌≡◌, ℕ, ◌+◌, ◌%◌, ◌<◌, ◌≤◌, ◌&&◌, length, filter, true, false, slice_index_or, IfOk, OnOk};
 ghost use Rattle.std.specs.List.{list_all};
 ghost use Rattle.rom80_find.specs.Dump.{DumpValue, dump_of};
 ghost use Rattle.rom80_find.specs.Carries.{has_carry, has_within};
@@ -89,28 +89,36 @@ fn sieve_by_carries(
     for carry in carries {
         outside.change_to(dump, carry.outside);
         within.change_to(dump, carry.within);
-        sieve_by_carry(alive, dump, *carry, &outside.bits, &within.bits);
+        if !sieve_by_carry(alive, dump, *carry, &outside.bits, &within.bits) {
+            return Ok(());
+        }
     }
     Ok(())
 }
 
-/// Clears the bit in `alive` of each address at which a dump lacks a carry. `outside` and `within` are the rows of its two differences.
+/// Clears the bit in `alive` of each address at which a dump lacks a carry, and answers whether any bit is left. `outside` and
+/// `within` are the rows of the carry's two differences.
 fn sieve_by_carry(
     alive: &mut [u64],
     dump: &IndexedDump<'_>,
     carry: Carry,
     outside: &[u64],
     within: &[u64],
-)
+) -> bool
     requires all { length alive.old ≡ 1024 }
     requires outside { IsDifferenceRow dump.now carry.outside.distance carry.outside.more outside.now }
     requires within { IsDifferenceRow dump.now carry.within.distance carry.within.more within.now }
     ensures whole { length alive.new ≡ 1024 }
     ensures each { (a : ℕ) → a < 65536 → bit_in alive.new a ≡ (bit_in alive.old a && has_carry dump.now a carry) }
+    ensures none { result ≡ false → (a : ℕ) → a < 65536 → bit_in alive.new a ≡ false }
 {
+    let mut any = false;
     for word in 0..WORDS {
-        alive[word] = with_carry(alive[word], 64 * word, dump, carry, outside, within);
+        let left = with_carry(alive[word], 64 * word, dump, carry, outside, within);
+        alive[word] = left;
+        any = any | (left != 0);
     }
+    any
 }
 
 /// Clears the bit in `alive`, which has one for each of the 64 addresses from `first` on, of each at which a dump lacks a carry.

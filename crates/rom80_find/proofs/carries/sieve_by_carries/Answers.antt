@@ -1,4 +1,4 @@
-use Rattle.std.proofs.Common.{◌≡◌, ◌∙◌, ap, sym, subst, arith, ℕ, List, ◌&&◌, take, take_all, get_or, length, eqb-true}
+use Rattle.std.proofs.Common.{◌≡◌, ◌+◌, ◌∙◌, ap, sym, subst, arith, ℕ, List, ◌&&◌, take, take_all, get_or, length, eqb-true}
 use Rattle.std.specs.List.{list_all}
 use Rattle.rom80_find.specs.declared.carry.Carry.{Carry}
 use Rattle.rom80_find.specs.Marks.{bit_in}
@@ -6,13 +6,23 @@ use Rattle.rom80_find.specs.Carries.{has_carry}
 use Rattle.rom80_find.specs.Differences.{IsDifferenceRow}
 use Rattle.rom80_find.proofs.CarryRowLemmas.{some_carry}
 use Rattle.rom80_find.proofs.DifferenceLemmas.{no_test}
-use Rattle.rom80_find.proofs.SieveLemmas.{sieved_more}
+use Rattle.rom80_find.proofs.SieveLemmas.{sieved_more, sieved_out}
 use Rattle.rom80_find.proofs.carries.sieve_by_carries.Goals as goal
 
 pub returns-then-is_empty-clause-each : goal.returns-then-is_empty-clause-each
 returns-then-is_empty-clause-each c = λ a lt.
     no_test (has_carry c.args.dump.now a) c.args.carries.now (bit_in c.args.alive.now a)
     (eqb-true (length c.args.carries.now) 0 (sym c.is_empty.ensures ∙ c.if-is_empty.true))
+
+pub returns-then-not-sieve_by_carry-clause-each : goal.returns-then-not-sieve_by_carry-clause-each
+returns-then-not-sieve_by_carry-clause-each c = λ a lt.
+    let p = has_carry c.args.dump.now a in
+    let cs = c.args.carries.now in
+    let i = c.loop-carry.carry-index in
+    sieved_out p cs (i + 1) (bit_in c.args.alive.now a) (bit_in c.sieve_by_carry.new.alive a)
+    (sieved_more p cs i some_carry (bit_in c.args.alive.now a) (bit_in c.loop-carry.alive a) (bit_in c.sieve_by_carry.new.alive a) c.loop-carry-test.true
+    (c.loop-carry.invariant.each a lt) (c.sieve_by_carry.ensures.each a lt))
+    (c.sieve_by_carry.ensures.none c.if-not-sieve_by_carry.true a lt)
 
 pub loop-carry-preserved : goal.loop-carry-preserved
 loop-carry-preserved c =
