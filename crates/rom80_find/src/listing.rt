@@ -27,8 +27,9 @@ const FEW_PLACES: usize = 2_048;
 /// which the dump has all its bytes. The targets have numbers below `count`.
 ///
 /// The time grows with the number of bytes of the code times 1,024, in steps of 64 addresses at once, and with the number of
-/// different distances and numbers by which bytes give others, times eight as many such steps. Where the bytes outside fixups fit, it
-/// grows with the number of the others in fixups whose value is of CODE, or has more than a low and a high byte of them.
+/// different distances and numbers by which bytes give others, times some eight as many such steps. At each address at which the bytes
+/// outside fixups fit, it grows with the number of high bytes, of values of which the code has no low byte, whose addends differ in the low
+/// byte.
 ///
 /// # Errors
 /// `AllocError` only if memory ran out.
