@@ -16,7 +16,7 @@ use link80::Linked;
 use link80::laws::laid_parts_end_at_words;
 use omf_core::segment_id::{CODE, DATA, MEMORY, STACK, UNNAMED_COMMON};
 use omf_library::Library;
-use omf_model::{Common, Module};
+use omf_model::{Common, Module, common_name};
 use std::alloc::{AllocError, Global};
 
 /// Appends a line for each part of a linked module that has bytes or is paged: where it starts in
@@ -112,15 +112,10 @@ fn append_joined(
 ) -> Result<(), AllocError>
     ensures { OnOk result (text.new.items ≡ text.old.items ++ joined_text commons.now id (map (λ m. m.now) modules.now)) }
 {
+    let name = common_name(commons, id);
     for source in modules {
-        append_part(
-            text,
-            commons,
-            id,
-            0,
-            part_of(commons, source, id),
-            source.name(),
-        )?;
+        let part = part_of(source, id, name);
+        append_part(text, commons, id, 0, part, source.name())?;
     }
     Ok(())
 }

@@ -1,9 +1,9 @@
 -- Bytes that others give by differences.
-use Rattle.std.specs.Prelude.{◌≡◌, ◌≢◌, ℕ, ◌+◌, ◌%◌, ◌<◌, ◌==◌, ◌&&◌, ◌||◌, not, nat_lt, Bool, true, false, Option, Some, None, List, [], ◌∷◌, ◌++◌, length, filter}
+use Rattle.std.specs.Prelude.{◌≡◌, ℕ, ◌+◌, ◌%◌, ◌<◌, ◌==◌, ◌&&◌, ◌||◌, not, Bool, true, false, Option, Some, None, List, [], ◌∷◌, ◌++◌, length, filter}
 use Rattle.std.specs.List.{AllByRecursion, Contains, list_all, list_any}
 use Rattle.std.specs.List.Sorted.{IsPermutation}
-use Rattle.std.proofs.Common.{refl, sym, ◌∙◌, ap, subst, arith, inl, inr}
-use Rattle.std.proofs.lemmas.Bool.{and_parts, and_from, eqb-true, eq-eqb, ne_eqb, true≢false, cases_lt, lt-ltb, le-ltb}
+use Rattle.std.proofs.Common.{refl, sym, ◌∙◌, ap, subst, arith}
+use Rattle.std.proofs.lemmas.Bool.{and_parts, and_from, eqb-true, eq-eqb, true≢false}
 use Rattle.std.proofs.lemmas.List.Elements.{All-from_recursion, recursion_from_All}
 use Rattle.std.proofs.lemmas.List.Folds.{list_all-append}
 use Rattle.std.proofs.lemmas.List.Kept.{AllPairs-filter}
@@ -16,7 +16,7 @@ use Rattle.rom80_find.specs.declared.difference.Difference.{Difference}
 use Rattle.rom80_find.specs.CodeBytes.{number_of, half_of, byte_by}
 use Rattle.rom80_find.specs.Dump.{DumpValue, dump_byte}
 use Rattle.rom80_find.specs.Marks.{bit_in}
-use Rattle.rom80_find.specs.Places.{LiesWith, LiesAt, AreBelow, ArePlaces, is_listed}
+use Rattle.rom80_find.specs.Places.{LiesWith, AreBelow, ArePlaces, is_listed}
 use Rattle.rom80_find.specs.Differences.{is_more, has_pair, has_difference, IsDifference, IsReduced, IsDifferenceRow}
 use Rattle.rom80_find.proofs.SolveLemmas.{each_at}
 
@@ -33,7 +33,7 @@ differ first second addend more half target same step value =
 
 -- ---- one more byte
 
-abbrev Lies : (dump : DumpValue) (address : ℕ) (value : ℕ → ℕ) → CodeByte → Type 0
+abbrev pub Lies : (dump : DumpValue) (address : ℕ) (value : ℕ → ℕ) → CodeByte → Type 0
 Lies dump address value b = dump_byte dump ((address + b.offset) % 65536) ≡ Some (byte_by value b)
 
 all_and : {A : Type 0} (P : A → Type 0) (xs : List A) (x : A) → AllByRecursion P xs → P x → AllByRecursion P (xs ++ x ∷ [])
@@ -44,18 +44,18 @@ all_but : {A : Type 0} (P : A → Type 0) (xs : List A) (x : A) → AllByRecursi
 all_but P [] x h = tt
 all_but P (y ∷ ys) x h = (h.0, all_but P ys x h.1)
 
-last_of : {A : Type 0} (P : A → Type 0) (xs : List A) (x : A) → AllByRecursion P (xs ++ x ∷ []) → P x
+pub last_of : {A : Type 0} (P : A → Type 0) (xs : List A) (x : A) → AllByRecursion P (xs ++ x ∷ []) → P x
 last_of P [] x h = h.0
 last_of P (y ∷ ys) x h = last_of P ys x h.1
 
-contained : {A : Type 0} (P : A → Type 0) (xs : List A) (x : A) → AllByRecursion P xs → Contains xs x → P x
+pub contained : {A : Type 0} (P : A → Type 0) (xs : List A) (x : A) → AllByRecursion P xs → Contains xs x → P x
 contained P xs x h c = subst P c.2 (each_at P xs c.0 x h c.1)
 
-lies_and : (dump : DumpValue) (code : List CodeByte) (b : CodeByte) (address : ℕ) (value : ℕ → ℕ) → LiesWith dump code address value
+pub lies_and : (dump : DumpValue) (code : List CodeByte) (b : CodeByte) (address : ℕ) (value : ℕ → ℕ) → LiesWith dump code address value
     → Lies dump address value b → LiesWith dump (code ++ b ∷ []) address value
 lies_and dump code b address value h k = record { absolute = h.absolute; here = h.here; bytes = all_and (Lies dump address value) code b h.bytes k }
 
-lies_but : (dump : DumpValue) (code : List CodeByte) (b : CodeByte) (address : ℕ) (value : ℕ → ℕ) → LiesWith dump (code ++ b ∷ []) address value
+pub lies_but : (dump : DumpValue) (code : List CodeByte) (b : CodeByte) (address : ℕ) (value : ℕ → ℕ) → LiesWith dump (code ++ b ∷ []) address value
     → LiesWith dump code address value
 lies_but dump code b address value h = record { absolute = h.absolute; here = h.here; bytes = all_but (Lies dump address value) code b h.bytes }
 
@@ -71,29 +71,33 @@ kept_byte code bytes differences b h = record {
 }
 
 -- a difference is there exactly if the second byte is, where the first one is
-to_more : (dump : DumpValue) (address : ℕ) (value : ℕ → ℕ) (first second : CodeByte) (d : Difference) → IsDifference first second d
+pub to_more : (dump : DumpValue) (address : ℕ) (value : ℕ → ℕ) (first second : CodeByte) (d : Difference) → d.offset ≡ first.offset
+    → ((address + d.offset) % 65536 + d.distance) % 65536 ≡ (address + second.offset) % 65536
+    → (byte_by value first + d.more) % 256 ≡ byte_by value second
     → Lies dump address value first → Lies dump address value second → has_difference dump address d ≡ true
-to_more dump address value first second d is one two =
+to_more dump address value first second d offset distance more one two =
     ap (λ (o : Option ℕ). is_more d.more o (dump_byte dump (((address + d.offset) % 65536 + d.distance) % 65536)))
-    (ap (λ (o : ℕ). dump_byte dump ((address + o) % 65536)) is.offset ∙ one)
-    ∙ (ap (λ (o : Option ℕ). is_more d.more (Some (byte_by value first)) o) (ap (λ (n : ℕ). dump_byte dump n) (is.distance address) ∙ two)
-    ∙ eq-eqb ((byte_by value first + d.more) % 256) (byte_by value second) (is.more value))
+    (ap (λ (o : ℕ). dump_byte dump ((address + o) % 65536)) offset ∙ one)
+    ∙ (ap (λ (o : Option ℕ). is_more d.more (Some (byte_by value first)) o) (ap (λ (n : ℕ). dump_byte dump n) distance ∙ two)
+    ∙ eq-eqb ((byte_by value first + d.more) % 256) (byte_by value second) more)
 
 second_is : (more byte : ℕ) (o : Option ℕ) → is_more more (Some byte) o ≡ true → o ≡ Some ((byte + more) % 256)
 second_is more byte None h = elim (true≢false (sym h)) [ ]
 second_is more byte (Some d) h = ap (λ (x : ℕ). Some x) (sym (eqb-true ((byte + more) % 256) d h))
 
-from_more : (dump : DumpValue) (address : ℕ) (value : ℕ → ℕ) (first second : CodeByte) (d : Difference) → IsDifference first second d
+pub from_more : (dump : DumpValue) (address : ℕ) (value : ℕ → ℕ) (first second : CodeByte) (d : Difference) → d.offset ≡ first.offset
+    → ((address + d.offset) % 65536 + d.distance) % 65536 ≡ (address + second.offset) % 65536
+    → (byte_by value first + d.more) % 256 ≡ byte_by value second
     → Lies dump address value first → has_difference dump address d ≡ true → Lies dump address value second
-from_more dump address value first second d is one has =
-    ap (λ (n : ℕ). dump_byte dump n) (sym (is.distance address))
+from_more dump address value first second d offset distance more one has =
+    ap (λ (n : ℕ). dump_byte dump n) (sym distance)
     ∙ (second_is d.more (byte_by value first) (dump_byte dump (((address + d.offset) % 65536 + d.distance) % 65536))
     (sym (ap (λ (o : Option ℕ). is_more d.more o (dump_byte dump (((address + d.offset) % 65536 + d.distance) % 65536)))
-    (ap (λ (o : ℕ). dump_byte dump ((address + o) % 65536)) is.offset ∙ one)) ∙ has)
-    ∙ ap (λ (x : ℕ). Some x) (is.more value))
+    (ap (λ (o : ℕ). dump_byte dump ((address + o) % 65536)) offset ∙ one)) ∙ has)
+    ∙ ap (λ (x : ℕ). Some x) more)
 
 -- which a difference gives
-all_first : (p : Difference → Bool) (ds : List Difference) (d : Difference) → list_all p (ds ++ d ∷ []) ≡ true → (list_all p ds ≡ true) × (p d ≡ true)
+pub all_first : {A : Type 0} (p : A → Bool) (ds : List A) (d : A) → list_all p (ds ++ d ∷ []) ≡ true → (list_all p ds ≡ true) × (p d ≡ true)
 all_first p ds d h =
     let parts = and_parts (list_all p ds) (list_all p (d ∷ [])) (sym (list_all-append p ds (d ∷ [])) ∙ h) in
     (parts.0, (and_parts (p d) true parts.1).0)
@@ -108,12 +112,12 @@ given_byte code bytes differences first b d h in_code is = record {
       ∙ and_from (list_all (has_difference dump address) differences) (list_all (has_difference dump address) (d ∷ []))
       (h.have dump address value before)
       (and_from (has_difference dump address d) true
-      (to_more dump address value first b d is (contained (Lies dump address value) code first before.bytes in_code) (last_of (Lies dump address value) code b l.bytes)) refl);
+      (to_more dump address value first b d is.offset (is.distance address) (is.more value) (contained (Lies dump address value) code first before.bytes in_code) (last_of (Lies dump address value) code b l.bytes)) refl);
   whole = λ dump address value l all.
       let parts = all_first (has_difference dump address) differences d all in
       let before = h.whole dump address value l parts.0 in
       lies_and dump code b address value before
-      (from_more dump address value first b d is (contained (Lies dump address value) code first before.bytes in_code) parts.1);
+      (from_more dump address value first b d is.offset (is.distance address) (is.more value) (contained (Lies dump address value) code first before.bytes in_code) parts.1);
 }
 
 -- in another order
@@ -167,29 +171,25 @@ sorted_below count code sorted same h = all_permuted (λ (b : CodeByte). number_
 
 -- ---- the places
 
-module _ (code bytes : List CodeByte) (differences : List Difference) (dump : DumpValue) (places : List ℕ)
-    (reduced : IsReduced code bytes differences) (h : ArePlaces dump bytes 65536 places) where
-  abbrev has : ℕ → Bool
-  has a = list_all (has_difference dump a) differences
-
-  fewer : (a : ℕ) → LiesAt dump code a → LiesAt dump bytes a
-  fewer a l = record { value = l.value; lies = reduced.fewer dump a l.value l.lies }
-
-  whole : (a : ℕ) → LiesAt dump bytes a → has a ≡ true → LiesAt dump code a
-  whole a l all = record { value = l.value; lies = reduced.whole dump a l.value l.lies all }
-
+-- those at which the bytes lie and the dump has what the others follow by
+module _ (code bytes : List CodeByte) (has : ℕ → Bool) (dump : DumpValue) (places : List ℕ)
+    (fewer : (a : ℕ) (value : ℕ → ℕ) → LiesWith dump code a value → LiesWith dump bytes a value)
+    (have : (a : ℕ) (value : ℕ → ℕ) → LiesWith dump code a value → has a ≡ true)
+    (whole : (a : ℕ) (value : ℕ → ℕ) → LiesWith dump bytes a value → has a ≡ true → LiesWith dump code a value)
+    (h : ArePlaces dump bytes 65536 places) where
   listed : (a : ℕ) → is_listed (filter has places) a ≡ (has a && is_listed places a)
   listed a = any-filter_same (λ p. p == a) has (has a) (λ k e. ap has (eqb-true k a e)) places
 
-  -- with the differences
-  kept_places : ArePlaces dump code 65536 (filter has places)
+  -- with them
+  pub kept_places : ArePlaces dump code 65536 (filter has places)
   kept_places = record {
     lies = λ a e.
         let parts = and_parts (has a) (is_listed places a) (sym (listed a) ∙ e) in
         let there = h.lies a parts.1 in
-        (there.0, whole a there.1 parts.0);
+        (there.0, record { value = there.1.value; lies = whole a there.1.value there.1.lies parts.0 });
     all = λ a lt l.
-        listed a ∙ and_from (has a) (is_listed places a) (reduced.have dump a l.value l.lies) (h.all a lt (fewer a l));
+        listed a ∙ and_from (has a) (is_listed places a) (have a l.value l.lies)
+        (h.all a lt (record { value = l.value; lies = fewer a l.value l.lies }));
     ascending = AllPairs-filter (λ (p q : ℕ). p < q) has places h.ascending;
   }
 
@@ -201,7 +201,7 @@ kept_as code bytes differences others dump same places listed kept reduced h ds 
     (sym (is ∙ (ap (λ (v : DumpValue). filter (λ a. list_all (has_difference v a) others) listed) d
     ∙ (ap (λ (s : List Difference). filter (λ a. list_all (has_difference dump a) s) listed) ds
     ∙ ap (λ (l : List ℕ). filter (λ a. list_all (has_difference dump a) differences) l) ps))))
-    (kept_places code bytes differences dump places reduced h)
+    (kept_places code bytes (λ a. list_all (has_difference dump a) differences) dump places (reduced.fewer dump) (reduced.have dump) (reduced.whole dump) h)
 
 -- without differences
 pub none_left : (xs : List Difference) → length xs ≡ 0 → [] ≡ xs

@@ -10,6 +10,9 @@ pub mod PlaceLemmas
 pub mod WordLemmas
 pub mod PartLemmas
 pub mod DifferenceLemmas
+pub mod CarryLemmas
+pub mod CarryRowLemmas
+pub mod UniformLemmas
 pub mod ReadingLemmas
 pub mod NameLemmas
 pub mod ExternalLemmas

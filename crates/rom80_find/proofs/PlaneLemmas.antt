@@ -1,5 +1,5 @@
 -- The rows of the bits of a dump's bytes, and sums and comparisons by them.
-use Rattle.std.specs.Prelude.{◌≡◌, ◌≢◌, ℕ, zero, suc, ◌+◌, ◌-◌, ◌*◌, ◌/◌, ◌%◌, ◌^◌, ◌<◌, ◌≤◌, ◌==◌, ◌&&◌, ◌||◌, min, max, nat_lt, Bool, true, false, if◌then◌else◌, Option, Some, None, List, length, bit_and, slice_index_or}
+use Rattle.std.specs.Prelude.{◌≡◌, ℕ, zero, suc, ◌+◌, ◌-◌, ◌*◌, ◌/◌, ◌%◌, ◌^◌, ◌<◌, ◌≤◌, ◌==◌, ◌&&◌, ◌||◌, min, max, nat_lt, Bool, true, false, Option, Some, None, List, length, bit_and, slice_index_or}
 use Rattle.std.specs.Int.{bit_at, w64, bit_not}
 use Rattle.std.specs.Int.RustNames.{bit_or}
 use Rattle.std.specs.Int.Bits.{bit_xor}
@@ -9,7 +9,7 @@ use Rattle.std.proofs.lemmas.Bool.{cases_lt, eqb-true, eq-eqb, ne_eqb, lt-ltb, l
 use Rattle.std.proofs.lemmas.Nat.{pow_pos}
 use Rattle.std.proofs.lemmas.Nat.Bits.{bit_at_and, bit_at_or, bit_at_xor, bit_at_not, bit_at-lt, bit_at-zero}
 use Rattle.rom80_find.specs.Dump.{DumpValue, dump_byte}
-use Rattle.rom80_find.specs.Differences.{is_more, has_pair}
+use Rattle.rom80_find.specs.Differences.{is_more}
 use Rattle.rom80_find.specs.Marks.{bit_in, has_bit}
 use Rattle.rom80_find.specs.Planes.{ArePlanes, bit_of, has_plane, is_in_plane}
 use Rattle.rom80_find.proofs.SolveLemmas.{iff_bool}
@@ -141,6 +141,11 @@ both_carried one carry i = bit_at_and one carry i ∙ smaller (bit_at one i) (bi
 
 -- ---- two bytes, as far as their bits were compared
 
+-- what a byte plus a number carries into the bit above those below `p`; nothing without a byte
+abbrev pub carry_of : (byte : Option ℕ) (more p : ℕ) → ℕ
+carry_of None more p = 0
+carry_of (Some x) more p = (x % p + more % p) / p
+
 -- of two bytes the first plus a number was compared with the second below `p`, and this is carried
 abbrev pub AreCompared : (first second : Option ℕ) (more p : ℕ) (equal : Bool) (carry : ℕ) → Type 0
 AreCompared None second more p equal carry = equal ≡ false
@@ -202,6 +207,29 @@ module _ (more k : ℕ) (equal next : Bool) (carry one other after : ℕ) (is_se
       top : one + carry + bit_of is_set ≡ x / 2 ^ k % 2 + (x % 2 ^ k + more % 2 ^ k) / 2 ^ k + more / 2 ^ k % 2
       top = ap (λ (n : ℕ). n + carry + bit_of is_set) (byte_bit x one lo ones)
           ∙ (ap (λ (n : ℕ). bit_at x k + n + bit_of is_set) h.1 ∙ ap (λ (n : ℕ). bit_at x k + (x % 2 ^ k + more % 2 ^ k) / 2 ^ k + n) bit_is)
+
+  -- or only carried
+  no_bit : (n : ℕ) → n < 2 → (n == 1) ≡ false → n ≡ 0
+  no_bit zero l e = refl
+  no_bit (suc zero) l e = elim (true≢false e) [ ]
+  no_bit (suc (suc n)) l e = elim (too_much n l) [ ]
+    where
+      too_much : (n : ℕ) → suc (suc n) < 2 → ⊥
+      too_much n l = omega arith
+
+  none_carried : (c n : ℕ) → c ≡ 0 → n ≡ 0 → (t : Bool) → (n + c + bit_of t) / 2 ≡ 0
+  none_carried c n ec en true = ap (λ (v : ℕ). (v + c + 1) / 2) en ∙ ap (λ (v : ℕ). (0 + v + 1) / 2) ec
+  none_carried c n ec en false = ap (λ (v : ℕ). (v + c + 0) / 2) en ∙ ap (λ (v : ℕ). (0 + v + 0) / 2) ec
+
+  pub more_carried : (byte : Option ℕ) → (one == 1) ≡ option_map_or (is_in_plane k) byte false → carry ≡ carry_of byte more (2 ^ k)
+      → after ≡ carry_of byte more (2 ^ (k + 1))
+  more_carried None ones h = after_is ∙ none_carried carry one h (no_bit one lo ones) is_set
+  more_carried (Some x) ones h = subst (λ (p : ℕ). after ≡ (x % p + more % p) / p) (sym doubled)
+      (after_is ∙ (ap (λ (n : ℕ). n / 2) top ∙ sym (carried_more (2 ^ k) x more 0 (pow_pos k))))
+    where
+      top : one + carry + bit_of is_set ≡ x / 2 ^ k % 2 + (x % 2 ^ k + more % 2 ^ k) / 2 ^ k + more / 2 ^ k % 2
+      top = ap (λ (n : ℕ). n + carry + bit_of is_set) (byte_bit x one lo ones)
+          ∙ (ap (λ (n : ℕ). bit_at x k + n + bit_of is_set) h ∙ ap (λ (n : ℕ). bit_at x k + (x % 2 ^ k + more % 2 ^ k) / 2 ^ k + n) bit_is)
 
 pub all_compared : (first second : Option ℕ) (more : ℕ) (equal : Bool) (carry : ℕ) → ((byte : ℕ) → second ≡ Some byte → byte < 256)
     → AreCompared first second more 256 equal carry → equal ≡ is_more more first second

@@ -14,6 +14,7 @@ pub mod Lone
 pub mod Marks
 pub mod Planes
 pub mod Differences
+pub mod Carries
 pub mod Search
 pub mod Laws
 pub mod Names

@@ -1,12 +1,14 @@
 //! The addresses at which a dump has a byte and, at a distance behind it, that byte plus a number.
 
-ghost use Rattle.std.specs.Prelude.{◌≡◌, ◌+◌, ◌%◌, length, IfOk, OnOk};
+ghost use Rattle.std.specs.Prelude.{◌≡◌, ℕ, ◌+◌, ◌*◌, ◌%◌, ◌<◌, length, IfOk};
 ghost use Rattle.rom80_find.specs.Dump.{dump_of};
 ghost use Rattle.rom80_find.specs.Differences.{has_pair, IsDifferenceRow};
+ghost use Rattle.rom80_find.specs.Marks.{has_bit};
 
 use crate::difference::Difference;
 use crate::dump::Dump;
 use crate::indexed_dump::{ADDRESSES, IndexedDump};
+use crate::marks::bits_from;
 use crate::pairs::pairs_from;
 use crate::table::table;
 use std::alloc::{AllocError, Global};
@@ -50,22 +52,18 @@ impl DifferenceRow {
         })
     }
 
-    /// Replaces the row by that of a difference's distance and number in the same dump, unless it is for these already.
-    pub(crate) fn change_to(
-        &mut self,
-        alloc: Global,
-        dump: &IndexedDump<'_>,
-        difference: Difference,
-    ) -> Result<(), AllocError>
+    /// Makes the row that of a difference's distance and number in the same dump, unless it is for these already.
+    pub(crate) fn change_to(&mut self, dump: &IndexedDump<'_>, difference: Difference)
         requires { IsDifferenceRow dump.now self.old.distance self.old.more self.old.bits.items }
-        ensures row { OnOk result (IsDifferenceRow dump.now difference.distance difference.more self.new.bits.items) }
-        ensures distance { OnOk result (self.new.distance ≡ difference.distance) }
-        ensures more { OnOk result (self.new.more ≡ difference.more) }
+        ensures row { IsDifferenceRow dump.now difference.distance difference.more self.new.bits.items }
+        ensures distance { self.new.distance ≡ difference.distance }
+        ensures more { self.new.more ≡ difference.more }
     {
         if self.distance != difference.distance || self.more != difference.more {
-            *self = DifferenceRow::of(alloc, dump, difference.distance, difference.more)?;
+            mark_pairs(&mut self.bits, dump, difference.distance, difference.more);
+            self.distance = difference.distance;
+            self.more = difference.more;
         }
-        Ok(())
     }
 }
 
@@ -74,12 +72,28 @@ fn mark_pairs(bits: &mut [u64], dump: &IndexedDump<'_>, distance: u16, more: u8)
     requires whole { length bits.old ≡ 2048 }
     ensures { IsDifferenceRow dump.now distance more bits.new }
 {
-    let planes = dump.planes();
     for word in 0..HALF {
-        let pairs = pairs_from(planes, 64 * word, usize::from(distance), more);
+        let pairs = pairs_of_word(dump, word, distance, more);
         bits[word] = pairs;
         bits[word + HALF] = pairs;
     }
+}
+
+/// Returns a bit for each of 64 addresses, the first of which is 64 times `word`, set if a dump has a byte there and, `distance` behind it,
+/// that byte plus `more`, modulo 256. If all 64 bytes are one, the others are looked up in the row of one byte.
+fn pairs_of_word(dump: &IndexedDump<'_>, word: usize, distance: u16, more: u8) -> u64
+    requires word { word < 1024 }
+    ensures { (i : ℕ) → i < 64 → has_bit result i ≡ has_pair dump.now (64 * word + i) distance more }
+{
+    let first = 64 * word;
+    if let Some(byte) = dump.dump().byte_at(first as u16) {
+        let same = dump.row(usize::from(byte));
+        if same[word] == u64::MAX {
+            let other = dump.row(usize::from(byte.wrapping_add(more)));
+            return bits_from(other, first + usize::from(distance));
+        }
+    }
+    pairs_from(dump.planes(), first, usize::from(distance), more)
 }
 
 /// Whether the dump has a byte at `address` and, `distance` behind it, that byte plus `more`, modulo 256.

@@ -45,7 +45,7 @@ pub(crate) fn keep_by_rows(
     Ok(kept)
 }
 
-/// Clears the bit in `alive` of each address at which a dump lacks one of the `differences`. If an error comes, some are cleared.
+/// Clears the bit in `alive` of each address at which a dump lacks one of the `differences`. If an error comes, none is cleared.
 fn sieve_by_differences(
     alloc: Global,
     alive: &mut [u64],
@@ -62,7 +62,7 @@ fn sieve_by_differences(
     let first = differences[0];
     let mut row = DifferenceRow::of(alloc, dump, first.distance, first.more)?;
     for difference in differences {
-        row.change_to(alloc, dump, *difference)?;
+        row.change_to(dump, *difference);
         if !keep_in_row(alive, &row.bits, usize::from(difference.offset)) {
             return Ok(());
         }

@@ -14,12 +14,16 @@
 //! | `pattern` | reads the code of a module as a pattern: bytes that are halves of values of targets, plus addends |
 //! | `indexed_dump` | a dump with what is looked up in it for each module |
 //! | `reduced_code`, `differences` | leave out bytes that follow from others by a difference; compare the differences |
+//! | `carried_code`, `carries` | the same for high bytes whose difference a low byte chooses |
 //! | `listing`, `words` | find the addresses at which a pattern lies in a dump, and the words of its targets there |
 //! | `found` | says the same of modules, by LOCATE's own definition of their bytes |
 //! | `lines` | prints it |
 #![tactic(auto)]
 
 mod candidates;
+mod carried_code;
+mod carries;
+mod carry;
 mod difference;
 mod difference_row;
 mod differences;

@@ -8,6 +8,8 @@ ghost use Rattle.rom80_find.specs.Marks.{IsSievedWord};
 ghost use Rattle.rom80_find.specs.Places.{AreBelow, ArePlaces, place_if};
 ghost use Rattle.rom80_find.specs.Search.{SearchValue, search_of};
 
+use crate::carried_code::CarriedCode;
+use crate::carries::{has_carries, keep_with_carries};
 use crate::differences::{has_differences, keep_by_rows};
 use crate::indexed_dump::IndexedDump;
 use crate::lone::lone_values;
@@ -25,8 +27,9 @@ const FEW_PLACES: usize = 2_048;
 /// which the dump has all its bytes. The targets have numbers below `count`.
 ///
 /// The time grows with the number of bytes of the code times 1,024, in steps of 64 addresses at once, and with the number of
-/// different distances and numbers by which bytes give others, times eight as many such steps. Where the bytes outside fixups fit, it
-/// grows with the number of the others in fixups whose value is of CODE, or has more than a low and a high byte of them.
+/// different distances and numbers by which bytes give others, times some eight as many such steps. At each address at which the bytes
+/// outside fixups fit, it grows with the number of high bytes, of values of which the code has no low byte, whose addends differ in the low
+/// byte.
 ///
 /// # Errors
 /// `AllocError` only if memory ran out.
@@ -41,7 +44,7 @@ pub(crate) fn places(
     ensures { IfOk result (λ places. ArePlaces dump.now code.now 65536 places.items) }
 {
     let mut reduced = ReducedCode::of(alloc, code, count)?;
-    let mut places = places_by_search(alloc, dump, &reduced.bytes, count)?;
+    let mut places = places_by_carries(alloc, dump, &reduced.bytes, count)?;
     if reduced.differences.is_empty() {
         return Ok(places);
     }
@@ -54,6 +57,29 @@ pub(crate) fn places(
         .differences
         .sort_by_key(|difference| (difference.distance, difference.more))?;
     let kept = keep_by_rows(alloc, dump, &reduced.differences, &places)?;
+    Ok(kept)
+}
+
+/// Returns the addresses at which a module's code lies in a dump, in ascending order, found from each of its bytes but for high ones that
+/// others give by carries. Its bytes are sorted by target and half, and the targets have numbers below `count`.
+fn places_by_carries(
+    alloc: Global,
+    dump: &IndexedDump<'_>,
+    code: &[CodeByte],
+    count: usize,
+) -> Result<Vec<u16>, AllocError>
+    requires two { 2 ≤ count }
+    requires below { AreBelow count code.now }
+    ensures { IfOk result (λ places. ArePlaces dump.now code.now 65536 places.items) }
+{
+    let carried = CarriedCode::of(alloc, code, count)?;
+    let mut places = places_by_search(alloc, dump, &carried.bytes, count)?;
+    if places.len() < FEW_PLACES {
+        let dump = dump.dump();
+        places.retain(|place| has_carries(dump, &carried.carries, *place));
+        return Ok(places);
+    }
+    let kept = keep_with_carries(alloc, dump, &carried.carries, &places)?;
     Ok(kept)
 }
 

@@ -1,4 +1,4 @@
-use Rattle.std.proofs.Common.{◌≡◌, ◌+◌, ◌*◌, ◌<◌, ◌∙◌, ap, arith, ℕ}
+use Rattle.std.proofs.Common.{◌≡◌, ◌+◌, ◌*◌, ◌<◌, arith, ℕ}
 use Rattle.rom80_find.specs.Differences.{has_pair}
 use Rattle.rom80_find.specs.Marks.{has_bit}
 use Rattle.rom80_find.proofs.PlaneLemmas.{twice_more, twice_whole}
@@ -9,9 +9,8 @@ loop-word-preserved c =
     let has = has_pair c.args.dump.now in
     let at = c.loop-word.bits in
     let word = c.loop-word.word in
-    let pairs = c.pairs_from-pairs.result in
-    let are : (i : ℕ) → i < 64 → has_bit pairs i ≡ has (64 * word + i) c.args.distance c.args.more =
-    λ i lt. c.pairs_from-pairs.ensures c.args.dump.now c.planes-planes.ensures i lt ∙ ap (λ (n : ℕ). has (64 * word + i) n c.args.more) c.from.ensures in
+    let pairs = c.pairs_of_word-pairs.result in
+    let are : (i : ℕ) → i < 64 → has_bit pairs i ≡ has (64 * word + i) c.args.distance c.args.more = c.pairs_of_word-pairs.ensures in
     record {
       whole = twice_whole at word pairs (λ a. has a c.args.distance c.args.more) c.loop-word-test.true c.loop-word.invariant.whole are c.loop-word.invariant.each;
       each = twice_more at word pairs (λ a. has a c.args.distance c.args.more) c.loop-word-test.true c.loop-word.invariant.whole are c.loop-word.invariant.each;

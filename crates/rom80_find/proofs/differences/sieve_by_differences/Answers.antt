@@ -18,7 +18,7 @@ returns-then-not-keep_in_row-clause-each c = λ a lt.
     let ds = c.args.differences.now in
     let i = c.loop-difference.difference-index in
     let row : bit_in c.deref.result.now (a + c.from.result) ≡ p (get_or ds i some_difference) =
-    row_has c.args.dump.now (get_or ds i some_difference) c.deref.result.now c.change_to.new.self.bits.items c.from.result a c.in_ok-change_to.ensures.row c.deref.ensures.value c.from.ensures (omega (arith, lt)) in
+    row_has c.args.dump.now (get_or ds i some_difference) c.deref.result.now c.change_to.new.self.bits.items c.from.result a c.change_to.ensures.row c.deref.ensures.value c.from.ensures (omega (arith, lt)) in
     sieved_out p ds (i + 1) (bit_in c.args.alive.now a) (bit_in c.keep_in_row.new.alive a)
     (sieved_more p ds i some_difference (bit_in c.args.alive.now a) (bit_in c.loop-difference.alive a) (bit_in c.keep_in_row.new.alive a) c.loop-difference-test.true
     (c.loop-difference.invariant.each a lt) (c.keep_in_row.ensures.each a lt ∙ ap (λ t. bit_in c.loop-difference.alive a && t) row))
@@ -27,15 +27,15 @@ returns-then-not-keep_in_row-clause-each c = λ a lt.
 pub loop-difference-preserved : goal.loop-difference-preserved
 loop-difference-preserved c = record {
   whole = c.keep_in_row.ensures.whole;
-  row = subst (λ (n : ℕ). IsDifferenceRow c.args.dump.now n c.change_to.new.self.more c.change_to.new.self.bits.items) (sym c.in_ok-change_to.ensures.distance)
+  row = subst (λ (n : ℕ). IsDifferenceRow c.args.dump.now n c.change_to.new.self.more c.change_to.new.self.bits.items) (sym c.change_to.ensures.distance)
       (subst (λ (n : ℕ). IsDifferenceRow c.args.dump.now (get_or c.args.differences.now c.loop-difference.difference-index some_difference).distance n c.change_to.new.self.bits.items)
-      (sym c.in_ok-change_to.ensures.more) c.in_ok-change_to.ensures.row);
+      (sym c.change_to.ensures.more) c.change_to.ensures.row);
   each = λ a lt.
       let p = has_difference c.args.dump.now a in
       let ds = c.args.differences.now in
       let i = c.loop-difference.difference-index in
       let row : bit_in c.deref.result.now (a + c.from.result) ≡ p (get_or ds i some_difference) =
-      row_has c.args.dump.now (get_or ds i some_difference) c.deref.result.now c.change_to.new.self.bits.items c.from.result a c.in_ok-change_to.ensures.row c.deref.ensures.value c.from.ensures (omega (arith, lt)) in
+      row_has c.args.dump.now (get_or ds i some_difference) c.deref.result.now c.change_to.new.self.bits.items c.from.result a c.change_to.ensures.row c.deref.ensures.value c.from.ensures (omega (arith, lt)) in
       sieved_more p ds i some_difference (bit_in c.args.alive.now a) (bit_in c.loop-difference.alive a) (bit_in c.keep_in_row.new.alive a) c.loop-difference-test.true
       (c.loop-difference.invariant.each a lt) (c.keep_in_row.ensures.each a lt ∙ ap (λ t. bit_in c.loop-difference.alive a && t) row);
 }
