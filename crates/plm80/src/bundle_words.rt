@@ -1,12 +1,15 @@
 //! What is wrong with a bundle, in words.
 
-ghost use Rattle.std.specs.Prelude.{◌≡◌, ◌⊎◌, ◌&&◌, ℕ, nat_le, [], drop, length, slice_index};
+ghost use Rattle.std.specs.Prelude.{◌≡◌, ◌⊎◌, ◌&&◌, ℕ, nat_le, [], drop, length, slice_index, take};
 ghost use Rattle.std.specs.Char.{is_ascii_hexdigit};
 
 use loader80::SessionFault;
+use loader80::digits::bytes_of_digits;
 use loader80_text::BundleFault;
-use plm80_console::{Console, FailureWords};
-use plm80_files::{FLAWS, explain_flaws, explain_regions, image_words};
+use plm80_console::{Console, FailureWords, are_digits};
+use plm80_files::{
+    FLAWS, FileRole, INPUTS_LINE, LineFlaw, explain_flaws, explain_image_as, explain_regions,
+};
 use std::io::ErrorKind;
 
 /// The line between the regions and the inputs.
@@ -14,6 +17,10 @@ const INPUTS: &[u8] = b"INPUTS\n";
 
 /// The words on a bundle whose image goes on behind its first line.
 const SEVERAL_LINES: &str = "the hexadecimal is on several lines: write the image on one line";
+
+/// The words on a bundle whose first line isn't of digits alone.
+const NO_DIGITS: &str =
+    "the first line is the image, in hexadecimal digits alone: xxd -p IMAGE | tr -d '\\n' writes it";
 
 /// Says what is wrong with the bundle that was read and whose fault was reported; `output` is why writing its transcript failed last, if it
 /// did.
@@ -31,24 +38,52 @@ pub fn explain_bundle<C: Console>(
             if begins_with_digits(after_line(text)) {
                 console.explain(SEVERAL_LINES);
             }
-            explain_regions(console, after_line(text), fault);
+            if after_line(text).starts_with(INPUTS) {
+                console.explain("the regions stand between the image and the line INPUTS");
+            } else {
+                explain_regions(console, after_line(text), fault);
+            }
         }
         BundleFault::Session(SessionFault::Inputs(number)) => {
-            explain_flaws(console, after_inputs_line(text), number, FLAWS);
-        }
-        BundleFault::BadBundle => {
-            explain_flaws(console, text, 1, FLAWS);
-            if begins_with_digits(after_line(text)) {
-                console.explain(SEVERAL_LINES);
-            }
-            if after_inputs_line(text).is_empty() && !text.ends_with(INPUTS) {
-                console.explain("there is no line INPUTS");
+            if !explain_flaws(console, after_inputs_line(text), number, FLAWS) {
+                console.explain(INPUTS_LINE);
             }
         }
-        BundleFault::Session(SessionFault::Image(fault)) => {
-            console.explain_any(image_words(fault));
+        BundleFault::BadBundle => explain_form(console, text),
+        BundleFault::Session(SessionFault::Image(fault)) if console.explains() => {
+            if let Ok(Some(bytes)) = bytes_of_digits(console.alloc(), first_line(text)) {
+                explain_image_as(console, &bytes, fault, FileRole::ObjectFile);
+            }
         }
         BundleFault::Session(_) => {}
+    }
+}
+
+/// Says what is wrong with a text that isn't of a bundle's form.
+fn explain_form<C: Console>(console: &C, text: &[u8]) {
+    if text.is_empty() {
+        console.explain("nothing was read: plm80 --help says what a bundle is");
+        return;
+    }
+    let line = first_line(text);
+    if are_digits(line.strip_suffix(b"\r").unwrap_or(line)) {
+        explain_flaws(console, text, 1, FLAWS);
+    } else {
+        explain_flaws(console, text, 1, &[LineFlaw::NotAscii, LineFlaw::ControlZ]);
+        console.explain(NO_DIGITS);
+    }
+    if after_inputs_line(text).is_empty() && !text.ends_with(INPUTS) {
+        console.explain("there is no line INPUTS, which is that word alone, with LF behind it");
+    }
+}
+
+/// The first line of a text, without its line feed.
+fn first_line(text: &[u8]) -> &[u8]
+    ensures { (result.now ≡ text.now) ⊎ ((place : ℕ) × (result.now ≡ take place text.now)) }
+{
+    match text.iter().position(|byte| *byte == b'\n') {
+        Some(place) => &text[..place],
+        None => text,
     }
 }
 

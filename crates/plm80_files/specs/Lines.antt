@@ -2,7 +2,7 @@
 -- (The texts of regions and of inputs are this project's: lines that end in LF alone, without comments.)
 use Rattle.std.specs.Prelude.{ℕ, zero, suc, ◌-◌, ◌%◌, ◌==◌, Option, Some, None, is_some, slice_get, codes, Bool, false, ◌&&◌, ◌||◌, nat_lt, not, if◌then◌else◌, List, [], ◌∷◌, length, take}
 use Rattle.std.specs.{List.list_all, List.list_any, List.ends_with, List.slice_split, Char.is_ascii_hexdigit, Char.is_ascii_lowercase}
-use Rattle.plm80_files.specs.declared.line_words.LineFlaw.TheVariants.{NotAscii, CarriageReturn, ControlZ, NoLineFeed, Blank, Comment, OddDigits, LowerCase}
+use Rattle.plm80_files.specs.declared.line_words.LineFlaw.TheVariants.{NotAscii, CarriageReturn, ControlZ, NoLineFeed, Blank, Tab, Blanks, Empty, Comment, OddDigits, LowerCase}
 use Rattle.plm80_files.specs.{FileKinds.starts, declared.line_words.LineFlaw.LineFlaw}
 
 -- what stands between line feeds, or between one and an end of the text, by its index
@@ -30,6 +30,14 @@ without_return line = if ends_in 13 line then take (length line - 1) line else l
 abbrev pub ends_in_blank : List ℕ → Bool
 ends_in_blank line = ends_in 32 (without_return line) || ends_in 9 (without_return line)
 
+-- nothing stands between two blanks, or between one and an end of the line
+abbrev pub has_empty_word : List ℕ → Bool
+has_empty_word line = list_any (λ word. length word == 0) (slice_split (λ byte. byte == 32) line)
+
+-- a blank at its beginning, or two in a row, and none at its end
+abbrev pub has_blanks : List ℕ → Bool
+has_blanks line = not (length line == 0) && not (ends_in_blank line) && has_empty_word line
+
 abbrev pub has_comment : List ℕ → Bool
 has_comment line = list_any (λ byte. byte == 59) line
 
@@ -55,6 +63,9 @@ has_flaw CarriageReturn line is_ended = ends_in 13 line
 has_flaw ControlZ line is_ended = list_any (λ byte. byte == 0x1A) line
 has_flaw NoLineFeed line is_ended = not is_ended
 has_flaw Blank line is_ended = ends_in_blank line
+has_flaw Tab line is_ended = list_any (λ byte. byte == 9) line
+has_flaw Blanks line is_ended = not (has_comment line) && has_blanks line
+has_flaw Empty line is_ended = length line == 0
 has_flaw Comment line is_ended = has_comment line
 has_flaw OddDigits line is_ended = not (has_comment line) && has_odd_number (without_return line)
 has_flaw LowerCase line is_ended = not (has_comment line) && has_lower_case line

@@ -3,10 +3,15 @@
 ghost use Rattle.std.specs.Prelude.{◌≡◌};
 ghost use Rattle.plm80_console.specs.Journal.{and_reported};
 
+use crate::damage_words::damage_words;
 use crate::file_kinds::{FileRole, explain_file};
 use omf_library::LibraryFault;
 use omf_module::{Cause, ModuleFault};
 use plm80_console::{Console, Reported};
+
+/// Words that say where faults of libraries are explained.
+const LIBRARY_WORDS: &str =
+    "docs/FAULTS.md says what to look for there ('Libraries', 'Object files')";
 
 /// Words that say where faults of object files are explained.
 pub(crate) const OBJECT_WORDS: &str = "docs/FAULTS.md says what to look for there ('Object files')";
@@ -65,7 +70,11 @@ fn report_library<C: Console>(console: &mut C, path: &str, fault: LibraryFault) 
     ensures { C.journal console.new ≡ and_reported (C.journal console.old) }
 {
     let reported = console.report_file(path, fault);
-    console.explain("docs/FAULTS.md says what to look for there ('Libraries', 'Object files')");
+    let words = match (fault, console.text_to_explain(path)) {
+        (LibraryFault::Module(fault), Some(bytes)) => damage_words(&bytes, fault.cause),
+        _ => None,
+    };
+    console.explain(words.unwrap_or(LIBRARY_WORDS));
     reported
 }
 
@@ -76,7 +85,7 @@ fn report_module<C: Console>(console: &mut C, path: &str, fault: ModuleFault) ->
     let reported = console.report_file(path, fault);
     if let Some(bytes) = console.text_to_explain(path) {
         if !explain_file(console, &bytes, FileRole::ObjectFile) {
-            console.explain(OBJECT_WORDS);
+            console.explain(damage_words(&bytes, fault.cause).unwrap_or(OBJECT_WORDS));
         }
     }
     reported

@@ -1,18 +1,22 @@
 //! What a file seems to be, in words, if a command takes it for another one.
 
-ghost use Rattle.std.specs.Prelude.{◌≡◌, is_some};
+ghost use Rattle.std.specs.Prelude.{◌≡◌, ◌==◌, is_some};
+ghost use Rattle.std.specs.List.{list_all, list_any};
 ghost use Rattle.plm80_files.specs.FileKinds.{
   begins_with_digits,
   is_explained,
   is_inputs_start,
   is_intel_hex_start,
   is_misplaced,
+  is_of_text,
+  is_s_records_start,
+  is_text,
   kind_of,
   kind_of_text,
   stands_beside_regions,
 };
 
-use crate::line_words::{FLAWS, explain_flaws};
+use crate::line_words::{CONTROL_Z, FLAWS, explain_flaws};
 use plm80_console::{Console, are_digits};
 
 /// The first byte of an object file, the type of a module header.
@@ -21,8 +25,11 @@ const MODULE_HEADER: u8 = 0x02;
 /// The first byte of a library.
 const LIBRARY_HEADER: u8 = 0x2C;
 
+/// The fewest bytes of a text: fewer may be bytes of a PROM by chance.
+const LEAST_TEXT: usize = 8;
+
 /// The form of a line of inputs, in words.
-const INPUTS_LINE: &str =
+pub const INPUTS_LINE: &str =
     "a line is a port, a blank and bytes without blanks between them, as 02 41FF";
 
 /// What a file seems to be, by how it begins.
@@ -34,7 +41,9 @@ pub(crate) enum FileKind {
     Regions,
     Inputs,
     IntelHex,
+    SRecords,
     Elf,
+    Text,
     Unknown,
 }
 
@@ -71,10 +80,14 @@ impl FileKind {
             FileKind::Elf
         } else if is_intel_hex(bytes) {
             FileKind::IntelHex
+        } else if is_s_records(bytes) {
+            FileKind::SRecords
         } else if bytes.starts_with(b"REGIONS") {
             FileKind::Regions
         } else if is_inputs(bytes) {
             FileKind::Inputs
+        } else if is_text(bytes) {
+            FileKind::Text
         } else {
             FileKind::Unknown
         }
@@ -87,14 +100,24 @@ impl FileKind {
         match self {
             FileKind::ObjectFile => None,
             FileKind::Empty => Some("the file is empty"),
-            FileKind::Library => Some("this is a library, not an object file"),
+            FileKind::Library => Some(
+                "this is a library, not an object file: only link and find read libraries",
+            ),
             FileKind::Regions => Some("this is a regions text, not an object file"),
             FileKind::Inputs => Some("this is an inputs text, not an object file"),
             FileKind::IntelHex => Some(
                 "this is Intel HEX, not an object file: objcopy -I ihex -O binary makes bytes of it, and absolute an image of these",
             ),
+            FileKind::SRecords => Some(
+                "these are S-records, not an object file: objcopy -I srec -O binary makes bytes of them, and absolute an image of these",
+            ),
             FileKind::Elf => Some("this is an ELF file, not an object file of the 8080"),
-            FileKind::Unknown => Some("this isn't an object file, whose first byte is 02"),
+            FileKind::Text => Some(
+                "this is a text, not an object file: a compiler or an assembler makes one of its source",
+            ),
+            FileKind::Unknown => Some(
+                "this isn't an object file, whose first byte is 02: of a PROM's bytes plm80 absolute makes an image",
+            ),
         }
     }
 
@@ -108,8 +131,9 @@ impl FileKind {
             FileKind::Library => Some("this is a library, not a regions text"),
             FileKind::Inputs => Some("this is an inputs text, not a regions text"),
             FileKind::IntelHex => Some("this is Intel HEX, not a regions text"),
+            FileKind::SRecords => Some("these are S-records, not a regions text"),
             FileKind::Elf => Some("this is an ELF file, not a regions text"),
-            FileKind::Regions | FileKind::Unknown => None,
+            FileKind::Regions | FileKind::Text | FileKind::Unknown => None,
         }
     }
 
@@ -129,10 +153,9 @@ impl FileKind {
         ensures { is_some result ≡ is_misplaced FileRole.Image self }
     {
         match self {
-            FileKind::Regions | FileKind::Inputs => Some("IMAGE is the first path"),
-            FileKind::Unknown => Some(
-                "IMAGE is the first path; of a PROM's bytes plm80 absolute makes one",
-            ),
+            FileKind::Regions | FileKind::Inputs | FileKind::Text | FileKind::Unknown => {
+                Some("IMAGE is the first path")
+            }
             _ => None,
         }
     }
@@ -178,6 +201,46 @@ fn is_intel_hex(bytes: &[u8]) -> bool
     ensures { result ≡ is_intel_hex_start bytes.now }
 {
     !bytes.is_empty() && bytes[0] == b':' && begins_with_digits(&bytes[1..], 8)
+}
+
+/// Whether the bytes begin as a record of Motorola's hexadecimal format: a letter S and digits.
+fn is_s_records(bytes: &[u8]) -> bool
+    ensures { result ≡ is_s_records_start bytes.now }
+{
+    !bytes.is_empty() && bytes[0] == b'S' && begins_with_digits(&bytes[1..], 9)
+}
+
+/// Whether the bytes are a text: at least eight, with a line feed, and each printable or one that texts have.
+pub fn is_text(bytes: &[u8]) -> bool
+    ensures { result ≡ is_text bytes.now }
+{
+    bytes.len() >= LEAST_TEXT && has_line_feed(bytes) && are_of_text(bytes)
+}
+
+/// Whether one of the bytes is a line feed.
+fn has_line_feed(bytes: &[u8]) -> bool
+    ensures { result ≡ list_any (λ byte. byte == 10) bytes.now }
+{
+    bytes.contains(&b'\n')
+}
+
+/// Whether a text may have each of the bytes.
+fn are_of_text(bytes: &[u8]) -> bool
+    ensures { result ≡ list_all is_of_text bytes.now }
+{
+    bytes.iter().all(|byte| is_of_text(*byte))
+}
+
+/// Whether a text may have this byte: a printable one, a tab, a line feed, a form feed, a carriage return, or a Ctrl-Z.
+fn is_of_text(byte: u8) -> bool
+    ensures { result ≡ is_of_text byte }
+{
+    (byte > 0x1F && byte < 0x7F)
+        || byte == b'\t'
+        || byte == b'\n'
+        || byte == 0x0C
+        || byte == b'\r'
+        || byte == CONTROL_Z
 }
 
 /// Whether the bytes begin as a line of inputs: a port, a blank and a byte.

@@ -2,7 +2,7 @@
 
 ghost use Rattle.std.specs.Prelude.{◌≡◌, option_copied, option_map};
 ghost use Rattle.std.specs.List.{list_any};
-ghost use Rattle.plm80_files.specs.Lines.{ends_in_blank, has_comment, has_flaw, has_lower_case, has_odd_number, has_other_bytes, is_flawed, is_odd_number, line_at, part_at, without_return};
+ghost use Rattle.plm80_files.specs.Lines.{ends_in_blank, has_blanks, has_comment, has_empty_word, has_flaw, has_lower_case, has_odd_number, has_other_bytes, is_flawed, is_odd_number, line_at, part_at, without_return};
 
 use plm80_console::{Console, are_digits};
 use thiserror::Error;
@@ -23,6 +23,12 @@ pub enum LineFlaw {
     NoLineFeed,
     #[error("the line ends in a blank")]
     Blank,
+    #[error("the line has a tab: write one blank")]
+    Tab,
+    #[error("the line has two blanks in a row, or begins with one: write one between words")]
+    Blanks,
+    #[error("the line is empty: leave it out")]
+    Empty,
     #[error("the line has a ; but these texts have no comments")]
     Comment,
     #[error("a number of the line has an odd number of digits")]
@@ -38,6 +44,9 @@ pub const FLAWS: &[LineFlaw] = &[
     LineFlaw::ControlZ,
     LineFlaw::NoLineFeed,
     LineFlaw::Blank,
+    LineFlaw::Tab,
+    LineFlaw::Blanks,
+    LineFlaw::Empty,
     LineFlaw::Comment,
     LineFlaw::OddDigits,
 ];
@@ -49,6 +58,8 @@ pub(crate) const VERSION_FLAWS: &[LineFlaw] = &[
     LineFlaw::ControlZ,
     LineFlaw::NoLineFeed,
     LineFlaw::Blank,
+    LineFlaw::Tab,
+    LineFlaw::Blanks,
     LineFlaw::Comment,
 ];
 
@@ -98,6 +109,9 @@ impl<'a> Line<'a> {
             LineFlaw::ControlZ => self.bytes.contains(&CONTROL_Z),
             LineFlaw::NoLineFeed => !self.is_ended,
             LineFlaw::Blank => ends_in_blank(self.bytes),
+            LineFlaw::Tab => self.bytes.contains(&b'\t'),
+            LineFlaw::Blanks => !self.has_comment() && has_blanks(self.bytes),
+            LineFlaw::Empty => self.bytes.is_empty(),
             LineFlaw::Comment => self.has_comment(),
             LineFlaw::OddDigits => {
                 !self.has_comment() && has_odd_number(without_return(self.bytes))
@@ -151,6 +165,20 @@ fn ends_in_blank(line: &[u8]) -> bool
 {
     let line = without_return(line);
     line.ends_with(b" ") || line.ends_with(b"\t")
+}
+
+/// Whether the line begins with a blank, or has two in a row, and ends in none.
+fn has_blanks(line: &[u8]) -> bool
+    ensures { result ≡ has_blanks line.now }
+{
+    !line.is_empty() && !ends_in_blank(line) && has_empty_word(line)
+}
+
+/// Whether nothing stands between two blanks of the line, or between one and an end of it.
+fn has_empty_word(line: &[u8]) -> bool
+    ensures { result ≡ has_empty_word line.now }
+{
+    line.split(|byte| *byte == b' ').any(|word| word.is_empty())
 }
 
 /// Whether the line has a byte that is none of ASCII's, or a 00.

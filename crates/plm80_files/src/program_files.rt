@@ -5,6 +5,7 @@ ghost use Rattle.image80.specs.RegionsText.{Spells};
 ghost use Rattle.image80_file.specs.ImageFile.{SpellsImage, without_regions};
 ghost use Rattle.plm80_console.specs.Journal.{OnlyReports, and_reported};
 
+use crate::damage_words::damage_words;
 use crate::file_fault::OBJECT_WORDS;
 use crate::file_kinds::{FileRole, explain_file, place_of_regions};
 use crate::regions_words::explain_regions;
@@ -88,13 +89,26 @@ pub fn image_of<C: Console>(
 
 /// Says why these bytes, which were to be those of an image, spell none: what they seem to be, or what is wrong with them.
 pub fn explain_image<C: Console>(console: &C, bytes: &[u8], fault: ImageFault) {
-    if !explain_file(console, bytes, FileRole::Image) {
-        console.explain_any(image_words(fault));
+    explain_image_as(console, bytes, fault, FileRole::Image);
+}
+
+/// Says why these bytes, which were to be those of an image in this role, spell none: what they seem to be, or what is wrong with them.
+pub fn explain_image_as<C: Console>(console: &C, bytes: &[u8], fault: ImageFault, role: FileRole) {
+    if explain_file(console, bytes, role) {
+        return;
+    }
+    let damage = match fault {
+        ImageFault::Module(fault) => damage_words(bytes, fault.cause),
+        _ => None,
+    };
+    match damage {
+        Some(words) => console.explain(words),
+        None => console.explain_any(image_words(fault)),
     }
 }
 
 /// Words on a fault of a file that begins as an image does; `None` if memory ran out.
-pub fn image_words(fault: ImageFault) -> Option<&'static str>
+fn image_words(fault: ImageFault) -> Option<&'static str>
     ensures { (result ≡ None) ↔ (fault ≡ ImageFault.Memory) }
 {
     match fault {

@@ -1,6 +1,6 @@
 //! What is wrong with a text of regions, in words.
 
-ghost use Rattle.std.specs.Prelude.{◌≡◌, ◌≢◌, IfOk, IfSome};
+ghost use Rattle.std.specs.Prelude.{◌≡◌, ◌≢◌, ◌&&◌, nat_le, nat_lt, IfOk, IfSome};
 ghost use Rattle.plm80_files.specs.Lines.{needs_version_2};
 ghost use Rattle.plm80_files.specs.RangeWords.{IsInWords, IsRangeLine, ShareAddress};
 
@@ -18,6 +18,13 @@ const ADDRESSES: usize = 65_536;
 /// The form of a line of regions, in words.
 const RANGE_LINE: &str =
     "a line is CODE, DATA or (once) STACK, a first address and a length up to FFFF, as CODE 3000 009B; or CASE and addresses";
+
+/// The form of a line of targets, in words.
+const CASE_LINE: &str =
+    "a CASE line is the address of a PCHL and its targets, four digits each, with one blank before each, as CASE 300E 3015 301F";
+
+/// How many bytes of a CASE line its word and its address are.
+const CASE_HEAD: usize = 9;
 
 /// The number that stands for no line: lines are counted from 1.
 const NO_LINE: usize = 0;
@@ -40,7 +47,7 @@ pub fn explain_regions<C: Console>(console: &C, text: &[u8], fault: RegionsFault
                 let is_flawed = explain_flaws(console, text, number, FLAWS);
                 let is_lower = explain_flaws(console, text, number, &[LineFlaw::LowerCase]);
                 if !is_flawed && !is_lower {
-                    console.explain(RANGE_LINE);
+                    explain_form(console, text, number);
                 }
             }
         }
@@ -48,6 +55,11 @@ pub fn explain_regions<C: Console>(console: &C, text: &[u8], fault: RegionsFault
             if let Some((first, second)) = overlap_in(console.alloc(), text) {
                 console.explain(first);
                 console.explain(second);
+                if seems_last(first.range) || seems_last(second.range) {
+                    console.explain(
+                        "the second number of a line is a length, not the last address",
+                    );
+                }
             }
         }
         RegionsFault::NoStack => {
@@ -57,6 +69,51 @@ pub fn explain_regions<C: Console>(console: &C, text: &[u8], fault: RegionsFault
         }
         RegionsFault::RegionsOverlap | RegionsFault::Memory => {}
     }
+}
+
+/// Whether the length of a range may have been meant as its last address.
+fn seems_last(range: Range) -> bool
+    ensures { result ≡ (nat_lt 0 range.first && nat_le range.first range.length) }
+{
+    range.first > 0 && range.length >= range.first
+}
+
+/// Says what form the line of this number should have; of a CASE line, which line has its address already, if one does.
+fn explain_form<C: Console>(console: &C, text: &[u8], number: usize) {
+    match case_head(text, number) {
+        Some(head) => match earlier_case(text, number, head) {
+            Some(earlier) => console.explain(format_args!(
+                "line {earlier} has targets of this address already: write all of them there"
+            )),
+            None => console.explain(CASE_LINE),
+        },
+        None => console.explain(RANGE_LINE),
+    }
+}
+
+/// The word and the address with which the line of this number begins, if it is a CASE line; else `None`.
+fn case_head(text: &[u8], number: usize) -> Option<&[u8]> {
+    let line = line_of(text, number)?;
+    if line.bytes.starts_with(b"CASE ") {
+        line.bytes.get(..CASE_HEAD)
+    } else {
+        None
+    }
+}
+
+/// The number of the first line before the one of this number that begins with this word and address; `None` if none does.
+fn earlier_case(text: &[u8], number: usize, head: &[u8]) -> Option<usize> {
+    let mut earlier = 0usize;
+    for line in text.split(|byte| *byte == b'\n') {
+        earlier = earlier.saturating_add(1);
+        if earlier >= number {
+            return None;
+        }
+        if line.starts_with(head) {
+            return Some(earlier);
+        }
+    }
+    None
 }
 
 /// A line of a text of regions that has a range: its number, its words and the range.

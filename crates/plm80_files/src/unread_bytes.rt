@@ -7,17 +7,37 @@ ghost use Rattle.plm80_files.specs.UnreadBytes.{AreUnread, IsBehindEnd, after_re
 use crate::line_words::CONTROL_Z;
 use omf_core::RecordKind;
 use plm80_console::Console;
-use thiserror::Error;
+use std::fmt;
+use std::fmt::{Display, Formatter};
+
+/// The type of the record with which an object file begins.
+const MODULE_HEADER: u8 = RecordKind::ModuleHeader as u8;
 
 /// The type of the record with which an object file ends.
 const END_OF_FILE: u8 = RecordKind::EndOfFile as u8;
 
 /// Words on the bytes of an object file that aren't read: how many there are behind its end record.
-#[derive(Clone, Copy, Debug, Error)]
-#[error("{count} bytes behind the end record of {path} aren't read")]
+#[derive(Clone, Copy, Debug)]
 pub struct UnreadBytes<'a> {
     pub path: &'a str,
     pub count: usize,
+    /// Whether they begin as an object file does.
+    begin_module: bool,
+}
+
+impl Display for UnreadBytes<'_> {
+    fn fmt<W: fmt::Write>(&self, formatter: &mut Formatter<W>) -> fmt::Result {
+        let (path, count) = (self.path, self.count);
+        let advice = if self.begin_module {
+            ": they begin as an object file does, so give each file by itself"
+        } else {
+            ""
+        };
+        write!(
+            formatter,
+            "{count} bytes behind the end record of {path} aren't read{advice}"
+        )
+    }
 }
 
 impl<'a> UnreadBytes<'a> {
@@ -34,6 +54,7 @@ impl<'a> UnreadBytes<'a> {
             Some(UnreadBytes {
                 path,
                 count: unread.len(),
+                begin_module: unread.first() == Some(&MODULE_HEADER),
             })
         }
     }

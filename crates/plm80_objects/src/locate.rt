@@ -18,6 +18,7 @@ use crate::helpers::locate_options::{
 use clap::ArgMatches;
 use image80::{Image, write_regions};
 use image80_file::write_image;
+use omf_core::segment_id::ABSOLUTE;
 use omf_module::Module;
 use place80::{Options, PlaceFault, layout, locate, locate_with_restart};
 use place80_text::{Board, write_image_with_publics};
@@ -185,6 +186,9 @@ fn locate_program<'a, C: Console>(
         Ok(image) => answer_on_board(console, arguments, program, options, board, &image),
         Err(fault) => {
             let reported = report_place_fault(console, program, options, &fault);
+            if arguments.restart && matches!(fault, PlaceFault::Overlap(ABSOLUTE, _)) {
+                console.explain("--restart puts a JMP at 0000 to 0002: give another base");
+            }
             explain_unread(console, arguments.object);
             Err(reported)
         }

@@ -19,6 +19,7 @@ pub(crate) fn explain_extent<C: Console>(console: &C, image: &Image, extent: Ext
         return;
     }
     if let Some(bytes) = Held::of(console.alloc(), image) {
+        explain_length(console, &bytes, extent);
         explain_rest(console, &bytes, extent);
         if extent.fill != 0 {
             explain_gaps(console, &bytes, extent);
@@ -55,6 +56,25 @@ impl Held {
 fn is_inside(extent: Extent, at: usize) -> bool {
     let first = usize::from(extent.first);
     at >= first && at - first < extent.length as usize
+}
+
+/// Says that the length seems to be a last address, if the image's last byte has this address, or if that ends a page behind it.
+fn explain_length<C: Console>(console: &C, bytes: &Held, extent: Extent) {
+    let (first, last) = (u32::from(extent.first), extent.length);
+    let mut behind = 0;
+    for at in 0..MEMORY {
+        if bytes.has(at as usize) {
+            behind = at.saturating_add(1);
+        }
+    }
+    if last >= first
+        && (last.saturating_add(1) == behind || (last % 256 == 255 && last >= behind))
+    {
+        let length = (last - first).saturating_add(1);
+        console.explain(format_args!(
+            "--length {last:04X} is a number of bytes; from {first:04X} to {last:04X} they are {length:04X}"
+        ));
+    }
 }
 
 /// Says how many bytes of the image are outside the range, and the first address of these, if the range has others.

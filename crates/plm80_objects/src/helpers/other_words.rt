@@ -3,15 +3,10 @@
 use crate::helpers::dump_words::DumpWords;
 use omf_core::{RecordKind, next_record};
 use plm80_console::Console;
+use plm80_files::is_text;
 
 /// The type of the record with which a library begins.
 const LIBRARY_HEADER: u8 = RecordKind::LibraryHeader as u8;
-
-/// The fewest bytes of a text: fewer may be a dump by chance.
-const LEAST_TEXT: usize = 8;
-
-/// The byte with which CP/M fills a text up to the end of its last record.
-const CONTROL_Z: u8 = 0x1A;
 
 /// Says what the dump of this path seems to be, and what makes bytes of it, if it doesn't seem to be bytes as they are and words are asked
 /// for.
@@ -60,16 +55,4 @@ fn begins_with_library(bytes: &[u8]) -> bool {
         Ok((record, _)) => record.kind == LIBRARY_HEADER,
         Err(_) => false,
     }
-}
-
-/// Whether the bytes are a text: at least eight, with a line feed, and each printable or one that texts have.
-fn is_text(bytes: &[u8]) -> bool {
-    bytes.len() >= LEAST_TEXT
-        && bytes.contains(&b'\n')
-        && bytes.iter().all(|byte| is_of_text(*byte))
-}
-
-/// Whether a text may have this byte: a printable one, a tab, a line feed, a form feed, a carriage return or CONTROL-Z.
-fn is_of_text(byte: u8) -> bool {
-    matches!(byte, 0x20..=0x7E | b'\t' | b'\n' | 0x0C | b'\r') || byte == CONTROL_Z
 }
