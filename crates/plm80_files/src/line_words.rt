@@ -58,8 +58,6 @@ pub(crate) const VERSION_FLAWS: &[LineFlaw] = &[
     LineFlaw::ControlZ,
     LineFlaw::NoLineFeed,
     LineFlaw::Blank,
-    LineFlaw::Tab,
-    LineFlaw::Blanks,
     LineFlaw::Comment,
 ];
 
