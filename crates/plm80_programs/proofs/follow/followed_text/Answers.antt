@@ -15,7 +15,7 @@ returns c =
     let table = c.args.table.now in
     let stores = stores_lines c.args.asked.quiet.now image names c.args.stores.now in
     let ways = named_text image.regions.code names (codes "WAY ") (flat_map way_line table.ways.items) in
-    let room : c.stack.result.length ≡ image.regions.stack.length = ap (λ (r : Range). r.length) c.stack.ensures.range ∙ ap (λ (i : Located). i.regions.stack.length) c.image.view_is in
+    let room : c.stack-room.result.length ≡ image.regions.stack.length = ap (λ (r : Range). r.length) c.stack-room.ensures.range ∙ ap (λ (i : Located). i.regions.stack.length) c.image.view_is in
     c.in_ok-extend_from_slice-2.ensures.items
     ∙ ap (λ (l : List ℕ). c.in_ok-text.text.items ++ l)
     (c.deref-3.ensures.value ∙ c.in_ok-extend_from_slice.ensures.items ∙ ap (λ (l : List ℕ). c.in_ok-lines.lines.items ++ l) (c.deref-2.ensures.value ∙ c.in_ok-ways.ensures ∙ ap (λ (w : List Way). named_text image.regions.code names (codes "WAY ") (flat_map way_line w)) c.deref.ensures.value)
