@@ -136,7 +136,7 @@ struct Sizes {
     index: usize,
 }
 
-/// Whether one of the sizes is too great for a library: a word can't hold the number of modules or
+/// Whether a library would exceed what its format can hold: a word can't hold the number of modules or
 /// the block of the index, or a body of the index has more than 65534 bytes.
 fn exceeds(sizes: Sizes) -> bool
     ensures { result ≡ (nat_lt 65535 sizes.modules || nat_lt 65534 sizes.names || nat_lt 16383 sizes.places

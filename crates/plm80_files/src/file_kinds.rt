@@ -217,7 +217,7 @@ pub fn is_text(bytes: &[u8]) -> bool
     bytes.len() >= LEAST_TEXT && has_line_feed(bytes) && are_of_text(bytes)
 }
 
-/// Whether one of the bytes is a line feed.
+/// Whether there is a line feed among the bytes.
 fn has_line_feed(bytes: &[u8]) -> bool
     ensures { result ≡ list_any (λ byte. byte == 10) bytes.now }
 {

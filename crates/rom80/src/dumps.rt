@@ -102,7 +102,7 @@ impl Dumps {
     }
 }
 
-/// Whether one of the chunks covers one of the `count` addresses from `first` on. The addresses must lie in memory.
+/// Whether any chunk covers one of the `count` addresses from `first` on. The addresses must lie in memory.
 fn share_an_address(chunks: &[Chunk], first: usize, count: usize) -> bool
     requires { first + count ≤ 65536 }
     ensures { result ≡ true ↔ ShareAnAddress chunks.now first count }

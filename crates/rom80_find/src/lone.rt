@@ -48,7 +48,7 @@ impl Uses {
     }
 }
 
-/// Whether one of the two bytes is a low half and the other one a high half.
+/// Whether two bytes are a low half and a high half, in either order.
 fn are_low_and_high(first: CodeByte, second: CodeByte) -> bool
     ensures { result ≡ true → AreOfOneWord (first ∷ second ∷ []) }
 {

@@ -19,11 +19,11 @@ pub enum StopReason {
     StackNotSet,
     /// SP leaves the stack.
     LeavesStack,
-    /// It isn't known where a return goes.
+    /// A return, of which it isn't known where it goes.
     UnknownReturn,
-    /// It isn't known where a PCHL goes, for which no targets are declared.
+    /// A PCHL without declared targets, of which it isn't known where it goes.
     UnknownJump,
-    /// It isn't known what SPHL sets SP to.
+    /// An SPHL, of which it isn't known what it sets SP to.
     UnknownPointer,
     /// There are too many states; the address has the most of them.
     TooManyStates,

@@ -15,11 +15,11 @@ const SWEEPS: usize = 32;
 /// The bytes of quiet memory that states name.
 #[derive(Clone, Copy, Debug, PartialEq, Eq)]
 pub enum Named {
-    /// Those on which a later store, jump by HL or condition depends, as far as the pointers that read them are known.
+    /// The variables on which a later store, jump by HL or condition depends, as far as the pointers that read them are known.
     Needed,
-    /// Those that are read later.
+    /// The variables that are read later.
     Read,
-    /// Those that the next instruction reads or stores: what is known of the others is known by variables.
+    /// The variables that the next instruction reads or stores: what is known of the others is known by variables.
     Next,
 }
 

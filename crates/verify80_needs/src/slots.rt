@@ -27,7 +27,7 @@ impl Slots {
         address != NOWHERE && self.0.contains(&address)
     }
 
-    /// These slots without the addresses of these bytes.
+    /// The slots without the addresses of these bytes.
     pub fn without(self, bytes: Bytes) -> Slots {
         Slots(
             self.0.map(|slot| if bytes.iter().flatten().any(|byte| byte.0 == slot) {

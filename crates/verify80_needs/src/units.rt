@@ -104,17 +104,17 @@ impl Units {
         }
     }
 
-    /// These parts, the words among them each a word deeper, as before a POP.
+    /// The parts with each word among them a word deeper, as before a POP.
     pub fn deeper(self) -> Units {
         self.with_words(self.intersection(Units::WORDS).0.wrapping_mul(2))
     }
 
-    /// These parts, the words among them each a word less deep, as before a PUSH.
+    /// The parts with each word among them a word less deep, as before a PUSH.
     pub fn shallower(self) -> Units {
         self.with_words(self.intersection(Units::WORDS).0 / 2)
     }
 
-    /// These parts, with the words of others in place of their own.
+    /// The parts with the words of others in place of their own.
     fn with_words(self, others: u32) -> Units {
         self.difference(Units::WORDS)
             .union(Units(others).intersection(Units::WORDS))

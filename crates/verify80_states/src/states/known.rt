@@ -190,7 +190,7 @@ impl Known {
         }
     }
 
-    /// The same with another span for a pair, and the same copy of A. Of SP nothing is known.
+    /// What is known with another span for a pair, and with the copy of A unchanged. Of SP nothing is known.
     fn with_pair(self, pair: Pair, span: PairSpan) -> Known
         ensures { result ≡ with_pair self pair span }
     {
