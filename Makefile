@@ -96,6 +96,7 @@ test: need-rt need-python3
 	@tests/generated/manners $(PROGRAM)
 	@tests/generated/firmware_shown $(PROGRAM)
 	@tests/generated/followed $(PROGRAM)
+	@tests/generated/live $(PROGRAM)
 	@tests/commands/replaced $(PROGRAM)
 	@tests/commands/completion $(PROGRAM)
 	@tests/commands/fault_page
@@ -119,6 +120,7 @@ commands: need-python3 build
 	@tests/generated/manners $(PROGRAM)
 	@tests/generated/firmware_shown $(PROGRAM)
 	@tests/generated/followed $(PROGRAM)
+	@tests/generated/live $(PROGRAM)
 	@tests/commands/replaced $(PROGRAM)
 	@tests/commands/completion $(PROGRAM)
 	@tests/commands/fault_page

@@ -37,7 +37,7 @@ _plm80() {
         check) options='--names --why -h --help' ;;
         explain) options='--all --names --why -h --help' ;;
         stores) options='--names --quiet-ram --why -h --help' ;;
-        follow) options='--names --quiet-ram --list --interrupted --why -h --help' ;;
+        follow) options='--names --quiet-ram --list --interrupted --handler --why -h --help' ;;
         list) options='--reached --names --why -h --help' ;;
         cases) options='--out --why -h --help' ;;
         calls) options='--dot --names --why -h --help' ;;

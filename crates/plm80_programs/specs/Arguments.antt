@@ -32,6 +32,7 @@ pub record AreFollowArguments (matches : ArgMatches) (arguments : FollowArgument
   pub quiet : map (λ range. range.now) arguments.quiet.items ≡ argument_values matches (codes "quiet-ram")
   pub lists : IsFlag matches (codes "list") arguments.lists
   pub interrupted : IsFlag matches (codes "interrupted") arguments.interrupted
+  pub handlers : map (λ handler. handler.now) arguments.handlers.items ≡ argument_values matches (codes "handler")
 
 pub record AreRegionsArguments (matches : ArgMatches) (arguments : RegionsArguments) : Type 0 where
   pub old : arguments.old.now ≡ argument_text matches (codes "OLD")

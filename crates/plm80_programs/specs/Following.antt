@@ -1,7 +1,6 @@
 -- What `follow` prints of an image. (The lines of a program that is followed are those of the crates below; that where a search stopped is
 -- printed alone, with status 1, is this project's own.)
 use Rattle.std.specs.Prelude.{◌≡◌, ℕ, Bool, true, false, List, [], ◌∷◌, ◌++◌, Option, All, codes, length, map, not}
-use Rattle.std.specs.List.{flat_map}
 use Rattle.text80.specs.Digits.{word_text}
 use Rattle.omf_model.specs.declared.symbols.Public.{Public}
 use Rattle.decode80.specs.declared.fetching.Fetched.{Fetched}
@@ -9,18 +8,17 @@ use Rattle.image80.specs.{declared.range.Range.Range, Image.Located, Image.memor
 use Rattle.image80_text.specs.NameText.{labelled_text, named_text}
 use Rattle.loader80_trace.specs.Cover.{cover_lines}
 use Rattle.verify80_stores.specs.{declared.stores.Stores.Stores, Boards.is_quiet}
-use Rattle.verify80_follow.specs.{declared.fit.Table.Table, FollowText.bounds_lines, FollowText.way_line, Promise.PromiseOf, Reaching.AreFollowed, Reaching.AreStoresFollowed}
+use Rattle.verify80_follow.specs.{declared.fit.Table.Table, declared.handling.Handler.Handler, FollowText.bounds_lines, FollowText.live_lines, FollowText.ways_lines, Live.PromiseOfLive, Live.handler_bounds, Promise.PromiseOf, Reaching.AreFollowed, Reaching.AreStoresFollowed, Reaching.places_of}
 use Rattle.verify80_follow_search.specs.declared.stop.StopReason.{StopReason}
-use Rattle.verify80_follow_search.specs.declared.stop.StopReason.TheVariants.{FetchOutside, UnusedOpcode, EnablesInterrupts, DirectStore, StackNotSet, LeavesStack, UnknownReturn, UnknownJump, UnknownPointer, TooManyStates, Unfit}
-use Rattle.plm80_console.specs.{Answer.AnswerValue, Answer.prints, Journal.FileValue, Ranges.AreRangesOf}
+use Rattle.verify80_follow_search.specs.declared.stop.StopReason.TheVariants.{FetchOutside, UnusedOpcode, EnablesInterrupts, DirectStore, StackNotSet, LeavesStack, UnknownReturn, UnknownJump, UnknownPointer, NotGivenBack, EnablesEarly, UsesPointer, StoresQuiet, NoRoom, TooManyStates, Unfit}
+use Rattle.plm80_console.specs.{Answer.AnswerValue, Answer.prints, Journal.FileValue, NumberText.word_value, Ranges.AreRangesOf}
 use Rattle.plm80_names.specs.{Verdict.AnswersProgram, Arguments.asks_names}
-use Rattle.plm80_programs.specs.{declared.follow.Followed.Followed, declared.follow.Followed.TheVariants.By, declared.follow.Followed.TheVariants.Stopped, declared.follow.FollowArguments.FollowArguments, Printed.IsAllData, Printed.stores_lines}
+use Rattle.plm80_programs.specs.{declared.follow.Followed.Followed, declared.follow.Followed.TheVariants.By, declared.follow.FollowedAll.FollowedAll, declared.follow.FollowedAll.TheVariants.Alone, declared.follow.FollowedAll.TheVariants.Live, declared.follow.FollowedAll.TheVariants.Stopped as StoppedAll, declared.follow.LiveTables.LiveTables, declared.follow.Followed.TheVariants.Stopped, declared.follow.FollowArguments.FollowArguments, Printed.IsAllData, Printed.stores_lines}
 
--- the lines of a table that follows a program: its states and its stack, its stores and jumps with what all that rests on, and its ways
-abbrev pub followed_lines : (interrupted : Bool) → (quiet : List Range) → Located → List Public → Table → Stores → List ℕ
-followed_lines interrupted quiet image publics table stores =
-    bounds_lines interrupted (length table.states.items) table.bytes image.regions.stack.length
-    ++ (stores_lines quiet image publics stores ++ named_text image.regions.code publics (codes "WAY ") (flat_map way_line table.ways.items))
+-- the lines of a table that follows a program: what is said of its states and its stack, its stores and jumps with what all that rests on, and its ways
+abbrev pub followed_lines : (first : List ℕ) → (quiet : List Range) → Located → List Public → Table → List Handler → Stores → List ℕ
+followed_lines first quiet image publics table handlers stores =
+    first ++ (stores_lines quiet image publics stores ++ named_text image.regions.code publics (codes "WAY ") (ways_lines table.ways.items handlers))
 
 -- why a search stopped
 abbrev pub reason_words : StopReason → List ℕ
@@ -33,6 +31,11 @@ reason_words LeavesStack = codes "STACK LEFT"
 reason_words UnknownReturn = codes "RETURN UNKNOWN"
 reason_words UnknownJump = codes "JUMP UNKNOWN"
 reason_words UnknownPointer = codes "SP UNKNOWN"
+reason_words NotGivenBack = codes "NOT GIVEN BACK"
+reason_words EnablesEarly = codes "ENABLED EARLY"
+reason_words UsesPointer = codes "SP USED"
+reason_words StoresQuiet = codes "QUIET STORED"
+reason_words NoRoom = codes "NO ROOM"
 reason_words TooManyStates = codes "TOO MANY STATES"
 reason_words Unfit = codes "UNFIT"
 
@@ -46,27 +49,48 @@ abbrev pub IsFollowedBy : (interrupted : Bool) → (quiet : List Range) → Loca
 IsFollowedBy interrupted quiet image (By table is_set) = PromiseOf interrupted image (is_quiet image.regions quiet) is_set table.ways.items table.listed table.bytes
 IsFollowedBy interrupted quiet image (Stopped stop) = Unit {0}
 
+-- and with tables of its handlers, on every live machine with them: they write no data but that which is said
+abbrev pub KeepsLivePromise : (quiet : List Range) → Located → LiveTables → Type 0
+KeepsLivePromise quiet image found = PromiseOfLive image (is_quiet image.regions quiet) found.is_set (map (λ handler. handler.at) found.handlers.items) found.table.ways.items found.table.listed found.table.bytes
+    (handler_bounds image.regions found.writes.items found.most found.handlers.items)
+
+abbrev pub IsFollowedAllBy : (interrupted : Bool) → (handlers : List ℕ) → (quiet : List Range) → Located → FollowedAll → Type 0
+IsFollowedAllBy interrupted handlers quiet image (Alone table is_set) = (handlers ≡ []) × PromiseOf interrupted image (is_quiet image.regions quiet) is_set table.ways.items table.listed table.bytes
+IsFollowedAllBy interrupted handlers quiet image (Live found) = (map (λ handler. handler.at) found.handlers.items ≡ handlers) × KeepsLivePromise quiet image found
+IsFollowedAllBy interrupted handlers quiet image (StoppedAll stop) = Unit {0}
+
 -- the code to which a program may come that a table follows, if it is listed
 abbrev pub listing_lines : (lists : Bool) → Located → List Public → (reached : List (Option Fetched)) → List ℕ
 listing_lines true image publics reached = labelled_text publics false (cover_lines false [] image.regions (memory_of image.chunks) reached)
 listing_lines false image publics reached = []
 
+-- what is printed of a table behind its first lines, with that of its handlers
+pub record PrintsTable (first : List ℕ) (quiet : List Range) (lists : Bool) (image : Located) (publics : List Public) (table : Table) (handlers : List Handler) (is_set : Bool) (answer : AnswerValue) : Type 0 where
+  pub stores : Stores
+  pub reached : List (Option Fetched)
+  pub are_reached : AreFollowed image (places_of table.states.items handlers) reached
+  pub are_stores : AreStoresFollowed table.listed (not is_set) reached stores
+  pub is : answer ≡ prints (followed_lines first quiet image publics table handlers stores ++ listing_lines lists image publics reached) 0
+
 -- The lines of a program that is followed are printed only if its promise is kept; of where a search stopped nothing is promised.
-pub data SaysFollowed (quiet : List Range) (interrupted lists : Bool) (image : Located) (publics : List Public) (answer : AnswerValue) : Type 0 where
-  followed : (table : Table) (is_set : Bool) (stores : Stores) (reached : List (Option Fetched)) →
-      PromiseOf interrupted image (is_quiet image.regions quiet) is_set table.ways.items table.listed table.bytes → AreFollowed image table.states.items reached →
-      AreStoresFollowed table.listed (not is_set) reached stores →
-      answer ≡ prints (followed_lines interrupted quiet image publics table stores ++ listing_lines lists image publics reached) 0 → SaysFollowed quiet interrupted lists image publics answer
+pub data SaysFollowed (quiet : List Range) (interrupted : Bool) (handlers : List ℕ) (lists : Bool) (image : Located) (publics : List Public) (answer : AnswerValue) : Type 0 where
+  followed : (table : Table) (is_set : Bool) → handlers ≡ [] → PromiseOf interrupted image (is_quiet image.regions quiet) is_set table.ways.items table.listed table.bytes →
+      PrintsTable (bounds_lines interrupted (length table.states.items) table.bytes image.regions.stack.length) quiet lists image publics table [] is_set answer → SaysFollowed quiet interrupted handlers lists image publics answer
+  live : (found : LiveTables) → map (λ handler. handler.at) found.handlers.items ≡ handlers → KeepsLivePromise quiet image found →
+      PrintsTable (named_text image.regions.code publics (codes "HANDLER ") (live_lines found.handlers.items found.writes.items (length found.table.states.items) found.table.bytes image.regions.stack.length found.most)) quiet lists image publics found.table found.handlers.items found.is_set answer →
+      SaysFollowed quiet interrupted handlers lists image publics answer
   stopped : (at : ℕ) (reason : StopReason) →
-      answer ≡ prints (named_text image.regions.code publics (codes "STOPPED ") (stopped_line at reason)) 1 → SaysFollowed quiet interrupted lists image publics answer
+      answer ≡ prints (named_text image.regions.code publics (codes "STOPPED ") (stopped_line at reason)) 1 → SaysFollowed quiet interrupted handlers lists image publics answer
 
 -- the quiet ranges are data, and it is said how the program is followed
-pub record PrintsFollowed (quiet : List Range) (interrupted lists : Bool) (image : Located) (publics : List Public) (answer : AnswerValue) : Type 0 where
+pub record PrintsFollowed (quiet : List Range) (interrupted : Bool) (handlers : List ℕ) (lists : Bool) (image : Located) (publics : List Public) (answer : AnswerValue) : Type 0 where
   pub are_data : All (IsAllData image.regions) quiet
-  pub says : SaysFollowed quiet interrupted lists image publics answer
+  pub says : SaysFollowed quiet interrupted handlers lists image publics answer
 
--- the same of two files, with the ranges that the options write
+-- the same of two files, with the ranges and the addresses that the options write
 pub record AnswersFollowing (arguments : FollowArguments) (files : List FileValue) (answer : AnswerValue) : Type 0 where
   pub quiet : List Range
+  pub addresses : List ℕ
   pub written : AreRangesOf (map (λ range. range.now) arguments.quiet.items) quiet
-  pub is : AnswersProgram (PrintsFollowed quiet arguments.interrupted arguments.lists) (asks_names arguments.files) files answer
+  pub handlers : map (λ text. word_value text.now) arguments.handlers.items ≡ addresses
+  pub is : AnswersProgram (PrintsFollowed quiet arguments.interrupted addresses arguments.lists) (asks_names arguments.files) files answer

@@ -1,14 +1,13 @@
 //! `plm80 follow`: a program followed by what is known of each byte of its stack.
 
-ghost use Rattle.std.specs.Prelude.{◌≡◌, IfErr, IfOk, codes};
-ghost use Rattle.std.specs.List.{flat_map};
-ghost use Rattle.plm80_console.specs.{Answer.Gives, Answer.GivesUp, Answer.IsAnswered, Answer.IsGivenUp};
+ghost use Rattle.std.specs.Prelude.{◌≡◌, IfErr, IfOk, [], codes, length, map, true};
+ghost use Rattle.plm80_console.specs.{Journal.and_reported, NumberText.word_value, Answer.Gives, Answer.GivesUp, Answer.IsAnswered, Answer.IsGivenUp};
 ghost use Rattle.image80_text.specs.NameText.{named_text};
 ghost use Rattle.plm80_names.specs.Arguments.{program_paths};
-ghost use Rattle.verify80_follow.specs.FollowText.{way_line};
+ghost use Rattle.verify80_follow.specs.FollowText.{bounds_lines, live_lines, ways_lines};
 ghost use Rattle.plm80_programs.specs.Arguments.{AreFollowArguments};
 ghost use Rattle.plm80_programs.specs.Printed.{stores_lines};
-ghost use Rattle.plm80_programs.specs.Following.{AnswersFollowing, IsFollowedBy, PrintsFollowed, SaysFollowed, followed_lines, listing_lines, reason_words, stopped_line};
+ghost use Rattle.plm80_programs.specs.Following.{AnswersFollowing, IsFollowedAllBy, IsFollowedBy, KeepsLivePromise, PrintsFollowed, PrintsTable, SaysFollowed, followed_lines, listing_lines, reason_words, stopped_line};
 
 use crate::stores::{require_data, stores_lines};
 use clap::ArgMatches;
@@ -17,16 +16,20 @@ use image80::{Image, Range};
 use loader80_trace::list_instructions;
 use plm80_console::laws::faults_follow_reading;
 use plm80_console::{
-    Answer, Argument, Console, Kind, Reported, Syntax, argument_values, ranges_of,
+    Answer, Argument, Console, Kind, OptionText, Reported, Syntax, argument_values, ranges_of,
 };
 use plm80_files::{IMAGE, REGIONS};
 use plm80_names::{NAMES, NamedFiles, Names, explain_given};
 use std::alloc::{AllocError, Global};
 use text80::word_digits;
 use verify80_follow::{
-    RunKind, Table, Way, append_ways, bounds_text, followed_instructions, followed_stores, follows,
+    Handler, LiveRun, RunKind, Table, bounds_text, followed_instructions, followed_stores, follows,
+    follows_live, live_text, places_of, ways_text,
 };
-use verify80_follow_search::{SearchResult, Stop, StopReason, search};
+use verify80_follow_search::{
+    Budget, SearchResult, Stop, StopReason, list_together, places_anew, search, search_handler,
+    written_ranges,
+};
 use verify80_stores::Stores;
 
 const AFTER_HELP: &str = "\
@@ -58,6 +61,17 @@ is that of the program between its interrupts, on every board whose handlers giv
 back SP, registers, flags and what is pushed, and store only where devices may.
 HANDLERS NOT VERIFIED says that no handler was looked at. STACK doesn't count
 them: below its bytes there must be room for 2 and what a handler uses.
+
+--handler, repeatable, follows a handler, too, from the address where it is
+entered: a vector such as 0038, or where the JMP there leads. On each way it must
+give back SP, the registers and flags by PUSH and POP, let interrupts in only by
+an EI directly before its own RET, and not store to --quiet-ram; or it begins the
+program anew, by LXI SP with the stack's top and on from there with interrupts
+off. Then the promise is that of the program with its handlers, whenever
+interrupts come that these alone answer, by RST or CALL. HANDLER 0038 STACK 4
+says how many bytes an interrupt takes at most, with the 2 of its return address;
+STACK counts the most of them. WRITES 2000 0002 is data that handlers write, its
+first address and length: no other, so that the rest may be --quiet-ram.
 
 The exit status is 0 if the program is followed. Else it is 1, and one line says
 where the search stopped and why, as in STOPPED 3009 RETURN UNKNOWN: that is
@@ -94,6 +108,11 @@ pub const FOLLOW: Syntax<'static> = Syntax {
             kind: Kind::Flag,
             help: "Interrupts come: allow EI, and go on behind HLT; handlers aren't verified",
         },
+        Argument {
+            name: "handler",
+            kind: Kind::PathsAt("ADDRESS"),
+            help: "Interrupts come to this handler: follow it, too, and count its stack",
+        },
     ],
 };
 
@@ -107,6 +126,8 @@ pub struct FollowArguments<'a> {
     lists: bool,
     /// Whether the program is interrupted.
     interrupted: bool,
+    /// The addresses of handlers, in hexadecimal.
+    handlers: Vec<&'a str>,
 }
 
 impl<'a> FollowArguments<'a> {
@@ -119,6 +140,7 @@ impl<'a> FollowArguments<'a> {
             quiet: argument_values(alloc, matches, "quiet-ram")?,
             lists: matches.get_flag("list"),
             interrupted: matches.get_flag("interrupted"),
+            handlers: argument_values(alloc, matches, "handler")?,
         })
     }
 }
@@ -135,12 +157,14 @@ pub fn follow_files<C: Console>(
 {
     faults_follow_reading();
     let quiet = ranges_of(console, "quiet-ram", &arguments.quiet)?;
+    let handlers = words_of(console, "handler", &arguments.handlers)?;
     let files = arguments.files;
     let (image, names) = files.read(console)?;
     let asked = Asked {
         quiet: &quiet,
         lists: arguments.lists,
         interrupted: arguments.interrupted,
+        handlers: &handlers,
     };
     let given = print_followed(console, &image, &names, &arguments.quiet, asked);
     explain_given(console, &given, files.names, files.image, None);
@@ -156,6 +180,24 @@ struct Asked<'a> {
     lists: bool,
     /// Whether the program is interrupted.
     interrupted: bool,
+    /// The addresses of handlers that are followed, too.
+    handlers: &'a [u16],
+}
+
+/// The words that an option's values write, of one to four hexadecimal digits each. `BadNumber` is reported of the first that writes none.
+fn words_of<C: Console>(console: &mut C, name: &str, values: &[&str]) -> Result<Vec<u16>, Reported>
+    ensures words { IfOk result (λ words. words.items ≡ map (λ value. word_value value.now) values.now) }
+    ensures unchanged { IfOk result (λ _. C.journal console.new ≡ C.journal console.old) }
+    ensures fault { IfErr result (λ _. C.journal console.new ≡ and_reported (C.journal console.old)) }
+{
+    let mut words = Vec::new(console.alloc());
+    for value in values {
+        let word = OptionText::new(name, value).word(console)?;
+        if words.push(word).is_err() {
+            return Err(console.report_memory());
+        }
+    }
+    Ok(words)
 }
 
 /// Prints how the program of `image` is followed, or where that stops, and returns the exit status. The quiet ranges are those that `texts`
@@ -167,8 +209,8 @@ fn print_followed<C: Console>(
     texts: &[&str],
     asked: Asked<'_>,
 ) -> Result<u8, Reported>
-    ensures done { IfOk result (IsAnswered (PrintsFollowed asked.entry.quiet.now asked.entry.interrupted asked.entry.lists image.now names.now) (C.journal console.old) (C.journal console.new)) }
-    ensures fault { IfErr result (λ _. IsGivenUp (PrintsFollowed asked.entry.quiet.now asked.entry.interrupted asked.entry.lists image.now names.now) (C.journal console.old) (C.journal console.new)) }
+    ensures done { IfOk result (IsAnswered (PrintsFollowed asked.entry.quiet.now asked.entry.interrupted asked.entry.handlers.now asked.entry.lists image.now names.now) (C.journal console.old) (C.journal console.new)) }
+    ensures fault { IfErr result (λ _. IsGivenUp (PrintsFollowed asked.entry.quiet.now asked.entry.interrupted asked.entry.handlers.now asked.entry.lists image.now names.now) (C.journal console.old) (C.journal console.new)) }
 {
     require_data(console, &image.regions, texts, asked.quiet)?;
     match answer_of_following(console.alloc(), image, names, asked) {
@@ -195,21 +237,19 @@ fn answer_of_following(
     names: &Names,
     asked: Asked<'_>,
 ) -> Result<FollowedAnswer, AllocError>
-    ensures { IfOk result (λ followed. SaysFollowed asked.entry.quiet.now asked.entry.interrupted asked.entry.lists image.now names.now followed.answer) }
+    ensures { IfOk result (λ followed. SaysFollowed asked.entry.quiet.now asked.entry.interrupted asked.entry.handlers.now asked.entry.lists image.now names.now followed.answer) }
 {
-    match find_table(alloc, image, asked)? {
-        Followed::By(table, is_set) => {
-            let reached = followed_instructions(alloc, image, &table)?;
-            let stores = followed_stores(alloc, &table.listed, &reached, !is_set)?;
-            let mut text = followed_text(alloc, image, names, &table, asked, &stores)?;
-            let listing = listing_of(alloc, image, names, &reached, asked.lists)?;
-            text.extend_from_slice(&listing)?;
-            Ok(FollowedAnswer {
-                answer: Answer::prints(text, 0),
-                stop: None,
-            })
+    let found = find_all(alloc, image, asked)?;
+    match found {
+        FollowedAll::Alone(table, is_set) => {
+            let answer = answer_of_alone(alloc, image, names, asked, &table, is_set)?;
+            Ok(FollowedAnswer { answer, stop: None })
         }
-        Followed::Stopped(stop) => {
+        FollowedAll::Live(found) => {
+            let answer = answer_of_live(alloc, image, names, asked, &found)?;
+            Ok(FollowedAnswer { answer, stop: None })
+        }
+        FollowedAll::Stopped(stop) => {
             let text = stopped_text(alloc, &stop)?;
             let text = names.name(alloc, image.regions.code(), b"STOPPED ", text)?;
             Ok(FollowedAnswer {
@@ -218,6 +258,88 @@ fn answer_of_following(
             })
         }
     }
+}
+
+/// What `follow` answers of a program that is followed without handlers.
+fn answer_of_alone(
+    alloc: Global,
+    image: &Image,
+    names: &Names,
+    asked: Asked<'_>,
+    table: &Table,
+    is_set: bool,
+) -> Result<Answer<'static>, AllocError>
+    ensures { IfOk result (PrintsTable (bounds_lines asked.entry.interrupted (length table.now.states.items) table.now.bytes image.now.regions.stack.length) asked.entry.quiet.now asked.entry.lists image.now names.now table.now [] is_set) }
+{
+    let room = image.regions.stack().length;
+    let first = bounds_text(alloc, table, room, asked.interrupted)?;
+    let tables = Tables {
+        table,
+        handlers: &[],
+        is_set,
+    };
+    answer_of_tables(alloc, image, names, asked, tables, first)
+}
+
+/// What `follow` answers of a program that is followed with its handlers.
+fn answer_of_live(
+    alloc: Global,
+    image: &Image,
+    names: &Names,
+    asked: Asked<'_>,
+    found: &LiveTables,
+) -> Result<Answer<'static>, AllocError>
+    ensures { IfOk result (PrintsTable (named_text image.now.regions.code names.now (codes "HANDLER ") (live_lines found.now.handlers.items found.now.writes.items (length found.now.table.states.items) found.now.table.bytes image.now.regions.stack.length found.now.most)) asked.entry.quiet.now asked.entry.lists image.now names.now found.now.table found.now.handlers.items found.now.is_set) }
+{
+    let LiveTables {
+        table,
+        handlers,
+        writes,
+        is_set,
+        most,
+    } = found;
+    let room = image.regions.stack().length;
+    let first = live_text(alloc, table, handlers, writes, room, *most)?;
+    let first = names.name(alloc, image.regions.code(), b"HANDLER ", first)?;
+    let tables = Tables {
+        table,
+        handlers,
+        is_set: *is_set,
+    };
+    answer_of_tables(alloc, image, names, asked, tables, first)
+}
+
+/// The table of a program with those of its handlers, and whether SP must be at the stack's top when the program begins.
+#[derive(Clone, Copy)]
+struct Tables<'a> {
+    table: &'a Table,
+    handlers: &'a [Handler],
+    is_set: bool,
+}
+
+/// What `follow` answers of a program that is followed: the first lines, and those of its stores, jumps and ways, with names.
+fn answer_of_tables(
+    alloc: Global,
+    image: &Image,
+    names: &Names,
+    asked: Asked<'_>,
+    tables: Tables<'_>,
+    first: Vec<u8>,
+) -> Result<Answer<'static>, AllocError>
+    ensures { IfOk result (PrintsTable first.items asked.entry.quiet.now asked.entry.lists image.now names.now tables.entry.table.now tables.entry.handlers.now tables.entry.is_set) }
+{
+    let Tables {
+        table,
+        handlers,
+        is_set,
+    } = tables;
+    let places = places_of(alloc, table, handlers)?;
+    let reached = followed_instructions(alloc, image, &places)?;
+    let stores = followed_stores(alloc, &table.listed, &reached, !is_set)?;
+    let mut text = followed_text(alloc, image, names, tables, asked, &stores, first)?;
+    let listing = listing_of(alloc, image, names, &reached, asked.lists)?;
+    text.extend_from_slice(&listing)?;
+    Ok(Answer::prints(text, 0))
 }
 
 /// The code to which a program may come, with names; nothing unless it `lists` that.
@@ -245,29 +367,220 @@ enum Followed {
     Stopped(Stop),
 }
 
-/// Searches for a table that follows the program of `image`: with SP anywhere at its start, or else with SP at the stack's top.
-fn find_table(alloc: Global, image: &Image, asked: Asked<'_>) -> Result<Followed, AllocError>
-    ensures { IfOk result (IsFollowedBy asked.entry.interrupted asked.entry.quiet.now image.now) }
+/// What comes of following a program with its handlers.
+#[derive(Drop)]
+enum FollowedAll {
+    /// A table follows it, and no handlers were given; and whether SP must be at the stack's top when it begins.
+    Alone(Table, bool),
+    /// Tables follow it and its handlers.
+    Live(LiveTables),
+    Stopped(Stop),
+}
+
+/// Tables that follow a program and its handlers.
+#[derive(Drop)]
+struct LiveTables {
+    table: Table,
+    handlers: Vec<Handler>,
+    /// The data that handlers write.
+    writes: Vec<Range>,
+    /// Whether SP must be at the stack's top when the program begins.
+    is_set: bool,
+    /// How many bytes a handler has on the stack, at most.
+    most: u16,
+}
+
+/// Searches for a table that follows the program of `image`, and if handlers are given, for one of each.
+fn find_all(alloc: Global, image: &Image, asked: Asked<'_>) -> Result<FollowedAll, AllocError>
+    ensures { IfOk result (IsFollowedAllBy asked.entry.interrupted asked.entry.handlers.now asked.entry.quiet.now image.now) }
+{
+    if asked.handlers.is_empty() {
+        return find_alone(alloc, image, asked);
+    }
+    let mut budget = Budget::ALL;
+    match find_table(alloc, image, asked.quiet, true, &[], &mut budget)? {
+        Followed::By(table, is_set) => {
+            with_handlers(alloc, image, asked, table, is_set, budget.with_all_ways())
+        }
+        Followed::Stopped(stop) => Ok(FollowedAll::Stopped(stop)),
+    }
+}
+
+/// Searches for a table that follows the program of `image`, of which no handlers are given.
+fn find_alone(alloc: Global, image: &Image, asked: Asked<'_>) -> Result<FollowedAll, AllocError>
+    requires alone { asked.handlers.now ≡ [] }
+    ensures { IfOk result (IsFollowedAllBy asked.entry.interrupted asked.entry.handlers.now asked.entry.quiet.now image.now) }
+{
+    let mut budget = Budget::ALL;
+    match find_table(
+        alloc,
+        image,
+        asked.quiet,
+        asked.interrupted,
+        &[],
+        &mut budget,
+    )? {
+        Followed::By(table, is_set) => Ok(FollowedAll::Alone(table, is_set)),
+        Followed::Stopped(stop) => Ok(FollowedAll::Stopped(stop)),
+    }
+}
+
+/// Searches for tables of the handlers of the program of `image`, which its own table follows.
+fn with_handlers(
+    alloc: Global,
+    image: &Image,
+    asked: Asked<'_>,
+    table: Table,
+    is_set: bool,
+    budget: Budget,
+) -> Result<FollowedAll, AllocError>
+    ensures { IfOk result (IsFollowedAllBy asked.entry.interrupted asked.entry.handlers.now asked.entry.quiet.now image.now) }
+{
+    let mut budget = budget;
+    match find_handlers(alloc, image, asked.quiet, asked.handlers, &mut budget)? {
+        Ok(handlers) => with_places(alloc, image, asked, table, is_set, handlers, budget),
+        Err(stop) => Ok(FollowedAll::Stopped(stop)),
+    }
+}
+
+/// Searches for another table of the program of `image` if its handlers begin it anew: one that follows it from there, too.
+fn with_places(
+    alloc: Global,
+    image: &Image,
+    asked: Asked<'_>,
+    table: Table,
+    is_set: bool,
+    handlers: Vec<Handler>,
+    budget: Budget,
+) -> Result<FollowedAll, AllocError>
+    requires { map (λ handler. handler.at) handlers.items ≡ asked.handlers.now }
+    ensures { IfOk result (IsFollowedAllBy asked.entry.interrupted asked.entry.handlers.now asked.entry.quiet.now image.now) }
+{
+    let places = places_anew(alloc, image, &handlers)?;
+    if places.is_empty() {
+        return with_tables(alloc, image, asked, table, is_set, handlers);
+    }
+    let mut budget = budget.with_states(table.states.len());
+    drop(table);
+    match find_table(alloc, image, asked.quiet, true, &places, &mut budget)? {
+        Followed::By(table, is_set) => with_tables(alloc, image, asked, table, is_set, handlers),
+        Followed::Stopped(stop) => Ok(FollowedAll::Stopped(stop)),
+    }
+}
+
+/// Tables of the handlers at these addresses, or where the search for one of them stopped.
+fn find_handlers(
+    alloc: Global,
+    image: &Image,
+    quiet: &[Range],
+    addresses: &[u16],
+    budget: &mut Budget,
+) -> Result<Result<Vec<Handler>, Stop>, AllocError>
+    ensures { IfOk result (λ found. IfOk found (λ handlers. map (λ handler. handler.at) handlers.items ≡ addresses.now)) }
+{
+    let mut handlers = Vec::new(alloc);
+    for at in addresses {
+        match search_handler(alloc, image, quiet, *at, budget)? {
+            SearchResult::Found(table) => handlers.push(Handler { at: *at, table })?,
+            SearchResult::Stopped(stop) => return Ok(Err(stop)),
+        }
+    }
+    Ok(Ok(handlers))
+}
+
+/// Checks the table of the program of `image` with those of its handlers, and whether there is room for both.
+fn with_tables(
+    alloc: Global,
+    image: &Image,
+    asked: Asked<'_>,
+    table: Table,
+    is_set: bool,
+    handlers: Vec<Handler>,
+) -> Result<FollowedAll, AllocError>
+    requires { map (λ handler. handler.at) handlers.items ≡ asked.handlers.now }
+    ensures { IfOk result (IsFollowedAllBy asked.entry.interrupted asked.entry.handlers.now asked.entry.quiet.now image.now) }
+{
+    let most = handlers
+        .iter()
+        .map(|handler| handler.table.bytes)
+        .max()
+        .unwrap_or(0);
+    if u32::from(table.bytes) + u32::from(most) > u32::from(image.regions.stack().length) {
+        return Ok(FollowedAll::Stopped(stop_at(alloc, image, StopReason::NoRoom)));
+    }
+    let mut table = table;
+    table.listed = list_together(alloc, image, &table, &handlers)?;
+    let found = LiveTables {
+        writes: written_ranges(alloc, image, &handlers)?,
+        table,
+        handlers,
+        is_set,
+        most,
+    };
+    if keep_promise(alloc, image, &found, asked.quiet)? {
+        Ok(FollowedAll::Live(found))
+    } else {
+        Ok(FollowedAll::Stopped(stop_at(alloc, image, StopReason::Unfit)))
+    }
+}
+
+/// Whether tables follow the program of `image` with its handlers.
+fn keep_promise(
+    alloc: Global,
+    image: &Image,
+    found: &LiveTables,
+    quiet: &[Range],
+) -> Result<bool, AllocError>
+    ensures { IfOk result (λ follows. follows ≡ true → KeepsLivePromise quiet.now image.now found.now) }
+{
+    let run = LiveRun {
+        quiet,
+        writes: &found.writes,
+        is_set: found.is_set,
+        most: found.most,
+    };
+    follows_live(alloc, image, &found.table, &found.handlers, run)
+}
+
+/// A stop at the image's start, to which no way is shown.
+fn stop_at(alloc: Global, image: &Image, reason: StopReason) -> Stop {
+    Stop {
+        at: image.start,
+        reason,
+        way: Vec::new(alloc),
+    }
+}
+
+/// Searches for a table that follows the program of `image` from its start, and from the places at which handlers begin it anew: with SP anywhere at
+/// its start, or else with SP at the stack's top.
+fn find_table(
+    alloc: Global,
+    image: &Image,
+    quiet: &[Range],
+    interrupted: bool,
+    anew: &[u16],
+    budget: &mut Budget,
+) -> Result<Followed, AllocError>
+    ensures { IfOk result (IsFollowedBy interrupted quiet.now image.now) }
 {
     let run = RunKind {
         is_set: false,
-        interrupted: asked.interrupted,
+        interrupted,
     };
-    match table_from(alloc, image, asked.quiet, run)? {
+    match table_from(alloc, image, quiet, run, anew, budget)? {
         Followed::Stopped(
             Stop {
                 reason: StopReason::StackNotSet,
                 ..
             },
-        ) => table_from(
-            alloc,
-            image,
-            asked.quiet,
-            RunKind {
+        ) => {
+            *budget = budget.with_all_ways();
+            let run = RunKind {
                 is_set: true,
                 ..run
-            },
-        ),
+            };
+            table_from(alloc, image, quiet, run, anew, budget)
+        }
         found => Ok(found),
     }
 }
@@ -278,56 +591,53 @@ fn table_from(
     image: &Image,
     quiet: &[Range],
     run: RunKind,
+    anew: &[u16],
+    budget: &mut Budget,
 ) -> Result<Followed, AllocError>
     ensures { IfOk result (IsFollowedBy run.interrupted quiet.now image.now) }
 {
-    match search(alloc, image, quiet, run)? {
+    match search(alloc, image, quiet, run, anew, budget)? {
         SearchResult::Found(table) => {
             if follows(alloc, image, &table, quiet, run)? {
                 Ok(Followed::By(table, run.is_set))
             } else {
-                Ok(Followed::Stopped(Stop {
-                    at: image.start,
-                    reason: StopReason::Unfit,
-                    way: Vec::new(alloc),
-                }))
+                Ok(Followed::Stopped(stop_at(alloc, image, StopReason::Unfit)))
             }
         }
         SearchResult::Stopped(stop) => Ok(Followed::Stopped(stop)),
     }
 }
 
-/// The lines of a table that follows the program of `image`, with names: its states and its stack, its stores and jumps, and its ways.
+/// The first lines of a table that follows the program of `image`, and behind them those of its stores and jumps, and its ways, with names.
 fn followed_text(
     alloc: Global,
     image: &Image,
     names: &Names,
-    table: &Table,
+    tables: Tables<'_>,
     asked: Asked<'_>,
     stores: &Stores,
+    first: Vec<u8>,
 ) -> Result<Vec<u8>, AllocError>
-    ensures { IfOk result (λ text. text.items ≡ followed_lines asked.entry.interrupted asked.entry.quiet.now image.now names.now table.now stores.now) }
+    ensures { IfOk result (λ text. text.items ≡ followed_lines first.items asked.entry.quiet.now image.now names.now tables.entry.table.now tables.entry.handlers.now stores.now) }
 {
-    let room = image.regions.stack().length;
-    let mut text = bounds_text(alloc, table, room, asked.interrupted)?;
+    let mut text = first;
     let mut lines = stores_lines(alloc, image, names, asked.quiet, stores)?;
-    let ways = ways_text(alloc, image, names, &table.ways)?;
+    let ways = named_ways(alloc, image, names, tables)?;
     lines.extend_from_slice(&ways)?;
     text.extend_from_slice(&lines)?;
     Ok(text)
 }
 
 /// The lines of ways, with names.
-fn ways_text(
+fn named_ways(
     alloc: Global,
     image: &Image,
     names: &Names,
-    ways: &[Way],
+    tables: Tables<'_>,
 ) -> Result<Vec<u8>, AllocError>
-    ensures { IfOk result (λ text. text.items ≡ named_text image.now.regions.code names.now (codes "WAY ") (flat_map way_line ways.now)) }
+    ensures { IfOk result (λ text. text.items ≡ named_text image.now.regions.code names.now (codes "WAY ") (ways_lines tables.entry.table.now.ways.items tables.entry.handlers.now)) }
 {
-    let mut text = Vec::new(alloc);
-    append_ways(&mut text, ways)?;
+    let text = ways_text(alloc, &tables.table.ways, tables.handlers)?;
     names.name(alloc, image.regions.code(), b"WAY ", text)
 }
 
@@ -358,6 +668,11 @@ fn reason_words(reason: StopReason) -> &'static [u8]
         StopReason::UnknownReturn => b"RETURN UNKNOWN",
         StopReason::UnknownJump => b"JUMP UNKNOWN",
         StopReason::UnknownPointer => b"SP UNKNOWN",
+        StopReason::NotGivenBack => b"NOT GIVEN BACK",
+        StopReason::EnablesEarly => b"ENABLED EARLY",
+        StopReason::UsesPointer => b"SP USED",
+        StopReason::StoresQuiet => b"QUIET STORED",
+        StopReason::NoRoom => b"NO ROOM",
         StopReason::TooManyStates => b"TOO MANY STATES",
         StopReason::Unfit => b"UNFIT",
     }

@@ -1,43 +1,46 @@
 -- A table that follows a program is an invariant of each board's worlds: one of its states holds of the first one, of one that devices have disturbed,
 -- of one after an instruction, and of one behind a HLT that was interrupted.
-use Rattle.std.specs.Prelude.{◌≡◌, ◌≢◌, ◌⊎◌, ◌≤◌, ◌<◌, ◌==◌, ◌||◌, ℕ, suc, Bool, true, false, not, List, [], ◌∷◌, Option, None, Some, Ok, IfSome, IsSome, All, Any, Contains, length, slice_get, slice_index, is_some, nat_eq, ◌&&◌, if◌then◌else◌}
+use Rattle.std.specs.Prelude.{◌≡◌, ◌≢◌, ◌⊎◌, ◌≤◌, ◌<◌, ◌+◌, ◌==◌, ◌||◌, ℕ, suc, Bool, true, false, not, List, [], ◌∷◌, Option, None, Some, Ok, IfSome, IsSome, nat_le, ◌/◌, ◌%◌, All, Any, Contains, length, slice_get, slice_index, is_some, nat_eq, ◌&&◌, if◌then◌else◌}
 use Rattle.std.specs.{List.list_any, Option.option_map, Option.option_map_or}
 use Rattle.std.proofs.Common.{get_or, ap, arith, inl, inr, refl, subst, sym, true≢false, ◌∙◌}
 use Rattle.std.proofs.lemmas.{Option.get_or_from_slice_get, Option.slice_get_within, Bool.eqb-true, Bool.Decides.nat_tests, Map.Views.Contains-from_any}
 use Rattle.std.proofs.lemmas.List.Elements.{All-nil, Contains-get_or}
-use Rattle.decode80.specs.{Spelling.HasOperandInRange, Facts.flow, Facts.storing, Fetch.FetchReadsCodeAlone, Fetch.ahead, Fetch.direct_bytes, declared.condition.Condition.Condition, declared.fetching.Fetched.Fetched, declared.flow.Flow.Flow, declared.instr.Instr.Instr}
+use Rattle.decode80.specs.{Spelling.HasOperandInRange, Facts.flow, Facts.storing, Fetch.FetchReadsCodeAlone, Fetch.ahead, Fetch.direct_bytes, declared.condition.Condition.Condition, declared.fetching.Fetched.Fetched, declared.flow.Flow.Flow, declared.instr.Instr.Instr, declared.pair.StackPair.StackPair}
 use Rattle.decode80.specs.declared.flow.Flow.TheVariants.{Jumps, JumpsIf, JumpsToHl, Calls, CallsIf, Returns, ReturnsIf, Halts}
 use Rattle.decode80.specs.declared.instr.Instr.TheVariants.{Call, CallIf, Dad, Dcx, Di, Ei, Hlt, In, Inx, Lxi, Out, Pchl, Pop, Push, Ret, ReturnIf, Rst, Sphl, Xthl}
 use Rattle.decode80.specs.declared.pair.Pair.TheVariants.{Sp}
 use Rattle.image80.specs.{Range.in_range, Regions.AreRegions, Regions.Areas, Regions.in_code, Regions.in_data, Regions.targets_at, Regions.top_of, Image.Located, Image.memory_of}
 use Rattle.machine80.specs.{Cpu.hl_of, Flags.flags_byte, Flags.bit_of, Flags.holds as holds_of, Effects.byte_in, Effects.changed, Effects.goes_to, Effects.pointed_bytes, Effects.stack_bytes, Effects.stored, Effects.stores, Effects.target, Effects.touched_by, Effects.word_in, Run.world_of, declared.cpu.Cpu.Cpu, declared.flags.Flags.Flags}
+use Rattle.machine80.specs.{ArithmeticLaws.StatusWordRoundTrip, FactsLaws.InstructionsKeepToFacts}
 use Rattle.machine80.specs.Step.{Machine, guard, leads_outside, proceeded}
 use Rattle.machine80.specs.World.{IsJustBelow, World, is_return_taken, places_after}
 use Rattle.verify80.specs.Boards.{Disturbs, Executes, StaysInside, fetched_anywhere, respected_pointer, sets_sp, unguarded, LeavesProgram}
 use Rattle.verify80.specs.{LookLaws.fetch_at, Looking.declared_targets, Looking.halt_follows, Looking.is_declared, Looking.is_pchl as is_pchl_instr}
 use Rattle.decode80.specs.Spelling.{opcode}
 use Rattle.verify80_spans.specs.declared.byte_span.ByteSpan.{ByteSpan}
-use Rattle.verify80_spans.specs.Span.{Within, ByteWithin, IsInside, any_byte, byte_alone, is_alone}
-use Rattle.verify80_states.specs.{declared.states.known.Known.Known, Bytes.FetchedOperandsAreBounded, Bytes.HasBytes, Bytes.HoldsBytes, Bytes.IsBounded, Following.known_after, Given.given, QuietBoards.StaysQuiet, Steps.HasCode, Steps.ReadsCode, Steps.is_taken}
+use Rattle.verify80_spans.specs.Span.{Within, ByteWithin, IsInside, any_byte, byte_alone, high_of, is_alone}
+use Rattle.verify80_states.specs.{declared.states.known.Known.Known, Bytes.FetchedOperandsAreBounded, Bytes.HasBytes, Bytes.HoldsBytes, Bytes.IsBounded, Following.known_after, Following.pushed_pair, Given.given, QuietBoards.StaysQuiet, Steps.AreCodeBytes, Steps.HasCode, Steps.ReadsCode, Steps.is_taken}
 use Rattle.verify80_states.specs.Known.{HoldsKnown, HoldsPair, HoldsTop, IsQuietKnown, any_pair, cut, nothing_known}
 use Rattle.verify80_states.specs.{Cells.IsQuietCell, declared.states.cells.Cell.Cell}
 use Rattle.verify80_states.specs.Laws.{ConditionsLeaveKnown, InstructionsAreFollowed, IsFollowedBy, KnownStaysQuiet, WhatHoldsOfBytes}
 use Rattle.verify80_states.specs.Invariants.{invariant_is_kept}
-use Rattle.verify80_follow.specs.declared.{stack.StackBounds.StackBounds, followed.FollowedState.FollowedState, followed.Listed.Listed, followed.Way.Way}
-use Rattle.verify80_follow.specs.Stack.{AreBytesInside, HoldsFrom, HoldsStack, IsStackInside, bounds_of, if_true, moved_to, pointer_at, return_address, set_stack, stack_after, stack_then, top_of_stack, word_on}
+use Rattle.verify80_follow.specs.declared.{held.Beside.Beside, stack.StackBounds.StackBounds, followed.FollowedState.FollowedState, followed.Listed.Listed, followed.Way.Way}
+use Rattle.verify80_follow.specs.Stack.{AreBytesInside, called_on, HoldsFrom, HoldsStack, IsStackInside, bounds_of, if_true, moved_to, pointer_at, return_address, set_stack, stack_after, stack_then, top_of_stack, word_on}
 use Rattle.verify80_follow.specs.InterruptedBoards.{OnInterruptedBoard, Wakes, begins, disturbed, enabled_after, executed, with_pc, woken}
+use Rattle.verify80_follow.specs.Held.{Entry, HoldsBeside, beside_then, count_of, nothing_beside}
+use Rattle.verify80_follow.proofs.HeldLemmas.{beside_around, beside_holds, is_pushing, nothing_holds, same_beside}
 use Rattle.verify80_follow.specs.Follows.{Covers, CoversThen, Follows, FollowsBy, Has, IsWay, JumpsBy, LeadsTo, ReturnsLeft, ReturnsTo, StateFollows, first_stack, stack_of}
 use Rattle.verify80_follow.specs.Promise.{FollowedProgramsKeepThePromise, GoesToListed, IsLeftOpenAt, IsReady, KeepsFollowed, KnowsWorld, PromiseOfFollowed, PromiseOfInterrupted}
 use Rattle.verify80_follow.proofs.{GroundLemmas.Ground, FetchLemmas.anywhere_of, FetchLemmas.fetched_here, FetchLemmas.inside_of, StackSteps.stack_holds}
 use Rattle.verify80_follow.proofs.GuardLemmas.{Touches, all_of_list, passes_guard, touched}
-use Rattle.verify80_follow.proofs.StackLemmas.{any_within, byte_at, moved_holds, pointer_is, stays_from}
+use Rattle.verify80_follow.proofs.StackLemmas.{any_within, byte_at, moved_holds, on_stack, pointer_is, stays_from}
 use Rattle.verify80_follow.proofs.PointLemmas.{Points, not_outside, points_by, within_outer}
 
 -- small things
-one_of : {A : Type 0} (P : A → Type 0) (xs : List A) (k : ℕ) (x : A) → All P xs → slice_get xs k ≡ Some x → P x
+pub one_of : {A : Type 0} (P : A → Type 0) (xs : List A) (k : ℕ) (x : A) → All P xs → slice_get xs k ≡ Some x → P x
 one_of P xs k x each there = subst P (get_or_from_slice_get xs k x x there) (each k x (slice_get_within xs k x there))
 
-same_some : {A : Type 0} (x y : A) → Some x ≡ Some y → x ≡ y
+pub same_some : {A : Type 0} (x y : A) → Some x ≡ Some y → x ≡ y
 same_some x y is = cc
 
 or_true : (b : Bool) → (b || true) ≡ true
@@ -66,19 +69,19 @@ enables_more Di a b more is = is
 enables_more i a b more is = more is
 
 -- what an unguarded step leaves, IN and OUT too
-record Leaves (i : Instr) (next : ℕ) (m after : Machine) : Type 0 where
-  sp : after.cpu.sp ≡ (changed i m.memory m.cpu).sp
-  memory : after.memory ≡ stored m.memory (stores i next m.memory m.cpu)
-  pc : after.cpu.pc ≡ target i next m.memory m.cpu
+pub record Leaves (i : Instr) (next : ℕ) (m after : Machine) : Type 0 where
+  pub sp : after.cpu.sp ≡ (changed i m.memory m.cpu).sp
+  pub memory : after.memory ≡ stored m.memory (stores i next m.memory m.cpu)
+  pub pc : after.cpu.pc ≡ target i next m.memory m.cpu
 
-leaves : (i : Instr) (byte next : ℕ) (m after : Machine) → unguarded i byte next m ≡ Some after → Leaves i next m after
+pub leaves : (i : Instr) (byte next : ℕ) (m after : Machine) → unguarded i byte next m ≡ Some after → Leaves i next m after
 leaves Hlt byte next m after is = cc
 leaves (In port) byte next m after is = subst (λ (n : Machine). Leaves (In port) next m n) (same_some _ _ is) (record { sp = refl; memory = refl; pc = refl })
 leaves (Out port) byte next m after is = subst (λ (n : Machine). Leaves (Out port) next m n) (same_some _ _ is) (record { sp = refl; memory = refl; pc = refl })
 leaves i byte next m after is = subst (λ (n : Machine). Leaves i next m n) (same_some _ _ is) (record { sp = refl; memory = refl; pc = refl })
 
 -- an instruction that is no HLT leads on
-goes_on : (i : Instr) (byte next : ℕ) (m : Machine) → i ≢ Hlt → (after : Machine) × (unguarded i byte next m ≡ Some after)
+pub goes_on : (i : Instr) (byte next : ℕ) (m : Machine) → i ≢ Hlt → (after : Machine) × (unguarded i byte next m ≡ Some after)
 goes_on Hlt byte next m on = absurd (on refl)
 goes_on (In port) byte next m on = (record m { cpu = record m.cpu { registers = record m.cpu.registers { a = byte }; pc = next } }, refl)
 goes_on (Out port) byte next m on = (record m { cpu = record m.cpu { pc = next } }, refl)
@@ -103,6 +106,12 @@ from_around (p ∷ a) (q ∷ b) at m inside holds =
     let long = inside.long in
     (record { above = omega (arith, above, low); below = omega (arith, below, high) }, from_around a b (ahead at 1) m (record { long = omega (arith, long); each = λ k x y. inside.each (suc k) x y }) holds.1)
 
+same_count : (inner outer : Option (List ByteSpan)) → IsStackInside inner outer → count_of inner ≡ count_of outer
+same_count None None inside = refl
+same_count None (Some b) inside = absurd inside
+same_count (Some a) None inside = absurd inside
+same_count (Some a) (Some b) inside = inside.long
+
 some_around : (inner outer : Option (List ByteSpan)) → IsStackInside inner outer → IsSome inner → IsSome outer
 some_around None None inside some = some
 some_around None (Some b) inside some = absurd inside
@@ -125,6 +134,41 @@ still_some bounds i taken next s (Some b) stack some is = by (stack_after bounds
   by : (o : Option (List ByteSpan)) → option_map (λ after. Some after) o ≡ Some stack → IsSome stack
   by None none = cc
   by (Some after) one = subst (λ (o : Option (List ByteSpan)). IsSome o) (same_some (Some after) stack one) refl
+
+-- PUSH makes two bytes more
+pushed_count : (bounds : StackBounds) (p : StackPair) (taken : Bool) (next : ℕ) (s : Known) (b : List ByteSpan) (stack : Option (List ByteSpan)) → stack_then bounds (Push p) taken next s (Some b) ≡ Some stack → count_of stack ≡ length b + 2
+pushed_count bounds p taken next s b stack is = by (nat_le (length b + 2) bounds.length) is where
+  by : (t : Bool) → option_map (λ after. Some after) (if_true t ((pushed_pair s p).low ∷ high_of (pushed_pair s p).words ∷ b)) ≡ Some stack → count_of stack ≡ length b + 2
+  by true one = ap count_of (sym (same_some _ _ one)) ∙ omega arith
+  by false none = cc
+
+-- and whatever is pushed, there is room for it
+pushed_room : (bounds : StackBounds) (i : Instr) (taken : Bool) (next : ℕ) (s : Known) (b : List ByteSpan) (stack : Option (List ByteSpan)) (f : Flags) → is_taken (flow i) f ≡ taken → stack_then bounds i taken next s (Some b) ≡ Some stack → is_pushing (flow i) f ≡ true →
+    length b + 2 ≤ bounds.length
+pushed_room bounds i taken next s b stack f same is pushing = of i same is pushing where
+  room_by : (x : List ByteSpan) (t : Bool) → nat_le (length b + 2) bounds.length ≡ t → option_map (λ after. Some after) (if_true t x) ≡ Some stack → length b + 2 ≤ bounds.length
+  room_by x true inside one = grind (arith, nat_tests, inside)
+  room_by x false inside none = cc
+
+  called : (t : Bool) → t ≡ true → option_map (λ after. Some after) (called_on t bounds.length next b) ≡ Some stack → length b + 2 ≤ bounds.length
+  called true h one = room_by (byte_alone (next % 256) ∷ byte_alone (next / 256) ∷ b) (nat_le (length b + 2) bounds.length) refl one
+  called false h one = absurd (true≢false (sym h))
+
+  of : (j : Instr) → is_taken (flow j) f ≡ taken → stack_then bounds j taken next s (Some b) ≡ Some stack → is_pushing (flow j) f ≡ true → length b + 2 ≤ bounds.length
+  of (Push p) e one h = room_by ((pushed_pair s p).low ∷ high_of (pushed_pair s p).words ∷ b) (nat_le (length b + 2) bounds.length) refl one
+  of (Call to) e one h = called taken (sym e) one
+  of (Rst number) e one h = called taken (sym e) one
+  of (CallIf condition to) e one h = called taken (sym e ∙ h) one
+  of j e one h = cc
+
+-- interrupts may come after an instruction, whether SP is set or not
+enabled_then : (i : Instr) (before after : Option (List ByteSpan)) (beside : Beside) → enabled_after i beside.is_enabled ≡ true → (beside_then i before after beside).is_enabled ≡ true
+enabled_then i None after beside is = is
+enabled_then i (Some b) after beside is = is
+
+-- nobody is interrupted
+pub nobody : Entry
+nobody = record { registers = record { a = 0; b = 0; c = 0; d = 0; e = 0; h = 0; l = 0; flags = record { sign = false; zero = false; auxiliary = false; parity = false; carry = false } }; back = 0 }
 
 -- what is known of quiet addresses is known of data
 quieter : (quiet other : ℕ → Bool) (s : Known) → ((at : ℕ) → quiet at ≡ true → other at ≡ true) → IsQuietKnown quiet s → IsQuietKnown other s
@@ -219,23 +263,28 @@ pub record Laws : Type 0 where
   pub quiet : KnownStaysQuiet
   pub reads : FetchReadsCodeAlone
   pub bounded : FetchedOperandsAreBounded
+  pub facts : InstructionsKeepToFacts
+  pub round : StatusWordRoundTrip
 
-module _ (laws : Laws) (image : Located) (interrupted : Bool) (quiet : ℕ → Bool) (is_set : Bool) (ways : List Way) (listed : Listed) (table : List FollowedState) (bytes : ℕ) (rules : AreRegions image.regions) (ground : Ground image.regions)
-    (quiet_data : (at : ℕ) → quiet at ≡ true → in_data image.regions at ≡ true) (fits : Follows image interrupted quiet is_set ways listed table bytes) (few : bytes ≤ image.regions.stack.length) where
+module _ (laws : Laws) (image : Located) (interrupted : Bool) (entered : Entry) (quiet : ℕ → Bool) (is_set : Bool) (ways : List Way) (listed : Listed) (table : List FollowedState) (bytes : ℕ) (rules : AreRegions image.regions) (ground : Ground image.regions)
+    (quiet_data : (at : ℕ) → quiet at ≡ true → in_data image.regions at ≡ true) (bytes_of_code : List (Option ℕ)) (are_code : AreCodeBytes image bytes_of_code) (few : bytes ≤ image.regions.stack.length) where
   abbrev Knows : (set enabled : Bool) → World → Type 0
-  Knows set enabled w = KnowsWorld image interrupted table set enabled w
+  Knows set enabled w = KnowsWorld image interrupted entered table set enabled w
 
   -- what the table has at an address, holding of a machine, is known of it
-  enters : (set enabled may : Bool) (w : World) (known : Known) (stack : Option (List ByteSpan)) → Has table w.machine.cpu.pc known may stack → (enabled ≡ true → may ≡ true) →
+  pub enters : (set enabled : Bool) (beside : Beside) (w : World) (known : Known) (stack : Option (List ByteSpan)) → Has table w.machine.cpu.pc known beside stack → (enabled ≡ true → beside.is_enabled ≡ true) →
+      HoldsBeside (bounds_of image) entered beside (count_of stack) w.machine →
       (interrupted ≡ true → enabled ≡ true → IsSome stack) → HoldsKnown known w.machine → IfSome stack (λ b. HoldsStack (bounds_of image) b w.machine.cpu.sp w.machine.memory × (set ≡ true)) →
       HoldsBytes w.machine → length w.machine.memory ≡ 65536 → HasCode image w.machine.memory → Knows set enabled w
-  enters set enabled may w known stack has more serves holds stands held whole code = record {
+  enters set enabled beside w known stack has more kept serves holds stands held whole code = record {
     place = has.place;
     state = has.state;
     there = has.there;
     at = has.at;
     known = (laws.holds w.machine held).around known has.state.known has.inside holds;
-    enables = λ is. has.enables (more is);
+    enables = λ is. has.besides.enables (more is);
+    held = beside_around (bounds_of image) entered beside has.state.beside (count_of (stack_of has.state)) w.machine has.besides
+        (subst (λ n. HoldsBeside (bounds_of image) entered beside n w.machine) (same_count stack (stack_of has.state) has.stacked) kept);
     serves = λ on is. some_around stack (stack_of has.state) has.stacked (serves on is);
     stack = stack_around image (set ≡ true) stack (stack_of has.state) w.machine.cpu.sp w.machine.memory has.stacked stands;
     bytes = held;
@@ -247,13 +296,7 @@ module _ (laws : Laws) (image : Located) (interrupted : Bool) (quiet : ℕ → B
   empty_at_top false sp m top = tt
   empty_at_top true sp m top = (record { pointer = top refl ∙ omega arith; within = omega arith; each = tt }, refl)
 
-  begun : (start : Machine) → start.cpu.pc ≡ image.start → length start.memory ≡ 65536 → HasCode image start.memory → HoldsBytes start → (is_set ≡ true → start.cpu.sp ≡ top_of image.regions) → Knows is_set false (world_of start)
-  begun start pc whole code held top = enters is_set false false (world_of start) nothing_known (first_stack is_set) (subst (λ n. Has table n nothing_known false (first_stack is_set)) (sym pc) fits.start) (λ is. is) (λ on is. cc) (laws.holds start held).nothing (empty_at_top is_set start.cpu.sp start.memory top) held whole code
-
   -- what devices write leaves what is known
-  entry_of : (set enabled : Bool) (w : World) (k : Knows set enabled w) → StateFollows image interrupted quiet fits.code ways listed table bytes k.state
-  entry_of set enabled w k = one_of (λ s. StateFollows image interrupted quiet fits.code ways listed table bytes s) table k.place k.state fits.states k.there
-
   stack_disturbed : (set : Bool) (w : World) (memory : List ℕ) (stack : Option (List ByteSpan)) → (leaves : LeavesProgram image.regions (respected_pointer image.regions set w) w.machine.memory memory) →
       IfSome stack (λ b. HoldsStack (bounds_of image) b w.machine.cpu.sp w.machine.memory × (set ≡ true)) → IfSome stack (λ b. HoldsStack (bounds_of image) b w.machine.cpu.sp memory × (set ≡ true))
   stack_disturbed set w memory None leaves stands = tt
@@ -273,14 +316,28 @@ module _ (laws : Laws) (image : Located) (interrupted : Bool) (quiet : ℕ → B
         stands.1,
       )
 
-  disturbs : (set enabled : Bool) (w v : World) → Knows set enabled w → (by : Disturbs image.regions (respected_pointer image.regions set w) w v) → StaysQuiet quiet w.machine.memory by.memory → Knows set enabled v
-  disturbs set enabled w v k by stays = subst (λ (u : World). Knows set enabled u) (sym by.is) (record {
+  -- a byte on the stack is left alone by devices
+  byte_left : (set : Bool) (w : World) (memory : List ℕ) (stack : Option (List ByteSpan)) → (leaves : LeavesProgram image.regions (respected_pointer image.regions set w) w.machine.memory memory) →
+      IfSome stack (λ b. HoldsStack (bounds_of image) b w.machine.cpu.sp w.machine.memory × (set ≡ true)) → (depth : ℕ) → 1 ≤ depth → depth ≤ count_of stack → byte_in memory (pointer_at (bounds_of image) depth) ≡ byte_in w.machine.memory (pointer_at (bounds_of image) depth)
+  byte_left set w memory None leaves stands depth one inside = absurd (omega (arith, one, inside))
+  byte_left set w memory (Some b) leaves stands depth one inside =
+      let within = stands.0.within in
+      let ends = ground.stack_ends in
+      let short = ground.stack_short in
+      let here = pointer_is image.regions ground depth one (omega (arith, inside, within)) in
+      let is = stands.0.pointer ∙ pointer_is image.regions ground (length b) (omega (arith, one, inside)) within in
+      let respected : LeavesProgram image.regions w.machine.cpu.sp w.machine.memory memory = subst (λ s. LeavesProgram image.regions (respected_pointer image.regions s w) w.machine.memory memory) stands.1 leaves in
+      respected.pushed (pointer_at (bounds_of image) depth) (record { in_stack = on_stack image.regions ground depth one (omega (arith, inside, within)); above = omega (arith, here, is, inside); filled = λ e. absurd (omega (arith, e, is, one, inside, within, ends, short)) })
+
+  pub disturbs : (set enabled : Bool) (w v : World) (k : Knows set enabled w) → IsQuietKnown quiet k.state.known → (by : Disturbs image.regions (respected_pointer image.regions set w) w v) → StaysQuiet quiet w.machine.memory by.memory → Knows set enabled v
+  disturbs set enabled w v k are by stays = subst (λ (u : World). Knows set enabled u) (sym by.is) (record {
     place = k.place;
     state = k.state;
     there = k.there;
     at = k.at;
-    known = laws.quiet quiet w.machine by.memory k.state.known stays by.leaves.bytes (entry_of set enabled w k).knows k.known;
+    known = laws.quiet quiet w.machine by.memory k.state.known stays by.leaves.bytes are k.known;
     enables = k.enables;
+    held = same_beside (bounds_of image) entered k.state.beside (count_of (stack_of k.state)) w.machine (record w.machine { memory = by.memory }) refl (byte_left set w by.memory (stack_of k.state) by.leaves k.stack) k.held;
     serves = k.serves;
     stack = stack_disturbed set w by.memory (stack_of k.state) by.leaves k.stack;
     bytes = record { registers = k.bytes.registers; memory = by.leaves.bytes; inputs = k.bytes.inputs };
@@ -289,12 +346,9 @@ module _ (laws : Laws) (image : Located) (interrupted : Bool) (quiet : ℕ → B
   })
 
   -- a world of which one state is known
-  module _ (set enabled : Bool) (w : World) (k : KnowsWorld image interrupted table set enabled w) where
+  module _ (set enabled : Bool) (w : World) (k : KnowsWorld image interrupted entered table set enabled w) (entry : StateFollows image (bounds_of image) interrupted quiet bytes_of_code ways listed table bytes k.state) where
     abbrev m : Machine
     m = w.machine
-
-    entry : StateFollows image interrupted quiet fits.code ways listed table bytes k.state
-    entry = entry_of set enabled w k
 
     abbrev found : Fetched
     found = entry.found
@@ -311,8 +365,8 @@ module _ (laws : Laws) (image : Located) (interrupted : Bool) (quiet : ℕ → B
     direct : All (λ a. in_data image.regions a ≡ true) (direct_bytes found.instr)
     direct = all_of_list (in_data image.regions) (direct_bytes found.instr) entry.executed.stores
 
-    reads : ReadsCode fits.code m.memory
-    reads = λ at byte is. let known = fits.are_code at byte is in k.code at known.0 ∙ known.1
+    reads : ReadsCode bytes_of_code m.memory
+    reads = λ at byte is. let known = are_code at byte is in k.code at known.0 ∙ known.1
 
     are_data : (known : Known) → IsQuietKnown quiet known → IsQuietKnown (in_data image.regions) known
     are_data known are = quieter quiet (in_data image.regions) known quiet_data are
@@ -322,7 +376,7 @@ module _ (laws : Laws) (image : Located) (interrupted : Bool) (quiet : ℕ → B
       taken : Bool
       to : ℕ
       known : Known
-      covers : CoversThen image interrupted fits.code ways table bytes k.state found taken to known
+      covers : CoversThen image (bounds_of image) interrupted bytes_of_code ways table bytes k.state found taken to known
       is : is_taken (flow found.instr) m.cpu.registers.flags ≡ taken
       holds : HoldsKnown known m
       are : IsQuietKnown quiet known
@@ -361,6 +415,19 @@ module _ (laws : Laws) (image : Located) (interrupted : Bool) (quiet : ℕ → B
     stands : (t : Taken) → Stacked t.known t.taken t.covers.stack
     stands t = stacked_by t.known t.taken (stack_of k.state) t.covers.stack t.holds t.is k.stack entry.depth t.covers.depth t.covers.is
 
+    -- what a handler still has after it
+    held_after : (byte : ℕ) (after : Machine) → unguarded found.instr byte found.next m ≡ Some after → StaysInside image.regions m found.instr → (t : Taken) →
+        HoldsBeside (bounds_of image) entered (beside_then found.instr (stack_of k.state) t.covers.stack k.state.beside) (count_of t.covers.stack) after
+    held_after byte after goes inside t = by (stack_of k.state) k.stack k.held t.covers.is where
+      by : (before : Option (List ByteSpan)) → IfSome before (λ c. HoldsStack (bounds_of image) c m.cpu.sp m.memory × (set ≡ true)) → HoldsBeside (bounds_of image) entered k.state.beside (count_of before) m →
+          stack_then (bounds_of image) found.instr t.taken found.next t.known before ≡ Some t.covers.stack → HoldsBeside (bounds_of image) entered (beside_then found.instr before t.covers.stack k.state.beside) (count_of t.covers.stack) after
+      by None stands_here held is = nothing_holds (bounds_of image) entered (enabled_after found.instr k.state.beside.is_enabled) (count_of t.covers.stack) after
+      by (Some b) stands_here held is =
+          beside_holds image.regions ground laws.facts laws.round entered found.instr byte found.next (length b) (count_of t.covers.stack) m after goes (leaves found.instr byte found.next m after goes).memory
+          stands_here.0.pointer stands_here.0.within direct inside.stores k.whole
+          (λ p push. pushed_count (bounds_of image) p t.taken found.next t.known b t.covers.stack (subst (λ (i : Instr). stack_then (bounds_of image) i t.taken found.next t.known (Some b) ≡ Some t.covers.stack) push is))
+          (λ pushing. pushed_room (bounds_of image) found.instr t.taken found.next t.known b t.covers.stack m.cpu.registers.flags t.is is pushing) k.state.beside held
+
     -- the instruction is followed on that way
     module _ (byte : ℕ) (after : Machine) (small : byte < 256) (inside : StaysInside image.regions m found.instr) (goes : unguarded found.instr byte found.next m ≡ Some after) (places : List ℕ) where
       abbrev v : World
@@ -383,12 +450,12 @@ module _ (laws : Laws) (image : Located) (interrupted : Bool) (quiet : ℕ → B
         guarded : guard image.regions found.instr m.cpu ≡ None
         guarded = passes_guard image.regions found.instr m.cpu (on_stack_bytes (stack_bytes found.instr m.cpu) (stands t).touches) direct inside.stores
 
-        followed : IsFollowedBy image.regions fits.code found.instr (top_of_stack (bounds_of image) (stack_of k.state)) t.known m after
-        followed = laws.instructions image.regions fits.code found.instr byte found.next (top_of_stack (bounds_of image) (stack_of k.state)) t.known m after rules bounded.operand bounded.next small k.bytes k.whole reads (are_data t.known t.are)
+        followed : IsFollowedBy image.regions bytes_of_code found.instr (top_of_stack (bounds_of image) (stack_of k.state)) t.known m after
+        followed = laws.instructions image.regions bytes_of_code found.instr byte found.next (top_of_stack (bounds_of image) (stack_of k.state)) t.known m after rules bounded.operand bounded.next small k.bytes k.whole reads (are_data t.known t.are)
             (top_holds image (set ≡ true) (stack_of k.state) m k.bytes.memory k.stack) t.holds guarded goes
 
         now : Known
-        now = known_after fits.code found.instr (top_of_stack (bounds_of image) (stack_of k.state)) t.known
+        now = known_after bytes_of_code found.instr (top_of_stack (bounds_of image) (stack_of k.state)) t.known
 
         stack_now : IfSome t.covers.stack (λ b. HoldsStack (bounds_of image) b after.cpu.sp after.memory × ((set || sets_sp found.instr) ≡ true))
         stack_now = subst (λ n. IfSome t.covers.stack (λ b. HoldsStack (bounds_of image) b n after.memory × ((set || sets_sp found.instr) ≡ true))) (sym left.sp)
@@ -397,52 +464,53 @@ module _ (laws : Laws) (image : Located) (interrupted : Bool) (quiet : ℕ → B
         there : after.cpu.pc ≡ t.to
         there = left.pc ∙ t.goes
 
-        may : Bool
-        may = enabled_after found.instr k.state.is_enabled
+        beside : Beside
+        beside = beside_then found.instr (stack_of k.state) t.covers.stack k.state.beside
 
-        with_has : (known : Known) → HoldsKnown known after → Has table t.to known may t.covers.stack → Knows (set || sets_sp found.instr) (enabled_after found.instr enabled) v
+        with_has : (known : Known) → HoldsKnown known after → Has table t.to known beside t.covers.stack → Knows (set || sets_sp found.instr) (enabled_after found.instr enabled) v
         with_has known holds has =
-            enters (set || sets_sp found.instr) (enabled_after found.instr enabled) may v known t.covers.stack (subst (λ n. Has table n known may t.covers.stack) (sym there) has) (enables_more found.instr enabled k.state.is_enabled k.enables)
+            enters (set || sets_sp found.instr) (enabled_after found.instr enabled) beside v known t.covers.stack (subst (λ n. Has table n known beside t.covers.stack) (sym there) has) (λ is. enabled_then found.instr (stack_of k.state) t.covers.stack k.state.beside (enables_more found.instr enabled k.state.beside.is_enabled k.enables is))
+            (held_after byte after goes inside t)
             (λ on is. still_some (bounds_of image) found.instr t.taken found.next t.known (stack_of k.state) t.covers.stack (served found.instr refl on is) t.covers.is) holds stack_now followed.bytes followed.whole (λ address here. followed.same_code address here ∙ k.code address here)
 
-        by : Has table t.to now may t.covers.stack ⊎ ((byte : ℕ) → ByteWithin now.a byte → Has table t.to (cut now (byte_alone byte)) may t.covers.stack) → Knows (set || sets_sp found.instr) (enabled_after found.instr enabled) v
+        by : Has table t.to now beside t.covers.stack ⊎ ((byte : ℕ) → ByteWithin now.a byte → Has table t.to (cut now (byte_alone byte)) beside t.covers.stack) → Knows (set || sets_sp found.instr) (enabled_after found.instr enabled) v
         by (inl has) = with_has now followed.known has
         by (inr each) =
             let a = after.cpu.registers.a in
             with_has (cut now (byte_alone a)) ((laws.holds after followed.bytes).cuts now a followed.known refl) (each a followed.known.registers.a)
 
     -- which way that is
-    always : (taken : Bool) (to : ℕ) → CoversThen image interrupted fits.code ways table bytes k.state found taken to k.state.known → is_taken (flow found.instr) m.cpu.registers.flags ≡ taken → goes_to (flow found.instr) found.next m.memory m.cpu ≡ to → Taken
+    always : (taken : Bool) (to : ℕ) → CoversThen image (bounds_of image) interrupted bytes_of_code ways table bytes k.state found taken to k.state.known → is_taken (flow found.instr) m.cpu.registers.flags ≡ taken → goes_to (flow found.instr) found.next m.memory m.cpu ≡ to → Taken
     always taken to covers is goes = record { taken = taken; to = to; known = k.state.known; covers = covers; is = is; holds = k.known; are = entry.knows; goes = goes }
 
-    if_given : (condition : Condition) (b : Bool) (to : ℕ) → holds_of condition m.cpu.registers.flags ≡ b → LeadsTo image interrupted fits.code ways table bytes k.state found b to (given condition b k.state.known) → is_taken (flow found.instr) m.cpu.registers.flags ≡ b →
+    if_given : (condition : Condition) (b : Bool) (to : ℕ) → holds_of condition m.cpu.registers.flags ≡ b → LeadsTo image (bounds_of image) interrupted bytes_of_code ways table bytes k.state found b to (given condition b k.state.known) → is_taken (flow found.instr) m.cpu.registers.flags ≡ b →
         goes_to (flow found.instr) found.next m.memory m.cpu ≡ to → Taken
     if_given condition b to is leads taken goes =
         let left = laws.conditions quiet condition b k.state.known m k.bytes k.known entry.knows is in
-        record { taken = b; to = to; known = left.left; covers = subst (λ (o : Option Known). LeadsTo image interrupted fits.code ways table bytes k.state found b to o) left.is leads; is = taken; holds = left.holds; are = left.are; goes = goes }
+        record { taken = b; to = to; known = left.left; covers = subst (λ (o : Option Known). LeadsTo image (bounds_of image) interrupted bytes_of_code ways table bytes k.state found b to o) left.is leads; is = taken; holds = left.holds; are = left.are; goes = goes }
 
     -- a return that is taken
-    returned_to : (known : Known) (back : ReturnsTo image interrupted fits.code ways table bytes k.state found known) → back.to ≡ word_in m.memory m.cpu.sp
+    returned_to : (known : Known) (back : ReturnsTo image (bounds_of image) interrupted bytes_of_code ways table bytes k.state found known) → back.to ≡ word_in m.memory m.cpu.sp
     returned_to known back = returns_where back.stacked back.to m.cpu.sp m.memory k.bytes.memory back.is here where
       here : HoldsFrom m.memory m.cpu.sp back.stacked
       here = (subst (λ (o : Option (List ByteSpan)). IfSome o (λ b. HoldsStack (bounds_of image) b m.cpu.sp m.memory × (set ≡ true))) back.stack k.stack).0.each
 
     record Back (condition_holds : Bool) : Type 0 where
       known : Known
-      back : ReturnsTo image interrupted fits.code ways table bytes k.state found known
+      back : ReturnsTo image (bounds_of image) interrupted bytes_of_code ways table bytes k.state found known
       holds : HoldsKnown known m
       are : IsQuietKnown quiet known
 
-    back_given : (condition : Condition) → holds_of condition m.cpu.registers.flags ≡ true → ReturnsLeft image interrupted fits.code ways table bytes k.state found (given condition true k.state.known) → Back true
+    back_given : (condition : Condition) → holds_of condition m.cpu.registers.flags ≡ true → ReturnsLeft image (bounds_of image) interrupted bytes_of_code ways table bytes k.state found (given condition true k.state.known) → Back true
     back_given condition is left_back =
         let left = laws.conditions quiet condition true k.state.known m k.bytes k.known entry.knows is in
-        record { known = left.left; back = subst (λ (o : Option Known). ReturnsLeft image interrupted fits.code ways table bytes k.state found o) left.is left_back; holds = left.holds; are = left.are }
+        record { known = left.left; back = subst (λ (o : Option Known). ReturnsLeft image (bounds_of image) interrupted bytes_of_code ways table bytes k.state found o) left.is left_back; holds = left.holds; are = left.are }
 
     by_back : (b : Back true) → is_taken (flow found.instr) m.cpu.registers.flags ≡ true → goes_to (flow found.instr) found.next m.memory m.cpu ≡ word_in m.memory m.cpu.sp → Taken
     by_back b is goes = record { taken = true; to = b.back.to; known = b.known; covers = b.back.leads; is = is; holds = b.holds; are = b.are; goes = goes ∙ sym (returned_to b.known b.back) }
 
     -- HL goes where it is known to be, or to a declared target
-    by_hl : (declared : Bool) → is_declared image.regions k.state.at ≡ declared → JumpsBy image interrupted fits.code ways table bytes k.state found declared → (flow found.instr ≡ JumpsToHl) → (found.instr ≡ Pchl → leads_outside (targets_at image.regions m.cpu.pc) (hl_of m.cpu.registers) ≡ false) → Taken
+    by_hl : (declared : Bool) → is_declared image.regions k.state.at ≡ declared → JumpsBy image (bounds_of image) interrupted bytes_of_code ways table bytes k.state found declared → (flow found.instr ≡ JumpsToHl) → (found.instr ≡ Pchl → leads_outside (targets_at image.regions m.cpu.pc) (hl_of m.cpu.registers) ≡ false) → Taken
     by_hl false is jumps flows inside =
         let above = k.known.registers.hl.words.above in
         let below = k.known.registers.hl.words.below in
@@ -457,7 +525,7 @@ module _ (laws : Laws) (image : Located) (interrupted : Bool) (quiet : ℕ → B
     abbrev JumpsInside : Type 0
     JumpsInside = found.instr ≡ Pchl → leads_outside (targets_at image.regions m.cpu.pc) (hl_of m.cpu.registers) ≡ false
 
-    way_of : (f : Flow) → flow found.instr ≡ f → f ≢ Halts → JumpsInside → FollowsBy image interrupted fits.code ways table bytes k.state found f → Taken
+    way_of : (f : Flow) → flow found.instr ≡ f → f ≢ Halts → JumpsInside → FollowsBy image (bounds_of image) interrupted bytes_of_code ways table bytes k.state found f → Taken
     way_of (Jumps to) is on inside follows = always false to follows (ap (λ (f : Flow). is_taken f m.cpu.registers.flags) is) (ap (λ (f : Flow). goes_to f found.next m.memory m.cpu) is)
     way_of (JumpsIf condition to) is on inside follows = by (holds_of condition m.cpu.registers.flags) refl where
       by : (b : Bool) → holds_of condition m.cpu.registers.flags ≡ b → Taken
@@ -484,12 +552,12 @@ module _ (laws : Laws) (image : Located) (interrupted : Bool) (quiet : ℕ → B
     back_way : (b : Back true) → Behind (word_in m.memory m.cpu.sp)
     back_way b = subst (λ n. IsWay image ways n (word_in m.memory m.cpu.sp)) k.at (subst (λ n. IsWay image ways k.state.at n) (returned_to b.known b.back) b.back.way)
 
-    returning_by : (f : Flow) → FollowsBy image interrupted fits.code ways table bytes k.state found f → is_return_taken f m.cpu.registers.flags ≡ true → Behind (word_in m.memory m.cpu.sp)
+    returning_by : (f : Flow) → FollowsBy image (bounds_of image) interrupted bytes_of_code ways table bytes k.state found f → is_return_taken f m.cpu.registers.flags ≡ true → Behind (word_in m.memory m.cpu.sp)
     returning_by Returns follows taken = back_way (record { known = k.state.known; back = follows; holds = k.known; are = entry.knows })
     returning_by (ReturnsIf condition) follows taken = back_way (back_given condition taken follows.0)
     returning_by f follows taken = absurd (true≢false (sym taken))
 
-    jumping_by : (declared : Bool) → is_declared image.regions k.state.at ≡ declared → JumpsBy image interrupted fits.code ways table bytes k.state found declared → targets_at image.regions k.state.at ≡ None → Behind (hl_of m.cpu.registers)
+    jumping_by : (declared : Bool) → is_declared image.regions k.state.at ≡ declared → JumpsBy image (bounds_of image) interrupted bytes_of_code ways table bytes k.state found declared → targets_at image.regions k.state.at ≡ None → Behind (hl_of m.cpu.registers)
     jumping_by false is jumps none =
         let above = k.known.registers.hl.words.above in
         let below = k.known.registers.hl.words.below in
@@ -500,15 +568,18 @@ module _ (laws : Laws) (image : Located) (interrupted : Bool) (quiet : ℕ → B
 
     jumping : found.instr ≡ Pchl → targets_at image.regions m.cpu.pc ≡ None → Behind (hl_of m.cpu.registers)
     jumping is none =
-        jumping_by (is_declared image.regions k.state.at) refl (subst (λ (f : Flow). FollowsBy image interrupted fits.code ways table bytes k.state found f) (ap (λ (i : Instr). flow i) is) entry.follows) (subst (λ n. targets_at image.regions n ≡ None) (sym k.at) none)
+        jumping_by (is_declared image.regions k.state.at) refl (subst (λ (f : Flow). FollowsBy image (bounds_of image) interrupted bytes_of_code ways table bytes k.state found f) (ap (λ (i : Instr). flow i) is) entry.follows) (subst (λ n. targets_at image.regions n ≡ None) (sym k.at) none)
 
     just_below : (xs : List ℕ) → All (Touches image.regions ground bytes) xs → All (λ a. IsJustBelow (top_of image.regions) bytes a) xs
     just_below xs each = λ k d within. (each k d within).below
 
-    stack_by : (f : Flow) → flow found.instr ≡ f → FollowsBy image interrupted fits.code ways table bytes k.state found f → All (λ a. IsJustBelow (top_of image.regions) bytes a) (stack_bytes found.instr m.cpu)
-    stack_by Halts is follows = subst (λ (l : List ℕ). All (λ a. IsJustBelow (top_of image.regions) bytes a) l) (sym (ap (λ (f : Flow). touched_by f m.cpu) is)) (All-nil (λ a. IsJustBelow (top_of image.regions) bytes a))
-    stack_by JumpsToHl is follows = subst (λ (l : List ℕ). All (λ a. IsJustBelow (top_of image.regions) bytes a) l) (sym (ap (λ (f : Flow). touched_by f m.cpu) is)) (All-nil (λ a. IsJustBelow (top_of image.regions) bytes a))
-    stack_by f is follows = just_below (stack_bytes found.instr m.cpu) (stands (way_of f is (λ e. cc) (λ e. absurd (let jumps : flow found.instr ≡ JumpsToHl = ap (λ (i : Instr). flow i) e in cc)) follows)).touches
+    touches_by : (f : Flow) → flow found.instr ≡ f → FollowsBy image (bounds_of image) interrupted bytes_of_code ways table bytes k.state found f → All (Touches image.regions ground bytes) (stack_bytes found.instr m.cpu)
+    touches_by Halts is follows = untouched (stack_bytes found.instr m.cpu) (ap (λ (f : Flow). touched_by f m.cpu) is)
+    touches_by JumpsToHl is follows = untouched (stack_bytes found.instr m.cpu) (ap (λ (f : Flow). touched_by f m.cpu) is)
+    touches_by f is follows = (stands (way_of f is (λ e. cc) (λ e. absurd (let jumps : flow found.instr ≡ JumpsToHl = ap (λ (i : Instr). flow i) e in cc)) follows)).touches
+
+    pub touches_stack : All (Touches image.regions ground bytes) (stack_bytes found.instr m.cpu)
+    touches_stack = touches_by (flow found.instr) refl entry.follows
 
     halts : interrupted ≡ false → found.instr ≡ Ei → halt_follows image.regions m.memory m.cpu.pc ≡ true
     halts off is = subst (λ n. halt_follows image.regions m.memory n ≡ true) k.at (halt_here k.state.at (entry.executed.halts off is)) where
@@ -520,7 +591,7 @@ module _ (laws : Laws) (image : Located) (interrupted : Bool) (quiet : ℕ → B
       halt_here at h = halt_by (in_code image.regions (ahead at 1)) at refl h
 
     -- where a store by a pair goes, and where HL goes that has declared targets
-    points : (address : ℕ) → Contains (pointed_bytes found.instr m.cpu.registers) address → Points (storing found.instr) k.state.known address
+    pub points : (address : ℕ) → Contains (pointed_bytes found.instr m.cpu.registers) address → Points (storing found.instr) k.state.known address
     points address there = points_by (storing found.instr) k.state.known m.cpu.registers address k.known.registers there
 
     pointed_at : (address : ℕ) (p : Points (storing found.instr) k.state.known address) → ((a : ℕ) → Within p.span a → in_data image.regions a ≡ true) ⊎ Any (λ store. (store.at ≡ k.state.at) × IsInside p.span store.span) listed.stores.items →
@@ -539,7 +610,7 @@ module _ (laws : Laws) (image : Located) (interrupted : Bool) (quiet : ℕ → B
       by (inr there) = inr (subst (λ n. Contains listed.jumps.items n) k.at there)
 
     -- so it stays inside, if it does where it is listed
-    stays_inside : (IsLeftOpenAt listed m.cpu.pc → StaysInside image.regions m found.instr) → StaysInside image.regions m found.instr
+    pub stays_inside : (IsLeftOpenAt listed m.cpu.pc → StaysInside image.regions m found.instr) → StaysInside image.regions m found.instr
     stays_inside if_listed = record { stores = λ j d inside. store_by j d inside (pointed j d inside); jumps = jump_by } where
       store_by : (j d : ℕ) → j < length (pointed_bytes found.instr m.cpu.registers) → GoesToListed image.regions listed.stores.items m.cpu.pc (get_or (pointed_bytes found.instr m.cpu.registers) j d) →
           in_data image.regions (get_or (pointed_bytes found.instr m.cpu.registers) j d) ≡ true
@@ -555,7 +626,7 @@ module _ (laws : Laws) (image : Located) (interrupted : Bool) (quiet : ℕ → B
           by (inl target) = not_outside (targets_at image.regions m.cpu.pc) (hl_of m.cpu.registers) target
           by (inr there) = (if_listed (inr there)).jumps is
 
-    keeps : KeepsFollowed image interrupted bytes ways listed w
+    pub keeps : KeepsFollowed image interrupted bytes ways listed w
     keeps = record {
       found = found;
       anywhere = anywhere;
@@ -565,7 +636,7 @@ module _ (laws : Laws) (image : Located) (interrupted : Bool) (quiet : ℕ → B
       declared = declared;
       returning = λ taken. subst (λ n. IsWay image ways m.cpu.pc n) (sym (return_target (flow found.instr) found.next m.memory m.cpu taken)) (returning_by (flow found.instr) entry.follows taken);
       jumping = jumping;
-      stack = stack_by (flow found.instr) refl entry.follows;
+      stack = just_below (stack_bytes found.instr m.cpu) touches_stack;
       halts = halts;
       goes_on = λ on inside byte small.
           let l = goes_on found.instr byte found.next m on in
@@ -576,7 +647,7 @@ module _ (laws : Laws) (image : Located) (interrupted : Bool) (quiet : ℕ → B
           };
     }
 
-    executes_found : (v : World) (by : Executes image.regions (IsLeftOpenAt listed) w v) → by.found ≡ found → Knows (set || sets_sp by.found.instr) (enabled_after by.found.instr enabled) v
+    pub executes_found : (v : World) (by : Executes image.regions (IsLeftOpenAt listed) w v) → by.found ≡ found → Knows (set || sets_sp by.found.instr) (enabled_after by.found.instr enabled) v
     executes_found v by same = subst (λ (f : Fetched). Knows (set || sets_sp f.instr) (enabled_after f.instr enabled) v) (sym same)
         (subst (λ (u : World). Knows (set || sets_sp found.instr) (enabled_after found.instr enabled) u) (sym by.is)
         (lands by.byte by.after by.small inside goes (places_after by.found.instr by.found.next m.cpu.registers.flags w.places)
@@ -593,8 +664,8 @@ module _ (laws : Laws) (image : Located) (interrupted : Bool) (quiet : ℕ → B
       halts_here : flow found.instr ≡ Halts
       halts_here = ap (λ (f : Fetched). flow f.instr) (sym same) ∙ ap (λ (i : Instr). flow i) by.halts
 
-      covers : Covers table found.next k.state.known true (stack_of k.state)
-      covers = (subst (λ (f : Flow). FollowsBy image interrupted fits.code ways table bytes k.state found f) halts_here entry.follows) on (k.enables may)
+      covers : Covers table found.next k.state.known k.state.beside (stack_of k.state)
+      covers = (subst (λ (f : Flow). FollowsBy image (bounds_of image) interrupted bytes_of_code ways table bytes k.state found f) halts_here entry.follows) on (k.enables may)
 
       here : Machine
       here = (with_pc w found.next).machine
@@ -605,54 +676,62 @@ module _ (laws : Laws) (image : Located) (interrupted : Bool) (quiet : ℕ → B
       holds : HoldsKnown k.state.known here
       holds = record { registers = k.known.registers; cells = k.known.cells; source = k.known.source }
 
-      behind : (known : Known) → HoldsKnown known here → Has table found.next known true (stack_of k.state) → Knows set enabled (with_pc w found.next)
-      behind known is has = enters set enabled true (with_pc w found.next) known (stack_of k.state) has (λ yes. refl) k.serves is k.stack held k.whole k.code
+      behind : (known : Known) → HoldsKnown known here → Has table found.next known k.state.beside (stack_of k.state) → Knows set enabled (with_pc w found.next)
+      behind known is has = enters set enabled k.state.beside (with_pc w found.next) known (stack_of k.state) has k.enables (same_beside (bounds_of image) entered k.state.beside (count_of (stack_of k.state)) m here refl (λ depth one inside. refl) k.held) k.serves is k.stack held k.whole k.code
 
-      back : Has table found.next k.state.known true (stack_of k.state) ⊎ ((byte : ℕ) → ByteWithin k.state.known.a byte → Has table found.next (cut k.state.known (byte_alone byte)) true (stack_of k.state)) →
+      back : Has table found.next k.state.known k.state.beside (stack_of k.state) ⊎ ((byte : ℕ) → ByteWithin k.state.known.a byte → Has table found.next (cut k.state.known (byte_alone byte)) k.state.beside (stack_of k.state)) →
           Knows set enabled (with_pc w found.next)
       back (inl has) = behind k.state.known holds has
       back (inr each) =
           let a = m.cpu.registers.a in
           behind (cut k.state.known (byte_alone a)) ((laws.holds here held).cuts k.state.known a holds refl) (each a k.known.registers.a)
 
-  executes : (before may : Bool) (w v : World) → Knows before may w → (by : Executes image.regions (IsLeftOpenAt listed) w v) → Knows (before || sets_sp by.found.instr) (enabled_after by.found.instr may) v
-  executes before may w v k by = executes_found before may w k v by (same_some _ _ (sym by.fetched ∙ anywhere before may w k))
+  -- a table all of whose states fit, with one at the start
+  module _ (start_has : Has table image.start nothing_known nothing_beside (first_stack is_set)) (states : All (λ s. StateFollows image (bounds_of image) interrupted quiet bytes_of_code ways listed table bytes s) table) where
+    pub begun : (start : Machine) → start.cpu.pc ≡ image.start → length start.memory ≡ 65536 → HasCode image start.memory → HoldsBytes start → (is_set ≡ true → start.cpu.sp ≡ top_of image.regions) → Knows is_set false (world_of start)
+    begun start pc whole code held top = enters is_set false nothing_beside (world_of start) nothing_known (first_stack is_set) (subst (λ n. Has table n nothing_known nothing_beside (first_stack is_set)) (sym pc) start_has) (λ is. is) (nothing_holds (bounds_of image) entered false (count_of (first_stack is_set)) start) (λ on is. cc) (laws.holds start held).nothing (empty_at_top is_set start.cpu.sp start.memory top) held whole code
 
-  wakes : (set enabled : Bool) (w v : World) → Knows set enabled w → interrupted ≡ true → enabled ≡ true → Wakes w v → Knows set enabled v
-  wakes set enabled w v k on may by = wakes_found set enabled w k v on may by (same_some _ _ (sym by.fetched ∙ anywhere set enabled w k))
+    entry_of : (set enabled : Bool) (w : World) (k : Knows set enabled w) → StateFollows image (bounds_of image) interrupted quiet bytes_of_code ways listed table bytes k.state
+    entry_of set enabled w k = one_of (λ s. StateFollows image (bounds_of image) interrupted quiet bytes_of_code ways listed table bytes s) table k.place k.state states k.there
 
-  -- one that isn't interrupted
-  abbrev KnowsSome : (set : Bool) → World → Type 0
-  KnowsSome set w = (enabled : Bool) × Knows set enabled w
+    pub executes : (before may : Bool) (w v : World) → Knows before may w → (by : Executes image.regions (IsLeftOpenAt listed) w v) → Knows (before || sets_sp by.found.instr) (enabled_after by.found.instr may) v
+    executes before may w v k by = executes_found before may w k (entry_of before may w k) v by (same_some _ _ (sym by.fetched ∙ anywhere before may w k (entry_of before may w k)))
 
-  pub followed_keeps : interrupted ≡ false → PromiseOfFollowed image quiet is_set ways listed bytes
-  followed_keeps off start pc whole code held top w set on =
-      invariant_is_kept image quiet (IsLeftOpenAt listed) start is_set KnowsSome (λ v. KeepsFollowed image false bytes ways listed v)
-      (record {
-        begun = (false, begun start pc whole code held top);
-        disturbs = λ s v u k by stays. (k.0, disturbs s k.0 v u k.1 by stays);
-        executes = λ s v u k by. (enabled_after by.found.instr k.0, executes s k.0 v u k.1 by);
-        keeps = λ s v k. subst (λ (b : Bool). KeepsFollowed image b bytes ways listed v) off (keeps s k.0 v k.1);
-      }) w set on
+    pub wakes : (set enabled : Bool) (w v : World) → Knows set enabled w → interrupted ≡ true → enabled ≡ true → Wakes w v → Knows set enabled v
+    wakes set enabled w v k on may by = wakes_found set enabled w k (entry_of set enabled w k) v on may by (same_some _ _ (sym by.fetched ∙ anywhere set enabled w k (entry_of set enabled w k)))
 
-  -- one that is
-  module _ (on : interrupted ≡ true) (start : Machine) (pc : start.cpu.pc ≡ image.start) (whole : length start.memory ≡ 65536) (code : HasCode image start.memory) (held : HoldsBytes start) (top : is_set ≡ true → start.cpu.sp ≡ top_of image.regions) where
-    knows : (set enabled : Bool) (w : World) → OnInterruptedBoard image.regions quiet (IsLeftOpenAt listed) start is_set set enabled w → Knows set enabled w
-    knows set enabled w (begins _ _ _ is same off) = subst (λ (u : World). Knows set enabled u) (sym is) (subst (λ (b : Bool). Knows set b (world_of start)) (sym off) (subst (λ (b : Bool). Knows b false (world_of start)) (sym same) (begun start pc whole code held top)))
-    knows set enabled w (disturbed _ _ u _ before by stays) = disturbs set enabled u w (knows set enabled u before) by stays
-    knows set enabled w (executed was _ may _ u _ before by is after) = subst (λ (b : Bool). Knows set b w) (sym after) (subst (λ (b : Bool). Knows b (enabled_after by.found.instr may) w) (sym is) (executes was may u w (knows was may u before) by))
-    knows set enabled w (woken _ _ u _ before may by) = wakes set enabled u w (knows set enabled u before) on may by
+    -- one that isn't interrupted
+    abbrev KnowsSome : (set : Bool) → World → Type 0
+    KnowsSome set w = (enabled : Bool) × Knows set enabled w
 
-  ready : (set : Bool) (w : World) (stack : Option (List ByteSpan)) → IsSome stack → IfSome stack (λ b. HoldsStack (bounds_of image) b w.machine.cpu.sp w.machine.memory × (set ≡ true)) → IfSome stack (λ b. length b ≤ bytes) →
-      IsReady image bytes set w
-  ready set w None some stands few = cc
-  ready set w (Some b) some stands few = record { is_set = stands.1; count = length b; few = few; pointer = stands.0.pointer }
+    pub followed_keeps : interrupted ≡ false → PromiseOfFollowed image quiet is_set ways listed bytes
+    followed_keeps off start pc whole code held top w set on =
+        invariant_is_kept image quiet (IsLeftOpenAt listed) start is_set KnowsSome (λ v. KeepsFollowed image false bytes ways listed v)
+        (record {
+          begun = (false, begun start pc whole code held top);
+          disturbs = λ s v u k by stays. (k.0, disturbs s k.0 v u k.1 (entry_of s k.0 v k.1).knows by stays);
+          executes = λ s v u k by. (enabled_after by.found.instr k.0, executes s k.0 v u k.1 by);
+          keeps = λ s v k. subst (λ (b : Bool). KeepsFollowed image b bytes ways listed v) off (keeps s k.0 v k.1 (entry_of s k.0 v k.1));
+        }) w set on
 
-  pub interrupted_keeps : interrupted ≡ true → PromiseOfInterrupted image quiet is_set ways listed bytes
-  interrupted_keeps on start pc whole code held top w set enabled board =
-      let k = knows on start pc whole code held top set enabled w board in
-      (subst (λ (b : Bool). KeepsFollowed image b bytes ways listed w) on (keeps set enabled w k), λ may. ready set w (stack_of k.state) (k.serves on may) k.stack (entry_of set enabled w k).depth)
+    -- one that is
+    module _ (on : interrupted ≡ true) (start : Machine) (pc : start.cpu.pc ≡ image.start) (whole : length start.memory ≡ 65536) (code : HasCode image start.memory) (held : HoldsBytes start) (top : is_set ≡ true → start.cpu.sp ≡ top_of image.regions) where
+      pub knows : (set enabled : Bool) (w : World) → OnInterruptedBoard image.regions quiet (IsLeftOpenAt listed) start is_set set enabled w → Knows set enabled w
+      knows set enabled w (begins _ _ _ is same off) = subst (λ (u : World). Knows set enabled u) (sym is) (subst (λ (b : Bool). Knows set b (world_of start)) (sym off) (subst (λ (b : Bool). Knows b false (world_of start)) (sym same) (begun start pc whole code held top)))
+      knows set enabled w (disturbed _ _ u _ before by stays) = disturbs set enabled u w (knows set enabled u before) (entry_of set enabled u (knows set enabled u before)).knows by stays
+      knows set enabled w (executed was _ may _ u _ before by is after) = subst (λ (b : Bool). Knows set b w) (sym after) (subst (λ (b : Bool). Knows b (enabled_after by.found.instr may) w) (sym is) (executes was may u w (knows was may u before) by))
+      knows set enabled w (woken _ _ u _ before may by) = wakes set enabled u w (knows set enabled u before) on may by
+
+    pub ready : (set : Bool) (w : World) (stack : Option (List ByteSpan)) → IsSome stack → IfSome stack (λ b. HoldsStack (bounds_of image) b w.machine.cpu.sp w.machine.memory × (set ≡ true)) → IfSome stack (λ b. length b ≤ bytes) →
+        IsReady image bytes set w
+    ready set w None some stands few = cc
+    ready set w (Some b) some stands few = record { is_set = stands.1; count = length b; few = few; pointer = stands.0.pointer }
+
+    pub interrupted_keeps : interrupted ≡ true → PromiseOfInterrupted image quiet is_set ways listed bytes
+    interrupted_keeps on start pc whole code held top w set enabled board =
+        let k = knows on start pc whole code held top set enabled w board in
+        (subst (λ (b : Bool). KeepsFollowed image b bytes ways listed w) on (keeps set enabled w k (entry_of set enabled w k)), λ may. ready set w (stack_of k.state) (k.serves on may) k.stack (entry_of set enabled w k).depth)
 
 pub promise : Laws → ((regions : Areas) → AreRegions regions → Ground regions) → FollowedProgramsKeepThePromise
-promise laws ground false image quiet is_set ways listed table bytes rules quiet_data fits few = followed_keeps laws image false quiet is_set ways listed table bytes rules (ground image.regions rules) quiet_data fits few refl
-promise laws ground true image quiet is_set ways listed table bytes rules quiet_data fits few = interrupted_keeps laws image true quiet is_set ways listed table bytes rules (ground image.regions rules) quiet_data fits few refl
+promise laws ground false image quiet is_set ways listed table bytes rules quiet_data fits few = followed_keeps laws image false nobody quiet is_set ways listed table bytes rules (ground image.regions rules) quiet_data fits.code fits.are_code few fits.start fits.states refl
+promise laws ground true image quiet is_set ways listed table bytes rules quiet_data fits few = interrupted_keeps laws image true nobody quiet is_set ways listed table bytes rules (ground image.regions rules) quiet_data fits.code fits.are_code few fits.start fits.states refl

@@ -3,7 +3,10 @@ mod StackLemmas
 mod FetchLemmas
 mod GuardLemmas
 mod StackSteps
+mod HeldLemmas
+mod RelativeLemmas
 mod PointLemmas
 mod FollowLemmas
+mod LiveLemmas
 mod FitLemmas
 mod ReachLemmas

@@ -7,16 +7,15 @@ use Rattle.std.proofs.lemmas.List.{length-set, length-replicate, get_or-replicat
 use Rattle.decode80.specs.declared.{fetching.Fetched.Fetched, fetching.FetchFault.FetchFault}
 use Rattle.image80.specs.{Image.Located, Image.memory_of}
 use Rattle.verify80.specs.{LookLaws.fetch_at, Reached.found_at}
-use Rattle.verify80_follow.specs.declared.followed.FollowedState.{FollowedState}
 use Rattle.verify80_follow.specs.Reaching.{AreFollowed}
 
 -- the instructions at which the first states stand are noted, and no others
-pub record AreNoted (image : Located) (states : List FollowedState) (count : ℕ) (table : List (Option Fetched)) : Type 0 where
+pub record AreNoted (image : Located) (states : List ℕ) (count : ℕ) (table : List (Option Fetched)) : Type 0 where
   pub whole : length table ≡ 65536
   pub only : (at : ℕ) (found : Fetched) → found_at table at ≡ Some found →
-      Any (λ s. s.at ≡ at) states × (fetch_at image.regions (memory_of image.chunks) at ≡ Ok found)
-  pub each : (i : ℕ) (d : FollowedState) (found : Fetched) → i < count → fetch_at image.regions (memory_of image.chunks) (slice_index_or states i d).at ≡ Ok found →
-      found_at table (slice_index_or states i d).at ≡ Some found
+      Any (λ place. place ≡ at) states × (fetch_at image.regions (memory_of image.chunks) at ≡ Ok found)
+  pub each : (i : ℕ) (d : ℕ) (found : Fetched) → i < count → fetch_at image.regions (memory_of image.chunks) (slice_index_or states i d) ≡ Ok found →
+      found_at table (slice_index_or states i d) ≡ Some found
 
 -- nothing is noted yet
 none_in : (n at : ℕ) → found_at (replicate n None) at ≡ None
@@ -25,7 +24,7 @@ none_in n at = elim (cases_lt at n) [
   | inr past ↦ get_or_past (replicate n None) at None (subst (λ (m : ℕ). m ≤ at) (sym (length-replicate n None)) past)
 ]
 
-pub none_noted : (image : Located) (states : List FollowedState) (table : List (Option Fetched)) → table ≡ replicate 65536 None → AreNoted image states 0 table
+pub none_noted : (image : Located) (states : List ℕ) (table : List (Option Fetched)) → table ≡ replicate 65536 None → AreNoted image states 0 table
 none_noted image states table nothing = record {
   whole = ap length nothing ∙ length-replicate {A = Option Fetched} 65536 None;
   only = λ at found is. absurd (let e : None ≡ Some found = sym (ap (λ (t : List (Option Fetched)). found_at t at) nothing ∙ none_in 65536 at) ∙ is in cc);
@@ -37,50 +36,50 @@ ok_found (Ok other) found is = cc
 ok_found (Err fault) found is = absurd (cc)
 
 -- one more state
-module _ (image : Located) (states : List FollowedState) where
+module _ (image : Located) (states : List ℕ) where
   abbrev fetched : ℕ → Result Fetched FetchFault
   fetched at = fetch_at image.regions (memory_of image.chunks) at
 
-  module _ (i : ℕ) (table : List (Option Fetched)) (state : FollowedState) (inside : i < length states) (is : state ≡ slice_index_or states i state) (small : state.at < 65536) (before : AreNoted image states i table) where
+  module _ (i : ℕ) (table : List (Option Fetched)) (state : ℕ) (inside : i < length states) (is : state ≡ slice_index_or states i state) (small : state < 65536) (before : AreNoted image states i table) where
     abbrev pub after : List (Option Fetched)
-    after = slice_set table state.at (result_ok (fetched state.at))
+    after = slice_set table state (result_ok (fetched state))
 
-    low : state.at < length table
+    low : state < length table
     low = let w = before.whole in omega (arith, small, w)
 
-    stored : found_at after state.at ≡ result_ok (fetched state.at)
-    stored = get_or-set_same table state.at (result_ok (fetched state.at)) None low
+    stored : found_at after state ≡ result_ok (fetched state)
+    stored = get_or-set_same table state (result_ok (fetched state)) None low
 
-    kept : (at : ℕ) → at ≢ state.at → found_at after at ≡ found_at table at
-    kept at other = get_or-set_other table state.at at (result_ok (fetched state.at)) None other
+    kept : (at : ℕ) → at ≢ state → found_at after at ≡ found_at table at
+    kept at other = get_or-set_other table state at (result_ok (fetched state)) None other
 
-    here : (at : ℕ) (found : Fetched) → at ≡ state.at → fetched at ≡ Ok found → found_at after at ≡ Some found
+    here : (at : ℕ) (found : Fetched) → at ≡ state → fetched at ≡ Ok found → found_at after at ≡ Some found
     here at found same is_fetched = ap (found_at after) same ∙ stored ∙ ap result_ok (ap fetched (sym same) ∙ is_fetched)
 
     pub one_noted : AreNoted image states (i + 1) after
     one_noted = record {
-      whole = length-set table state.at (result_ok (fetched state.at)) ∙ before.whole;
-      only = λ at found there. elim (cases_eq at state.at) [
+      whole = length-set table state (result_ok (fetched state)) ∙ before.whole;
+      only = λ at found there. elim (cases_eq at state) [
         | inl same ↦ (
           (i, state, inside, sym is, sym same),
-          ap fetched same ∙ ok_found (fetched state.at) found (sym stored ∙ ap (found_at after) (sym same) ∙ there),
+          ap fetched same ∙ ok_found (fetched state) found (sym stored ∙ ap (found_at after) (sym same) ∙ there),
         )
         | inr other ↦ before.only at found (sym (kept at other) ∙ there)
       ];
       each = λ j d found less is_fetched. elim (cases_lt j i) [
-        | inl earlier ↦ elim (cases_eq (slice_index_or states j d).at state.at) [
-          | inl same ↦ here (slice_index_or states j d).at found same is_fetched
-          | inr other ↦ kept (slice_index_or states j d).at other ∙ before.each j d found earlier is_fetched
+        | inl earlier ↦ elim (cases_eq (slice_index_or states j d) state) [
+          | inl same ↦ here (slice_index_or states j d) found same is_fetched
+          | inr other ↦ kept (slice_index_or states j d) other ∙ before.each j d found earlier is_fetched
         ]
         | inr late ↦
             let last : j ≡ i = omega (arith, less, late) in
             let at_j : slice_index_or states j d ≡ state = ap (λ n. slice_index_or states n d) last ∙ (get_or_default states i d state inside ∙ sym is) in
-            here (slice_index_or states j d).at found (ap (λ (s : FollowedState). s.at) at_j) is_fetched
+            here (slice_index_or states j d) found (ap (λ (s : ℕ). s) at_j) is_fetched
       ];
     }
 
 -- all states
-pub all_noted : (image : Located) (states : List FollowedState) (count : ℕ) (table : List (Option Fetched)) → length states ≤ count → AreNoted image states count table → AreFollowed image states table
+pub all_noted : (image : Located) (states : List ℕ) (count : ℕ) (table : List (Option Fetched)) → length states ≤ count → AreNoted image states count table → AreFollowed image states table
 all_noted image states count table all noted = record {
   whole = noted.whole;
   only = noted.only;

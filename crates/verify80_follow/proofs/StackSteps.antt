@@ -17,7 +17,7 @@ use Rattle.verify80_follow.proofs.GroundLemmas.{Ground}
 use Rattle.verify80_follow.proofs.StackLemmas.{any_within, bounds, byte_at, if_true_holds, moved_holds, one_popped, pointer_below, pointer_is, pointer_is_word, stack_stays, two_popped, two_put}
 
 -- a word that is stored and read
-two_read : (m : List ℕ) (a b x y : ℕ) → length m ≡ 65536 → a < 65536 → b < 65536 → a ≢ b → (slice_index (slice_set (slice_set m a x) b y) a ≡ x) × (slice_index (slice_set (slice_set m a x) b y) b ≡ y)
+pub two_read : (m : List ℕ) (a b x y : ℕ) → length m ≡ 65536 → a < 65536 → b < 65536 → a ≢ b → (slice_index (slice_set (slice_set m a x) b y) a ≡ x) × (slice_index (slice_set (slice_set m a x) b y) b ≡ y)
 two_read m a b x y whole small other apart = (
   get_or-set_other (slice_set m a x) b a y 0 apart ∙ get_or-set_same m a x 0 (omega (arith, small, whole)),
   get_or-set_same (slice_set m a x) b y 0 (let size = length-set m a x in omega (arith, size, other, whole)),
@@ -33,7 +33,7 @@ high_inside s h l small inside = let above = inside.above in let below = inside.
 alone_inside : (n : ℕ) → ByteWithin (byte_alone n) n
 alone_inside n = record { above = omega arith; below = omega arith }
 
-behind_word : (at k : ℕ) → behind at k < 65536
+pub behind_word : (at k : ℕ) → behind at k < 65536
 unfolding behind
 behind_word at k = omega arith
 
@@ -53,7 +53,7 @@ twice_up : (sp : ℕ) → ahead (ahead sp 1) 1 ≡ ahead sp 2
 unfolding ahead
 twice_up sp = omega arith
 
-below_apart : (sp : ℕ) → behind sp 1 ≢ behind sp 2
+pub below_apart : (sp : ℕ) → behind sp 1 ≢ behind sp 2
 unfolding behind
 below_apart sp = λ e. absurd (omega (arith, e))
 

@@ -14,8 +14,8 @@ use Rattle.verify80_spans.specs.declared.span.Span.{Span}
 use Rattle.verify80_spans.specs.Span.{Within, ByteWithin, IsInside, byte_alone, is_alone}
 use Rattle.verify80_states.specs.{declared.states.known.Known.Known, Known.IsKnownInside, Known.IsQuietKnown, Known.cut, Known.nothing_known, Given.given, Following.known_after, Steps.AreCodeBytes}
 use Rattle.verify80_stores.specs.Opening.{pointer_span}
-use Rattle.verify80_follow.specs.declared.{followed.FollowedState.FollowedState, followed.Listed.Listed, followed.Way.Way}
-use Rattle.verify80_follow.specs.InterruptedBoards.{enabled_after}
+use Rattle.verify80_follow.specs.declared.{held.Beside.Beside, stack.StackBounds.StackBounds, followed.FollowedState.FollowedState, followed.Listed.Listed, followed.Way.Way}
+use Rattle.verify80_follow.specs.Held.{IsBesideInside, beside_then, nothing_beside}
 use Rattle.verify80_follow.specs.Stack.{IsStackInside, bounds_of, return_address, stack_then, top_of_stack}
 
 -- the bytes of a state's stack
@@ -23,18 +23,18 @@ abbrev pub stack_of : FollowedState → Option (List ByteSpan)
 stack_of s = option_map (λ bytes. bytes.items) s.stack
 
 -- the table has a state at an address that says no more than this, and at which interrupts may come if they may
-pub record Has (table : List FollowedState) (to : ℕ) (known : Known) (enabled : Bool) (stack : Option (List ByteSpan)) : Type 0 where
+pub record Has (table : List FollowedState) (to : ℕ) (known : Known) (beside : Beside) (stack : Option (List ByteSpan)) : Type 0 where
   pub place : ℕ
   pub state : FollowedState
   pub there : slice_get table place ≡ Some state
   pub at : state.at ≡ to
   pub inside : IsKnownInside [] known state.known
-  pub enables : enabled ≡ true → state.is_enabled ≡ true
+  pub besides : IsBesideInside beside state.beside
   pub stacked : IsStackInside stack (stack_of state)
 
 -- states at an address that together say no more than this: one of them, or one for each byte that A may be
-pub record Covers (table : List FollowedState) (to : ℕ) (known : Known) (enabled : Bool) (stack : Option (List ByteSpan)) : Type 0 where
-  pub either : Has table to known enabled stack ⊎ ((byte : ℕ) → ByteWithin known.a byte → Has table to (cut known (byte_alone byte)) enabled stack)
+pub record Covers (table : List FollowedState) (to : ℕ) (known : Known) (beside : Beside) (stack : Option (List ByteSpan)) : Type 0 where
+  pub either : Has table to known beside stack ⊎ ((byte : ℕ) → ByteWithin known.a byte → Has table to (cut known (byte_alone byte)) beside stack)
 
 -- whether an instruction calls
 abbrev pub is_call : Flow → Bool
@@ -55,17 +55,17 @@ abbrev pub IsWay : Located → List Way → (at to : ℕ) → Type 0
 IsWay image ways at to = IsBehindCall image to ⊎ Contains ways (record { at = at; to = to })
 
 -- the same of what is left of a stack, if something is, which has no more bytes than these
-pub record CoversStack (table : List FollowedState) (bytes to : ℕ) (known : Known) (enabled : Bool) (after : Option (Option (List ByteSpan))) : Type 0 where
+pub record CoversStack (table : List FollowedState) (bytes to : ℕ) (known : Known) (beside : Option (List ByteSpan) → Beside) (after : Option (Option (List ByteSpan))) : Type 0 where
   pub stack : Option (List ByteSpan)
   pub is : after ≡ Some stack
   pub depth : IfSome stack (λ left. length left ≤ bytes)
-  pub covers : Covers table to known enabled stack
+  pub covers : Covers table to known (beside stack) stack
 
 -- what an instruction makes of what is left of a state, if something is, is covered where it leads
-module _ (image : Located) (interrupted : Bool) (code : List (Option ℕ)) (ways : List Way) (table : List FollowedState) (bytes : ℕ) (s : FollowedState) (found : Fetched) where
+module _ (image : Located) (bounds : StackBounds) (interrupted : Bool) (code : List (Option ℕ)) (ways : List Way) (table : List FollowedState) (bytes : ℕ) (s : FollowedState) (found : Fetched) where
   abbrev pub CoversThen : (taken : Bool) → (to : ℕ) → Known → Type 0
-  CoversThen taken to known = CoversStack table bytes to (known_after code found.instr (top_of_stack (bounds_of image) (stack_of s)) known) (enabled_after found.instr s.is_enabled)
-      (stack_then (bounds_of image) found.instr taken found.next known (stack_of s))
+  CoversThen taken to known = CoversStack table bytes to (known_after code found.instr (top_of_stack bounds (stack_of s)) known) (λ stack. beside_then found.instr (stack_of s) stack s.beside)
+      (stack_then bounds found.instr taken found.next known (stack_of s))
 
   abbrev pub LeadsTo : (taken : Bool) → (to : ℕ) → Option Known → Type 0
   LeadsTo taken to left = IfSome left (λ known. CoversThen taken to known)
@@ -98,7 +98,7 @@ module _ (image : Located) (interrupted : Bool) (code : List (Option ℕ)) (ways
 
   -- a HLT is left as it was come to, if the program is interrupted and interrupts may come
   abbrev pub LeavesHalt : Type 0
-  LeavesHalt = interrupted ≡ true → s.is_enabled ≡ true → Covers table found.next s.known true (stack_of s)
+  LeavesHalt = interrupted ≡ true → s.beside.is_enabled ≡ true → Covers table found.next s.known s.beside (stack_of s)
 
   abbrev pub FollowsBy : Flow → Type 0
   FollowsBy (Jumps to) = LeadsTo false to (Some s.known)
@@ -127,12 +127,12 @@ pub record IsShownOrListed (regions : Areas) (listed : Listed) (instr : Instr) (
       ((to : ℕ) → Within s.known.hl.words to → Contains (declared_targets regions s.at) to) ⊎ Contains listed.jumps.items s.at
 
 -- a state fits the instruction at its address, which is the image's; an interrupted program lets interrupts in only once SP is set
-pub record StateFollows (image : Located) (interrupted : Bool) (quiet : ℕ → Bool) (code : List (Option ℕ)) (ways : List Way) (listed : Listed) (table : List FollowedState) (bytes : ℕ) (s : FollowedState) : Type 0 where
+pub record StateFollows (image : Located) (bounds : StackBounds) (interrupted : Bool) (quiet : ℕ → Bool) (code : List (Option ℕ)) (ways : List Way) (listed : Listed) (table : List FollowedState) (bytes : ℕ) (s : FollowedState) : Type 0 where
   pub found : Fetched
   pub executed : IsExecuted image interrupted s.at found
   pub serves : interrupted ≡ true → found.instr ≡ Ei → IsSome (stack_of s)
   pub shown : IsShownOrListed image.regions listed found.instr s
-  pub follows : FollowsBy image interrupted code ways table bytes s found (flow found.instr)
+  pub follows : FollowsBy image bounds interrupted code ways table bytes s found (flow found.instr)
   pub depth : IfSome (stack_of s) (λ stack. length stack ≤ bytes)
   pub knows : IsQuietKnown quiet s.known
 
@@ -145,5 +145,5 @@ first_stack false = None
 pub record Follows (image : Located) (interrupted : Bool) (quiet : ℕ → Bool) (is_set : Bool) (ways : List Way) (listed : Listed) (table : List FollowedState) (bytes : ℕ) : Type 0 where
   pub code : List (Option ℕ)
   pub are_code : AreCodeBytes image code
-  pub start : Has table image.start nothing_known false (first_stack is_set)
-  pub states : All (λ s. StateFollows image interrupted quiet code ways listed table bytes s) table
+  pub start : Has table image.start nothing_known nothing_beside (first_stack is_set)
+  pub states : All (λ s. StateFollows image (bounds_of image) interrupted quiet code ways listed table bytes s) table

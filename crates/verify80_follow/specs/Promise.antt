@@ -11,7 +11,7 @@ use Rattle.verify80_spans.specs.Span.{Within}
 use Rattle.verify80_states.specs.{Bytes.HoldsBytes, Known.HoldsKnown, QuietBoards.OnQuietBoard, Steps.HasCode}
 use Rattle.verify80_stores.specs.{declared.stores.OpenStore.OpenStore, Boards.IsListedAt}
 use Rattle.verify80_follow.specs.declared.{followed.FollowedState.FollowedState, followed.Listed.Listed, followed.Way.Way}
-use Rattle.verify80_follow.specs.{InterruptedBoards.OnInterruptedBoard, Stack.HoldsStack, Stack.bounds_of, Stack.pointer_at, Follows.Follows, Follows.IsWay, Follows.stack_of}
+use Rattle.verify80_follow.specs.{Held.Entry, Held.HoldsBeside, Held.count_of, InterruptedBoards.OnInterruptedBoard, Stack.HoldsStack, Stack.bounds_of, Stack.pointer_at, Follows.Follows, Follows.IsWay, Follows.stack_of}
 
 -- a store is listed at an address, or a PCHL is
 abbrev pub IsLeftOpenAt : Listed → ℕ → Type 0
@@ -50,13 +50,14 @@ pub record IsReady (image : Located) (bytes : ℕ) (set : Bool) (w : World) : Ty
   pub pointer : w.machine.cpu.sp ≡ pointer_at (bounds_of image) count
 
 -- a state of the table holds of a world; as long as SP isn't set, nothing is known of the stack, and no interrupt may come if the program is interrupted
-pub record KnowsWorld (image : Located) (interrupted : Bool) (table : List FollowedState) (set enabled : Bool) (w : World) : Type 0 where
+pub record KnowsWorld (image : Located) (interrupted : Bool) (entry : Entry) (table : List FollowedState) (set enabled : Bool) (w : World) : Type 0 where
   pub place : ℕ
   pub state : FollowedState
   pub there : slice_get table place ≡ Some state
   pub at : state.at ≡ w.machine.cpu.pc
   pub known : HoldsKnown state.known w.machine
-  pub enables : enabled ≡ true → state.is_enabled ≡ true
+  pub enables : enabled ≡ true → state.beside.is_enabled ≡ true
+  pub held : HoldsBeside (bounds_of image) entry state.beside (count_of (stack_of state)) w.machine
   pub serves : interrupted ≡ true → enabled ≡ true → IsSome (stack_of state)
   pub stack : IfSome (stack_of state) (λ bytes. HoldsStack (bounds_of image) bytes w.machine.cpu.sp w.machine.memory × (set ≡ true))
   pub bytes : HoldsBytes w.machine

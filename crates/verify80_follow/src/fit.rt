@@ -1,12 +1,12 @@
 //! Whether a table of states follows an image.
 
-ghost use Rattle.std.specs.Prelude.{◌≡◌, ◌⊎◌, ◌≤◌, ℕ, false, true, All, Any, Contains, IfOk, IfSome, IsSome, length};
+ghost use Rattle.std.specs.Prelude.{◌≡◌, ◌⊎◌, ◌≤◌, ℕ, Bool, false, true, All, Any, Contains, IfOk, IfSome, IsSome, length};
 ghost use Rattle.std.specs.Option.{option_map};
 ghost use Rattle.image80.specs.{Image.memory_of, Regions.AreRegions, Regions.in_data};
 ghost use Rattle.verify80_spans.specs.Span.{Within, ByteWithin, IsInside, byte_alone};
 ghost use Rattle.verify80_states.specs.{Known.cut, Known.nothing_known, Following.known_after, Marks.is_marked, QuietBoards.is_quiet, Steps.AreCodeBytes};
-ghost use Rattle.verify80_follow.specs.Follows.{Covers, CoversStack, CoversThen, FollowsBy, Has, IsBehindCall, IsWay, JumpsBy, IsExecuted, IsShownOrListed, JumpsByNumber, LeadsIf, LeadsTo, LeavesHalt, ReturnsLeft, StateFollows, first_stack, is_call, stack_of};
-ghost use Rattle.verify80_follow.specs.InterruptedBoards.{enabled_after};
+ghost use Rattle.verify80_follow.specs.Follows.{Covers, CoversStack, CoversThen, Follows, FollowsBy, Has, IsBehindCall, IsWay, JumpsBy, IsExecuted, IsShownOrListed, JumpsByNumber, LeadsIf, LeadsTo, LeavesHalt, ReturnsLeft, ReturnsTo, StateFollows, first_stack, is_call, stack_of};
+ghost use Rattle.verify80_follow.specs.Held.{beside_then, nothing_beside};
 ghost use Rattle.verify80_follow.specs.Promise.{PromiseOf};
 ghost use Rattle.verify80_follow.specs.Stack.{after_of, bounds_of};
 ghost use Rattle.decode80.specs.{Facts.flow, declared.flow.Flow.TheVariants.JumpsToHl, declared.instr.Instr.TheVariants.Ei};
@@ -14,7 +14,7 @@ ghost use Rattle.verify80.specs.{LookLaws.fetch_at, Looking.declared_targets, Lo
 ghost use Rattle.verify80_stores.specs.DataReach.{AreDataEnds};
 
 use crate::followed::{FollowedState, Listed, RunKind, Way};
-use crate::interrupts::enabled_after;
+use crate::held::{Beside, beside_then};
 use crate::laws::followed_programs_keep_the_promise;
 use crate::stack::{
     StackAfter, StackBounds, is_stack_inside, return_address, stack_then, top_of_stack,
@@ -45,24 +45,26 @@ pub struct Table {
 
 /// A table with the program that it has to follow.
 #[derive(Clone, Copy)]
-struct Fit<'a> {
-    table: &'a [FollowedState],
-    hints: &'a [u32],
-    ways: &'a [Way],
-    listed: &'a Listed,
-    bytes: u16,
+pub(crate) struct Fit<'a> {
+    pub table: &'a [FollowedState],
+    pub hints: &'a [u32],
+    pub ways: &'a [Way],
+    pub listed: &'a Listed,
+    pub bytes: u16,
+    /// The stack's end and length.
+    pub bounds: StackBounds,
     /// Whether the program is interrupted.
-    interrupted: bool,
+    pub interrupted: bool,
     /// The bytes of code, by address.
-    code: &'a [Option<u8>],
+    pub code: &'a [Option<u8>],
     /// The image, address by address.
-    program: &'a ImageCode<'a>,
+    pub program: &'a ImageCode<'a>,
     /// The regions of the image.
-    regions: &'a Regions,
+    pub regions: &'a Regions,
     /// For each address the first one from there on that is not data.
-    ends: &'a [u32],
+    pub ends: &'a [u32],
     /// Marks of the quiet addresses.
-    quiet: &'a [bool],
+    pub quiet: &'a [bool],
 }
 
 /// A state with the instruction at its address.
@@ -74,9 +76,9 @@ struct Standing<'a> {
 
 /// An instruction that may be executed, and whether targets are declared for it, if it is a PCHL.
 #[derive(Clone, Copy)]
-struct Executed {
-    found: Fetched,
-    by_targets: bool,
+pub(crate) struct Executed {
+    pub found: Fetched,
+    pub by_targets: bool,
 }
 
 /// A way on from a state: where it leads, whether a call or return is taken on it, and which hint names the states there.
@@ -123,16 +125,16 @@ impl Standing<'_> {
 }
 
 impl Fit<'_> {
-    /// Whether a hint names a place of the table with a state at `to` that says no more than this, and at which interrupts may come if they may.
-    fn has(
+    /// Whether a hint names a place of the table with a state at `to` that says no more than this.
+    pub(crate) fn has(
         &self,
         hint: u32,
         to: u16,
         known: Known,
-        enabled: bool,
+        beside: Beside,
         stack: Option<&[ByteSpan]>,
     ) -> bool
-        ensures { result ≡ true → Has self.now.table.now to known enabled (option_map (λ bytes. bytes.now) stack.entry) }
+        ensures { result ≡ true → Has self.now.table.now to known beside (option_map (λ bytes. bytes.now) stack.entry) }
     {
         let Some(place) = self.hints.get(hint as usize) else {
             return false;
@@ -141,7 +143,7 @@ impl Fit<'_> {
             Some(state) => {
                 state.at == to
                     && known.is_inside(state.known, &[])
-                    && state.allows(enabled)
+                    && beside.is_inside(state.beside)
                     && is_stack_inside(stack, state.bytes())
             }
             None => false,
@@ -150,12 +152,12 @@ impl Fit<'_> {
 
     /// Whether the first hint names a state at the start that says nothing but, if SP is set there, that the stack is empty.
     fn has_start(&self, start: u16, is_set: bool) -> bool
-        ensures { result ≡ true → Has self.now.table.now start nothing_known false (first_stack is_set) }
+        ensures { result ≡ true → Has self.now.table.now start nothing_known nothing_beside (first_stack is_set) }
     {
         if is_set {
-            self.has(0, start, Known::ANY, false, Some(&[]))
+            self.has(0, start, Known::ANY, Beside::NOTHING, Some(&[]))
         } else {
-            self.has(0, start, Known::ANY, false, None)
+            self.has(0, start, Known::ANY, Beside::NOTHING, None)
         }
     }
 
@@ -165,12 +167,12 @@ impl Fit<'_> {
         hint: u32,
         to: u16,
         known: Known,
-        enabled: bool,
+        beside: Beside,
         stack: Option<&[ByteSpan]>,
     ) -> bool
-        ensures { result ≡ true → Covers self.now.table.now to known enabled (option_map (λ bytes. bytes.now) stack.entry) }
+        ensures { result ≡ true → Covers self.now.table.now to known beside (option_map (λ bytes. bytes.now) stack.entry) }
     {
-        self.has(hint, to, known, enabled, stack) || self.has_each(hint, to, known, enabled, stack)
+        self.has(hint, to, known, beside, stack) || self.has_each(hint, to, known, beside, stack)
     }
 
     /// Whether a hint names a state at `to` for each byte that A may be, which says no more than this with that byte in A.
@@ -179,10 +181,10 @@ impl Fit<'_> {
         hint: u32,
         to: u16,
         known: Known,
-        enabled: bool,
+        beside: Beside,
         stack: Option<&[ByteSpan]>,
     ) -> bool
-        ensures { result ≡ true → (byte : ℕ) → ByteWithin known.a byte → Has self.now.table.now to (cut known (byte_alone byte)) enabled (option_map (λ bytes. bytes.now) stack.entry) }
+        ensures { result ≡ true → (byte : ℕ) → ByteWithin known.a byte → Has self.now.table.now to (cut known (byte_alone byte)) beside (option_map (λ bytes. bytes.now) stack.entry) }
     {
         let Some(first) = self.hints.get(hint as usize) else {
             return false;
@@ -196,7 +198,7 @@ impl Fit<'_> {
                 next,
                 to,
                 known.cut(ByteSpan::alone(number as u8)),
-                enabled,
+                beside,
                 stack,
             ) {
                 return false;
@@ -214,46 +216,41 @@ impl Fit<'_> {
         way: Onward,
         known: Known,
     ) -> Result<bool, AllocError>
-        ensures { IfOk result (λ covers. covers ≡ true → CoversThen self.now.program.now self.now.interrupted self.now.code.now self.now.ways.now self.now.table.now self.now.bytes here.entry.state.now here.entry.found way.taken way.to known) }
+        ensures { IfOk result (λ covers. covers ≡ true → CoversThen self.now.program.now self.now.bounds self.now.interrupted self.now.code.now self.now.ways.now self.now.table.now self.now.bytes here.entry.state.now here.entry.found way.taken way.to known) }
     {
         let Standing { state, found } = here;
-        let bounds = self.bounds();
+        let bounds = self.bounds;
         let top = top_of_stack(bounds, state.bytes());
         let after = known_after(self.code, found.instr, top, known);
-        let enabled = enabled_after(found.instr, state.is_enabled);
         let stack = stack_then(alloc, bounds, found, way.taken, known, state.bytes())?;
-        let covers = self.covers_stack(way.hint, way.to, after, enabled, &stack);
+        let covers = self.covers_stack(here, way, after, &stack);
         Ok(covers)
     }
 
-    /// Whether a hint names states at `to` that together say no more than this with what is left of a stack, which isn't too deep.
+    /// Whether a way's hint names states that together say no more than this with what is left of a stack, which isn't too deep, and with what is
+    /// said beside them then.
     fn covers_stack(
         &self,
-        hint: u32,
-        to: u16,
+        here: Standing<'_>,
+        way: Onward,
         known: Known,
-        enabled: bool,
         stack: &StackAfter,
     ) -> bool
-        ensures { result ≡ true → CoversStack self.now.table.now self.now.bytes to known enabled (after_of stack.now) }
+        ensures { result ≡ true → CoversStack self.now.table.now self.now.bytes way.to known (λ left. beside_then here.entry.found.instr (stack_of here.entry.state.now) left here.entry.state.now.beside) (after_of stack.now) }
     {
+        let Onward { hint, to, .. } = way;
+        let Standing { state, found } = here;
         match stack {
             StackAfter::Refused => false,
-            StackAfter::Unset => self.covers(hint, to, known, enabled, None),
-            StackAfter::Set(bytes) => {
-                is_within(Some(bytes), self.bytes)
-                    && self.covers(hint, to, known, enabled, Some(bytes))
+            StackAfter::Unset => {
+                let beside = beside_then(found.instr, state.bytes(), None, state.beside);
+                self.covers(hint, to, known, beside, None)
             }
-        }
-    }
-
-    /// The stack's end and length.
-    fn bounds(&self) -> StackBounds
-        ensures { result ≡ bounds_of self.now.program.now }
-    {
-        StackBounds {
-            top: self.program.top(),
-            length: self.program.stack(),
+            StackAfter::Set(bytes) => {
+                let beside = beside_then(found.instr, state.bytes(), Some(bytes), state.beside);
+                is_within(Some(bytes), self.bytes)
+                    && self.covers(hint, to, known, beside, Some(bytes))
+            }
         }
     }
 
@@ -265,7 +262,7 @@ impl Fit<'_> {
         way: Onward,
         left: Option<Known>,
     ) -> Result<bool, AllocError>
-        ensures { IfOk result (λ leads. leads ≡ true → LeadsTo self.now.program.now self.now.interrupted self.now.code.now self.now.ways.now self.now.table.now self.now.bytes here.entry.state.now here.entry.found way.taken way.to left) }
+        ensures { IfOk result (λ leads. leads ≡ true → LeadsTo self.now.program.now self.now.bounds self.now.interrupted self.now.code.now self.now.ways.now self.now.table.now self.now.bytes here.entry.state.now here.entry.found way.taken way.to left) }
     {
         match left {
             None => Ok(true),
@@ -281,7 +278,7 @@ impl Fit<'_> {
         condition: Condition,
         to: u16,
     ) -> Result<bool, AllocError>
-        ensures { IfOk result (λ leads. leads ≡ true → LeadsIf self.now.program.now self.now.interrupted self.now.code.now self.now.ways.now self.now.table.now self.now.bytes here.entry.state.now here.entry.found condition to) }
+        ensures { IfOk result (λ leads. leads ≡ true → LeadsIf self.now.program.now self.now.bounds self.now.interrupted self.now.code.now self.now.ways.now self.now.table.now self.now.bytes here.entry.state.now here.entry.found condition to) }
     {
         let known = here.state.known;
         let taken = self.leads_to(alloc, here, here.taken(to), given(condition, true, known))?;
@@ -330,7 +327,7 @@ impl Fit<'_> {
         here: Standing<'_>,
         left: Option<Known>,
     ) -> Result<bool, AllocError>
-        ensures { IfOk result (λ returns. returns ≡ true → ReturnsLeft self.now.program.now self.now.interrupted self.now.code.now self.now.ways.now self.now.table.now self.now.bytes here.entry.state.now here.entry.found left) }
+        ensures { IfOk result (λ returns. returns ≡ true → ReturnsLeft self.now.program.now self.now.bounds self.now.interrupted self.now.code.now self.now.ways.now self.now.table.now self.now.bytes here.entry.state.now here.entry.found left) }
     {
         let Some(known) = left else {
             return Ok(true);
@@ -346,7 +343,7 @@ impl Fit<'_> {
 
     /// Whether a PCHL without declared targets goes where HL is known to be, may go there, and the state is covered there.
     fn jumps_by_number(&self, alloc: Global, here: Standing<'_>) -> Result<bool, AllocError>
-        ensures { IfOk result (λ jumps. jumps ≡ true → JumpsByNumber self.now.program.now self.now.interrupted self.now.code.now self.now.ways.now self.now.table.now self.now.bytes here.entry.state.now here.entry.found) }
+        ensures { IfOk result (λ jumps. jumps ≡ true → JumpsByNumber self.now.program.now self.now.bounds self.now.interrupted self.now.code.now self.now.ways.now self.now.table.now self.now.bytes here.entry.state.now here.entry.found) }
     {
         let state = here.state;
         let words = state.known.hl.words;
@@ -358,7 +355,7 @@ impl Fit<'_> {
 
     /// Whether a PCHL is covered at each of its declared targets that HL may be.
     fn jumps_to_each(&self, alloc: Global, here: Standing<'_>) -> Result<bool, AllocError>
-        ensures { IfOk result (λ jumps. jumps ≡ true → JumpsBy self.now.program.now self.now.interrupted self.now.code.now self.now.ways.now self.now.table.now self.now.bytes here.entry.state.now here.entry.found true) }
+        ensures { IfOk result (λ jumps. jumps ≡ true → JumpsBy self.now.program.now self.now.bounds self.now.interrupted self.now.code.now self.now.ways.now self.now.table.now self.now.bytes here.entry.state.now here.entry.found true) }
     {
         let targets = self.program.targets(here.state.at);
         for place in 0..targets.len() {
@@ -377,7 +374,7 @@ impl Fit<'_> {
         place: usize,
         to: u16,
     ) -> Result<bool, AllocError>
-        ensures { IfOk result (λ covers. covers ≡ true → Within here.entry.state.now.known.hl.words to → CoversThen self.now.program.now self.now.interrupted self.now.code.now self.now.ways.now self.now.table.now self.now.bytes here.entry.state.now here.entry.found false to here.entry.state.now.known) }
+        ensures { IfOk result (λ covers. covers ≡ true → Within here.entry.state.now.known.hl.words to → CoversThen self.now.program.now self.now.bounds self.now.interrupted self.now.code.now self.now.ways.now self.now.table.now self.now.bytes here.entry.state.now here.entry.found false to here.entry.state.now.known) }
     {
         let known = here.state.known;
         let words = known.hl.words;
@@ -395,7 +392,7 @@ impl Fit<'_> {
         by_targets: bool,
     ) -> Result<bool, AllocError>
         requires declared { flow here.found.instr ≡ JumpsToHl → is_declared self.now.program.now.regions here.state.now.at ≡ by_targets }
-        ensures { IfOk result (λ follows. follows ≡ true → FollowsBy self.now.program.now self.now.interrupted self.now.code.now self.now.ways.now self.now.table.now self.now.bytes here.entry.state.now here.entry.found (flow here.entry.found.instr)) }
+        ensures { IfOk result (λ follows. follows ≡ true → FollowsBy self.now.program.now self.now.bounds self.now.interrupted self.now.code.now self.now.ways.now self.now.table.now self.now.bytes here.entry.state.now here.entry.found (flow here.entry.found.instr)) }
     {
         let known = here.state.known;
         match here.found.instr.flow() {
@@ -422,12 +419,18 @@ impl Fit<'_> {
 
     /// Whether a HLT is covered behind it as it is come to, if the program is interrupted and interrupts may come.
     fn leaves_halt(&self, here: Standing<'_>) -> bool
-        ensures { result ≡ true → LeavesHalt self.now.program.now self.now.interrupted self.now.code.now self.now.ways.now self.now.table.now self.now.bytes here.entry.state.now here.entry.found }
+        ensures { result ≡ true → LeavesHalt self.now.program.now self.now.bounds self.now.interrupted self.now.code.now self.now.ways.now self.now.table.now self.now.bytes here.entry.state.now here.entry.found }
     {
         let Standing { state, found } = here;
         !self.interrupted
-            || !state.is_enabled
-            || self.covers(state.hint, found.next, state.known, true, state.bytes())
+            || !state.beside.is_enabled
+            || self.covers(
+                state.hint,
+                found.next,
+                state.known,
+                state.beside,
+                state.bytes(),
+            )
     }
 
     /// Whether an instruction in a state stores by a pair to data, and jumps to a declared target if such are declared, or is listed.
@@ -498,7 +501,7 @@ impl Fit<'_> {
     }
 
     /// The instruction at an address, if one may be executed there.
-    fn executed(&self, at: u16) -> Option<Executed>
+    pub(crate) fn executed(&self, at: u16) -> Option<Executed>
         ensures executed { IfSome result (λ it. IsExecuted self.now.program.now self.now.interrupted at it.found) }
         ensures declared { IfSome result (λ it. flow it.found.instr ≡ JumpsToHl → is_declared self.now.program.now.regions at ≡ it.by_targets) }
     {
@@ -515,10 +518,14 @@ impl Fit<'_> {
     }
 
     /// Whether a state fits the instruction at its address.
-    fn state_follows(&self, alloc: Global, state: &FollowedState) -> Result<bool, AllocError>
+    pub(crate) fn state_follows(
+        &self,
+        alloc: Global,
+        state: &FollowedState,
+    ) -> Result<bool, AllocError>
         requires regions { self.now.regions.now ≡ self.now.program.now.regions }
         requires ends { AreDataEnds self.now.regions.now self.now.ends.now }
-        ensures { IfOk result (λ follows. follows ≡ true → StateFollows self.now.program.now self.now.interrupted (is_marked self.now.quiet.now) self.now.code.now self.now.ways.now self.now.listed.now self.now.table.now self.now.bytes state.now) }
+        ensures { IfOk result (λ follows. follows ≡ true → StateFollows self.now.program.now self.now.bounds self.now.interrupted (is_marked self.now.quiet.now) self.now.code.now self.now.ways.now self.now.listed.now self.now.table.now self.now.bytes state.now) }
     {
         let Some(executed) = self.executed(state.at) else {
             return Ok(false);
@@ -538,7 +545,7 @@ impl Fit<'_> {
     fn all_follow(&self, alloc: Global) -> Result<bool, AllocError>
         requires regions { self.now.regions.now ≡ self.now.program.now.regions }
         requires ends { AreDataEnds self.now.regions.now self.now.ends.now }
-        ensures { IfOk result (λ follow. follow ≡ true → All (λ s. StateFollows self.now.program.now self.now.interrupted (is_marked self.now.quiet.now) self.now.code.now self.now.ways.now self.now.listed.now self.now.table.now self.now.bytes s) self.now.table.now) }
+        ensures { IfOk result (λ follow. follow ≡ true → All (λ s. StateFollows self.now.program.now self.now.bounds self.now.interrupted (is_marked self.now.quiet.now) self.now.code.now self.now.ways.now self.now.listed.now self.now.table.now self.now.bytes s) self.now.table.now) }
     {
         for place in 0..self.table.len() {
             if !self.state_follows(alloc, &self.table[place])? {
@@ -554,6 +561,16 @@ fn is_call(flow: Flow) -> bool
     ensures { result ≡ is_call flow }
 {
     matches!(flow, Flow::Calls(_) | Flow::CallsIf(_, _))
+}
+
+/// The end and length of a program's stack.
+fn bounds_of(program: &ImageCode<'_>) -> StackBounds
+    ensures { result ≡ bounds_of program.now }
+{
+    StackBounds {
+        top: program.top(),
+        length: program.stack(),
+    }
 }
 
 /// Whether no more bytes are on the stack than `most`.
@@ -605,6 +622,21 @@ fn follows_marked(
     ensures promise { IfOk result (λ follows. follows ≡ true → PromiseOf run.interrupted image.now (is_marked quiet.now) run.is_set table.now.ways.items table.now.listed table.now.bytes) }
 {
     followed_programs_keep_the_promise();
+    fits(alloc, image, table, code, quiet, run)
+}
+
+/// Whether each state of a table fits an image, one of them at its start, and there is room for its stack.
+pub(crate) fn fits(
+    alloc: Global,
+    image: &Image,
+    table: &Table,
+    code: &[Option<u8>],
+    quiet: &[bool],
+    run: RunKind,
+) -> Result<bool, AllocError>
+    requires code { AreCodeBytes image.now code.now }
+    ensures fits { IfOk result (λ fits. fits ≡ true → Follows image.now run.interrupted (is_marked quiet.now) run.is_set table.now.ways.items table.now.listed table.now.states.items table.now.bytes × (table.now.bytes ≤ image.now.regions.stack.length)) }
+{
     let program = ImageCode::new(alloc, image)?;
     let ends = find_data_ends(alloc, &image.regions)?;
     let fit = Fit {
@@ -613,6 +645,7 @@ fn follows_marked(
         ways: &table.ways,
         listed: &table.listed,
         bytes: table.bytes,
+        bounds: bounds_of(&program),
         interrupted: run.interrupted,
         code,
         program: &program,

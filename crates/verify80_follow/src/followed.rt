@@ -1,5 +1,6 @@
 //! What is known at an address, with the whole stack.
 
+use crate::held::Beside;
 use verify80_spans::ByteSpan;
 use verify80_states::Known;
 use verify80_stores::OpenStore;
@@ -11,8 +12,7 @@ pub struct FollowedState {
     pub known: Known,
     /// What each byte of the stack may be, from SP up to the stack's top; `None` as long as SP isn't set.
     pub stack: Option<Vec<ByteSpan>>,
-    /// Whether interrupts may come, by EI and DI.
-    pub is_enabled: bool,
+    pub beside: Beside,
     /// Where the state's hints begin: one for each way on, which names a state that says no more, or one such state for each byte of A, that of a HLT too;
     /// and behind that of a return, or of a PCHL without declared targets, the place of its way in the list of ways.
     pub hint: u32,
@@ -46,16 +46,9 @@ pub struct RunKind {
 }
 
 impl FollowedState {
-    ghost use Rattle.std.specs.Prelude.{◌≡◌, true};
+    ghost use Rattle.std.specs.Prelude.{◌≡◌};
     ghost use Rattle.std.specs.Option.{option_map};
     ghost use Rattle.verify80_follow.specs.Follows.{stack_of};
-
-    /// Whether interrupts may come here, if they may by `enabled`.
-    pub(crate) fn allows(&self, enabled: bool) -> bool
-        ensures { result ≡ true → enabled ≡ true → self.now.is_enabled ≡ true }
-    {
-        self.is_enabled || !enabled
-    }
 
     /// The bytes of the stack; `None` as long as SP isn't set.
     pub fn bytes(&self) -> Option<&[ByteSpan]>

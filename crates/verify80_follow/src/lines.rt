@@ -2,11 +2,13 @@
 
 ghost use Rattle.std.specs.Prelude.{◌≡◌, ◌++◌, IfOk, OnOk, length};
 ghost use Rattle.std.specs.List.{flat_map};
-ghost use Rattle.verify80_follow.specs.{FollowText.bounds_lines, FollowText.handlers_line, FollowText.way_line, Reaching.AreStoresFollowed};
+ghost use Rattle.verify80_follow.specs.{FollowText.bounds_lines, FollowText.handler_line, FollowText.handlers_line, FollowText.live_lines, FollowText.pair_line, FollowText.way_line, FollowText.ways_lines, FollowText.written_line, Reaching.AreStoresFollowed};
 
 use crate::fit::Table;
 use crate::followed::{Listed, Way};
+use crate::handling::Handler;
 use decode80::Fetched;
+use image80::Range;
 use std::alloc::{AllocError, Global};
 use text80::word_digits;
 use verify80_stores::{Kind, Stores, addresses_of_kind};
@@ -32,6 +34,82 @@ pub fn bounds_text(
         "FOLLOWED {states} STATES\nSTACK {bytes} OF {room} AT MOST\n{handlers}"
     )?;
     Ok(lines.into_bytes())
+}
+
+/// The lines of a table with those of its handlers: how many states the first one has; how many bytes the stack has with an interrupt, at most, of how
+/// many; each handler, such as `HANDLER 0038 STACK 4`, with the bytes that it has at most, the two of the interrupt among them; and the data that
+/// they write, such as `WRITES 2000 0002`.
+///
+/// # Errors
+/// `AllocError` only if memory runs out.
+pub fn live_text(
+    alloc: Global,
+    table: &Table,
+    handlers: &[Handler],
+    writes: &[Range],
+    room: u16,
+    most: u16,
+) -> Result<Vec<u8>, AllocError>
+    ensures { IfOk result (λ text. text.items ≡ live_lines handlers.now writes.now (length table.now.states.items) table.now.bytes room most) }
+{
+    let states = table.states.len();
+    let bytes = u32::from(table.bytes) + u32::from(most);
+    let lines = format!(in alloc; "FOLLOWED {states} STATES\nSTACK {bytes} OF {room} AT MOST\n")?;
+    let mut text = lines.into_bytes();
+    let rest = handlers_text(alloc, handlers, writes)?;
+    text.extend_from_slice(&rest)?;
+    Ok(text)
+}
+
+/// The lines of handlers, and of the data that they write.
+fn handlers_text(
+    alloc: Global,
+    handlers: &[Handler],
+    writes: &[Range],
+) -> Result<Vec<u8>, AllocError>
+    ensures { IfOk result (λ text. text.items ≡ flat_map handler_line handlers.now ++ flat_map written_line writes.now) }
+{
+    let mut text = Vec::new(alloc);
+    append_handlers(alloc, &mut text, handlers)?;
+    append_written(&mut text, writes)?;
+    Ok(text)
+}
+
+/// Appends the line of each handler.
+fn append_handlers(
+    alloc: Global,
+    text: &mut Vec<u8>,
+    handlers: &[Handler],
+) -> Result<(), AllocError>
+    ensures { OnOk result (text.new.items ≡ text.old.items ++ flat_map handler_line handlers.now) }
+{
+    for handler in handlers {
+        append_handler(alloc, text, handler)?;
+    }
+    Ok(())
+}
+
+/// Appends the line of a handler.
+#[tactic(auto, unfolding(crate::specs::FollowText::handler_line))]
+fn append_handler(alloc: Global, text: &mut Vec<u8>, handler: &Handler) -> Result<(), AllocError>
+    ensures { OnOk result (text.new.items ≡ text.old.items ++ handler_line handler.now) }
+{
+    let bytes = handler.table.bytes;
+    let rest = format!(in alloc; " STACK {bytes}\n")?;
+    text.extend_from_slice(b"HANDLER ".as_slice())?;
+    text.extend_from_slice(&word_digits(handler.at))?;
+    text.extend_from_slice(&rest.into_bytes())?;
+    Ok(())
+}
+
+/// Appends the line of each range of data that handlers write.
+fn append_written(text: &mut Vec<u8>, writes: &[Range]) -> Result<(), AllocError>
+    ensures { OnOk result (text.new.items ≡ text.old.items ++ flat_map written_line writes.now) }
+{
+    for range in writes {
+        append_pair(text, b"WRITES ", range.first, range.length)?;
+    }
+    Ok(())
 }
 
 /// What is said of the handlers of a program that is interrupted.
@@ -68,28 +146,39 @@ pub fn followed_stores(
     })
 }
 
-/// Appends the line of each way that goes to no address behind a call, such as `WAY 3007 300A`.
+/// The line of each way of a program's table and of its handlers' tables that goes to no address behind a call, such as `WAY 3007 300A`.
 ///
 /// # Errors
 /// `AllocError` only if memory runs out.
-pub fn append_ways(text: &mut Vec<u8>, ways: &[Way]) -> Result<(), AllocError>
+pub fn ways_text(alloc: Global, ways: &[Way], handlers: &[Handler]) -> Result<Vec<u8>, AllocError>
+    ensures { IfOk result (λ text. text.items ≡ ways_lines ways.now handlers.now) }
+{
+    let mut text = Vec::new(alloc);
+    append_ways(&mut text, ways)?;
+    for handler in handlers {
+        append_ways(&mut text, &handler.table.ways)?;
+    }
+    Ok(text)
+}
+
+/// Appends the line of each way.
+fn append_ways(text: &mut Vec<u8>, ways: &[Way]) -> Result<(), AllocError>
     ensures { OnOk result (text.new.items ≡ text.old.items ++ flat_map way_line ways.now) }
 {
     for way in ways {
-        append_way(text, *way)?;
+        append_pair(text, b"WAY ", way.at, way.to)?;
     }
     Ok(())
 }
 
-/// Appends the line of a way.
-#[tactic(auto, unfolding(crate::specs::FollowText::way_line))]
-fn append_way(text: &mut Vec<u8>, way: Way) -> Result<(), AllocError>
-    ensures { OnOk result (text.new.items ≡ text.old.items ++ way_line way) }
+/// Appends a line of two numbers behind a word.
+fn append_pair(text: &mut Vec<u8>, word: &[u8], first: u16, second: u16) -> Result<(), AllocError>
+    ensures { OnOk result (text.new.items ≡ text.old.items ++ pair_line word.now first second) }
 {
-    text.extend_from_slice(b"WAY ".as_slice())?;
-    text.extend_from_slice(&word_digits(way.at))?;
+    text.extend_from_slice(word)?;
+    text.extend_from_slice(&word_digits(first))?;
     text.push(b' ')?;
-    text.extend_from_slice(&word_digits(way.to))?;
+    text.extend_from_slice(&word_digits(second))?;
     text.push(b'\n')?;
     Ok(())
 }

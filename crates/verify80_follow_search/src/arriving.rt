@@ -7,7 +7,7 @@ use decode80::{Fetched, Instr, Operand, Operation, Pair, Register, fetch};
 use frames80::Code;
 use std::alloc::{AllocError, Global};
 use verify80_follow::{
-    FollowedState, StackAfter, StackBounds, enabled_after, stack_then, top_of_stack,
+    FollowedState, StackAfter, StackBounds, beside_then, stack_then, top_of_stack,
 };
 use verify80_states::{
     ByteSpan, Cell, Cells, Known, PairSpan, entry_at, is_marked, known_after, stored_bytes,
@@ -98,15 +98,20 @@ impl FollowedProgram<'_> {
         let stack = match stack_then(alloc, bounds, found, lead.taken, pushed, state.bytes())? {
             StackAfter::Refused => return Err(refusal_of(found.instr, state).into()),
             StackAfter::Unset => None,
+            StackAfter::Set(bytes) if self.is_handler && bytes.len() < 2 => {
+                return Err(StopReason::LeavesStack.into());
+            }
             StackAfter::Set(bytes) => Some(bytes),
         };
+        let left = stack.as_ref().map(|bytes| bytes.as_slice());
+        let beside = beside_then(found.instr, state.bytes(), left, state.beside);
         let top = top_of_stack(bounds, state.bytes());
         let after = known_after(self.code, found.instr, top, known);
         Ok(FollowedState {
             at: lead.to,
             known: self.named(lead.to, after),
             stack,
-            is_enabled: enabled_after(found.instr, state.is_enabled),
+            beside,
             hint: 0,
         })
     }

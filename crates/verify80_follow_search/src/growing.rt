@@ -2,7 +2,7 @@
 
 use decode80::Register;
 use std::array;
-use verify80_follow::FollowedState;
+use verify80_follow::{Beside, FollowedState, HeldPair};
 use verify80_states::{ByteSpan, Cell, Cells, Known, PairSpan, Span};
 
 /// How often a state takes in others as they are.
@@ -38,11 +38,31 @@ pub(crate) fn grow(state: &mut FollowedState, marks: &[bool], other: &FollowedSt
         source: same(old.source, new.source),
         set: 0,
     };
-    state.is_enabled |= other.is_enabled;
+    state.beside = grown_beside(state.beside, other.beside);
     if let (Some(bytes), Some(others)) = (&mut state.stack, &other.stack) {
         for (byte, other) in bytes.iter_mut().zip(others.iter()) {
             *byte = grown_bytes(*byte, *other, growths);
         }
+    }
+}
+
+/// What is said beside both of two states.
+fn grown_beside(old: Beside, new: Beside) -> Beside {
+    Beside {
+        is_enabled: old.is_enabled || new.is_enabled,
+        psw: grown_held(old.psw, new.psw),
+        bc: grown_held(old.bc, new.bc),
+        de: grown_held(old.de, new.de),
+        hl: grown_held(old.hl, new.hl),
+        back: same(old.back, new.back),
+    }
+}
+
+/// What is said of a pair in both of two states.
+fn grown_held(old: HeldPair, new: HeldPair) -> HeldPair {
+    HeldPair {
+        in_place: old.in_place && new.in_place,
+        saved: same(old.saved, new.saved),
     }
 }
 
@@ -94,7 +114,7 @@ fn same<T: Copy + PartialEq>(old: Option<T>, new: Option<T>) -> Option<T> {
 pub(crate) fn is_inside(inner: &FollowedState, outer: &FollowedState) -> bool {
     let (bytes, others) = (inner.bytes().unwrap_or(&[]), outer.bytes().unwrap_or(&[]));
     inner.known.is_inside(outer.known, &[])
-        && (outer.is_enabled || !inner.is_enabled)
+        && inner.beside.is_inside(outer.beside)
         && bytes
             .iter()
             .zip(others.iter())

@@ -7,13 +7,17 @@
 //!
 //! | Item | What it is |
 //! |---|---|
-//! | [`search`] | searches for a table |
+//! | [`search`], [`search_handler`], [`Budget`] | searches for a table, by as many states and ways as there may be |
+//! | [`list_together`] | the stores and jumps that tables leave open |
+//! | [`places_anew`], [`written_ranges`] | where handlers begin the program anew, and the data that they write |
 //! | [`SearchResult`] | a table, or where the search stopped |
 //! | [`Stop`], [`StopReason`] | the place that isn't known, why, and a way there |
 #![tactic(auto)]
 
 mod arriving;
+mod budget;
 mod growing;
+mod handlers;
 mod marks;
 mod nodes;
 mod opening;
@@ -22,5 +26,7 @@ mod searching;
 mod stop;
 mod trial;
 
-pub use searching::search;
+pub use budget::Budget;
+pub use handlers::{list_together, places_anew, written_ranges};
+pub use searching::{search, search_handler};
 pub use stop::{SearchResult, Stop, StopReason};

@@ -109,7 +109,7 @@ pub(crate) fn with_known(
         at: state.at,
         known,
         stack,
-        is_enabled: state.is_enabled,
+        beside: state.beside,
         hint: 0,
     })
 }

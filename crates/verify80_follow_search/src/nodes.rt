@@ -10,8 +10,6 @@ use verify80_follow::FollowedState;
 
 /// The place of no state.
 pub(crate) const NOWHERE: u32 = u32::MAX;
-/// How many states there are, at most.
-const STATES: usize = 262_144;
 /// How many bytes they have, at most, all together.
 const BYTES: usize = 8_388_608;
 
@@ -44,17 +42,20 @@ pub(crate) struct Nodes {
     waiting: Vec<u32>,
     /// How many bytes they have all together.
     bytes: usize,
+    /// How many states there may be.
+    most: usize,
 }
 
 impl Nodes {
-    /// No states.
-    pub fn new(alloc: Global) -> Nodes {
+    /// No states, of which there may be `most`.
+    pub fn new(alloc: Global, most: usize) -> Nodes {
         Nodes {
             states: Vec::new(alloc),
             notes: Vec::new(alloc),
             by_sum: HashMap::new(alloc),
             waiting: Vec::new(alloc),
             bytes: 0,
+            most,
         }
     }
 
@@ -86,7 +87,7 @@ impl Nodes {
             return Ok(place);
         }
         self.bytes = self.bytes.saturating_add(marks.len());
-        if self.states.len() >= STATES || self.bytes > BYTES {
+        if self.states.len() >= self.most || self.bytes > BYTES {
             return Err(Unfollowed::Stopped(StopReason::TooManyStates));
         }
         let place = place_of(self.states.len());

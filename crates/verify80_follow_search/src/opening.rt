@@ -2,16 +2,17 @@
 
 use crate::program::FollowedProgram;
 use crate::stop::Unfollowed;
-use decode80::Instr;
+use decode80::{Instr, fetch};
 use image80::Regions;
 use std::alloc::{AllocError, Global};
+use verify80::ImageCode;
 use verify80_follow::{FollowedState, Listed};
 use verify80_states::Span;
 use verify80_stores::{OpenStore, find_data_ends, is_target, pointer_span};
 
 /// What states say of the stores and jumps at each address.
 #[derive(Drop)]
-struct Opening {
+pub(crate) struct Opening {
     /// For each address the first one from there on that is not data.
     ends: Vec<u32>,
     /// The store at an address, with the addresses that it may have in the states there.
@@ -29,11 +30,7 @@ pub(crate) fn list_open(
     program: FollowedProgram<'_>,
     states: &[FollowedState],
 ) -> Result<Listed, Unfollowed> {
-    let mut opening = Opening {
-        ends: find_data_ends(alloc, program.regions)?,
-        stores: vec![in alloc; None; 65_536]?,
-        are_open: vec![in alloc; false; 65_536]?,
-    };
+    let mut opening = Opening::new(alloc, program.regions)?;
     for state in states {
         let found = program.instruction(state.at)?;
         opening.note(program.regions, found.instr, state);
@@ -42,6 +39,29 @@ pub(crate) fn list_open(
 }
 
 impl Opening {
+    /// Nothing is noted.
+    pub fn new(alloc: Global, regions: &Regions) -> Result<Opening, AllocError> {
+        Ok(Opening {
+            ends: find_data_ends(alloc, regions)?,
+            stores: vec![in alloc; None; 65_536]?,
+            are_open: vec![in alloc; false; 65_536]?,
+        })
+    }
+
+    /// Notes what states say of the instructions at their addresses.
+    pub fn note_all(
+        &mut self,
+        program: &ImageCode<'_>,
+        regions: &Regions,
+        states: &[FollowedState],
+    ) {
+        for state in states {
+            if let Ok(found) = fetch(state.at, program) {
+                self.note(regions, found.instr, state);
+            }
+        }
+    }
+
     /// Notes what a state says of the instruction at its address.
     fn note(&mut self, regions: &Regions, instr: Instr, state: &FollowedState) {
         let at = usize::from(state.at);
@@ -77,7 +97,7 @@ impl Opening {
     }
 
     /// The stores and jumps that are noted as open.
-    fn listed(&self, alloc: Global) -> Result<Listed, AllocError> {
+    pub fn listed(&self, alloc: Global) -> Result<Listed, AllocError> {
         let mut listed = Listed {
             stores: Vec::new(alloc),
             jumps: Vec::new(alloc),

@@ -1,12 +1,14 @@
 //! The program that is followed, and where each way leads from a state.
 
+use crate::handlers::sets_top;
 use crate::stop::StopReason;
-use decode80::{Fetched, Flow, Instr, ahead, behind, fetch};
+use decode80::{Fetched, Flow, Instr, ahead, behind, direct_bytes, fetch};
 use frames80::{Code, LookFault};
 use image80::Regions;
 use verify80::ImageCode;
-use verify80_follow::{FollowedState, return_address};
+use verify80_follow::{FollowedState, gives_back, return_address, uses_pointer};
 use verify80_states::{Known, Span, given};
+use verify80_stores::pointer_span;
 
 /// A program that is followed.
 #[derive(Clone, Copy)]
@@ -17,8 +19,12 @@ pub(crate) struct FollowedProgram<'a> {
     pub code: &'a [Option<u8>],
     /// Marks of the quiet addresses.
     pub quiet: &'a [bool],
+    /// How many quiet addresses are below each, and below 65,536.
+    pub quiet_below: &'a [u32],
     /// Whether the program is interrupted.
     pub interrupted: bool,
+    /// Whether it is a handler, which gives all back.
+    pub is_handler: bool,
     /// Whether addresses of code that LXI names tell states apart.
     pub splits_addresses: bool,
     /// Whether bytes of A tell states apart, where ANA or a comparison leaves few of them.
@@ -102,6 +108,9 @@ impl FollowedProgram<'_> {
         if self.interrupted && matches!(instr, Instr::Ei) && state.stack.is_none() {
             return Err(StopReason::StackNotSet);
         }
+        if self.is_handler && self.is_over(state, found)? {
+            return Ok(None);
+        }
         let (to, taken, left) = match (instr.flow(), number) {
             (Flow::Calls(to), 0) => (Some(to), true, Some(known)),
             (Flow::Jumps(to), 0) => (Some(to), false, Some(known)),
@@ -117,7 +126,7 @@ impl FollowedProgram<'_> {
                 Some(left) => (Some(returned_to(state)?), true, Some(left)),
                 None => (None, true, None),
             },
-            (Flow::Halts, 0) if self.interrupted && state.is_enabled => {
+            (Flow::Halts, 0) if self.interrupted && state.beside.is_enabled => {
                 (Some(next), false, Some(known))
             }
             (Flow::JumpsToHl, number) => (self.jumped_to(state, number)?, false, Some(known)),
@@ -130,6 +139,62 @@ impl FollowedProgram<'_> {
             (Some(to), Some(known)) => Some(Lead { to, taken, known }),
             _ => None,
         })
+    }
+
+    /// Whether a handler is over at a state, with its RET, or with an LXI SP that begins the program anew.
+    ///
+    /// # Errors
+    /// Why a handler doesn't do what its instruction there does.
+    fn is_over(self, state: &FollowedState, found: Fetched) -> Result<bool, StopReason> {
+        let Fetched { instr, next } = found;
+        if sets_top(self.image, instr) {
+            return Ok(true);
+        }
+        if uses_pointer(instr) {
+            return Err(StopReason::UsesPointer);
+        }
+        if matches!(instr, Instr::Ei) && !(gives_back(state) && self.is_return(next)) {
+            return Err(StopReason::EnablesEarly);
+        }
+        if self.stores_quiet(instr, state) {
+            return Err(StopReason::StoresQuiet);
+        }
+        let is_last = state.bytes().unwrap_or(&[]).len() == 2;
+        let returns = matches!(instr.flow(), Flow::Returns | Flow::ReturnsIf(_));
+        match (instr, gives_back(state)) {
+            (Instr::Ret, true) => Ok(true),
+            _ if returns && is_last => Err(StopReason::NotGivenBack),
+            _ => Ok(false),
+        }
+    }
+
+    /// Whether a RET is at an address.
+    fn is_return(self, at: u16) -> bool {
+        matches!(
+            fetch(at, self.image),
+            Ok(Fetched {
+                instr: Instr::Ret,
+                ..
+            })
+        )
+    }
+
+    /// Whether an instruction may store to a quiet address.
+    fn stores_quiet(self, instr: Instr, state: &FollowedState) -> bool {
+        let is_direct = direct_bytes(instr)
+            .into_iter()
+            .flatten()
+            .any(|address| self.has_quiet(address, address));
+        is_direct
+            || pointer_span(instr, state.known).is_some_and(|span| self.has_quiet(
+                span.first, span.last,
+            ))
+    }
+
+    /// Whether one of the addresses from one to another is quiet.
+    fn has_quiet(self, first: u16, last: u16) -> bool {
+        let below = |at: usize| self.quiet_below.get(at).copied().unwrap_or(0);
+        below(usize::from(first)) < below(usize::from(last).saturating_add(1))
     }
 
     /// Where a PCHL goes with the hint that has this number, if it does.

@@ -1,19 +1,21 @@
 //! A table is searched for.
 
+use crate::budget::Budget;
 use crate::program::FollowedProgram;
 use crate::stop::{SearchResult, Stop, StopReason};
-use crate::trial::{WAYS, follow_from};
+use crate::trial::follow_from;
 use image80::{Image, Range};
 use std::alloc::{AllocError, Global};
 use verify80::ImageCode;
-use verify80_follow::RunKind;
-use verify80_states::{code_bytes, mark_quiet};
+use verify80_follow::{Beside, FollowedState, RunKind};
+use verify80_states::{ByteSpan, Known, code_bytes, mark_quiet};
 
 /// Whether addresses that LXI names and few bytes of A tell states apart, in one trial after the other.
 const TRIALS: [(bool, bool); 4] = [(false, false), (true, false), (false, true), (true, true)];
 
 /// Searches for a table of states that follows an image, on boards that leave the quiet addresses alone: those of data in the ranges `quiet`.
-/// `run` says whether SP is at the stack's top at the start, else it may be anywhere, and whether the program is interrupted.
+/// `run` says whether SP is at the stack's top at the start, else it may be anywhere, and whether the program is interrupted; `anew` where handlers begin
+/// it anew, with an empty stack. What it takes of the budget is gone then.
 ///
 /// # Errors
 /// `AllocError` if memory runs out.
@@ -22,14 +24,118 @@ pub fn search(
     image: &Image,
     quiet: &[Range],
     run: RunKind,
+    anew: &[u16],
+    budget: &mut Budget,
+) -> Result<SearchResult, AllocError> {
+    let start = Start::Program {
+        at: image.start,
+        run,
+        anew,
+    };
+    search_from(alloc, image, quiet, start, budget)
+}
+
+/// Searches for a table of states that follows the handler at an address.
+///
+/// # Errors
+/// `AllocError` if memory runs out.
+pub fn search_handler(
+    alloc: Global,
+    image: &Image,
+    quiet: &[Range],
+    at: u16,
+    budget: &mut Budget,
+) -> Result<SearchResult, AllocError> {
+    search_from(alloc, image, quiet, Start::Handler { at }, budget)
+}
+
+/// Where states are followed from.
+#[derive(Clone, Copy)]
+enum Start<'a> {
+    Program {
+        at: u16,
+        run: RunKind,
+        anew: &'a [u16],
+    },
+    Handler {
+        at: u16,
+    },
+}
+
+impl Start<'_> {
+    /// The address.
+    fn at(self) -> u16 {
+        match self {
+            Start::Program { at, .. } | Start::Handler { at } => at,
+        }
+    }
+
+    /// The states from which others are followed, that at the address first.
+    fn states(self, alloc: Global) -> Result<Vec<FollowedState>, AllocError> {
+        let mut states = Vec::new(alloc);
+        match self {
+            Start::Program { at, run, anew } => {
+                let stack = run.is_set.then_some(Vec::new(alloc));
+                states.push(state_at(at, stack, Beside::NOTHING))?;
+                for at in anew {
+                    states.push(state_at(*at, Some(Vec::new(alloc)), Beside::NOTHING))?;
+                }
+            }
+            Start::Handler { at } => {
+                let stack = vec![in alloc; ByteSpan::ANY; 2]?;
+                states.push(state_at(at, Some(stack), Beside::ENTERED))?;
+            }
+        }
+        Ok(states)
+    }
+
+    /// Whether interrupts come, or came.
+    fn is_interrupted(self) -> bool {
+        match self {
+            Start::Program { run, .. } => run.interrupted,
+            Start::Handler { .. } => true,
+        }
+    }
+}
+
+/// A state of which no more is known than its stack, and what is said beside it.
+fn state_at(at: u16, stack: Option<Vec<ByteSpan>>, beside: Beside) -> FollowedState {
+    FollowedState {
+        at,
+        known: Known::ANY,
+        stack,
+        beside,
+        hint: 0,
+    }
+}
+
+/// How many marks are below each address, and below 65,536.
+fn count_below(alloc: Global, marks: &[bool]) -> Result<Vec<u32>, AllocError> {
+    let mut counts = Vec::new(alloc);
+    let mut count = 0_u32;
+    counts.push(count)?;
+    for is_marked in marks {
+        count = count.saturating_add(u32::from(*is_marked));
+        counts.push(count)?;
+    }
+    Ok(counts)
+}
+
+/// Searches for a table of states from a start on.
+fn search_from(
+    alloc: Global,
+    image: &Image,
+    quiet: &[Range],
+    start: Start<'_>,
+    budget: &mut Budget,
 ) -> Result<SearchResult, AllocError> {
     let code = code_bytes(alloc, image)?;
     let marks = mark_quiet(alloc, &image.regions, quiet)?;
+    let quiet_below = count_below(alloc, &marks)?;
     let program = ImageCode::new(alloc, image)?;
-    let mut left = WAYS;
     let mut are_many = [false; 2];
     let mut shown = Stop {
-        at: image.start,
+        at: start.at(),
         reason: StopReason::TooManyStates,
         way: Vec::new(alloc),
     };
@@ -43,11 +149,13 @@ pub fn search(
             regions: &image.regions,
             code: &code,
             quiet: &marks,
-            interrupted: run.interrupted,
+            quiet_below: &quiet_below,
+            interrupted: start.is_interrupted(),
+            is_handler: matches!(start, Start::Handler { .. }),
             splits_addresses,
             splits_bytes,
         };
-        let stop = match follow_from(alloc, followed, image.start, run.is_set, &mut left)? {
+        let stop = match follow_from(alloc, followed, start.states(alloc)?, budget)? {
             SearchResult::Found(table) => return Ok(SearchResult::Found(table)),
             SearchResult::Stopped(stop) => stop,
         };

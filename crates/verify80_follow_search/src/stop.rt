@@ -25,6 +25,16 @@ pub enum StopReason {
     UnknownJump,
     /// An SPHL, of which it isn't known what it sets SP to.
     UnknownPointer,
+    /// A handler returns, and a register or a flag may not be what it was.
+    NotGivenBack,
+    /// A handler enables interrupts, and not directly before it returns.
+    EnablesEarly,
+    /// A handler sets SP elsewhere than to the stack's top, or reads it.
+    UsesPointer,
+    /// STACK has no room for the program's bytes and those of an interrupt below them.
+    NoRoom,
+    /// A handler stores to RAM that only the program writes.
+    StoresQuiet,
     /// There are too many states; the address has the most of them.
     TooManyStates,
     /// The table that was found doesn't follow the program.
@@ -56,6 +66,15 @@ impl StopReason {
                 "it isn't known where the return goes: the word at SP may be several",
             StopReason::UnknownJump =>
                 "it isn't known where the PCHL goes: HL may be several, and no CASE line names its targets",
+            StopReason::NotGivenBack =>
+                "the handler returns, and A, a flag or a pair may not be what it was",
+            StopReason::EnablesEarly =>
+                "the handler enables interrupts, and not directly before a RET with all given back",
+            StopReason::UsesPointer =>
+                "the handler sets SP elsewhere than to the stack's top, or reads it by DAD SP",
+            StopReason::NoRoom =>
+                "STACK has no room for the program's bytes and this handler's below them",
+            StopReason::StoresQuiet => "the handler may store to RAM that --quiet-ram names",
             StopReason::UnknownPointer => "it isn't known what SPHL sets SP to: HL may be several",
             StopReason::TooManyStates =>
                 "the program is in too many states; this address has the most of them",

@@ -1,6 +1,7 @@
 //! One trial: states are followed from the start until no more are found.
 
 use crate::arriving::Arrival;
+use crate::budget::Budget;
 use crate::marks::{AT_SP, count_bytes};
 use crate::nodes::{NOWHERE, Nodes, place_of};
 use crate::opening::list_open;
@@ -11,10 +12,8 @@ use std::alloc::{AllocError, Global};
 use std::collections::BTreeSet;
 use std::mem;
 use verify80_follow::{FollowedState, Table, Way};
-use verify80_states::{APART, Known};
+use verify80_states::APART;
 
-/// How many ways are followed in all trials, at most.
-pub(crate) const WAYS: usize = 3_000_000;
 /// How many bytes of a state are followed at the cost of a way.
 const BYTES_PER_WAY: usize = 64;
 
@@ -30,37 +29,40 @@ struct Trial<'a> {
     ways: BTreeSet<Way>,
     /// The place of the state that is followed.
     place: u32,
-    /// How many ways may still be followed.
-    left: usize,
+    /// What may still be taken.
+    left: Budget,
 }
 
-/// Follows a program from its start. `is_set` says whether SP is the stack's top there, and `left` how many ways may still be followed.
+/// Follows a program from states, the first of which is its start, as far as `left` allows.
 ///
 /// # Errors
 /// `AllocError` if memory runs out.
 pub(crate) fn follow_from(
     alloc: Global,
     program: FollowedProgram<'_>,
-    start: u16,
-    is_set: bool,
-    left: &mut usize,
+    firsts: Vec<FollowedState>,
+    left: &mut Budget,
 ) -> Result<SearchResult, AllocError> {
     let mut trial = Trial {
         alloc,
         program,
-        nodes: Nodes::new(alloc),
+        nodes: Nodes::new(alloc, left.states),
         hints: Vec::new(alloc),
         ways: BTreeSet::new(alloc),
         place: 0,
         left: *left,
     };
-    let followed = match trial.follow_all(start, is_set) {
+    let start = firsts.as_slice().first().map_or(0, |first| first.at);
+    let followed = match trial.follow_all(firsts) {
         Ok(()) => trial.make_table(),
         Err(reason) => Err(reason),
     };
     *left = trial.left;
     match followed {
-        Ok(table) => Ok(SearchResult::Found(table)),
+        Ok(table) => {
+            *left = left.without(table.states.len());
+            Ok(SearchResult::Found(table))
+        }
         Err(Unfollowed::Memory) => Err(AllocError),
         Err(Unfollowed::Stopped(reason)) => {
             let place = if reason == StopReason::TooManyStates {
@@ -79,21 +81,17 @@ pub(crate) fn follow_from(
 }
 
 impl Trial<'_> {
-    /// Follows states from the start until none waits.
-    fn follow_all(&mut self, start: u16, is_set: bool) -> Result<(), Unfollowed> {
-        let first = Arrival {
-            state: FollowedState {
-                at: start,
-                known: Known::ANY,
-                stack: is_set.then_some(Vec::new(self.alloc)),
-                is_enabled: false,
-                hint: 0,
-            },
-            marks: vec![in self.alloc; false; AT_SP]?,
-            is_split: false,
-        };
-        self.nodes.enter(first, NOWHERE)?;
-        for _ in 0..=WAYS {
+    /// Follows states from these on until none waits.
+    fn follow_all(&mut self, firsts: Vec<FollowedState>) -> Result<(), Unfollowed> {
+        for first in firsts {
+            let first = Arrival {
+                marks: vec![in self.alloc; false; count_bytes(&first)]?,
+                state: first,
+                is_split: false,
+            };
+            self.nodes.enter(first, NOWHERE)?;
+        }
+        for _ in 0..=self.left.ways {
             let Some(place) = self.nodes.next() else {
                 return Ok(());
             };
@@ -139,10 +137,10 @@ impl Trial<'_> {
         let first = self.hints.len();
         self.hints.resize(first.saturating_add(count), NOWHERE)?;
         for number in 0..count {
-            if self.left < cost {
+            if self.left.ways < cost {
                 return Err(Unfollowed::Stopped(StopReason::TooManyStates));
             }
-            self.left = self.left.saturating_sub(cost);
+            self.left.ways = self.left.ways.saturating_sub(cost);
             self.go(found, first, number, ways)?;
         }
         Ok(())
@@ -191,7 +189,7 @@ impl Trial<'_> {
             let to = self.nodes.enter(one, self.place)?;
             self.hints.push(to)?;
         }
-        self.left = self.left.saturating_sub(usize::from(a.last));
+        self.left.ways = self.left.ways.saturating_sub(usize::from(a.last));
         Ok(first.saturating_add(APART as usize))
     }
 

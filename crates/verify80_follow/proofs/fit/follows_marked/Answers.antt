@@ -1,10 +1,6 @@
-use Rattle.std.specs.Prelude.{◌≡◌, ◌≤◌, All, List, ℕ, false, true}
-use Rattle.std.proofs.Common.{arith, refl, subst}
-use Rattle.std.proofs.lemmas.Bool.Decides.{nat_tests}
-use Rattle.image80.specs.Image.{Located}
-use Rattle.verify80_states.specs.{Known.nothing_known, Marks.is_marked}
-use Rattle.verify80_follow.specs.declared.{followed.Way.Way}
-use Rattle.verify80_follow.specs.Follows.{Has, StateFollows, first_stack}
+use Rattle.std.specs.Prelude.{◌≡◌, ◌≤◌, true}
+use Rattle.verify80_states.specs.Marks.{is_marked}
+use Rattle.verify80_follow.specs.Follows.{Follows}
 use Rattle.verify80_follow.specs.Promise.{PromiseOf}
 use Rattle.verify80_follow.proofs.FitLemmas.{ok_maps}
 use Rattle.verify80_follow.proofs.fit.follows_marked.Goals as goal
@@ -12,24 +8,12 @@ use Rattle.verify80_follow.proofs.fit.follows_marked.Goals as goal
 pub returns : goal.returns
 returns c =
     let image = c.args.image.now in
-    let bytes = c.args.table.now.bytes in
-    let listed = c.args.table.now.listed in
+    let table = c.args.table.now in
+    let run = c.args.run in
     let quiet = is_marked c.args.quiet.now in
-    let is_set = c.args.run.is_set in
-    let on = c.args.run.interrupted in
-    let states = c.deref.result.now in
-    let ways = c.deref-3.result.now in
-    let same : c.in_ok-program.program ≡ image = c.in_ok-program.ensures in
-    let within = c.if-table-stack.false in
-    let stack = c.stack.ensures in
     record {
-      promise = ok_maps c.all_follow.result (λ f. f ≡ true → All (λ s. StateFollows c.in_ok-program.program on quiet c.args.code.now ways listed states bytes s) states)
-          (λ f. f ≡ true → PromiseOf on image quiet is_set c.args.table.now.ways.items listed bytes)
-          (λ f follow is. subst (λ (l : List Way). PromiseOf on image quiet is_set l listed bytes) c.deref-3.ensures.value
-          (c.followed_programs_keep_the_promise.ensures.promise on image quiet is_set ways listed states bytes c.requires.rules c.requires.quiet (record {
-            code = c.args.code.now;
-            are_code = c.requires.code;
-            start = subst (λ (i : Located). Has states i.start nothing_known false (first_stack is_set)) same (subst (λ (n : ℕ). Has states n nothing_known false (first_stack is_set)) c.start.ensures (c.if-not-has_start.ensures refl));
-            states = subst (λ (i : Located). All (λ s. StateFollows i on quiet c.args.code.now ways listed states bytes s) states) same (follow is);
-          }) (subst (λ (i : Located). bytes ≤ i.regions.stack.length) same (grind (arith, nat_tests, within, stack))))) c.all_follow.ensures;
+      promise = ok_maps c.fits.result (λ f. f ≡ true → Follows image run.interrupted quiet run.is_set table.ways.items table.listed table.states.items table.bytes × (table.bytes ≤ image.regions.stack.length))
+          (λ f. f ≡ true → PromiseOf run.interrupted image quiet run.is_set table.ways.items table.listed table.bytes)
+          (λ f both is. c.followed_programs_keep_the_promise.ensures.promise run.interrupted image quiet run.is_set table.ways.items table.listed table.states.items table.bytes c.requires.rules c.requires.quiet (both is).0 (both is).1)
+          c.fits.ensures.fits;
     }

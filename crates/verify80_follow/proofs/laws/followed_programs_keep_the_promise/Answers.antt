@@ -13,5 +13,7 @@ returns c =
         quiet = known.quiet;
         reads = c.fetch_reads_code_alone.ensures;
         bounded = c.bytes_stay_bytes.ensures.operands;
+        facts = c.instructions_keep_to_facts.ensures;
+        round = c.status_word_round_trip.ensures;
       }) (ground_of apart.code_or_data apart.code_or_stack apart.data_or_stack);
     }

@@ -6,4 +6,4 @@ use Rattle.verify80_follow.proofs.fit.Fit.all_follow.Given as goal
 
 abbrev pub invariant-loop-place : goal.invariant-loop-place
 invariant-loop-place l = (k : ℕ) (s : FollowedState) → k < l.place → slice_get l.self.table.now k ≡ Some s →
-    StateFollows l.self.program.now l.self.interrupted (is_marked l.self.quiet.now) l.self.code.now l.self.ways.now l.self.listed.now l.self.table.now l.self.bytes s
+    StateFollows l.self.program.now l.self.bounds l.self.interrupted (is_marked l.self.quiet.now) l.self.code.now l.self.ways.now l.self.listed.now l.self.table.now l.self.bytes s

@@ -6,4 +6,4 @@ use Rattle.verify80_follow.specs.Follows.{Has}
 use Rattle.verify80_follow.proofs.fit.Fit.has_each.Given as goal
 
 abbrev pub invariant-loop-number : goal.invariant-loop-number
-invariant-loop-number l = (byte : ℕ) → l.known.a.first ≤ byte → byte < l.number → Has l.self.table.now l.to (cut l.known (byte_alone byte)) l.enabled (option_map (λ bytes. bytes.now) l.stack)
+invariant-loop-number l = (byte : ℕ) → l.known.a.first ≤ byte → byte < l.number → Has l.self.table.now l.to (cut l.known (byte_alone byte)) l.beside (option_map (λ bytes. bytes.now) l.stack)

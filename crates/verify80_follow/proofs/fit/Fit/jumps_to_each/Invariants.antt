@@ -5,4 +5,4 @@ use Rattle.verify80_follow.proofs.fit.Fit.jumps_to_each.Given as goal
 
 abbrev pub invariant-loop-place : goal.invariant-loop-place
 invariant-loop-place l = (k to : ℕ) → k < l.place → slice_get l.targets k ≡ Some to → Within l.here.state.now.known.hl.words to →
-    CoversThen l.self.program.now l.self.interrupted l.self.code.now l.self.ways.now l.self.table.now l.self.bytes l.here.state.now l.here.found false to l.here.state.now.known
+    CoversThen l.self.program.now l.self.bounds l.self.interrupted l.self.code.now l.self.ways.now l.self.table.now l.self.bytes l.here.state.now l.here.found false to l.here.state.now.known

@@ -13,8 +13,8 @@ returns c =
     let fit = c.args.self.now in
     let state = c.args.state.now in
     let found = c.in-Some.executed.found in
-    ok_maps c.follows_by.result (λ f. f ≡ true → FollowsBy fit.program.now fit.interrupted fit.code.now fit.ways.now fit.table.now fit.bytes state found (flow found.instr))
-    (λ f. f ≡ true → StateFollows fit.program.now fit.interrupted (is_marked fit.quiet.now) fit.code.now fit.ways.now fit.listed.now fit.table.now fit.bytes state)
+    ok_maps c.follows_by.result (λ f. f ≡ true → FollowsBy fit.program.now fit.bounds fit.interrupted fit.code.now fit.ways.now fit.table.now fit.bytes state found (flow found.instr))
+    (λ f. f ≡ true → StateFollows fit.program.now fit.bounds fit.interrupted (is_marked fit.quiet.now) fit.code.now fit.ways.now fit.listed.now fit.table.now fit.bytes state)
     (λ f follows is. record {
       found = found;
       executed = c.in-Some.ensures.executed;

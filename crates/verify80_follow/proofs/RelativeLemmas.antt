@@ -1,0 +1,107 @@
+-- A state that fits with its stack at one place fits with it at each that has as much room, if its instruction doesn't depend on where the stack lies.
+use Rattle.std.specs.Prelude.{◌≡◌, ◌⊎◌, ◌≤◌, ℕ, ◌+◌, Bool, true, false, List, [], ◌∷◌, Option, None, Some, Contains, IfSome, IsSome, length, nat_le}
+use Rattle.std.specs.Option.{option_map}
+use Rattle.std.proofs.Common.{ap, arith, inl, inr, refl, subst, sym, ◌∙◌}
+use Rattle.std.proofs.lemmas.Bool.Decides.{nat_tests}
+use Rattle.decode80.specs.{Facts.flow, declared.condition.Condition.Condition, declared.fetching.Fetched.Fetched, declared.flow.Flow.Flow, declared.instr.Instr.Instr}
+use Rattle.decode80.specs.declared.flow.Flow.TheVariants.{Jumps, JumpsIf, JumpsToHl, Calls, CallsIf, Returns, ReturnsIf, Halts}
+use Rattle.decode80.specs.declared.instr.Instr.TheVariants.{Call, CallIf, Dad, Dcx, Lxi, Push, Rst, Sphl}
+use Rattle.decode80.specs.declared.pair.Pair.TheVariants.{Bc, De, Hl, Sp}
+use Rattle.image80.specs.{Image.Located, Regions.Areas}
+use Rattle.image80.specs.declared.range.Range.{Range}
+use Rattle.verify80.specs.Looking.{is_declared}
+use Rattle.verify80_spans.specs.declared.byte_span.ByteSpan.{ByteSpan}
+use Rattle.verify80_spans.specs.Span.{byte_alone, high_of}
+use Rattle.verify80_states.specs.{declared.states.known.Known.Known, Following.known_after, Following.pushed_pair, Given.given}
+use Rattle.verify80_follow.specs.declared.{followed.FollowedState.FollowedState, followed.Listed.Listed, followed.Way.Way, held.Beside.Beside, stack.StackBounds.StackBounds}
+use Rattle.verify80_follow.specs.Stack.{called_on, if_true, pushed_onto, stack_after, stack_then, top_of_stack, with_one}
+use Rattle.verify80_follow.specs.Held.{beside_then, count_of}
+use Rattle.verify80_follow.specs.Follows.{Covers, CoversStack, CoversThen, FollowsBy, IsWay, JumpsBy, LeadsTo, ReturnsLeft, ReturnsTo, StateFollows, stack_of}
+use Rattle.verify80_follow.specs.Handling.{Handles, on_stack, uses_pointer}
+
+-- where there is room there is more
+more_room : {X : Type 0} (a b n : ℕ) (x y : X) → a ≤ b → if_true (nat_le n a) x ≡ Some y → if_true (nat_le n b) x ≡ Some y
+more_room a b n x y more is = by (nat_le n a) refl is where
+  by : (t : Bool) → nat_le n a ≡ t → if_true t x ≡ Some y → if_true (nat_le n b) x ≡ Some y
+  by true inside one = let wider : nat_le n b ≡ true = grind (arith, nat_tests, inside, more) in ap (λ (t : Bool). if_true t x) wider ∙ one
+  by false inside none = cc
+
+module _ (one other : StackBounds) (more : one.length ≤ other.length) where
+  calls_more : (taken : Bool) (next : ℕ) (bytes after : List ByteSpan) → called_on taken one.length next bytes ≡ Some after → called_on taken other.length next bytes ≡ Some after
+  calls_more true next bytes after is = more_room one.length other.length (length bytes + 2) _ after more is
+  calls_more false next bytes after is = is
+
+  after_more : (i : Instr) (taken : Bool) (next : ℕ) (s : Known) (bytes after : List ByteSpan) → uses_pointer i ≡ false → stack_after one i taken next s bytes ≡ Some after → stack_after other i taken next s bytes ≡ Some after
+  after_more (Push pair) taken next s bytes after fixed is = more_room one.length other.length (length bytes + 2) _ after more is
+  after_more (Call to) taken next s bytes after fixed is = calls_more taken next bytes after is
+  after_more (CallIf condition to) taken next s bytes after fixed is = calls_more taken next bytes after is
+  after_more (Rst number) taken next s bytes after fixed is = calls_more taken next bytes after is
+  after_more (Dcx Sp) taken next s bytes after fixed is = more_room one.length other.length (length bytes + 1) _ after more is
+  after_more (Lxi Sp n) taken next s bytes after fixed is = cc
+  after_more Sphl taken next s bytes after fixed is = cc
+  after_more i taken next s bytes after fixed is = is
+
+  then_more : (i : Instr) (taken : Bool) (next : ℕ) (s : Known) (before stack : Option (List ByteSpan)) → uses_pointer i ≡ false → 2 ≤ count_of before → stack_then one i taken next s before ≡ Some stack → stack_then other i taken next s before ≡ Some stack
+  then_more i taken next s None stack fixed enough is = absurd (omega (arith, enough))
+  then_more i taken next s (Some bytes) stack fixed enough is = by (stack_after one i taken next s bytes) refl is where
+    by : (o : Option (List ByteSpan)) → stack_after one i taken next s bytes ≡ o → option_map (λ after. Some after) o ≡ Some stack → stack_then other i taken next s (Some bytes) ≡ Some stack
+    by None was none = cc
+    by (Some after) was same = ap (λ (o : Option (List ByteSpan)). option_map (λ left. Some left) o) (after_more i taken next s bytes after fixed was) ∙ same
+
+  known_same : (code : List (Option ℕ)) (i : Instr) (stack : Option (List ByteSpan)) (s : Known) → uses_pointer i ≡ false → 2 ≤ count_of stack → known_after code i (top_of_stack one stack) s ≡ known_after code i (top_of_stack other stack) s
+  known_same code i None s fixed enough = absurd (omega (arith, enough))
+  known_same code (Dad Bc) (Some bytes) s fixed enough = refl
+  known_same code (Dad De) (Some bytes) s fixed enough = refl
+  known_same code (Dad Hl) (Some bytes) s fixed enough = refl
+  known_same code (Dad Sp) (Some bytes) s fixed enough = cc
+  known_same code i (Some bytes) s fixed enough = refl
+
+  -- an image with another stack
+  module _ (image : Located) (range : Range) (interrupted : Bool) (code : List (Option ℕ)) (ways : List Way) (table : List FollowedState) (bytes : ℕ) (s : FollowedState) (found : Fetched) (fixed : uses_pointer found.instr ≡ false) (enough : 2 ≤ count_of (stack_of s)) where
+    then_covers : (taken : Bool) (to : ℕ) (known : Known) → CoversThen image one interrupted code ways table bytes s found taken to known → CoversThen (on_stack image range) other interrupted code ways table bytes s found taken to known
+    then_covers taken to known c = record {
+      stack = c.stack;
+      is = then_more found.instr taken found.next known (stack_of s) c.stack fixed enough c.is;
+      depth = c.depth;
+      covers = subst (λ (k : Known). Covers table to k (beside_then found.instr (stack_of s) c.stack s.beside) c.stack) (known_same code found.instr (stack_of s) known fixed enough) c.covers;
+    }
+
+    leads_more : (taken : Bool) (to : ℕ) (left : Option Known) → LeadsTo image one interrupted code ways table bytes s found taken to left → LeadsTo (on_stack image range) other interrupted code ways table bytes s found taken to left
+    leads_more taken to None leads = tt
+    leads_more taken to (Some known) leads = then_covers taken to known leads
+
+    way_more : (at to : ℕ) → IsWay image ways at to → IsWay (on_stack image range) ways at to
+    way_more at to (inl behind) = inl (record { at = behind.at; found = behind.found; fetched = behind.fetched; calls = behind.calls; next = behind.next })
+    way_more at to (inr listed) = inr listed
+
+    returns_more : (left : Option Known) → ReturnsLeft image one interrupted code ways table bytes s found left → ReturnsLeft (on_stack image range) other interrupted code ways table bytes s found left
+    returns_more None back = tt
+    returns_more (Some known) back = record { stacked = back.stacked; stack = back.stack; to = back.to; is = back.is; way = way_more s.at back.to back.way; leads = then_covers true back.to known back.leads }
+
+    jumps_more : (declared : Bool) → JumpsBy image one interrupted code ways table bytes s found declared → JumpsBy (on_stack image range) other interrupted code ways table bytes s found declared
+    jumps_more false jumps = record { alone = jumps.alone; way = way_more s.at s.known.hl.words.first jumps.way; leads = then_covers false s.known.hl.words.first s.known jumps.leads }
+    jumps_more true jumps = λ to there within. then_covers false to s.known (jumps to there within)
+
+    pub by_more : (w : Flow) → FollowsBy image one interrupted code ways table bytes s found w → FollowsBy (on_stack image range) other interrupted code ways table bytes s found w
+    by_more (Jumps to) follows = leads_more false to (Some s.known) follows
+    by_more (JumpsIf condition to) follows = (leads_more true to (given condition true s.known) follows.0, leads_more false found.next (given condition false s.known) follows.1)
+    by_more JumpsToHl follows = jumps_more (is_declared image.regions s.at) follows
+    by_more (Calls to) follows = leads_more true to (Some s.known) follows
+    by_more (CallsIf condition to) follows = (leads_more true to (given condition true s.known) follows.0, leads_more false found.next (given condition false s.known) follows.1)
+    by_more Returns follows = returns_more (Some s.known) follows
+    by_more (ReturnsIf condition) follows = (returns_more (given condition true s.known) follows.0, leads_more false found.next (given condition false s.known) follows.1)
+    by_more Halts follows = follows
+    by_more w follows = leads_more false found.next (Some s.known) follows
+
+-- a state that fits
+abbrev pub fits_more : (one other : StackBounds) → one.length ≤ other.length → (image : Located) (range : Range) (quiet : ℕ → Bool) (code : List (Option ℕ)) (ways : List Way) (listed : Listed) (table : List FollowedState) (bytes : ℕ) (s : FollowedState) →
+    (fits : StateFollows image one true quiet code ways listed table bytes s) → uses_pointer fits.found.instr ≡ false → 2 ≤ count_of (stack_of s) → StateFollows (on_stack image range) other true quiet code ways listed table bytes s
+fits_more one other more image range quiet code ways listed table bytes s fits fixed enough = record {
+  found = fits.found;
+  executed = record { fetched = fits.executed.fetched; stores = fits.executed.stores; halts = fits.executed.halts };
+  serves = fits.serves;
+  shown = record { stores = fits.shown.stores; jumps = fits.shown.jumps };
+  follows = by_more one other more image range true code ways table bytes s fits.found fixed enough (flow fits.found.instr) fits.follows;
+  depth = fits.depth;
+  knows = fits.knows;
+}

@@ -1,0 +1,41 @@
+use Rattle.std.specs.Prelude.{◌≡◌, ◌≤◌, All, List, ℕ, true}
+use Rattle.std.proofs.Common.{arith, refl, subst}
+use Rattle.std.proofs.lemmas.Bool.Decides.{nat_tests}
+use Rattle.image80.specs.Image.{Located}
+use Rattle.verify80_states.specs.{Known.nothing_known, Marks.is_marked}
+use Rattle.verify80_follow.specs.declared.{followed.FollowedState.FollowedState, followed.Way.Way}
+use Rattle.verify80_follow.specs.Handling.{HandlerTable, Handles}
+use Rattle.verify80_follow.proofs.FitLemmas.{ok_maps}
+use Rattle.verify80_follow.proofs.handling.is_handled.Goals as goal
+
+pub returns : goal.returns
+returns c =
+    let image = c.args.image.now in
+    let handler = c.args.handler.now in
+    let listed = c.args.listed.now in
+    let main = c.args.around.main.now in
+    let written = is_marked c.args.around.writes.marks.now in
+    let quiet = is_marked c.args.looked.quiet.now in
+    let code = c.args.looked.code.now in
+    let bytes = handler.table.bytes in
+    let states = c.deref.result.now in
+    let ways = c.deref-3.result.now in
+    let same : c.in_ok-program.program ≡ image = c.in_ok-program.ensures in
+    let within = c.if-table-most.false in
+    ok_maps c.all_handle.result (λ f. f ≡ true → All (λ s. Handles c.in_ok-program.program main written (record { top = c.top.result; length = bytes }) quiet code ways listed states bytes s) states)
+    (λ f. f ≡ true → HandlerTable image main written quiet ways listed c.args.most handler.at)
+    (λ f handle is. record {
+      table = states;
+      ways = ways;
+      bytes = bytes;
+      bounds = record { top = c.top.result; length = bytes };
+      fits = record {
+        code = code;
+        are_code = c.requires.code;
+        start = c.if-not-has_entry.ensures refl;
+        states = subst (λ (i : Located). All (λ s. Handles i main written (record { top = c.top.result; length = bytes }) quiet code ways listed states bytes s) states) same (handle is);
+      };
+      few = grind (arith, nat_tests, within);
+      room = grind (arith, nat_tests, within);
+      among = λ way there. there;
+    }) c.all_handle.ensures

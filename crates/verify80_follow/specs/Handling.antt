@@ -1,0 +1,93 @@
+-- Handlers: a table of states that follows one from where it is entered until it returns, wherever the stack is then, or until it begins the program
+-- anew. (Intel 8080 Microcomputer Systems User's Manual, chapter 2: an interrupt pushes the program counter, as RST or CALL does. That a handler gives
+-- all back, or sets SP to the stack's top, is this project's own.)
+use Rattle.std.specs.Prelude.{◌≡◌, ◌⊎◌, ◌≤◌, ℕ, Bool, true, false, List, [], ◌∷◌, Option, None, Some, Ok, All, Contains, length}
+use Rattle.decode80.specs.{Fetch.direct_bytes, declared.fetching.Fetched.Fetched, declared.instr.Instr.Instr}
+use Rattle.decode80.specs.declared.instr.Instr.TheVariants.{Dad, Ei, Lxi, Ret, Sphl}
+use Rattle.decode80.specs.declared.pair.Pair.TheVariants.{Sp}
+use Rattle.image80.specs.{Image.Located, Image.memory_of, Regions.Areas, Regions.in_data, Regions.top_of}
+use Rattle.image80.specs.declared.range.Range.{Range}
+use Rattle.verify80.specs.LookLaws.{fetch_at}
+use Rattle.verify80_spans.specs.declared.{byte_span.ByteSpan.ByteSpan, span.Span.Span}
+use Rattle.verify80_spans.specs.Span.{Within, any_byte}
+use Rattle.verify80_states.specs.{Known.IsQuietKnown, Known.nothing_known, Steps.AreCodeBytes}
+use Rattle.verify80_stores.specs.Opening.{pointer_span}
+use Rattle.verify80_follow.specs.declared.{followed.FollowedState.FollowedState, followed.Listed.Listed, followed.Way.Way, held.Beside.Beside, held.HeldPair.HeldPair, stack.StackBounds.StackBounds}
+use Rattle.verify80_follow.specs.{Follows.Has, Follows.IsExecuted, Follows.StateFollows, Follows.stack_of, Held.count_of, Held.nothing_beside}
+
+-- an image with another stack, of which a handler has a part
+abbrev pub on_stack : Located → Range → Located
+on_stack image range = record image { regions = record image.regions { stack = range } }
+
+-- what a handler has where it is entered: all pairs, and the word at SP is the address to which it returns
+abbrev pub entered_pair : HeldPair
+entered_pair = record { in_place = true; saved = None }
+
+abbrev pub entered_beside : Beside
+entered_beside = record { is_enabled = false; psw = entered_pair; bc = entered_pair; de = entered_pair; hl = entered_pair; back = Some 2 }
+
+abbrev pub entered_stack : Option (List ByteSpan)
+entered_stack = Some (any_byte ∷ any_byte ∷ [])
+
+-- a state gives all back: each pair is what it was, and on the stack is only the word to which the handler returns
+pub record GivesBack (s : FollowedState) : Type 0 where
+  pub psw : s.beside.psw.in_place ≡ true
+  pub bc : s.beside.bc.in_place ≡ true
+  pub de : s.beside.de.in_place ≡ true
+  pub hl : s.beside.hl.in_place ≡ true
+  pub back : s.beside.back ≡ Some 2
+  pub alone : count_of (stack_of s) ≡ 2
+
+-- what an instruction does depends on where the stack lies
+abbrev pub uses_pointer : Instr → Bool
+uses_pointer (Lxi Sp _) = true
+uses_pointer (Dad Sp) = true
+uses_pointer Sphl = true
+uses_pointer _ = false
+
+-- the image has a RET at an address
+pub record IsReturn (image : Located) (at : ℕ) : Type 0 where
+  pub found : Fetched
+  pub fetched : fetch_at image.regions (memory_of image.chunks) at ≡ Ok found
+  pub returns : found.instr ≡ Ret
+
+-- an instruction begins the program anew: it sets SP to the stack's top, and behind it the program's table has a state of which nothing is known
+pub record BeginsAnew (image : Located) (main : List FollowedState) (found : Fetched) : Type 0 where
+  pub sets : found.instr ≡ Lxi Sp (top_of image.regions)
+  pub has : Has main found.next nothing_known nothing_beside (Some [])
+
+-- a handler ends at a state: it returns with all given back, or begins the program anew
+abbrev pub EndsAt : Located → (main : List FollowedState) → Fetched → FollowedState → Type 0
+EndsAt image main found s = ((found.instr ≡ Ret) × GivesBack s) ⊎ BeginsAnew image main found
+
+-- a state of a handler: the handler ends there, or the state fits as any does, and doesn't depend on where the stack lies. It has at least the word to which
+-- the handler returns on its stack, lets interrupts in only directly before that returns, and stores only to data that handlers write.
+pub record Handles (image : Located) (main : List FollowedState) (written : ℕ → Bool) (bounds : StackBounds) (quiet : ℕ → Bool) (code : List (Option ℕ)) (ways : List Way) (listed : Listed) (table : List FollowedState) (bytes : ℕ) (s : FollowedState) : Type 0 where
+  pub found : Fetched
+  pub executed : IsExecuted image true s.at found
+  pub enough : 2 ≤ count_of (stack_of s)
+  pub few : count_of (stack_of s) ≤ bytes
+  pub lets : found.instr ≡ Ei → GivesBack s × IsReturn image found.next
+  pub direct : All (λ a. in_data image.regions a ≡ true → written a ≡ true) (direct_bytes found.instr)
+  pub knows : IsQuietKnown quiet s.known
+  pub pointed : (span : Span) → pointer_span found.instr s.known ≡ Some span → (a : ℕ) → Within span a → in_data image.regions a ≡ true → written a ≡ true
+  pub goes : EndsAt image main found s ⊎ ((uses_pointer found.instr ≡ false) × StateFollows image bounds true quiet code ways listed table bytes s)
+
+-- a table follows the handler at an address, with no more bytes on the stack than these, the two of the interrupt among them
+pub record HandlesAt (image : Located) (main : List FollowedState) (written : ℕ → Bool) (bounds : StackBounds) (quiet : ℕ → Bool) (ways : List Way) (listed : Listed) (table : List FollowedState) (bytes at : ℕ) : Type 0 where
+  pub code : List (Option ℕ)
+  pub are_code : AreCodeBytes image code
+  pub start : Has table at nothing_known entered_beside entered_stack
+  pub states : All (λ s. Handles image main written bounds quiet code ways listed table bytes s) table
+
+-- a handler's table, with its ways, which are among all of handlers, the bytes of stack that it has at most, and how its stack was bounded when it was
+-- checked
+pub record HandlerTable (image : Located) (main : List FollowedState) (written : ℕ → Bool) (quiet : ℕ → Bool) (all : List Way) (listed : Listed) (most handler : ℕ) : Type 0 where
+  pub table : List FollowedState
+  pub ways : List Way
+  pub bytes : ℕ
+  pub bounds : StackBounds
+  pub fits : HandlesAt image main written bounds quiet ways listed table bytes handler
+  pub few : bytes ≤ most
+  pub room : bounds.length ≤ most
+  pub among : (way : Way) → Contains ways way → Contains all way

@@ -1,0 +1,42 @@
+//! How much searches may take.
+
+/// How many states there are, at most, in all tables of a program.
+const STATES: usize = 262_144;
+/// How many ways are followed, at most.
+const WAYS: usize = 3_000_000;
+
+/// How many states may still be kept, and how many ways followed, by the searches that share it.
+#[derive(Clone, Copy, Debug)]
+pub struct Budget {
+    pub(crate) states: usize,
+    pub(crate) ways: usize,
+}
+
+impl Budget {
+    /// All of it.
+    pub const ALL: Budget = Budget {
+        states: STATES,
+        ways: WAYS,
+    };
+
+    /// The budget with all ways.
+    pub fn with_all_ways(self) -> Budget {
+        Budget { ways: WAYS, ..self }
+    }
+
+    /// The budget with all ways, and with the states of a table that isn't kept any more.
+    pub fn with_states(self, states: usize) -> Budget {
+        Budget {
+            states: self.states.saturating_add(states),
+            ways: WAYS,
+        }
+    }
+
+    /// The budget without states that are kept.
+    pub(crate) fn without(self, states: usize) -> Budget {
+        Budget {
+            states: self.states.saturating_sub(states),
+            ..self
+        }
+    }
+}
