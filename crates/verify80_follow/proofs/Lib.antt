@@ -10,3 +10,4 @@ mod FollowLemmas
 mod LiveLemmas
 mod FitLemmas
 mod ReachLemmas
+mod LineLemmas

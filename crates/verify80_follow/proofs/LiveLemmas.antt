@@ -157,8 +157,8 @@ lxi_goes : (n byte next : ℕ) (m after : Machine) → unguarded (Lxi Sp n) byte
 lxi_goes n byte next m after is = sym (same_some _ _ is)
 
 sets_uses : (i : Instr) → uses_pointer i ≡ false → sets_sp i ≡ false
-sets_uses (Lxi Sp n) no = cc
-sets_uses i no = refl
+sets_uses (Lxi Sp n) fixed = cc
+sets_uses i fixed = refl
 
 two_above : (b : StackBounds) → ahead (pointer_at b 2) 2 ≡ pointer_at b 0
 unfolding ahead
@@ -364,7 +364,7 @@ module _ (laws : Laws) (grounds : (regions : Areas) → AreRegions regions → G
           direct_data : All (λ b. in_data image.regions b ≡ true) (direct_bytes fits.found.instr)
           direct_data = all_of_list (in_data image.regions) (direct_bytes fits.found.instr) fits.executed.stores
 
-          is_loud : (a b : ℕ) → quiet a ≡ true → a ≡ b → (in_data image.regions b ≡ true → inner.written b ≡ true) → Empty {0}
+          is_loud : (a b : ℕ) → quiet a ≡ true → a ≡ b → (in_data image.regions b ≡ true → inner.written b ≡ true) → ⊥
           is_loud a b is same says = true≢false (sym (says (ap (in_data image.regions) (sym same) ∙ quiet_data a is)) ∙ ap inner.written (sym same) ∙ loud a is)
 
           left_then : LeftAlone u v
@@ -470,7 +470,7 @@ module _ (laws : Laws) (grounds : (regions : Areas) → AreRegions regions → G
       module _ (anew : BeginsAnew image mtable found) where
         was_off : flag ≡ off
         was_off = by x.now where
-          no_return : IsReturn image m.cpu.pc → Empty {0}
+          no_return : IsReturn image m.cpu.pc → ⊥
           no_return back =
               let returns_here = ap (λ (f : Fetched). f.instr) (same_ok (fetch_at image.regions (memory_of image.chunks) m.cpu.pc) found back.found (subst (λ n. fetch_at image.regions (memory_of image.chunks) n ≡ Ok found) x.known.at handles.executed.fetched) back.fetched) ∙ back.returns in
               let never : Lxi Sp (top_of image.regions) ≡ Ret = sym anew.sets ∙ returns_here in cc
@@ -768,10 +768,10 @@ module _ (laws : Laws) (grounds : (regions : Areas) → AreRegions regions → G
       abbrev at : Machine
       at = w.machine
 
-      Fits : Type 0
+      abbrev Fits : Type 0
       Fits = StateFollows image x.of.bounds true quiet x.of.fits.code x.of.ways listed x.of.table x.of.bytes x.known.state
 
-      Either : Type 0
+      abbrev Either : Type 0
       Either = EndsAt image mtable here x.known.state ⊎ ((uses_pointer here.instr ≡ false) × Fits)
 
       kept_found : (fixed : uses_pointer here.instr ≡ false) (fits : Fits) → (kept u flag w x fixed fits).found ≡ here
@@ -805,7 +805,7 @@ module _ (laws : Laws) (grounds : (regions : Areas) → AreRegions regions → G
           inr (among_all (target here.instr here.next at.memory at.cpu) (subst (λ (f : Fetched). IsWay (below x.count) x.of.ways at.cpu.pc (target f.instr f.next at.memory at.cpu)) same
           ((kept u flag w x fixed fits).returning (subst (λ (f : Fetched). returns f.instr at.cpu.registers.flags ≡ true) (sym same) taken))))
 
-      no_pchl : (i : Instr) → here.instr ≡ i → i ≢ Pchl → here.instr ≡ Pchl → Empty {0}
+      no_pchl : (i : Instr) → here.instr ≡ i → i ≢ Pchl → here.instr ≡ Pchl → ⊥
       no_pchl i is other jumps = other (sym is ∙ jumps)
 
       jumping_of : Either → here.instr ≡ Pchl → targets_at image.regions at.cpu.pc ≡ None → IsWay image inner.ways at.cpu.pc (hl_of at.cpu.registers)
@@ -818,7 +818,7 @@ module _ (laws : Laws) (grounds : (regions : Areas) → AreRegions regions → G
       declared_of (inl (inr anew)) jumps some = absurd (no_pchl (Lxi Sp (top_of image.regions)) anew.sets (λ e. cc) jumps)
       declared_of (inr (fixed, fits)) jumps some = (kept u flag w x fixed fits).declared (ap (λ (f : Fetched). f.instr) (kept_found fixed fits) ∙ jumps) some
 
-      Below : ℕ → Type 0
+      abbrev Below : ℕ → Type 0
       Below a = IsJustBelow (top_of image.regions) (main + inner.bytes) a
 
       deeper : (a : ℕ) → IsJustBelow (top_of (below x.count).regions) x.of.bytes a → Below a
@@ -849,9 +849,9 @@ module _ (laws : Laws) (grounds : (regions : Areas) → AreRegions regions → G
       anew_of (inr (fixed, fits)) sets = absurd (true≢false (sym sets ∙ sets_uses here.instr fixed))
 
       back_of : (v : World) → Executes image.regions (IsLeftOpenAt listed) w v → sets_sp here.instr ≡ false → is_back u v ≡ true → Either → v.machine.cpu ≡ u.machine.cpu
-      back_of v by stays over_then (inl (inl both)) = cpu_is u flag w x both.0 both.1 v by
-      back_of v by stays over_then (inl (inr anew)) = absurd (true≢false (sym (ap sets_sp anew.sets) ∙ stays))
-      back_of v by stays over_then (inr (fixed, fits)) = absurd (not_over u flag w x fixed fits v by (grind (arith, nat_tests, over_then)))
+      back_of v by unset over_then (inl (inl both)) = cpu_is u flag w x both.0 both.1 v by
+      back_of v by unset over_then (inl (inr anew)) = absurd (true≢false (sym (ap sets_sp anew.sets) ∙ unset))
+      back_of v by unset over_then (inr (fixed, fits)) = absurd (not_over u flag w x fixed fits v by (grind (arith, nat_tests, over_then)))
 
       keeps_handler : KeepsHandler image inner.written (main + inner.bytes) inner.ways listed flag u w
       keeps_handler = record {
@@ -867,7 +867,7 @@ module _ (laws : Laws) (grounds : (regions : Areas) → AreRegions regions → G
         stack = stack_of_it (handles u flag w x).goes;
         alone = alone_of x.now;
         anew = anew_of (handles u flag w x).goes;
-        gives_back = λ v by stays over_then. back_of v by stays over_then (handles u flag w x).goes;
+        gives_back = λ v by unset over_then. back_of v by unset over_then (handles u flag w x).goes;
         goes_on = λ no_halt inside byte small.
             let l = goes_on here.instr byte here.next at no_halt in
             record {

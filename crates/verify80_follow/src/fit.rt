@@ -1,14 +1,14 @@
 //! Whether a table of states follows an image.
 
-ghost use Rattle.std.specs.Prelude.{◌≡◌, ◌⊎◌, ◌≤◌, ℕ, Bool, false, true, All, Any, Contains, IfOk, IfSome, IsSome, length};
+ghost use Rattle.std.specs.Prelude.{◌≡◌, ◌⊎◌, ◌≤◌, ℕ, Bool, false, true, All, Any, Contains, IfOk, IfSome, IsSome, [], length};
 ghost use Rattle.std.specs.Option.{option_map};
 ghost use Rattle.image80.specs.{Image.memory_of, Regions.AreRegions, Regions.in_data};
 ghost use Rattle.verify80_spans.specs.Span.{Within, ByteWithin, IsInside, byte_alone};
-ghost use Rattle.verify80_states.specs.{Known.cut, Known.nothing_known, Following.known_after, Marks.is_marked, QuietBoards.is_quiet, Steps.AreCodeBytes};
+ghost use Rattle.verify80_states.specs.{Known.IsKnownInside, Known.cut, Known.nothing_known, Following.known_after, Marks.is_marked, QuietBoards.is_quiet, Steps.AreCodeBytes};
 ghost use Rattle.verify80_follow.specs.Follows.{Covers, CoversStack, CoversThen, Follows, FollowsBy, Has, IsBehindCall, IsWay, JumpsBy, IsExecuted, IsShownOrListed, JumpsByNumber, LeadsIf, LeadsTo, LeavesHalt, ReturnsLeft, ReturnsTo, StateFollows, first_stack, is_call, stack_of};
-ghost use Rattle.verify80_follow.specs.Held.{beside_then, nothing_beside};
+ghost use Rattle.verify80_follow.specs.Held.{IsBesideInside, beside_then, nothing_beside};
 ghost use Rattle.verify80_follow.specs.Promise.{PromiseOf};
-ghost use Rattle.verify80_follow.specs.Stack.{after_of, bounds_of};
+ghost use Rattle.verify80_follow.specs.Stack.{IsStackInside, after_of, bounds_of};
 ghost use Rattle.decode80.specs.{Facts.flow, declared.flow.Flow.TheVariants.JumpsToHl, declared.instr.Instr.TheVariants.Ei};
 ghost use Rattle.verify80.specs.{LookLaws.fetch_at, Looking.declared_targets, Looking.is_declared};
 ghost use Rattle.verify80_stores.specs.DataReach.{AreDataEnds};
@@ -89,6 +89,22 @@ struct Onward {
     to: u16,
 }
 
+/// Whether a state says no more than this.
+pub(crate) fn says_no_more(
+    state: &FollowedState,
+    known: Known,
+    beside: Beside,
+    stack: Option<&[ByteSpan]>,
+) -> bool
+    ensures known { result ≡ true → IsKnownInside [] known state.now.known }
+    ensures beside { result ≡ true → IsBesideInside beside state.now.beside }
+    ensures stack { result ≡ true → IsStackInside (option_map (λ bytes. bytes.now) stack.entry) (stack_of state.now) }
+{
+    known.is_inside(state.known, &[])
+        && beside.is_inside(state.beside)
+        && is_stack_inside(stack, state.bytes())
+}
+
 impl Standing<'_> {
     /// The way of a jump, call or return that is taken to an address, by the state's first hint.
     fn taken(&self, to: u16) -> Onward
@@ -140,12 +156,7 @@ impl Fit<'_> {
             return false;
         };
         match self.table.get(*place as usize) {
-            Some(state) => {
-                state.at == to
-                    && known.is_inside(state.known, &[])
-                    && beside.is_inside(state.beside)
-                    && is_stack_inside(stack, state.bytes())
-            }
+            Some(state) => state.at == to && says_no_more(state, known, beside, stack),
             None => false,
         }
     }

@@ -13,11 +13,11 @@ ghost use Rattle.verify80_follow.specs.Live.{PromiseOfLive, handler_bounds, hand
 ghost use Rattle.verify80_follow.specs.Stack.{IsStackInside};
 ghost use Rattle.verify80_follow.specs.Writes.{AreWriteEnds, MayBeWritten};
 
-use crate::fit::{Fit, Table, fits};
+use crate::fit::{Fit, Table, fits, says_no_more};
 use crate::followed::{FollowedState, Listed, RunKind};
 use crate::held::{Beside, count_of};
 use crate::laws::live_machines_keep_the_promise;
-use crate::stack::{StackBounds, is_stack_inside};
+use crate::stack::StackBounds;
 use crate::writes::{Writes, find_write_ends};
 use decode80::{Fetched, Instr, Pair, fetch};
 use frames80::Code;
@@ -90,7 +90,7 @@ impl Fit<'_> {
     /// Whether an instruction sets SP to the stack's top, and the program may begin anew behind it.
     fn begins_anew(&self, found: Fetched, around: Around<'_>) -> bool
         requires { (at : ℕ) → is_marked around.anew.now at ≡ true → Has around.main.now at nothing_known nothing_beside (Some []) }
-        ensures { result ≡ true → BeginsAnew self.now.program.now around.main.now found }
+        ensures { result ≡ true → BeginsAnew self.now.program.now around.entry.main.now found }
     {
         found.instr == Instr::Lxi(Pair::Sp, self.program.top())
             && is_marked(around.anew, found.next)
@@ -109,7 +109,7 @@ impl Fit<'_> {
         requires interrupted { self.now.interrupted ≡ true }
         requires anew { (at : ℕ) → is_marked around.anew.now at ≡ true → Has around.main.now at nothing_known nothing_beside (Some []) }
         requires writes { AreWriteEnds around.writes.regions.now around.writes.marks.now around.writes.ends.now }
-        ensures { IfOk result (λ handles. handles ≡ true → Handles self.now.program.now around.main.now (is_marked around.writes.marks.now) self.now.bounds (is_marked self.now.quiet.now) self.now.code.now self.now.ways.now self.now.listed.now self.now.table.now self.now.bytes state.now) }
+        ensures { IfOk result (λ handles. handles ≡ true → Handles self.now.program.now around.entry.main.now (is_marked around.entry.writes.marks.now) self.now.bounds (is_marked self.now.quiet.now) self.now.code.now self.now.ways.now self.now.listed.now self.now.table.now self.now.bytes state.now) }
     {
         let Some(executed) = self.executed(state.at) else {
             return Ok(false);
@@ -153,8 +153,8 @@ impl Fit<'_> {
 /// Whether an instruction in a state stores to no data but that which handlers write.
 fn stores_to(writes: Writes<'_>, instr: Instr, state: &FollowedState) -> bool
     requires { AreWriteEnds writes.regions.now writes.marks.now writes.ends.now }
-    ensures direct { result ≡ true → All (MayBeWritten writes.regions.now writes.marks.now) (direct_bytes instr) }
-    ensures pointed { result ≡ true → IfSome (pointer_span instr state.now.known) (λ span. (a : ℕ) → Within span a → MayBeWritten writes.regions.now writes.marks.now a) }
+    ensures direct { result ≡ true → All (MayBeWritten writes.entry.regions.now writes.entry.marks.now) (direct_bytes instr) }
+    ensures pointed { result ≡ true → IfSome (pointer_span instr state.now.known) (λ span. (a : ℕ) → Within span a → MayBeWritten writes.entry.regions.now writes.entry.marks.now a) }
 {
     writes.have_direct(instr)
         && match pointer_span(instr, state.known) {
@@ -297,9 +297,7 @@ fn knows_nothing(state: &FollowedState) -> bool
     ensures beside { result ≡ true → IsBesideInside nothing_beside state.now.beside }
     ensures stack { result ≡ true → IsStackInside (Some []) (stack_of state.now) }
 {
-    Known::ANY.is_inside(state.known, &[])
-        && Beside::NOTHING.is_inside(state.beside)
-        && is_stack_inside(Some(&[]), state.bytes())
+    says_no_more(state, Known::ANY, Beside::NOTHING, Some(&[]))
 }
 
 /// Marks of the addresses at which a state says nothing but that the stack is empty.
@@ -328,12 +326,12 @@ fn note_anew(marks: &mut Vec<bool>, states: &[FollowedState], place: usize)
 }
 
 /// Whether each handler's table follows it, beside the program's table.
-fn are_all_handled(
+fn are_all_handled<'a>(
     alloc: Global,
-    image: &Image,
-    table: &Table,
+    image: &'a Image,
+    table: &'a Table,
     handlers: &[Handler],
-    looked: Looked<'_>,
+    looked: Looked<'a>,
     most: u16,
 ) -> Result<bool, AllocError>
     requires code { AreCodeBytes image.now looked.code.now }

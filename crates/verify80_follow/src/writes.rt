@@ -25,14 +25,14 @@ impl Writes<'_> {
     /// Whether each address of data in a span is written.
     pub fn have_all(self, span: Span) -> bool
         requires { AreWriteEnds self.regions.now self.marks.now self.ends.now }
-        ensures { result ≡ true → (address : ℕ) → Within span address → MayBeWritten self.regions.now self.marks.now address }
+        ensures { result ≡ true → (address : ℕ) → Within span address → MayBeWritten self.entry.regions.now self.entry.marks.now address }
     {
         span.first > span.last || u32::from(span.last) < self.ends[usize::from(span.first)]
     }
 
     /// Whether each byte that an instruction names to store to is written.
     pub fn have_direct(self, instr: Instr) -> bool
-        ensures { result ≡ true → All (MayBeWritten self.regions.now self.marks.now) (direct_bytes instr) }
+        ensures { result ≡ true → All (MayBeWritten self.entry.regions.now self.entry.marks.now) (direct_bytes instr) }
     {
         match instr.storing() {
             Storing::Byte(address) => is_marked(self.marks, address),

@@ -1,4 +1,4 @@
-use Rattle.std.specs.Prelude.{◌≡◌, ◌≤◌, All, List, ℕ, true}
+use Rattle.std.specs.Prelude.{◌≡◌, ◌≤◌, All, Contains, List, ℕ, true}
 use Rattle.std.proofs.Common.{arith, refl, subst}
 use Rattle.std.proofs.lemmas.Bool.Decides.{nat_tests}
 use Rattle.image80.specs.Image.{Located}
@@ -23,7 +23,7 @@ returns c =
     let same : c.in_ok-program.program ≡ image = c.in_ok-program.ensures in
     let within = c.if-table-most.false in
     ok_maps c.all_handle.result (λ f. f ≡ true → All (λ s. Handles c.in_ok-program.program main written (record { top = c.top.result; length = bytes }) quiet code ways listed states bytes s) states)
-    (λ f. f ≡ true → HandlerTable image main written quiet ways listed c.args.most handler.at)
+    (λ f. f ≡ true → HandlerTable image main written quiet handler.table.ways.items listed c.args.most handler.at)
     (λ f handle is. record {
       table = states;
       ways = ways;
@@ -37,5 +37,5 @@ returns c =
       };
       few = grind (arith, nat_tests, within);
       room = grind (arith, nat_tests, within);
-      among = λ way there. there;
+      among = λ way there. subst (λ (l : List Way). Contains l way) c.deref-3.ensures.value there;
     }) c.all_handle.ensures

@@ -1,12 +1,9 @@
 use Rattle.std.specs.Prelude.{◌≡◌, ◌++◌, ℕ, List, [], ◌∷◌}
-use Rattle.std.proofs.Common.{◌∙◌, ap, append_assoc}
+use Rattle.std.proofs.Common.{◌∙◌, ap}
 use Rattle.text80.specs.Digits.{word_text}
 use Rattle.verify80_follow.specs.FollowText.{pair_line}
+use Rattle.verify80_follow.proofs.LineLemmas.{behind}
 use Rattle.verify80_follow.proofs.lines.append_pair.Goals as goal
-
--- what stands behind a part
-behind : (x before part rest : List ℕ) → x ≡ before ++ part → x ++ rest ≡ before ++ (part ++ rest)
-behind x before part rest is = ap (λ (l : List ℕ). l ++ rest) is ∙ append_assoc before part rest
 
 pub returns : goal.returns
 unfolding pair_line
