@@ -55,13 +55,16 @@ pub struct RangeTexts<'a> {
     pub values: &'a [&'a str],
 }
 
+/// How many ranges of a board's ROM, and how many of its RAM, are compared with each other: more than a board has.
+const MOST_COMPARED: usize = 64;
+
 /// Says which values of the two options that name a board's ROM and RAM may have been meant otherwise, and which of ROM overlap which of
-/// RAM.
+/// RAM, of the first 64 of each.
 pub fn explain_board<C: Console>(console: &C, rom: RangeTexts<'_>, ram: RangeTexts<'_>) {
     explain_ranges(console, rom);
     explain_ranges(console, ram);
-    for first in rom.values {
-        for second in ram.values {
+    for first in rom.values.iter().take(MOST_COMPARED) {
+        for second in ram.values.iter().take(MOST_COMPARED) {
             if overlap(first, second) {
                 let (rom, ram) = (rom.name, ram.name);
                 console.explain(format_args!("--{rom} {first} and --{ram} {second} overlap"));

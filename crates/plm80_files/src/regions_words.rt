@@ -33,11 +33,8 @@ const NO_LINE: usize = 0;
 pub fn explain_regions<C: Console>(console: &C, text: &[u8], fault: RegionsFault) {
     match fault {
         RegionsFault::BadVersion => {
-            if !explain_file(console, text, FileRole::Regions) {
-                let wanted = "the first line is REGIONS 1 or REGIONS 2, in upper case";
-                if !explain_flaws(console, text, 1, VERSION_FLAWS) {
-                    console.explain(wanted);
-                }
+            if !explain_file(console, text, FileRole::Regions) && !explain_version(console, text) {
+                console.explain("the first line is REGIONS 1 or REGIONS 2, in upper case");
             }
         }
         RegionsFault::BadLine(number) => {
@@ -69,6 +66,15 @@ pub fn explain_regions<C: Console>(console: &C, text: &[u8], fault: RegionsFault
         }
         RegionsFault::RegionsOverlap | RegionsFault::Memory => {}
     }
+}
+
+/// Says which flaws the first line of a text of regions has; of blanks and tabs only if it begins as such a text does, since another text
+/// isn't mended by other blanks. The result is whether it has one.
+fn explain_version<C: Console>(console: &C, text: &[u8]) -> bool {
+    let is_flawed = explain_flaws(console, text, 1, VERSION_FLAWS);
+    let is_apart = text.starts_with(b"REGIONS")
+        && explain_flaws(console, text, 1, &[LineFlaw::Tab, LineFlaw::Blanks]);
+    is_flawed || is_apart
 }
 
 /// Whether the length of a range may have been meant as its last address.

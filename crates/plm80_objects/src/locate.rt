@@ -154,19 +154,22 @@ pub fn locate_file<C: Console>(
     if given.is_ok() && console.explains() {
         explain_unread(console, arguments.object);
         explain_empty_segments(console, program, &options, arguments.options);
-        explain_board(
-            console,
-            RangeTexts {
-                name: ROM_RANGE.name,
-                values: &arguments.rom,
-            },
-            RangeTexts {
-                name: RAM_RANGE.name,
-                values: &arguments.ram,
-            },
-        );
+        explain_ranges(console, arguments);
     }
     given
+}
+
+/// Says which ranges of the board's memory may have been meant otherwise.
+fn explain_ranges<C: Console>(console: &C, arguments: &LocateArguments<'_>) {
+    let rom = RangeTexts {
+        name: ROM_RANGE.name,
+        values: &arguments.rom,
+    };
+    let ram = RangeTexts {
+        name: RAM_RANGE.name,
+        values: &arguments.ram,
+    };
+    explain_board(console, rom, ram);
 }
 
 /// What `locate` answers to `program`: the files of its image and its regions. Reports why it can't be located, or at which address the
@@ -214,7 +217,11 @@ fn answer_on_board<'a, C: Console>(
 {
     match unmapped_of(console.alloc(), program, options, arguments.restart, board) {
         Ok(None) => {}
-        Ok(Some(found)) => return Err(report_unmapped(console, program, options, found)),
+        Ok(Some(found)) => {
+            let reported = report_unmapped(console, program, options, found);
+            explain_ranges(console, arguments);
+            return Err(reported);
+        }
         Err(AllocError) => return Err(console.report_memory()),
     }
     match answer(console.alloc(), arguments, program, options, image) {

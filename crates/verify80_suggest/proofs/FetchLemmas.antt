@@ -85,7 +85,7 @@ module _ (sizes : (i : Instr) → (1 ≤ length (spelling i)) × (length (spelli
           let same : completed b c i ≡ p = cc in
           subst (λ (q : Instr × ℕ). (1 ≤ q.1) × (q.1 ≤ 3)) same (sizes i)
 
-is_below : (a : ℕ) → a < 65536 → nat_lt a 65536 ≡ true
+pub is_below : (a : ℕ) → a < 65536 → nat_lt a 65536 ≡ true
 is_below a low = grind (arith, nat_tests)
 
 counted_back : (at count : ℕ) → at < 65536 → count ≤ 3 → behind (ahead at count) at ≡ count
@@ -100,7 +100,7 @@ or_right : (a b : Bool) → b ≡ true → (a || b) ≡ true
 or_right true b e = refl
 or_right false b e = e
 
-both_true : (a b : Bool) → a ≡ true → b ≡ true → (a && b) ≡ true
+pub both_true : (a b : Bool) → a ≡ true → b ≡ true → (a && b) ≡ true
 both_true true b e f = f
 both_true false b e f = absurd (true≢false (sym e))
 
@@ -143,11 +143,10 @@ module _ (image : Located) (reached : List Bool) (at : ℕ) (is_marked : marked 
   covered_all (suc (suc zero)) less few = covered_third less
   covered_all (suc (suc (suc k))) less few = absurd (omega (arith, few))
 
--- regions whose code is what is covered, where all bytes are code that may be
-module _ (image : Located) (known areas : Areas) (rom : List Range) (reached covered : List Bool)
+-- regions whose code has what is covered, where all bytes are code that may be
+module _ (image : Located) (known areas : Areas) (rom : List Range) (reached : List Bool)
     (known_exact : (a : ℕ) → in_code known a ≡ (nat_lt a 65536 && may_be_code image.chunks rom a))
-    (covered_exact : (a : ℕ) → a < 65536 → marked covered a ≡ is_covered (with_regions image known) reached a)
-    (areas_exact : (a : ℕ) → in_code areas a ≡ (nat_lt a 65536 && marked covered a))
+    (in_areas : (a : ℕ) → a < 65536 → is_covered (with_regions image known) reached a ≡ true → in_code areas a ≡ true)
     (sizes : (i : Instr) → (1 ≤ length (spelling i)) × (length (spelling i) ≤ 3)) where
   abbrev wide : Located
   wide = with_regions image known
@@ -160,9 +159,6 @@ module _ (image : Located) (known areas : Areas) (rom : List Range) (reached cov
 
   in_known : (a : ℕ) → a < 65536 → may a ≡ true → in_code known a ≡ true
   in_known a low is = known_exact a ∙ both_true (nat_lt a 65536) (may a) (is_below a low) is
-
-  in_areas : (a : ℕ) → a < 65536 → is_covered wide reached a ≡ true → in_code areas a ≡ true
-  in_areas a low is = areas_exact a ∙ both_true (nat_lt a 65536) (marked covered a) (is_below a low) (covered_exact a low ∙ is)
 
   module _ (at : ℕ) (low : at < 65536) (is_marked : marked reached at ≡ true) (outside : fetch (in_code areas) held at ≡ Err Outside) (is_may : may at ≡ true) where
     abbrev bytes : Option (Instr × ℕ)

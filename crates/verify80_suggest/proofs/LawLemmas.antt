@@ -11,7 +11,7 @@ use Rattle.verify80_suggest.specs.Bytes.{may_be_code}
 use Rattle.verify80_cases.specs.declared.search.Note.{Note}
 use Rattle.verify80_cases.specs.Marks.{marked}
 use Rattle.verify80_suggest.specs.Suggestion.{IsSuggestion, with_regions}
-use Rattle.verify80_suggest.proofs.CodeLemmas.{covered_code}
+use Rattle.verify80_suggest.proofs.TableLemmas.{found_code}
 
 both : (a b : Bool) → (a && b) ≡ true → (a ≡ true) × (b ≡ true)
 both true b e = (refl, e)
@@ -20,10 +20,10 @@ both false b e = absurd (true≢false (sym e))
 pub code_inside : (image : Located) (rom ram : List Range) (first second : Option Setter) (tableless : List ℕ) (notes : List Note) (new : Located) →
     IsSuggestion image rom ram first second tableless notes new → (address : ℕ) → in_code new.regions address ≡ true → may_be_code image.chunks rom address ≡ true
 code_inside image rom ram first second tableless notes new is address here =
-    let parts = both (nat_lt address 65536) (marked is.found.covered address) (sym (is.arranged.code.exact address) ∙ here) in
+    let parts = both (nat_lt address 65536) (marked is.found.code address) (sym (is.arranged.code.exact address) ∙ here) in
     let low : address < 65536 = below parts.0 in
     let known = with_regions image (record is.base { cases = is.cases }) in
-    let code : in_ranges is.base.code address ≡ true = covered_code known is.found.reached address low (sym (is.is_found.covered.exact address low) ∙ parts.1) in
+    let code : in_ranges is.base.code address ≡ true = found_code known ram is.found is.is_found address low parts.1 in
     (both (nat_lt address 65536) (may_be_code image.chunks rom address) (sym (is.is_base.exact address) ∙ code)).1
   where
     below : nat_lt address 65536 ≡ true → address < 65536

@@ -4,5 +4,6 @@ mod LawLemmas
 mod NameLemmas
 mod RangeLemmas
 mod StackLemmas
+mod TableLemmas
 mod WalkLemmas
 mod WithCasesLemmas

@@ -79,13 +79,13 @@ stack_free taken (Some setter) wanted stack is address inside = both (nat_le sta
 
 -- code, stack and data of what is found share no address
 found_apart : (found : Found) (ram : List Range) (first : Option Setter) (wanted : ℕ) (code : List Range) (stack : Range) (ranges : List Range) →
-    Covers (marked found.covered) code → AreDisjoint code → IsStack (is_taken found) first wanted stack →
+    Covers (marked found.code) code → AreDisjoint code → IsStack (is_taken found) first wanted stack →
     Covers (is_data found ram stack) ranges → AreDisjoint ranges → AreDisjoint (code ++ stack ∷ ranges)
 found_apart found ram first wanted code stack ranges covers apart is covers' apart' address =
     rw (held_both address code (stack ∷ ranges), held_first address stack ranges) (count (in_ranges code address) (in_range stack address) refl refl)
   where
     is_covered : Bool
-    is_covered = marked found.covered address
+    is_covered = marked found.code address
 
     of_code : (b x : Bool) → true ≡ (b && x) → x ≡ true
     of_code true x e = sym e
@@ -128,10 +128,10 @@ found_apart found ram first wanted code stack ranges covers apart is covers' apa
 
 -- what is arranged of these ranges
 arranged : (found : Found) (ram : List Range) (wanted : ℕ) (code : List Range) (stack : Range) (ranges : List Range) (areas : Areas) →
-    CoversBelow (marked found.covered) 65536 code → IsStack (is_taken found) found.first wanted stack → Covers (is_data found ram stack) ranges →
+    CoversBelow (marked found.code) 65536 code → IsStack (is_taken found) found.first wanted stack → Covers (is_data found ram stack) ranges →
     Arranges code stack ranges areas → IsArranged found [] ram wanted areas
 arranged found ram wanted code stack ranges areas covers is covers' are = record {
-  code = covers_permuted (marked found.covered) code areas.code are.same_code (covers_below (marked found.covered) code covers);
+  code = covers_permuted (marked found.code) code areas.code are.same_code (covers_below (marked found.code) code covers);
   stack = subst (IsStack (is_taken found) found.first wanted) (sym are.same_stack) is;
   data_ranges = subst (λ s. Covers (is_data found ram s) areas.data_ranges) (sym are.same_stack) (covers_permuted (is_data found ram stack) ranges areas.data_ranges are.same_data covers');
   cases = are.no_cases;
@@ -140,11 +140,11 @@ arranged found ram wanted code stack ranges areas covers is covers' are = record
 
 -- ranges of what is found, as it is kept, and of the tables that are made of it, as they are lent
 module _ (found kept : Found) (ram : List Range) (wanted : ℕ) (code : List Range) (stack : Range) (ranges : List Range) (taken marks lent_covered lent_taken lent_marks : List Bool)
-    (kept_is : kept ≡ found) (covered_is : lent_covered ≡ kept.covered) (taken_is : lent_taken ≡ taken) (marks_is : lent_marks ≡ marks)
+    (kept_is : kept ≡ found) (covered_is : lent_covered ≡ kept.code) (taken_is : lent_taken ≡ taken) (marks_is : lent_marks ≡ marks)
     (covers : CoversBelow (marked lent_covered) 65536 code) (taken_exact : AreMarks (is_taken found) 65536 taken) (is : IsStack (marked lent_taken) kept.first wanted stack)
     (marks_exact : AreMarks (is_data found ram stack) 65536 marks) (below : CoversBelow (marked lent_marks) 65536 ranges) where
-  code_covers : CoversBelow (marked found.covered) 65536 code
-  code_covers = subst (λ m. CoversBelow (marked m) 65536 code) (covered_is ∙ ap (λ (f : Found). f.covered) kept_is) covers
+  code_covers : CoversBelow (marked found.code) 65536 code
+  code_covers = subst (λ m. CoversBelow (marked m) 65536 code) (covered_is ∙ ap (λ (f : Found). f.code) kept_is) covers
 
   stack_is : IsStack (is_taken found) found.first wanted stack
   stack_is = stack_same (marked taken) (is_taken found) found.first wanted stack taken_exact.exact
@@ -155,7 +155,7 @@ module _ (found kept : Found) (ram : List Range) (wanted : ℕ) (code : List Ran
 
   -- none shares an address with another
   pub ranges_apart : AreDisjoint (code ++ stack ∷ ranges)
-  ranges_apart = found_apart found ram found.first wanted code stack ranges (covers_below (marked found.covered) code code_covers) code_covers.apart stack_is
+  ranges_apart = found_apart found ram found.first wanted code stack ranges (covers_below (marked found.code) code code_covers) code_covers.apart stack_is
       (covers_marks (is_data found ram stack) marks ranges marks_exact data_covers) data_covers.apart
 
   pub ranges_arranged : (areas : Areas) → Arranges code stack ranges areas → IsArranged found [] ram wanted areas

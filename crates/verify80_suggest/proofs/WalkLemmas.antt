@@ -36,16 +36,23 @@ use Rattle.verify80.specs.LookLaws.{LooksAnswerFaultsThatHold, LooksFindWhatIsAd
 use Rattle.verify80_cases.specs.declared.search.Note.{Note}
 use Rattle.verify80_cases.specs.Reach.{MayReach, falls_to, given, leads_from, leads_to, target_of, targets_of}
 use Rattle.verify80_cases.specs.Reach.MayReach.{begins as reach_begins, goes_on as reach_goes_on}
+use Rattle.verify80_cases.specs.Covered.{is_covered}
 use Rattle.verify80_cases.specs.Marks.{marked}
 use Rattle.verify80_suggest.specs.declared.setters.Setter.{Setter}
 use Rattle.verify80_suggest.specs.Lacking.{LacksByte}
 use Rattle.verify80_suggest.specs.Suggestion.{IsSuggestion, with_regions}
-use Rattle.verify80_suggest.proofs.CodeLemmas.{covered_code}
-use Rattle.verify80_suggest.proofs.FetchLemmas.{fetch_more, lacks}
+use Rattle.verify80_suggest.proofs.FetchLemmas.{both_true, fetch_more, is_below, lacks}
+use Rattle.verify80_suggest.proofs.TableLemmas.{covered_found, found_code}
 
 both : (a b : Bool) → (a && b) ≡ true → (a ≡ true) × (b ≡ true)
 both true b e = (refl, e)
 both false b e = absurd (true≢false (sym e))
+
+below : (a : ℕ) → nat_lt a 65536 ≡ true → a < 65536
+below a e = grind (arith, nat_tests)
+
+past : (a size : ℕ) → size ≡ 65536 → nat_lt a 65536 ≡ false → size ≤ a
+past a size is e = grind (arith, nat_tests)
 
 -- where an instruction of this effect leads
 abbrev Led : Effect → Instr → Type 0
@@ -215,12 +222,12 @@ module _ (image : Located) (rom ram : List Range) (first second : Option Setter)
 
   in_known : (a : ℕ) → in_code new.regions a ≡ true → in_code known a ≡ true
   in_known a here =
-      let parts = both (nat_lt a 65536) (marked is.found.covered a) (sym (is.arranged.code.exact a) ∙ here) in
-      let low : a < 65536 = below a parts.0 in
-      covered_code (with_regions image known) is.found.reached a low (sym (is.is_found.covered.exact a low) ∙ parts.1)
-    where
-      below : (a : ℕ) → nat_lt a 65536 ≡ true → a < 65536
-      below a e = grind (arith, nat_tests)
+      let parts = both (nat_lt a 65536) (marked is.found.code a) (sym (is.arranged.code.exact a) ∙ here) in
+      found_code (with_regions image known) ram is.found is.is_found a (below a parts.0) parts.1
+
+  in_new : (a : ℕ) → a < 65536 → is_covered (with_regions image known) is.found.reached a ≡ true → in_code new.regions a ≡ true
+  in_new a low here = is.arranged.code.exact a
+      ∙ both_true (nat_lt a 65536) (marked is.found.code a) (is_below a low) (covered_found (with_regions image known) ram is.found is.is_found a low here)
 
   pub walks : (p : Procedure) (at : ℕ) (f : StackFrame) → Walk (code_of new) p at f → marked is.found.reached at ≡ true
   walks p at f walk =
@@ -231,13 +238,11 @@ module _ (image : Located) (rom ram : List Range) (first second : Option Setter)
   outside sizes at wrong =
       let reached = walks wrong.procedure at wrong.frame wrong.walk in
       let low : at < 65536 = inside at reached in
-      lacks image known new.regions rom is.found.reached is.found.covered is.is_base.exact is.is_found.covered.exact is.arranged.code.exact sizes at low reached
+      lacks image known new.regions rom is.found.reached is.is_base.exact in_new sizes at low reached
       ((faults new.regions (memory_of image.chunks) at LooksOutside).0 (subst (λ (n : Located). look_at n.regions (memory_of n.chunks) at ≡ Err LooksOutside) is.same wrong.looked))
     where
       inside : (at : ℕ) → marked is.found.reached at ≡ true → at < 65536
       inside at reached = (elim (nat_lt at 65536) as (λ b. nat_lt at 65536 ≡ b → at < 65536) [
-        | true ↦ λ e. grind (arith, nat_tests)
-        | false ↦ λ e. absurd (
-            let past : length is.found.reached ≤ at = let size = is.is_found.reached.size in grind (arith, nat_tests) in
-            true≢false (sym reached ∙ get_or_past is.found.reached at false past))
+        | true ↦ λ e. below at e
+        | false ↦ λ e. absurd (true≢false (sym reached ∙ get_or_past is.found.reached at false (past at (length is.found.reached) is.is_found.reached.size e)))
       ]) refl

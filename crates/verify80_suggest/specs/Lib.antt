@@ -3,4 +3,5 @@ pub mod Bytes
 pub mod Names
 pub mod Stack
 pub mod Lacking
+pub mod Tables
 pub mod Suggestion

@@ -21,21 +21,27 @@ use Rattle.verify80_suggest.specs.Names.{AreNamed, AreSetters}
 use Rattle.verify80_cases.specs.Marks.{AreMarks, marked}
 use Rattle.verify80_suggest.specs.Ranges.{Covers}
 use Rattle.verify80_suggest.specs.Stack.{IsStack}
+use Rattle.verify80_suggest.specs.Tables.{AreTableWords, is_code}
 
--- what is found of an image, address by address: whether it has a byte there, whether the program may reach it, whether it is in an
--- instruction to which it may come, and whether such an instruction names it; and the first two of these that set SP
+-- what is found of an image, address by address: whether it has a byte there, whether the program may reach it, whether it is to be
+-- code, and whether an instruction to which the program may come names it; and the first two of these that set SP
 pub record Found : Type 0 where
   pub bytes : List Bool
   pub reached : List Bool
-  pub covered : List Bool
+  pub code : List Bool
   pub named : List Bool
   pub first : Option Setter
   pub second : Option Setter
 
-pub record IsFound (image : Located) (found : Found) : Type 0 where
+-- code are the instructions that are reached, and the tables outside the ranges of RAM
+pub record IsFound (image : Located) (ram : List Range) (found : Found) : Type 0 where
   pub bytes : AreMarks (has_byte image.chunks) 65536 found.bytes
   pub reached : AreReached image found.reached
-  pub covered : AreMarks (is_covered image found.reached) 65536 found.covered
+  pub covered : List Bool
+  pub are_covered : AreMarks (is_covered image found.reached) 65536 covered
+  pub words : List Bool
+  pub are_words : AreTableWords image found.reached covered words
+  pub code : AreMarks (is_code covered words ram) 65536 found.code
   pub named : AreNamed image found.reached found.named
   pub setters : AreSetters image found.reached found.first found.second
 
@@ -43,23 +49,23 @@ pub record IsFound (image : Located) (found : Found) : Type 0 where
 pub record AreMarkTables (found : Found) : Type 0 where
   pub bytes : length found.bytes ≡ 65536
   pub reached : length found.reached ≡ 65536
-  pub covered : length found.covered ≡ 65536
+  pub code : length found.code ≡ 65536
   pub named : length found.named ≡ 65536
 
 -- whether an address isn't free for the stack: the image has a byte there, an instruction names it, or it is code
 abbrev pub is_taken : Found → ℕ → Bool
-is_taken found address = (marked found.bytes address || marked found.named address) || marked found.covered address
+is_taken found address = (marked found.bytes address || marked found.named address) || marked found.code address
 
 -- whether an address is data: it is named and the image has no byte there, or, if ranges of RAM are given, it is in one of them; and
 -- it is neither code nor stack
 abbrev pub is_data : Found → (ram : List Range) → (stack : Range) → ℕ → Bool
 is_data found ram stack address =
     (if length ram == 0 then marked found.named address && not (marked found.bytes address) else in_ranges ram address)
-    && (not (marked found.covered address) && not (in_range stack address))
+    && (not (marked found.code address) && not (in_range stack address))
 
 -- regions with a stack of a given number of bytes, if there are as many
 pub record IsArranged (found : Found) (given : List DeclaredCase) (ram : List Range) (wanted : ℕ) (areas : Areas) : Type 0 where
-  pub code : Covers (marked found.covered) areas.code
+  pub code : Covers (marked found.code) areas.code
   pub stack : IsStack (is_taken found) found.first wanted areas.stack
   pub data_ranges : Covers (is_data found ram areas.stack) areas.data_ranges
   pub cases : areas.cases ≡ given
@@ -82,7 +88,7 @@ pub record IsSuggestion (image : Located) (rom ram : List Range) (first second :
   pub cases : List DeclaredCase
   pub suggested : AreSuggested (with_regions image base) cases tableless notes
   pub found : Found
-  pub is_found : IsFound (with_regions image (record base { cases = cases })) found
+  pub is_found : IsFound (with_regions image (record base { cases = cases })) ram found
   pub is_first : first ≡ found.first
   pub is_second : second ≡ found.second
   pub least : Areas

@@ -55,7 +55,7 @@ fn without_cases(
     requires { AreMarkTables survey.now }
     ensures { IfOk result (λ regions. IsArranged survey.now [] ram.now wanted regions) }
 {
-    let code = ranges_of(alloc, &survey.covered)?;
+    let code = ranges_of(alloc, &survey.code)?;
     let taken = find_taken(alloc, survey)?;
     let stack = stack_of(survey.first, &taken, wanted);
     let marks = find_data(alloc, survey, ram, stack)?;
@@ -77,13 +77,13 @@ fn find_taken(alloc: Global, survey: &Survey) -> Result<Vec<bool>, AllocError>
 }
 
 /// Whether the stack can't lie at an address: the image has a byte there, or an instruction names
-/// it or covers it. Each table of marks in `survey` must have an entry for each address.
+/// it, or it is code. Each table of marks in `survey` must have an entry for each address.
 fn is_taken(survey: &Survey, address: u16) -> bool
     requires { AreMarkTables survey.now }
     ensures { result ≡ is_taken survey.now address }
 {
     let index = usize::from(address);
-    survey.bytes[index] || survey.named[index] || survey.covered[index]
+    survey.bytes[index] || survey.named[index] || survey.code[index]
 }
 
 /// The stack below the word of the first LXI SP, in bytes that aren't taken; an empty one if there
@@ -117,8 +117,7 @@ fn find_data(
 }
 
 /// Whether an address is to be data: in a range of `ram`, or, if that has no ranges, named by an
-/// instruction and without a byte of the image; and neither in a reached instruction nor in the
-/// stack. Each table of marks in `survey` must have an entry for each address.
+/// instruction and without a byte of the image; and neither code nor in the stack. Each table of marks in `survey` must have an entry for each address.
 fn is_data(survey: &Survey, ram: &[Range], stack: Range, address: u16) -> bool
     requires { AreMarkTables survey.now }
     ensures { result ≡ is_data survey.now ram.now stack address }
@@ -129,5 +128,5 @@ fn is_data(survey: &Survey, ram: &[Range], stack: Range, address: u16) -> bool
     } else {
         is_in(ram, address)
     };
-    in_ram && !survey.covered[index] && !stack.contains(address)
+    in_ram && !survey.code[index] && !stack.contains(address)
 }

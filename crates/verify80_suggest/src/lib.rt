@@ -1,6 +1,6 @@
 //! Advice on the regions of an image of which nothing is known but its bytes.
 //!
-//! Proved: exactly the code that the program may reach; free stack; named data; `FetchOutside` only if a byte is lacking.
+//! Proved: exactly the code that the program may reach, and its tables; free stack; named data; `FetchOutside` only if a byte is lacking.
 //!
 //! | Item | What it is |
 //! |---|---|
@@ -18,6 +18,7 @@ mod setters;
 mod stack;
 mod suggesting;
 mod survey;
+mod tables;
 mod with_cases;
 
 pub use setters::Setter;

@@ -48,7 +48,7 @@ fn mark_names(named: &mut Vec<bool>, code: &ImageCode<'_>, reached: &[bool], at:
 }
 
 /// Marks an address, if there is one. `named` must have an entry for each address.
-fn mark_given(named: &mut Vec<bool>, address: Option<u16>)
+pub(crate) fn mark_given(named: &mut Vec<bool>, address: Option<u16>)
     requires { length named.old.items ≡ 65536 }
     ensures { Marks named.old.items (given address) named.new.items }
 {

@@ -36,9 +36,10 @@ pub struct Advice {
 ///
 /// The image is gone through from its start, as [`verify80_cases::find_reachable`] does, with all its bytes as code that lie in the ranges of
 /// `rom`, or with all its bytes if there are no such ranges, and with the cases that its tables suggest. CODE is exactly the bytes
-/// of the instructions that are reached. STACK ends at the word of the first LXI SP, 0000 for the end of memory: it is sixteen
-/// bytes, or more if the image is refused for nothing but that, but only as many as are free right below that address, neither the image's
-/// nor named by an instruction. DATA is what STA, LDA, SHLD and LHLD name, but for CODE, STACK and the image's bytes; or, if `ram`
+/// of the instructions that are reached, and of the tables of these cases that lie outside the ranges of `ram`: words that follow each other
+/// from an address on that a reached LXI loads, each a target and in no such instruction. STACK ends at the word of the first LXI SP, 0000 for
+/// the end of memory: it is sixteen bytes, or more if the image is refused for nothing but that, but only as many as are free right below that
+/// address, neither the image's nor named by an instruction. DATA is what STA, LDA, SHLD and LHLD name, but for CODE, STACK and the image's bytes; or, if `ram`
 /// has ranges, exactly these but for CODE and STACK. The cases are those of the tables.
 ///
 /// # Errors
@@ -55,7 +56,7 @@ pub fn suggest_regions(
     image.regions = base_regions(alloc, image, rom)?;
     let found = suggest_cases(alloc, image)?;
     image.regions = with_cases(alloc, &image.regions, &found.cases)?;
-    let survey = survey_of(alloc, image)?;
+    let survey = survey_of(alloc, image, ram)?;
     image.regions = arrange(alloc, &survey, &found.cases, ram, LEAST_STACK)?;
     let wanted = wanted_stack(alloc, image)?;
     image.regions = arrange(alloc, &survey, &found.cases, ram, wanted)?;

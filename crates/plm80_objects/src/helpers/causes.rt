@@ -95,6 +95,9 @@ pub(crate) fn report_place_fault<C: Console>(
         explain_lines(console, lines);
     }
     match (fault, program.start()) {
+        (PlaceFault::Unresolved(_), _) => {
+            console.explain("link it with the object file or library that declares the name");
+        }
         (PlaceFault::NoStart, _) => console.explain(
             "it isn't the main program, which ends with END and a label: link it with that one",
         ),

@@ -24,9 +24,9 @@ returns c =
     let survey = c.in_ok-survey.survey in
     let suggested : (i : Located) → i ≡ c.args.image.now → AreSuggested (with_regions i base) cases c.in_ok-found.found.tableless.items c.in_ok-found.found.notes.items =
     λ i is. subst (λ (v : Located). AreSuggested (with_regions v base) cases c.in_ok-found.found.tableless.items c.in_ok-found.found.notes.items) (c.image.view_is ∙ sym is) c.in_ok-found.ensures in
-    let is_found : IsFound (with_regions c.args.image.now (record base { cases = cases })) survey =
-    subst (λ (v : Located). IsFound (with_regions v (record base { cases = cases })) survey) c.image.view_is
-    (subst (λ (r : Areas). IsFound (record { name = c.image.inside.name; chunks = c.image.inside.chunks.items; regions = r; start = c.image.inside.start }) survey) made c.in_ok-survey.ensures) in
+    let is_found : IsFound (with_regions c.args.image.now (record base { cases = cases })) c.args.ram.now survey =
+    subst (λ (v : Located). IsFound (with_regions v (record base { cases = cases })) c.args.ram.now survey) c.image.view_is
+    (subst (λ (r : Areas). IsFound (record { name = c.image.inside.name; chunks = c.image.inside.chunks.items; regions = r; start = c.image.inside.start }) c.args.ram.now survey) made c.in_ok-survey.ensures) in
     let is_least : IsArranged survey cases c.args.ram.now 16 least = subst (λ ks. IsArranged survey ks c.args.ram.now 16 least) c.deref-2.ensures.value c.in_ok-image-inside-3.ensures in
     let is_wanted : IsWanted (with_regions c.args.image.now least) wanted =
     subst (λ (v : Located). IsWanted (with_regions v least) wanted) c.image.view_is c.in_ok-wanted.ensures in
