@@ -14,9 +14,9 @@ use Rattle.omf_model.specs.Rules.{has_target}
 use Rattle.omf_model.specs.Place.{Bases, word_of, base_of, part_start, place_at, place_in}
 use Rattle.omf_model.specs.ImageByte.{name_at, placed_public, target_word}
 use Rattle.omf_model.specs.SoundModules.{RulesOf, CommonsByName, PartsOfOneStartAtZero}
-use Rattle.rom80_find.specs.declared.pattern.resolving.Resolved.{Resolved}
-use Rattle.rom80_find.specs.CodeBytes.{number_of}
-use Rattle.rom80_find.specs.Modules.{first_with, resolved}
+use Rattle.rom80_pattern.specs.declared.resolving.Resolved.{Resolved}
+use Rattle.rom80_pattern.specs.CodeBytes.{number_of}
+use Rattle.rom80_pattern.specs.Modules.{first_with, resolved}
 use Rattle.rom80_find.proofs.ExternalLemmas.{first_name, words_from, word_beside}
 
 -- The values go with the bases: those of segments with their places, and those of names with the words beside them.

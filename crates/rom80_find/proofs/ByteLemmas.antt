@@ -13,10 +13,10 @@ use Rattle.omf_model.specs.Rules.{has_target}
 use Rattle.omf_model.specs.Place.{Bases}
 use Rattle.omf_model.specs.ImageByte.{patch_with, target_word}
 use Rattle.omf_model.specs.Patches.{word_in_bytes, patched, byte_with}
-use Rattle.rom80_find.specs.declared.pattern.code_byte.Half.TheVariants as half
-use Rattle.rom80_find.specs.declared.pattern.resolving.Resolved.{Resolved}
-use Rattle.rom80_find.specs.CodeBytes.{number_of, half_of, byte_by}
-use Rattle.rom80_find.specs.Modules.{resolved, has_byte, plain_byte, field_byte, fixup_byte, byte_by_fixups}
+use Rattle.rom80_pattern.specs.declared.code_byte.Half.TheVariants as half
+use Rattle.rom80_pattern.specs.declared.resolving.Resolved.{Resolved}
+use Rattle.rom80_pattern.specs.CodeBytes.{number_of, half_of, byte_by}
+use Rattle.rom80_pattern.specs.Modules.{resolved, has_byte, plain_byte, field_byte, fixup_byte, byte_by_fixups}
 use Rattle.rom80_find.proofs.BaseLemmas.{Agrees, value_by, target_agrees}
 use Rattle.omf_model.specs.SoundModules.{RulesOf}
 

@@ -4,9 +4,9 @@ use Rattle.std.specs.List.{Contains, list_all}
 use Rattle.std.proofs.Common.{refl, sym, ◌∙◌, ap, subst}
 use Rattle.std.proofs.lemmas.Bool.{and_from}
 use Rattle.std.proofs.lemmas.List.Folds.{list_all-append}
-use Rattle.rom80_find.specs.declared.pattern.code_byte.CodeByte.{CodeByte}
+use Rattle.rom80_pattern.specs.declared.code_byte.CodeByte.{CodeByte}
 use Rattle.rom80_find.specs.declared.carry.Carry.{Carry}
-use Rattle.rom80_find.specs.CodeBytes.{byte_by}
+use Rattle.rom80_pattern.specs.CodeBytes.{byte_by}
 use Rattle.rom80_find.specs.Dump.{DumpValue, dump_byte}
 use Rattle.rom80_find.specs.Places.{ArePlaces}
 use Rattle.rom80_find.specs.Differences.{has_difference}

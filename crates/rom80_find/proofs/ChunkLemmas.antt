@@ -12,8 +12,8 @@ use Rattle.omf_model.specs.Place.{Bases, place_in}
 use Rattle.omf_model.specs.ImageByte.{ByteChunk, patch_with, target_word, chunk_of, chunk_covers, distance, last_over}
 use Rattle.omf_model.specs.Patches.{byte_with}
 use Rattle.omf_model.specs.SoundModules.{RulesOf, LiesIn, HasItsFixups, PartsOfOneStartAtZero}
-use Rattle.rom80_find.specs.CodeBytes.{byte_by}
-use Rattle.rom80_find.specs.Modules.{covers, covers_code, byte_in, code_length}
+use Rattle.rom80_pattern.specs.CodeBytes.{byte_by}
+use Rattle.rom80_pattern.specs.Modules.{covers, covers_code, byte_in, code_length}
 use Rattle.rom80_find.specs.Chunks.{is_code, code_chunks, chunk_byte}
 use Rattle.rom80_find.proofs.BaseLemmas.{Agrees}
 use Rattle.rom80_find.proofs.ByteLemmas.{byte_same}

@@ -6,12 +6,12 @@ use Rattle.std.proofs.Common.{refl, sym, ◌∙◌, ap, subst, arith}
 use Rattle.std.proofs.lemmas.Bool.{and_parts, and_from, eq-eqb, eqb-true, ne_eqb, true≢false}
 use Rattle.std.proofs.lemmas.Bool.Decides.{nat_tests}
 use Rattle.rom80_find.specs.Dump.{DumpValue, dump_byte}
-use Rattle.rom80_find.specs.declared.pattern.code_byte.CodeByte.{CodeByte}
-use Rattle.rom80_find.specs.CodeBytes.{number_of, byte_by, half_of, is_low}
+use Rattle.rom80_pattern.specs.declared.code_byte.CodeByte.{CodeByte}
+use Rattle.rom80_pattern.specs.CodeBytes.{number_of, byte_by, half_of, is_low, is_plain}
 use Rattle.rom80_find.specs.declared.candidates.Candidates.{Candidates}
 use Rattle.rom80_find.specs.declared.candidates.Candidates.TheVariants.{Any, Low, Window}
 use Rattle.rom80_find.specs.Candidates.{is_candidate, is_half}
-use Rattle.rom80_find.specs.Places.{LiesWith, LiesAt, fits, is_known, fits_for, allows, Describes, HasNone, AreBelow, is_plain, fits_if_plain}
+use Rattle.rom80_find.specs.Places.{LiesWith, LiesAt, fits, is_known, fits_for, allows, Describes, HasNone, AreBelow, fits_if_plain}
 
 -- a word only counts modulo 65536
 reduced : (x a : ℕ) → (x % 65536 + a) % 65536 ≡ (x + a) % 65536

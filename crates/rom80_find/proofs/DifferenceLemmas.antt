@@ -10,10 +10,10 @@ use Rattle.std.proofs.lemmas.List.Kept.{AllPairs-filter}
 use Rattle.std.proofs.lemmas.List.Sorted.{All-permutation, IsPermutation-sym, list_any-IsPermutation}
 use Rattle.std.proofs.lemmas.Map.Views.{any-filter_same}
 use Rattle.omf_model.specs.declared.fixup.Target.{Target}
-use Rattle.rom80_find.specs.declared.pattern.code_byte.Half.{Half}
-use Rattle.rom80_find.specs.declared.pattern.code_byte.CodeByte.{CodeByte}
+use Rattle.rom80_pattern.specs.declared.code_byte.Half.{Half}
+use Rattle.rom80_pattern.specs.declared.code_byte.CodeByte.{CodeByte}
 use Rattle.rom80_find.specs.declared.difference.Difference.{Difference}
-use Rattle.rom80_find.specs.CodeBytes.{number_of, half_of, byte_by}
+use Rattle.rom80_pattern.specs.CodeBytes.{number_of, half_of, byte_by}
 use Rattle.rom80_find.specs.Dump.{DumpValue, dump_byte}
 use Rattle.rom80_find.specs.Marks.{bit_in}
 use Rattle.rom80_find.specs.Places.{LiesWith, AreBelow, ArePlaces, is_listed}

@@ -5,8 +5,8 @@ use Rattle.std.proofs.lemmas.Bool.{true≢false}
 use Rattle.omf_model.specs.Modules.{ModuleValue}
 use Rattle.omf_model.specs.Rules.{is_sound}
 use Rattle.rom80_find.specs.Dump.{DumpValue}
-use Rattle.rom80_find.specs.declared.pattern.code_byte.CodeByte.{CodeByte}
-use Rattle.rom80_find.specs.Modules.{code_bytes, code_length}
+use Rattle.rom80_pattern.specs.declared.code_byte.CodeByte.{CodeByte}
+use Rattle.rom80_pattern.specs.Modules.{code_bytes, code_length}
 use Rattle.rom80_find.specs.Lies.{HasModule, AreModulePlaces}
 use Rattle.rom80_find.specs.Laws.{PatternsLieAsModules}
 

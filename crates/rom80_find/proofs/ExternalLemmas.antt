@@ -7,7 +7,7 @@ use Rattle.std.proofs.Common.{refl, sym, ◌∙◌, ap, arith, inl, inr}
 use Rattle.std.proofs.lemmas.Bool.{and_parts, eqb-true, eq-eqb, true≢false, cases_Bool}
 use Rattle.omf_model.specs.Place.{word_of}
 use Rattle.omf_model.specs.ImageByte.{name_at}
-use Rattle.rom80_find.specs.Modules.{first_with}
+use Rattle.rom80_pattern.specs.Modules.{first_with}
 
 pub name_is : (a b : List ℕ) → pointwise nat_eq a b ≡ true → a ≡ b
 name_is [] [] e = refl

@@ -13,8 +13,6 @@ pub mod DifferenceLemmas
 pub mod CarryLemmas
 pub mod CarryRowLemmas
 pub mod UniformLemmas
-pub mod ReadingLemmas
-pub mod NameLemmas
 pub mod ExternalLemmas
 pub mod BaseLemmas
 pub mod ByteLemmas

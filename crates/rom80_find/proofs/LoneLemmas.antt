@@ -5,15 +5,15 @@ use Rattle.std.specs.Option.{option_map_or}
 use Rattle.std.proofs.Common.{refl, sym, ◌∙◌, ap, subst, arith}
 use Rattle.std.proofs.lemmas.Bool.{and_parts, and_from, eqb-true, eq-eqb, ne_eqb, true≢false, ltb-true, lt-ltb, leb-true}
 use Rattle.rom80_find.specs.Dump.{DumpValue, dump_byte}
-use Rattle.rom80_find.specs.declared.pattern.code_byte.Half.{Half}
-use Rattle.rom80_find.specs.declared.pattern.code_byte.Half.TheVariants.{Low, High}
-use Rattle.rom80_find.specs.declared.pattern.code_byte.CodeByte.{CodeByte}
-use Rattle.rom80_find.specs.CodeBytes.{number_of, byte_by, half_of, is_low}
+use Rattle.rom80_pattern.specs.declared.code_byte.Half.{Half}
+use Rattle.rom80_pattern.specs.declared.code_byte.Half.TheVariants.{Low, High}
+use Rattle.rom80_pattern.specs.declared.code_byte.CodeByte.{CodeByte}
+use Rattle.rom80_pattern.specs.CodeBytes.{number_of, byte_by, half_of, is_low, is_free, is_plain}
 use Rattle.rom80_find.specs.declared.lone.Uses.{Uses}
 use Rattle.rom80_find.specs.declared.lone.Uses.TheVariants as kept
 use Rattle.rom80_find.specs.Lone.{bytes_with, AreOfOneWord, AreLone, IsUses, is_lone, is_repeated}
 use Rattle.rom80_find.specs.Marks.{has_row, is_in_row, passes}
-use Rattle.rom80_find.specs.Places.{LiesAt, fits, fits_if_plain, is_free, is_plain}
+use Rattle.rom80_find.specs.Places.{LiesAt, fits, fits_if_plain}
 use Rattle.rom80_find.proofs.CodeLieLemmas.{lies_plain}
 use Rattle.rom80_find.proofs.SolveLemmas.{iff_bool}
 

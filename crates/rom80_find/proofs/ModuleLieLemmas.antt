@@ -15,10 +15,10 @@ use Rattle.omf_model.specs.Place.{Bases}
 use Rattle.omf_model.specs.ImageByte.{ByteChunk, chunk_of, chunk_covers, distance, last_over}
 use Rattle.omf_model.specs.SoundModules.{RulesOf, LiesIn, HasItsFixups, CommonsByName, PartsOfOneStartAtZero}
 use Rattle.rom80_find.specs.Dump.{DumpValue, dump_byte}
-use Rattle.rom80_find.specs.declared.pattern.code_byte.CodeByte.{CodeByte}
-use Rattle.rom80_find.specs.declared.pattern.resolving.Resolved.{Resolved}
-use Rattle.rom80_find.specs.CodeBytes.{byte_by}
-use Rattle.rom80_find.specs.Modules.{resolved, has_byte, plain_byte, field_byte, fixup_byte, byte_by_fixups, byte_in, covers, covers_code, code_byte_at, code_length, code_bytes}
+use Rattle.rom80_pattern.specs.declared.code_byte.CodeByte.{CodeByte}
+use Rattle.rom80_pattern.specs.declared.resolving.Resolved.{Resolved}
+use Rattle.rom80_pattern.specs.CodeBytes.{byte_by}
+use Rattle.rom80_pattern.specs.Modules.{resolved, has_byte, plain_byte, field_byte, fixup_byte, byte_by_fixups, byte_in, covers, covers_code, code_byte_at, code_length, code_bytes}
 use Rattle.rom80_find.specs.Places.{LiesWith, LiesAt}
 use Rattle.rom80_find.specs.Chunks.{is_code, code_chunks, is_covered, chunk_byte}
 use Rattle.rom80_find.specs.Lies.{LiesByBases, HasModule}

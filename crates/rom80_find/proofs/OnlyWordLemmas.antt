@@ -10,9 +10,9 @@ use Rattle.omf_model.specs.Rules.{has_target}
 use Rattle.omf_model.specs.Place.{Bases}
 use Rattle.omf_model.specs.SoundModules.{RulesOf, CommonsByName, PartsOfOneStartAtZero}
 use Rattle.rom80_find.specs.Dump.{DumpValue, dump_byte}
-use Rattle.rom80_find.specs.declared.pattern.code_byte.CodeByte.{CodeByte}
-use Rattle.rom80_find.specs.CodeBytes.{number_of, half_of, byte_by}
-use Rattle.rom80_find.specs.Modules.{code_length, code_bytes}
+use Rattle.rom80_pattern.specs.declared.code_byte.CodeByte.{CodeByte}
+use Rattle.rom80_pattern.specs.CodeBytes.{number_of, half_of, byte_by}
+use Rattle.rom80_pattern.specs.Modules.{code_length, code_bytes}
 use Rattle.rom80_find.specs.declared.words.Word.{Word}
 use Rattle.rom80_find.specs.Places.{LiesWith, LiesAt, IsOnly, AreBelow}
 use Rattle.rom80_find.specs.Words.{has_word, AreOnlyWords}

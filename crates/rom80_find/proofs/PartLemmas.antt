@@ -4,9 +4,9 @@ use Rattle.std.specs.List.{AllByRecursion}
 use Rattle.std.proofs.Common.{refl, sym, ◌∙◌, ap, arith}
 use Rattle.std.proofs.lemmas.Bool.{le-leb, true≢false}
 use Rattle.rom80_find.specs.Dump.{DumpValue, dump_byte}
-use Rattle.rom80_find.specs.declared.pattern.code_byte.CodeByte.{CodeByte}
-use Rattle.rom80_find.specs.CodeBytes.{number_of, byte_by, half_of}
-use Rattle.rom80_find.specs.Places.{LiesAt, is_free, is_plain, is_known_fixup}
+use Rattle.rom80_pattern.specs.declared.code_byte.CodeByte.{CodeByte}
+use Rattle.rom80_pattern.specs.CodeBytes.{number_of, byte_by, half_of, is_free, is_plain, is_known_fixup}
+use Rattle.rom80_find.specs.Places.{LiesAt}
 
 abbrev HasAll : (dump : DumpValue) (address : ℕ) (value : ℕ → ℕ) → List CodeByte → Type 0
 HasAll dump address value bs = AllByRecursion (λ (b : CodeByte). dump_byte dump ((address + b.offset) % 65536) ≡ Some (byte_by value b)) bs

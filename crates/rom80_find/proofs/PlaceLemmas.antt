@@ -9,8 +9,9 @@ use Rattle.std.proofs.lemmas.List.Recursion.{or_at}
 use Rattle.std.proofs.lemmas.List.Folds.{list_any-append}
 use Rattle.std.proofs.lemmas.List.Quantifiers.{all_pairs_push}
 use Rattle.rom80_find.specs.Dump.{DumpValue}
-use Rattle.rom80_find.specs.declared.pattern.code_byte.CodeByte.{CodeByte}
-use Rattle.rom80_find.specs.Places.{LiesAt, place_if, is_known_fixup, ArePlaces, is_listed}
+use Rattle.rom80_pattern.specs.declared.code_byte.CodeByte.{CodeByte}
+use Rattle.rom80_find.specs.Places.{LiesAt, place_if, ArePlaces, is_listed}
+use Rattle.rom80_pattern.specs.CodeBytes.{is_known_fixup}
 use Rattle.rom80_find.specs.Lone.{AreLone, is_repeated}
 use Rattle.rom80_find.specs.Marks.{AreSieved, IsSievedWord, has_bit, passes}
 use Rattle.rom80_find.specs.Search.{SearchValue, search_of}

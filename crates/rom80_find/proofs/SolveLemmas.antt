@@ -5,8 +5,8 @@ use Rattle.std.proofs.Common.{refl, sym, ◌∙◌, arith, get_or, take}
 use Rattle.std.proofs.lemmas.Bool.{and_parts, and_from}
 use Rattle.std.proofs.lemmas.List.Folds.{list_all_more}
 use Rattle.omf_model.specs.declared.fixup.Target.TheVariants as target
-use Rattle.rom80_find.specs.declared.pattern.code_byte.Half.TheVariants as half
-use Rattle.rom80_find.specs.declared.pattern.code_byte.CodeByte.{CodeByte}
+use Rattle.rom80_pattern.specs.declared.code_byte.Half.TheVariants as half
+use Rattle.rom80_pattern.specs.declared.code_byte.CodeByte.{CodeByte}
 
 -- a byte, for terms that need one
 abbrev pub some_byte : CodeByte

@@ -18,10 +18,10 @@ use Rattle.omf_model.specs.Rules.{has_target}
 use Rattle.omf_model.specs.ImageByte.{name_at}
 use Rattle.omf_model.specs.SoundModules.{RulesOf}
 use Rattle.rom80_find.specs.Dump.{DumpValue}
-use Rattle.rom80_find.specs.declared.pattern.code_byte.CodeByte.{CodeByte}
-use Rattle.rom80_find.specs.declared.pattern.resolving.Resolved.{Resolved}
-use Rattle.rom80_find.specs.CodeBytes.{number_of, has_small_id}
-use Rattle.rom80_find.specs.Modules.{first_with, resolved, has_byte, plain_byte, field_byte, fixup_byte, byte_by_fixups, byte_in, covers_code, code_byte_at, code_length, code_bytes}
+use Rattle.rom80_pattern.specs.declared.code_byte.CodeByte.{CodeByte}
+use Rattle.rom80_pattern.specs.declared.resolving.Resolved.{Resolved}
+use Rattle.rom80_pattern.specs.CodeBytes.{number_of, has_small_id}
+use Rattle.rom80_pattern.specs.Modules.{first_with, resolved, has_byte, plain_byte, field_byte, fixup_byte, byte_by_fixups, byte_in, covers_code, code_byte_at, code_length, code_bytes}
 use Rattle.rom80_find.specs.declared.words.Word.{Word}
 use Rattle.rom80_find.specs.Words.{has_word, AreOnlyWords, IsOfATarget}
 use Rattle.rom80_find.specs.Lies.{IsFirst, MayBeListed}

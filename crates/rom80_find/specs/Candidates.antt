@@ -1,7 +1,7 @@
 -- The words that the value of a target may be, given bytes of a dump.
 use Rattle.std.specs.Prelude.{ℕ, ◌+◌, ◌-◌, ◌%◌, ◌==◌, Bool, true, nat_le}
-use Rattle.rom80_find.specs.declared.pattern.code_byte.Half.{Half}
-use Rattle.rom80_find.specs.CodeBytes.{half_of}
+use Rattle.rom80_pattern.specs.declared.code_byte.Half.{Half}
+use Rattle.rom80_pattern.specs.CodeBytes.{half_of}
 use Rattle.rom80_find.specs.declared.candidates.Candidates.{Candidates}
 use Rattle.rom80_find.specs.declared.candidates.Candidates.TheVariants.{Any, Low, Window}
 

@@ -5,8 +5,8 @@ use Rattle.std.specs.Option.{option_map_or}
 use Rattle.rom80_find.specs.Dump.{DumpValue, dump_byte}
 use Rattle.rom80_find.specs.declared.difference.Difference.{Difference}
 use Rattle.rom80_find.specs.declared.carry.Carry.{Carry}
-use Rattle.rom80_find.specs.declared.pattern.code_byte.CodeByte.{CodeByte}
-use Rattle.rom80_find.specs.CodeBytes.{byte_by}
+use Rattle.rom80_pattern.specs.declared.code_byte.CodeByte.{CodeByte}
+use Rattle.rom80_pattern.specs.CodeBytes.{byte_by}
 use Rattle.rom80_find.specs.Differences.{has_difference}
 use Rattle.rom80_find.specs.Places.{LiesWith}
 

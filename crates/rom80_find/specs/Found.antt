@@ -3,9 +3,9 @@ use Rattle.std.specs.Prelude.{◌≡◌, ℕ, ◌<◌, nat_lt, Bool, true, false
 use Rattle.std.specs.List.{AllByRecursion, AllZip, concat, flat_map, list_any}
 use Rattle.omf_model.specs.Modules.{ModuleValue}
 use Rattle.rom80_find.specs.Dump.{DumpValue}
-use Rattle.rom80_find.specs.Modules.{code_bytes}
+use Rattle.rom80_pattern.specs.Modules.{code_bytes}
 use Rattle.rom80_find.specs.declared.words.Word.{Word}
-use Rattle.rom80_find.specs.Places.{is_plain}
+use Rattle.rom80_pattern.specs.CodeBytes.{is_plain}
 use Rattle.rom80_find.specs.Words.{AreAscending}
 use Rattle.rom80_find.specs.Lies.{AreModulePlaces, AreModuleWords, MayBeListed}
 use Rattle.rom80_find.specs.declared.lines.finding.Finding.{Finding}

@@ -4,7 +4,7 @@ use Rattle.std.specs.List.{AllByRecursion}
 use Rattle.omf_model.specs.Modules.{ModuleValue}
 use Rattle.omf_model.specs.Rules.{is_sound}
 use Rattle.rom80_find.specs.Dump.{DumpValue}
-use Rattle.rom80_find.specs.Modules.{code_bytes, code_length}
+use Rattle.rom80_pattern.specs.Modules.{code_bytes, code_length}
 use Rattle.rom80_find.specs.declared.words.Word.{Word}
 use Rattle.rom80_find.specs.Places.{LiesAt, AreBelow, ArePlaces}
 use Rattle.rom80_find.specs.Words.{AreOnlyWords, IsOfATarget}

@@ -1,8 +1,6 @@
 pub mod Dump
 pub mod Places
 pub mod Words
-pub mod CodeBytes
-pub mod Modules
 pub mod Chunks
 pub mod Lies
 pub mod LinkLaws
@@ -17,6 +15,5 @@ pub mod Differences
 pub mod Carries
 pub mod Search
 pub mod Laws
-pub mod Names
 pub mod Patterns
 pub mod Prints

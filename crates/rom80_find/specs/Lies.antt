@@ -9,8 +9,8 @@ use Rattle.omf_model.specs.Rules.{has_target}
 use Rattle.omf_model.specs.Place.{Bases, word_of, place_in}
 use Rattle.omf_model.specs.ImageByte.{ByteChunk, name_at, last_over}
 use Rattle.rom80_find.specs.Dump.{DumpValue, dump_byte}
-use Rattle.rom80_find.specs.CodeBytes.{number_of}
-use Rattle.rom80_find.specs.Modules.{first_with}
+use Rattle.rom80_pattern.specs.CodeBytes.{number_of}
+use Rattle.rom80_pattern.specs.Modules.{first_with}
 use Rattle.rom80_find.specs.Chunks.{code_chunks, is_covered, chunk_byte}
 use Rattle.rom80_find.specs.declared.words.Word.{Word}
 use Rattle.rom80_find.specs.Places.{is_listed}

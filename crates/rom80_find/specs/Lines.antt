@@ -11,7 +11,7 @@ use Rattle.omf_model.specs.declared.fixup.Target.TheVariants as target
 use Rattle.omf_model.specs.declared.symbols.Common.{Common}
 use Rattle.omf_model.specs.Modules.{ModuleValue}
 use Rattle.omf_text.specs.Places.{place_words}
-use Rattle.rom80_find.specs.Modules.{code_length}
+use Rattle.rom80_pattern.specs.Modules.{code_length}
 use Rattle.rom80_find.specs.declared.words.Word.{Word}
 
 -- ---- the line of a place: its address, the length of CODE, the module's name, and the bases of segments, the top of STACK last

@@ -1,11 +1,10 @@
 -- Lone values: those of which code has at most one low and one high byte. Whatever bytes a dump has in their place, there is a value with which
 -- they are the code's.
 use Rattle.std.specs.Prelude.{◌≡◌, ◌≢◌, ℕ, ◌==◌, ◌&&◌, not, Bool, true, false, List, [], ◌∷◌, filter, slice_index_or, ⊤}
-use Rattle.rom80_find.specs.declared.pattern.code_byte.CodeByte.{CodeByte}
+use Rattle.rom80_pattern.specs.declared.code_byte.CodeByte.{CodeByte}
 use Rattle.rom80_find.specs.declared.lone.Uses.{Uses}
 use Rattle.rom80_find.specs.declared.lone.Uses.TheVariants as uses
-use Rattle.rom80_find.specs.CodeBytes.{number_of}
-use Rattle.rom80_find.specs.Places.{is_free}
+use Rattle.rom80_pattern.specs.CodeBytes.{number_of, is_free}
 
 -- the bytes of the value with this number
 abbrev pub bytes_with : (number : ℕ) → List CodeByte → List CodeByte

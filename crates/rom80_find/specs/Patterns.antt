@@ -2,8 +2,8 @@
 use Rattle.std.specs.Prelude.{◌≡◌, ◌≤◌, List}
 use Rattle.omf_model.specs.Modules.{ModuleValue}
 use Rattle.omf_model.specs.Rules.{IsModule}
-use Rattle.rom80_find.specs.declared.pattern.code_byte.CodeByte.{CodeByte}
-use Rattle.rom80_find.specs.Modules.{code_bytes, code_length}
+use Rattle.rom80_pattern.specs.declared.code_byte.CodeByte.{CodeByte}
+use Rattle.rom80_pattern.specs.Modules.{code_bytes, code_length}
 
 -- the bytes are those of the module's code, and the module keeps the rules of modules
 pub record IsCodeOf (m : ModuleValue) (code : List CodeByte) : Type 0 where

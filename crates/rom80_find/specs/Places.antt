@@ -3,8 +3,8 @@ use Rattle.std.specs.Prelude.{◌≡◌, ℕ, ◌+◌, ◌%◌, ◌<◌, ◌≤�
 use Rattle.std.specs.List.{AllByRecursion, AllPairs, list_all, list_any}
 use Rattle.std.specs.Option.{option_map_or}
 use Rattle.rom80_find.specs.Dump.{DumpValue, dump_byte}
-use Rattle.rom80_find.specs.declared.pattern.code_byte.CodeByte.{CodeByte}
-use Rattle.rom80_find.specs.CodeBytes.{number_of, byte_by, is_low}
+use Rattle.rom80_pattern.specs.declared.code_byte.CodeByte.{CodeByte}
+use Rattle.rom80_pattern.specs.CodeBytes.{number_of, byte_by, is_low}
 use Rattle.rom80_find.specs.declared.candidates.Candidates.{Candidates}
 use Rattle.rom80_find.specs.declared.candidates.Candidates.TheVariants.{Any}
 use Rattle.rom80_find.specs.Candidates.{is_candidate, is_half}
@@ -67,18 +67,6 @@ pub record HasNone (dump : DumpValue) (code : List CodeByte) (address : ℕ) : T
 -- every target of the code has a number below this one
 abbrev pub AreBelow : (count : ℕ) → List CodeByte → Type 0
 AreBelow count code = AllByRecursion (λ b. number_of b.target < count) code
-
--- a byte outside fixups: the low half of absolute 0 plus an addend
-abbrev pub is_plain : CodeByte → Bool
-is_plain b = is_low b.half && number_of b.target == 0
-
--- a byte in a fixup of a value other than the two known ones, absolute 0 and CODE's base
-abbrev pub is_free : CodeByte → Bool
-is_free b = nat_le 2 (number_of b.target)
-
--- a byte in a fixup of one of the two known values, absolute 0 and CODE's base
-abbrev pub is_known_fixup : CodeByte → Bool
-is_known_fixup b = not (is_plain b) && not (is_free b)
 
 -- if the byte is one outside fixups, the dump has it
 abbrev pub fits_if_plain : DumpValue → (address : ℕ) → CodeByte → Bool

@@ -1,10 +1,11 @@
 -- A search for code in a dump, as a contract sees it.
 use Rattle.std.specs.Prelude.{◌≡◌, ℕ, ◌≤◌, [], Bool, true, false, List, length, filter}
-use Rattle.rom80_find.specs.declared.pattern.code_byte.CodeByte.{CodeByte}
+use Rattle.rom80_pattern.specs.declared.code_byte.CodeByte.{CodeByte}
 use Rattle.rom80_find.specs.declared.candidates.Candidates.{Candidates}
 use Rattle.rom80_find.specs.declared.fixup_bytes.FixupBytes.{FixupBytes}
 use Rattle.rom80_find.specs.Dump.{DumpValue}
-use Rattle.rom80_find.specs.Places.{AreBelow, IsClearBut, LiesAt, is_known_fixup}
+use Rattle.rom80_find.specs.Places.{AreBelow, IsClearBut, LiesAt}
+use Rattle.rom80_pattern.specs.CodeBytes.{is_known_fixup}
 use Rattle.rom80_find.specs.Lone.{is_repeated}
 
 -- the dump, and the code's bytes in fixups: those of the two known values, and those of others that aren't lone

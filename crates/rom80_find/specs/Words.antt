@@ -2,8 +2,8 @@
 use Rattle.std.specs.Prelude.{◌≡◌, ◌↔◌, ℕ, ◌%◌, ◌<◌, ◌≤◌, ◌==◌, ◌&&◌, nat_le, nat_lt, Bool, true, false, List, slice_index_or}
 use Rattle.std.specs.List.{list_any, All, AllPairs}
 use Rattle.rom80_find.specs.Dump.{DumpValue}
-use Rattle.rom80_find.specs.declared.pattern.code_byte.CodeByte.{CodeByte}
-use Rattle.rom80_find.specs.CodeBytes.{number_of, has_small_id}
+use Rattle.rom80_pattern.specs.declared.code_byte.CodeByte.{CodeByte}
+use Rattle.rom80_pattern.specs.CodeBytes.{number_of, has_small_id}
 use Rattle.rom80_find.specs.declared.candidates.Candidates.{Candidates}
 use Rattle.rom80_find.specs.declared.candidates.Candidates.TheVariants.{Any, Low, Window}
 use Rattle.rom80_find.specs.declared.words.Word.{Word}

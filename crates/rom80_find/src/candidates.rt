@@ -3,7 +3,7 @@
 ghost use Rattle.std.specs.Prelude.{◌≡◌, ◌<◌, ◌+◌, ◌%◌, ◌==◌, ◌&&◌, ℕ, false, IfSome, IfNone};
 ghost use Rattle.rom80_find.specs.Candidates.{is_candidate, is_half, is_in_window};
 
-use crate::pattern::Half;
+use rom80_pattern::Half;
 
 /// The words that the value of a target may be: at least one.
 #[derive(Clone, Copy)]

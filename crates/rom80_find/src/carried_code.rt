@@ -2,13 +2,13 @@
 
 ghost use Rattle.std.specs.Prelude.{◌≡◌, ◌<◌, ◌++◌, ◌∷◌, [], ℕ, List, IfOk, OnOk, IfSome};
 ghost use Rattle.std.specs.List.{Contains};
-ghost use Rattle.rom80_find.specs.CodeBytes.{number_of};
+ghost use Rattle.rom80_pattern.specs.CodeBytes.{number_of};
 ghost use Rattle.rom80_find.specs.Carries.{IsCarried};
 ghost use Rattle.rom80_find.specs.Places.{AreBelow};
-ghost use Rattle.rom80_find.specs.declared.pattern.code_byte.CodeByte.{CodeByte};
+ghost use Rattle.rom80_pattern.specs.declared.code_byte.CodeByte.{CodeByte};
 
 use crate::carry::Carry;
-use crate::pattern::{CodeByte, Half};
+use rom80_pattern::{CodeByte, Half};
 use std::alloc::{AllocError, Global};
 
 /// A module's code as some of its bytes and the carries of the others from bytes before them. The code lies at an address exactly if these

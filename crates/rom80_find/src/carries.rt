@@ -15,7 +15,7 @@ use crate::indexed_dump::IndexedDump;
 use crate::marks::{bits_from, set_bit};
 use crate::pairs::{bytes_within, chosen_bits};
 use crate::sieve::WORDS;
-use crate::table::table;
+use rom80_pattern::table::table;
 use std::alloc::{AllocError, Global};
 
 /// Whether a dump has all `carries` if CODE begins at `address`.

@@ -1,12 +1,12 @@
 //! Differences between two high bytes of a module's code that depend on a low byte of the same target's value.
 
 ghost use Rattle.std.specs.Prelude.{◌≡◌, ℕ, ◌+◌, ◌%◌, ◌<◌, true, Some, IfSome};
-ghost use Rattle.rom80_find.specs.CodeBytes.{half_of};
+ghost use Rattle.rom80_pattern.specs.CodeBytes.{half_of};
 ghost use Rattle.rom80_find.specs.Carries.{IsCarry, chosen, is_within};
-ghost use Rattle.rom80_find.specs.declared.pattern.code_byte.Half.TheVariants as kind;
+ghost use Rattle.rom80_pattern.specs.declared.code_byte.Half.TheVariants as kind;
 
 use crate::difference::Difference;
-use crate::pattern::{CodeByte, Half};
+use rom80_pattern::{CodeByte, Half};
 
 /// A difference between two high bytes of a module's code that a low byte of the same target's value chooses: the sums of the value and of
 /// two addends carry into their high bytes alike, unless the low byte is within a range.

@@ -1,10 +1,10 @@
 //! Differences between two bytes of a module's code that don't depend on the values of its targets.
 
 ghost use Rattle.std.specs.Prelude.{◌≡◌, ℕ, ◌+◌, ◌%◌, IfSome};
-ghost use Rattle.rom80_find.specs.CodeBytes.{half_of};
+ghost use Rattle.rom80_pattern.specs.CodeBytes.{half_of};
 ghost use Rattle.rom80_find.specs.Differences.{IsDifference};
 
-use crate::pattern::{CodeByte, Half};
+use rom80_pattern::{CodeByte, Half};
 
 /// A difference between two bytes of a module's code: whatever the values of its targets are, the byte `distance` behind the one at
 /// `offset` is that byte plus `more`, modulo 256.

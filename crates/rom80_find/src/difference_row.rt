@@ -10,7 +10,7 @@ use crate::dump::Dump;
 use crate::indexed_dump::{ADDRESSES, IndexedDump};
 use crate::marks::bits_from;
 use crate::pairs::pairs_from;
-use crate::table::table;
+use rom80_pattern::table::table;
 use std::alloc::{AllocError, Global};
 
 /// The number of 64-bit words in a row. A row has a bit for each address, and then the same bits again, so that the bit of an address

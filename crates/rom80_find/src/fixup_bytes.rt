@@ -2,10 +2,10 @@
 
 ghost use Rattle.std.specs.Prelude.{◌≡◌, filter, IfOk};
 ghost use Rattle.rom80_find.specs.Lone.{is_repeated};
-ghost use Rattle.rom80_find.specs.Places.{is_known_fixup};
+ghost use Rattle.rom80_pattern.specs.CodeBytes.{is_known_fixup};
 
 use crate::lone::is_repeated;
-use crate::pattern::CodeByte;
+use rom80_pattern::CodeByte;
 use std::alloc::{AllocError, Global};
 
 /// The bytes of a module's code in fixups, but for those of lone values.

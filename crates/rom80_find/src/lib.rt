@@ -11,7 +11,6 @@
 //!
 //! | Part | What it does |
 //! |---|---|
-//! | `pattern` | reads the code of a module as a pattern: bytes that are halves of values of targets, plus addends |
 //! | `indexed_dump` | a dump with what is looked up in it for each module |
 //! | `reduced_code`, `differences` | leave out bytes that follow from others by a difference; compare the differences |
 //! | `carried_code`, `carries` | the same for high bytes whose difference a low byte chooses |
@@ -36,13 +35,11 @@ mod listing;
 mod lone;
 mod marks;
 mod pairs;
-mod pattern;
 mod planes;
 mod reduced_code;
 mod search;
 mod sieve;
 mod solving;
-mod table;
 mod words;
 
 pub use dump::Dump;

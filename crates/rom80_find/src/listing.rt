@@ -2,7 +2,7 @@
 
 ghost use Rattle.std.specs.Prelude.{◌≡◌, ◌<◌, ◌≤◌, ◌+◌, ◌++◌, Bool, List, length, IfOk, OnOk};
 ghost use Rattle.rom80_find.specs.Dump.{DumpValue};
-ghost use Rattle.rom80_find.specs.declared.pattern.code_byte.CodeByte.{CodeByte};
+ghost use Rattle.rom80_pattern.specs.declared.code_byte.CodeByte.{CodeByte};
 ghost use Rattle.rom80_find.specs.Lone.{AreLone};
 ghost use Rattle.rom80_find.specs.Marks.{IsSievedWord};
 ghost use Rattle.rom80_find.specs.Places.{AreBelow, ArePlaces, place_if};
@@ -13,10 +13,10 @@ use crate::carries::{has_carries, keep_with_carries};
 use crate::differences::{has_differences, keep_by_rows};
 use crate::indexed_dump::IndexedDump;
 use crate::lone::lone_values;
-use crate::pattern::{CodeByte, number_of};
 use crate::reduced_code::ReducedCode;
 use crate::search::Search;
 use crate::sieve::{WORDS, sieve};
+use rom80_pattern::{CodeByte, number_of};
 use std::alloc::{AllocError, Global};
 
 /// At how many places about as much time goes into comparing a difference as into making the row of all addresses at which a dump has it.

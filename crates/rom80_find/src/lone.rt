@@ -2,14 +2,14 @@
 //! which they are the code's.
 
 ghost use Rattle.std.specs.Prelude.{◌≡◌, ℕ, ◌++◌, List, [], ◌∷◌, length, slice_index_or, IfOk, true, false};
-ghost use Rattle.rom80_find.specs.CodeBytes.{number_of};
+ghost use Rattle.rom80_pattern.specs.CodeBytes.{number_of};
 ghost use Rattle.rom80_find.specs.Lone.{AreLone, AreOfOneWord, IsUses, is_lone, is_repeated};
 ghost use Rattle.rom80_find.specs.Places.{AreBelow};
 ghost use Rattle.rom80_find.specs.declared.lone.Uses.TheVariants as kept;
-ghost use Rattle.rom80_find.specs.declared.pattern.code_byte.CodeByte.{CodeByte};
+ghost use Rattle.rom80_pattern.specs.declared.code_byte.CodeByte.{CodeByte};
 
-use crate::pattern::{CodeByte, number_of};
-use crate::table::table;
+use rom80_pattern::table::table;
+use rom80_pattern::{CodeByte, number_of};
 use std::alloc::{AllocError, Global};
 
 /// How many bytes of a value a module's code has, as far as that says whether the value is lone.

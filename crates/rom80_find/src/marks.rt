@@ -6,7 +6,7 @@ ghost use Rattle.rom80_find.specs.Marks.{AreMarks, IsRow, bit_in, has_bit, is_ma
 
 use crate::dump::Dump;
 use crate::indexed_dump::ADDRESSES;
-use crate::table::table;
+use rom80_pattern::table::table;
 use std::alloc::{AllocError, Global};
 
 /// The number of bits in a row. A row has a bit for each address, and then the same bits again, so that the bit of an address plus an

@@ -8,7 +8,7 @@ ghost use Rattle.rom80_find.specs.Planes.{ArePlanes, has_plane};
 use crate::dump::Dump;
 use crate::indexed_dump::ADDRESSES;
 use crate::marks::{bits_from, set_bit};
-use crate::table::table;
+use rom80_pattern::table::table;
 use std::alloc::{AllocError, Global};
 
 /// The number of bits in a row. A row has a bit for each address, and then the same bits again.

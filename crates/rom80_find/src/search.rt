@@ -7,9 +7,9 @@ ghost use Rattle.rom80_find.specs.Search.{search_of};
 use crate::candidates::Candidates;
 use crate::fixup_bytes::FixupBytes;
 use crate::indexed_dump::IndexedDump;
-use crate::pattern::CodeByte;
 use crate::solving::lies_at;
-use crate::table::table;
+use rom80_pattern::CodeByte;
+use rom80_pattern::table::table;
 use std::alloc::{AllocError, Global};
 use std::marker::Model;
 

@@ -7,8 +7,8 @@ ghost use Rattle.rom80_find.specs.Marks.{AreSieved, bit_in, passes, row_of};
 use crate::indexed_dump::IndexedDump;
 use crate::lone::is_lone;
 use crate::marks::{ANY, bits_from};
-use crate::pattern::CodeByte;
-use crate::table::table;
+use rom80_pattern::CodeByte;
+use rom80_pattern::table::table;
 use std::alloc::{AllocError, Global};
 
 /// The number of 64-bit words that have a bit for each address.

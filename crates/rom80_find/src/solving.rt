@@ -2,14 +2,14 @@
 
 ghost use Rattle.std.specs.Prelude.{◌≡◌, ◌≢◌, ℕ, ◌<◌, ◌≤◌, ◌&&◌, ◌||◌, ◌==◌, not, true, false, [], length, IfSome, IfNone, slice_index_or, take};
 ghost use Rattle.rom80_find.specs.Dump.{DumpValue, dump_of};
-ghost use Rattle.rom80_find.specs.CodeBytes.{number_of};
+ghost use Rattle.rom80_pattern.specs.CodeBytes.{number_of};
 ghost use Rattle.rom80_find.specs.declared.candidates.Candidates.TheVariants.{Any};
 ghost use Rattle.rom80_find.specs.Candidates.{is_candidate};
 ghost use Rattle.rom80_find.specs.Places.{Describes, IsClearBut, LiesAt, HasNone, AreBelow, in_table, fits, fits_for};
 
 use crate::candidates::Candidates;
 use crate::dump::Dump;
-use crate::pattern::{CodeByte, number_of};
+use rom80_pattern::{CodeByte, number_of};
 
 /// Narrows a table, in which each target's value may be every word, to the words with which the dump has the code's bytes if CODE begins
 /// at `address`. Returns how many bytes were read before one left a value no word: all of them exactly if the code lies there.

@@ -3,17 +3,17 @@
 ghost use Rattle.std.specs.Prelude.{◌≡◌, ℕ, ◌<◌, ◌≤◌, ◌+◌, ◌&&◌, ◌==◌, ◌||◌, List, [], length, true, IfOk, OnOk, IfSome, IfNone, slice_index_or};
 ghost use Rattle.std.specs.List.{AllByRecursion};
 ghost use Rattle.rom80_find.specs.Dump.{dump_of};
-ghost use Rattle.rom80_find.specs.CodeBytes.{number_of};
+ghost use Rattle.rom80_pattern.specs.CodeBytes.{number_of};
 ghost use Rattle.rom80_find.specs.declared.candidates.Candidates.TheVariants.{Any};
 ghost use Rattle.rom80_find.specs.Places.{AreBelow, LiesAt, IsClearBut};
 ghost use Rattle.rom80_find.specs.Words.{AreOnlyWords, AreAscending, AreAscendingBelow, AreSingle, IsOfATarget, has_word, is_single};
 
 use crate::candidates::Candidates;
 use crate::dump::Dump;
-use crate::pattern::{CodeByte, target_of};
 use crate::solving::solve;
-use crate::table::table;
 use omf_model::Target;
+use rom80_pattern::table::table;
+use rom80_pattern::{CodeByte, target_of};
 use std::alloc::{AllocError, Global};
 
 /// A target with its word: the base of a segment, the top of STACK, or what an external stands for.

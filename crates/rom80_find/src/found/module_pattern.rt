@@ -4,7 +4,7 @@ ghost use Rattle.std.specs.Prelude.{◌≡◌, ◌≤◌, IfOk, IfSome, IfNone};
 ghost use Rattle.std.specs.List.{AllByRecursion};
 ghost use Rattle.omf_model.specs.Rules.{IsModule};
 ghost use Rattle.rom80_find.specs.Dump.{dump_of};
-ghost use Rattle.rom80_find.specs.Modules.{code_bytes, code_length};
+ghost use Rattle.rom80_pattern.specs.Modules.{code_bytes, code_length};
 ghost use Rattle.rom80_find.specs.Words.{AreAscending};
 ghost use Rattle.rom80_find.specs.Lies.{HasModule, AreModulePlaces, AreModuleWords, MayBeListed};
 
@@ -15,9 +15,9 @@ use crate::found::laws::{
 };
 use crate::indexed_dump::IndexedDump;
 use crate::listing::{count_of_values, places};
-use crate::pattern::{CodeByte, code_bytes};
 use crate::words::{Word, words_at};
 use omf_model::Module;
+use rom80_pattern::{CodeByte, code_bytes};
 use std::alloc::{AllocError, Global};
 use std::marker::Model;
 

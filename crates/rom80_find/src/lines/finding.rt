@@ -1,15 +1,15 @@
 //! Whether a module is found in a dump, with the lines of its places.
 
 ghost use Rattle.std.specs.Prelude.{◌≡◌, IfOk, length, filter};
-ghost use Rattle.rom80_find.specs.Places.{is_plain};
+ghost use Rattle.rom80_pattern.specs.CodeBytes.{is_plain};
 ghost use Rattle.rom80_find.specs.Found.{has_place, is_short};
 ghost use Rattle.rom80_find.specs.Prints.{FindsModule};
 
 use crate::found::ModulePattern;
 use crate::indexed_dump::IndexedDump;
 use crate::lines::places::append_places;
-use crate::pattern::CodeByte;
 use omf_model::Module;
+use rom80_pattern::CodeByte;
 use std::alloc::{AllocError, Global};
 
 /// What comes of looking for a module in a dump.

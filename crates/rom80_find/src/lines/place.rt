@@ -4,12 +4,12 @@ ghost use Rattle.std.specs.Prelude.{◌≡◌, ◌++◌, OnOk};
 ghost use Rattle.std.specs.List.{flat_map};
 ghost use Rattle.rom80_find.specs.Lines.{extent_words, heading, base_words, base_part, top_part, place_line, name_line, needed_line, place_text};
 
-use crate::pattern::code_length;
 use crate::words::Word;
 use omf_core::Name;
 use omf_core::segment_id::STACK;
 use omf_model::{Common, Module, Target};
 use omf_text::append_place;
+use rom80_pattern::code_length;
 use std::alloc::AllocError;
 use text80::word_digits;
 

@@ -1,7 +1,7 @@
 use Rattle.std.proofs.Common.{subst, List, refl, rules}
 use Rattle.std.specs.List.{list_all}
 use Rattle.std.proofs.lemmas.Fn.{filter_same}
-use Rattle.rom80_find.specs.declared.pattern.code_byte.CodeByte.{CodeByte}
+use Rattle.rom80_pattern.specs.declared.code_byte.CodeByte.{CodeByte}
 use Rattle.rom80_find.specs.Dump.{dump_of}
 use Rattle.rom80_find.specs.Places.{ArePlaces}
 use Rattle.rom80_find.specs.Carries.{has_carry}

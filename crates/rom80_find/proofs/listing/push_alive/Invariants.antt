@@ -1,7 +1,7 @@
 -- the addresses so far
 use Rattle.std.proofs.Common.{◌≡◌, ◌+◌, Bool, List, length}
 use Rattle.rom80_find.specs.Dump.{DumpValue}
-use Rattle.rom80_find.specs.declared.pattern.code_byte.CodeByte.{CodeByte}
+use Rattle.rom80_pattern.specs.declared.code_byte.CodeByte.{CodeByte}
 use Rattle.rom80_find.specs.Lone.{AreLone}
 use Rattle.rom80_find.specs.Marks.{IsSievedWord}
 use Rattle.rom80_find.specs.Places.{ArePlaces}

@@ -1,6 +1,6 @@
 -- the values so far
 use Rattle.std.proofs.Common.{◌≡◌, ℕ, true, false, List, length, slice_index_or}
-use Rattle.rom80_find.specs.declared.pattern.code_byte.CodeByte.{CodeByte}
+use Rattle.rom80_pattern.specs.declared.code_byte.CodeByte.{CodeByte}
 use Rattle.rom80_find.specs.declared.lone.Uses.TheVariants as uses
 use Rattle.rom80_find.specs.Lone.{IsUses, AreOfOneWord}
 use Rattle.rom80_find.proofs.lone.lone_of_uses.Given as goal

@@ -1,6 +1,6 @@
 use Rattle.std.proofs.Common.{◌≡◌, subst, sym, arith, List, take, take_all}
 use Rattle.std.specs.Prelude.{slice_index_or}
-use Rattle.rom80_find.specs.declared.pattern.code_byte.CodeByte.{CodeByte}
+use Rattle.rom80_pattern.specs.declared.code_byte.CodeByte.{CodeByte}
 use Rattle.rom80_find.specs.declared.lone.Uses.{Uses}
 use Rattle.rom80_find.specs.declared.lone.Uses.TheVariants as kept
 use Rattle.rom80_find.specs.Lone.{IsUses, bytes_with}

@@ -1,6 +1,6 @@
 use Rattle.std.proofs.Common.{◌≡◌, ◌+◌, ◌∙◌, ap, arith, List, ◌&&◌, take, take_all}
 use Rattle.std.specs.List.{list_all}
-use Rattle.rom80_find.specs.declared.pattern.code_byte.CodeByte.{CodeByte}
+use Rattle.rom80_pattern.specs.declared.code_byte.CodeByte.{CodeByte}
 use Rattle.rom80_find.specs.Marks.{bit_in, passes}
 use Rattle.rom80_find.proofs.SolveLemmas.{some_byte}
 use Rattle.rom80_find.proofs.SieveLemmas.{sieved_more, sieved_out}

@@ -1,7 +1,7 @@
 use Rattle.std.proofs.Common.{◌&&◌, ◌||◌, ◌==◌, not, Bool, ap, sym, ◌∙◌, arith, get_or, eq-eqb, ◌<◌, length, refl}
 use Rattle.rom80_find.specs.Dump.{dump_of}
-use Rattle.rom80_find.specs.CodeBytes.{number_of}
-use Rattle.rom80_find.specs.declared.pattern.code_byte.CodeByte.{CodeByte}
+use Rattle.rom80_pattern.specs.CodeBytes.{number_of}
+use Rattle.rom80_pattern.specs.declared.code_byte.CodeByte.{CodeByte}
 use Rattle.rom80_find.specs.Places.{is_known, in_table, fits_for, fits}
 use Rattle.rom80_find.proofs.SolveLemmas.{all_fail, each_at, some_byte}
 use Rattle.rom80_find.proofs.solving.solve.Goals as goal

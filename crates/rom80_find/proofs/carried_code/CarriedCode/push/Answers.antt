@@ -2,7 +2,7 @@ use Rattle.std.proofs.Common.{List, Option, subst, sym, ◌++◌, ◌∷◌, []}
 use Rattle.std.specs.Prelude.{IfSome}
 use Rattle.std.specs.List.{Contains}
 use Rattle.rom80_find.specs.declared.carry.Carry.{Carry}
-use Rattle.rom80_find.specs.declared.pattern.code_byte.CodeByte.{CodeByte}
+use Rattle.rom80_pattern.specs.declared.code_byte.CodeByte.{CodeByte}
 use Rattle.rom80_find.specs.Carries.{IsCarried}
 use Rattle.rom80_find.proofs.CarryLemmas.{given_byte, kept_byte}
 use Rattle.rom80_find.proofs.carried_code.CarriedCode.push.Goals as goal

@@ -3,8 +3,8 @@ use Rattle.std.specs.Prelude.{IfSome}
 use Rattle.std.specs.List.{Contains}
 use Rattle.std.specs.List.Sorted.{IsPermutation}
 use Rattle.std.proofs.lemmas.List.{take_more}
-use Rattle.rom80_find.specs.declared.pattern.code_byte.CodeByte.{CodeByte}
-use Rattle.rom80_find.specs.CodeBytes.{number_of}
+use Rattle.rom80_pattern.specs.declared.code_byte.CodeByte.{CodeByte}
+use Rattle.rom80_pattern.specs.CodeBytes.{number_of}
 use Rattle.rom80_find.specs.Differences.{IsReduced}
 use Rattle.rom80_find.proofs.DifferenceLemmas.{sorted_below, sorted_reduced}
 use Rattle.rom80_find.proofs.SolveLemmas.{each_at, some_byte}

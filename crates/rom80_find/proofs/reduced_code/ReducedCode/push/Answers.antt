@@ -3,7 +3,7 @@ use Rattle.std.specs.Prelude.{IfSome}
 use Rattle.std.specs.List.{Contains}
 use Rattle.std.proofs.lemmas.List.Elements.{Contains-push}
 use Rattle.rom80_find.specs.declared.difference.Difference.{Difference}
-use Rattle.rom80_find.specs.declared.pattern.code_byte.CodeByte.{CodeByte}
+use Rattle.rom80_pattern.specs.declared.code_byte.CodeByte.{CodeByte}
 use Rattle.rom80_find.specs.Differences.{IsReduced}
 use Rattle.rom80_find.proofs.DifferenceLemmas.{given_byte, kept_byte}
 use Rattle.rom80_find.proofs.reduced_code.ReducedCode.push.Goals as goal

@@ -1,7 +1,8 @@
 use Rattle.std.proofs.Common.{◌≡◌, ℕ, List, arith, length, sym, subst}
-use Rattle.rom80_find.specs.declared.pattern.code_byte.CodeByte.{CodeByte}
+use Rattle.rom80_pattern.specs.declared.code_byte.CodeByte.{CodeByte}
 use Rattle.rom80_find.specs.Lone.{is_repeated}
-use Rattle.rom80_find.specs.Places.{AreBelow, is_known_fixup}
+use Rattle.rom80_find.specs.Places.{AreBelow}
+use Rattle.rom80_pattern.specs.CodeBytes.{is_known_fixup}
 use Rattle.rom80_find.proofs.CodeLieLemmas.{below_filter}
 use Rattle.rom80_find.proofs.search.Search.of.Goals as goal
 

@@ -2,7 +2,7 @@ use Rattle.std.proofs.Common.{◌≡◌, ◌∙◌, sym, subst, arith, List, len
 use Rattle.std.specs.List.{AllByRecursion}
 use Rattle.std.proofs.lemmas.Bool.{true≢false, eq-eqb}
 use Rattle.rom80_find.specs.Dump.{dump_of}
-use Rattle.rom80_find.specs.declared.pattern.code_byte.CodeByte.{CodeByte}
+use Rattle.rom80_pattern.specs.declared.code_byte.CodeByte.{CodeByte}
 use Rattle.rom80_find.specs.declared.words.Word.{Word}
 use Rattle.rom80_find.specs.Places.{AreBelow}
 use Rattle.rom80_find.specs.Words.{AreOnlyWords, IsOfATarget}
