@@ -4,7 +4,7 @@ use Rattle.std.specs.List.{AllByRecursion, AllPairs, list_all, list_any}
 use Rattle.std.specs.Option.{option_map_or}
 use Rattle.rom80_find.specs.Dump.{DumpValue, dump_byte}
 use Rattle.rom80_pattern.specs.declared.code_byte.CodeByte.{CodeByte}
-use Rattle.rom80_pattern.specs.CodeBytes.{number_of, byte_by, is_low}
+use Rattle.rom80_pattern.specs.CodeBytes.{number_of, byte_by, is_low, is_plain}
 use Rattle.rom80_find.specs.declared.candidates.Candidates.{Candidates}
 use Rattle.rom80_find.specs.declared.candidates.Candidates.TheVariants.{Any}
 use Rattle.rom80_find.specs.Candidates.{is_candidate, is_half}

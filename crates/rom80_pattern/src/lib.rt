@@ -7,6 +7,7 @@
 //! |---|---|
 //! | [`CodeByte`], [`Half`] | a byte of a module's code: a half of a target's value plus an addend |
 //! | [`code_bytes`], [`code_length`] | the bytes that a module's contents define in CODE; its length |
+//! | [`Resolved`] | a target plus an addend, as which a fixup's target is resolved |
 //! | [`number_of`], [`target_of`] | the number of a target, by which tables of values are indexed |
 //! | [`table`] | tables whose entries are all one value at first |
 #![tactic(auto)]
@@ -21,3 +22,4 @@ pub mod table;
 pub use code_byte::{CodeByte, Half};
 pub use number::{number_of, target_of};
 pub use reading::{code_bytes, code_length};
+pub use resolving::Resolved;

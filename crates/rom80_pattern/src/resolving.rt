@@ -12,7 +12,7 @@ use std::marker::Model;
 
 /// A value of a target plus an addend: what a fixup's target stands for once the names of the module's own publics are looked up.
 #[derive(Clone, Copy)]
-pub(crate) struct Resolved {
+pub struct Resolved {
     /// A segment, or an external that the module doesn't declare.
     pub target: Target,
     /// The number to be added to the target's value, modulo 65536.
