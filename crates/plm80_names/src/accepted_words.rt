@@ -116,7 +116,9 @@ fn explain_interrupts<C: Console>(console: &C, reached: &Reached) {
         }
     }
     if waits {
-        console.explain("plm80 follow --handler goes on behind a HLT that an interrupt ends, and into its handler");
+        console.explain(
+            "plm80 follow --handler goes on behind a HLT that an interrupt ends, and into its handler",
+        );
     }
 }
 

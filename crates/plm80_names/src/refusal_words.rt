@@ -188,7 +188,9 @@ fn explain_instruction<C: Console>(console: &C, image: &Image, refusal: Refusal)
         }
         Refusal::EnablesInterrupts(_) => {
             console.explain(format_args!("{text}: no HLT in CODE follows it"));
-            console.explain("plm80 follow --handler takes programs to which interrupts come, with their handlers");
+            console.explain(
+                "plm80 follow --handler takes programs to which interrupts come, with their handlers",
+            );
             console.explain(
                 "docs/FIRMWARE.md verifies the rest of such a program ('An EPROM that is refused')",
             );

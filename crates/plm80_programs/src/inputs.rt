@@ -139,7 +139,11 @@ fn report_inputs<C: Console>(console: &mut C, path: &str, fault: InputsFileFault
             );
             reported
         }
-        InputsFileFault::TooLong => console.report_file(path, LengthFault::TooLong),
+        InputsFileFault::TooLong => {
+            let reported = console.report_file(path, LengthFault::TooLong);
+            console.explain("a text of inputs has at most 1048576 bytes");
+            reported
+        }
         InputsFileFault::Memory => console.report_memory(),
     }
 }

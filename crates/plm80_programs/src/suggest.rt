@@ -36,14 +36,14 @@ pub struct SuggestArguments<'a> {
 const AFTER_HELP: &str = "\
 It prints a regions text to begin with. CODE has the instructions that the
 program may reach from its start, also after each call and through the jump
-tables that cases sees, within the --rom-range options, if any. STACK has 16
-bytes below the address of LXI SP, or what the program needs, as far as they are
-free. DATA has what STA, LDA, SHLD and LHLD name outside CODE, STACK and the
-image's bytes; or the --ram-range options but for CODE and STACK, since no
-instruction says how long an array is. FIRST:LENGTH is a first address
-and a number of bytes, as extract takes them by --first and --length: one to
-four hexadecimal digits each, in either case, without h or 0x. A range ends at
-or below FFFF.
+tables that cases sees, and the words of these tables outside --ram-range; all
+within the --rom-range options, if any. STACK has 16 bytes below the address of
+LXI SP, or what the program needs, as far as they are free. DATA has what STA,
+LDA, SHLD and LHLD name outside CODE, STACK and the image's bytes; or the
+--ram-range options but for CODE and STACK, since no instruction says how long
+an array is. FIRST:LENGTH is a first address and a number of bytes, as extract
+takes them by --first and --length: one to four hexadecimal digits each, in
+either case, without h or 0x. A range ends at or below FFFF.
 
 Then check the image. The status is 1 if a PCHL has no table.
 
@@ -106,7 +106,10 @@ pub fn advise_file<C: Console>(
     let mut image = bare_image(console, arguments.image)?;
     explain_ranges(console, arguments, image.start, &rom);
     match advise(console.alloc(), &mut image, &rom, &ram) {
-        Ok(printed) => print_advice(console, printed),
+        Ok(printed) => {
+            explain_stack(console, image.regions.stack(), &ram);
+            print_advice(console, printed)
+        }
         Err(LengthFault::TooLong) => Err(console.report(LengthFault::TooLong)),
         Err(LengthFault::Memory) => Err(console.report_memory()),
     }
@@ -130,6 +133,14 @@ fn explain_ranges<C: Console>(
     explain_board(console, rom_texts, ram_texts);
     if !rom.is_empty() && !rom.iter().any(|range| range.contains(start)) {
         console.explain(format_args!("the start, {start:04X}, is in no --{ROM}"));
+    }
+}
+
+/// Says that the stack is in no range of RAM, if there are any and it isn't.
+fn explain_stack<C: Console>(console: &C, stack: Range, ram: &[Range]) {
+    let first = stack.first;
+    if stack.length > 0 && !ram.is_empty() && !ram.iter().any(|range| range.contains(first)) {
+        console.explain(format_args!("the stack, from {first:04X} on, is in no --{RAM}"));
     }
 }
 
