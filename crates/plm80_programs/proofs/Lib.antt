@@ -1,4 +1,5 @@
 pub mod CaseLemmas
+mod FollowLemmas
 mod FrontLemmas
 pub mod GivenLemmas
 pub mod PrintLemmas
