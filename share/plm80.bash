@@ -31,14 +31,14 @@ _plm80() {
         extract) options='--first --length --fill --sum --why -h --help' ;;
         absolute) options='--first --start --name --rom --why -h --help' ;;
         compare) options='--first --fill --names --why -h --help' ;;
-        suggest) options='--rom-range --ram-range --why -h --help' ;;
+        suggest) options='--rom-range --ram-range --entry --case --why -h --help' ;;
         find) options='--first --why -h --help' ;;
         lib | regions | inputs | module) options='--why -h --help' ;;
         check) options='--names --why -h --help' ;;
         explain) options='--all --names --why -h --help' ;;
         stores) options='--names --quiet-ram --why -h --help' ;;
         follow) options='--names --quiet-ram --list --interrupted --handler --why -h --help' ;;
-        list) options='--reached --names --why -h --help' ;;
+        list) options='--reached --asm --names --why -h --help' ;;
         cases) options='--out --why -h --help' ;;
         calls) options='--dot --names --why -h --help' ;;
         help)

@@ -82,7 +82,7 @@ abbrev pub IsPerformed : Request → (old new : Journal) → (status : ℕ) → 
 IsPerformed (request.Link arguments) old new status = Gives (LinksFiles arguments) (map (λ path. path.now) arguments.files.items) old new status
 IsPerformed (request.Locate arguments) old new status = Gives (LocatesFile arguments) (arguments.object.now ∷ []) old new status
 IsPerformed (request.Run arguments) old new status = Gives (RunsFiles arguments) (run_paths arguments.files) old new status
-IsPerformed (request.List arguments) old new status = Gives (AnswersProgram (PrintsListing arguments.reached) (asks_names arguments.files)) (program_paths arguments.files) old new status
+IsPerformed (request.List arguments) old new status = Gives (AnswersProgram (PrintsListing arguments.reached arguments.source) (asks_names arguments.files)) (program_paths arguments.files) old new status
 IsPerformed (request.Check files) old new status = Gives (AnswersProgram PrintsReport (asks_names files)) (program_paths files) old new status
 IsPerformed (request.Explain arguments) old new status = Gives (AnswersProgram (PrintsExplanation arguments.all) (asks_names arguments.files)) (program_paths arguments.files) old new status
 IsPerformed (request.Library arguments) old new status = WritesLibrary arguments old new status
@@ -107,7 +107,7 @@ abbrev pub IsFailed : Request → (old new : Journal) → Type 0
 IsFailed (request.Link arguments) old new = GivesUp (LinksFiles arguments) (map (λ path. path.now) arguments.files.items) old new
 IsFailed (request.Locate arguments) old new = GivesUp (LocatesFile arguments) (arguments.object.now ∷ []) old new
 IsFailed (request.Run arguments) old new = GivesUp (RunsFiles arguments) (run_paths arguments.files) old new
-IsFailed (request.List arguments) old new = GivesUp (AnswersProgram (PrintsListing arguments.reached) (asks_names arguments.files)) (program_paths arguments.files) old new
+IsFailed (request.List arguments) old new = GivesUp (AnswersProgram (PrintsListing arguments.reached arguments.source) (asks_names arguments.files)) (program_paths arguments.files) old new
 IsFailed (request.Check files) old new = GivesUp (AnswersProgram PrintsReport (asks_names files)) (program_paths files) old new
 IsFailed (request.Explain arguments) old new = GivesUp (AnswersProgram (PrintsExplanation arguments.all) (asks_names arguments.files)) (program_paths arguments.files) old new
 IsFailed (request.Library arguments) old new = GivesUpLibrary arguments old new

@@ -68,9 +68,9 @@ lines_more cases one after lines new so_far added after_is =
     added ∙ ap (λ (l : List ℕ). l ++ cases_text one) so_far ∙ sym (cases_more cases one) ∙ ap cases_text (sym after_is)
 
 -- what is found of the PCHLs below 65536
-pub finds_cases : (image : Located) (reached taken : List Bool) (limit : ℕ) (cases : List DeclaredCase) (notes : List Note)
-    → IsSearched image reached taken → limit ≡ 65536 → AreFoundBelow image reached taken limit cases notes → FindsCases image cases notes
-finds_cases image reached taken limit cases notes searched all found = record {
+pub finds_cases : (image : Located) (entries : List ℕ) (reached taken : List Bool) (limit : ℕ) (cases : List DeclaredCase) (notes : List Note)
+    → IsSearched image entries reached taken → limit ≡ 65536 → AreFoundBelow image reached taken limit cases notes → FindsCases image entries cases notes
+finds_cases image entries reached taken limit cases notes searched all found = record {
   reached = reached;
   taken = taken;
   searched = searched;
@@ -79,10 +79,10 @@ finds_cases image reached taken limit cases notes searched all found = record {
 
 -- ---- lines that are too long
 
-pub long_cases : (image : Located) (reached taken : List Bool) (at : ℕ) (cases : List DeclaredCase) (notes : List Note) (lines : List ℕ)
-    → AreFoundBelow image reached taken at cases notes → lines ≡ cases_text cases → IsSearched image reached taken → (found : FoundCase)
-    → IsFoundAt image reached taken at found → text_limit < length (lines ++ cases_text (cons_option found.case [])) → HasLongCases image
-long_cases image reached taken at cases notes lines so_far lines_are searched found at_it long = record {
+pub long_cases : (image : Located) (entries : List ℕ) (reached taken : List Bool) (at : ℕ) (cases : List DeclaredCase) (notes : List Note) (lines : List ℕ)
+    → AreFoundBelow image reached taken at cases notes → lines ≡ cases_text cases → IsSearched image entries reached taken → (found : FoundCase)
+    → IsFoundAt image reached taken at found → text_limit < length (lines ++ cases_text (cons_option found.case [])) → HasLongCases image entries
+long_cases image entries reached taken at cases notes lines so_far lines_are searched found at_it long = record {
   reached = reached;
   taken = taken;
   searched = searched;
@@ -124,7 +124,7 @@ module _ (image : Located) (reached taken : List Bool) where
 
     -- the lines so far, and a front part of those of what is found then
     begun : (limit : ℕ) (cases : List DeclaredCase) (after : List Note) → AreFoundBelow image reached taken limit cases after
-        → IsSearched image reached taken → BeginsCases image (cases_text cases)
+        → IsSearched image [] reached taken → BeginsCases image (cases_text cases)
     begun limit cases after found searched = record {
       reached = reached;
       taken = taken;
@@ -136,11 +136,11 @@ module _ (image : Located) (reached taken : List Bool) where
       text_is = refl;
     }
 
-    pub shown_front : IsSearched image reached taken → LeavesFront (BeginsCases image) old now
+    pub shown_front : IsSearched image [] reached taken → LeavesFront (BeginsCases image) old now
     shown_front searched =
         inr (cases_text shown.cases, begun at shown.cases notes shown.found searched, all_front old now (cases_text shown.cases) shown.written)
 
-    pub shown_front_more : IsSearched image reached taken → (found : FoundCase) (new : Option (List ℕ)) → IsFoundAt image reached taken at found
+    pub shown_front_more : IsSearched image [] reached taken → (found : FoundCase) (new : Option (List ℕ)) → IsFoundAt image reached taken at found
         → AppendsFront now new (cases_text (cons_option found.case [])) → LeavesFront (BeginsCases image) old new
     shown_front_more searched found new at_it part =
         let cases = shown.cases ++ cons_option found.case [] in

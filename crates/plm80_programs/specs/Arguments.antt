@@ -14,6 +14,7 @@ use Rattle.plm80_programs.specs.{declared.trace.TraceArguments.TraceArguments}
 pub record AreListArguments (matches : ArgMatches) (arguments : ListArguments) : Type 0 where
   pub files : AreNamedFiles matches arguments.files
   pub reached : IsFlag matches (codes "reached") arguments.reached
+  pub source : IsFlag matches (codes "asm") arguments.source
 
 pub record AreExplainArguments (matches : ArgMatches) (arguments : ExplainArguments) : Type 0 where
   pub files : AreNamedFiles matches arguments.files

@@ -26,18 +26,19 @@ pub record AreFoundBelow (image : Located) (reached taken : List Bool) (limit : 
   pub cases_are : cases ≡ filter_map (λ (finding : Finding). case_of finding.found) findings
   pub notes_are : notes ≡ filter_map (λ (finding : Finding). finding.note) findings
 
--- the cases that the tables of an image suggest, and what there is to say of its PCHLs
-pub record FindsCases (image : Located) (cases : List DeclaredCase) (notes : List Note) : Type 0 where
+-- the cases that the tables of an image suggest that is gone through from its start and from further entries, and what there is to say of
+-- its PCHLs
+pub record FindsCases (image : Located) (entries : List ℕ) (cases : List DeclaredCase) (notes : List Note) : Type 0 where
   pub reached : List Bool
   pub taken : List Bool
-  pub searched : IsSearched image reached taken
+  pub searched : IsSearched image entries reached taken
   pub found : AreFoundBelow image reached taken 65536 cases notes
 
 -- the lines of the cases that the tables of an image suggest, up to an address, have more bytes than a text of regions may have
-pub record HasLongCases (image : Located) : Type 0 where
+pub record HasLongCases (image : Located) (entries : List ℕ) : Type 0 where
   pub reached : List Bool
   pub taken : List Bool
-  pub searched : IsSearched image reached taken
+  pub searched : IsSearched image entries reached taken
   pub limit : ℕ
   pub cases : List DeclaredCase
   pub notes : List Note
@@ -55,7 +56,7 @@ AreAddedTo (Some path) areas cases files =
 pub record PrintsCases (out : Option (List ℕ)) (image : Located) (answer : AnswerValue) : Type 0 where
   pub cases : List DeclaredCase
   pub notes : List Note
-  pub found : FindsCases image cases notes
+  pub found : FindsCases image [] cases notes
   pub files : List FileValue
   pub added : AreAddedTo out image.regions cases files
   pub answer_is : answer ≡ record { first = []; files = files; lines = cases_text cases; status = notes_status notes }
@@ -64,7 +65,7 @@ pub record PrintsCases (out : Option (List ℕ)) (image : Located) (answer : Ans
 pub record BeginsCases (image : Located) (text : List ℕ) : Type 0 where
   pub reached : List Bool
   pub taken : List Bool
-  pub searched : IsSearched image reached taken
+  pub searched : IsSearched image [] reached taken
   pub limit : ℕ
   pub cases : List DeclaredCase
   pub notes : List Note

@@ -1,5 +1,5 @@
 -- What `explain` prints of an image. (This project's own.)
-use Rattle.std.specs.Prelude.{◌≡◌, ◌≢◌, ◌+◌, ◌++◌, ◌∷◌, ◌&&◌, ◌==◌, ℕ, Bool, true, false, List, [], Option, None, Some, All, codes, length}
+use Rattle.std.specs.Prelude.{◌≡◌, ◌≢◌, ◌+◌, ◌++◌, ◌∷◌, ◌&&◌, ◌==◌, ℕ, zero, suc, Bool, true, false, List, [], Option, None, Some, All, codes, length}
 use Rattle.std.specs.{Fmt.decimal, List.flat_map, List.list_any}
 use Rattle.omf_model.specs.declared.symbols.Public.{Public}
 use Rattle.image80.specs.Image.{Located}
@@ -7,8 +7,8 @@ use Rattle.verify80_flow.specs.declared.refusal.Refusal.TheVariants.{Memory, Sta
 use Rattle.verify80_flow.specs.Refusal.{refusal_address, refusal_code}
 use Rattle.verify80_flow.specs.{declared.refusal.Refusal.Refusal, declared.report.ProcRow.ProcRow, Accepted.IsMeasured, Faults.Holds}
 use Rattle.verify80.specs.{Looking.code_of, Vouched.Voucher}
-use Rattle.verify80_explain.specs.{declared.explaining_all.ShownRefusal.ShownRefusal, Shows.IsShown}
-use Rattle.verify80_explain_text.specs.{Explained.explanation_text, Printed.GoesOnWithChain, Printed.GoesOnWithWays, Printed.too_many}
+use Rattle.verify80_explain.specs.{declared.conditions.Conditions.Conditions, declared.explaining_all.FurtherRefusals.FurtherRefusals, declared.explaining_all.ShownRefusal.ShownRefusal, Conditions.AreShownIf, Shows.IsShown}
+use Rattle.verify80_explain_text.specs.{Conditions.conditions_text, Explained.explanation_text, Printed.GoesOnWithChain, Printed.GoesOnWithWays, Printed.too_many}
 use Rattle.plm80_console.specs.Answer.{AnswerValue, prints}
 use Rattle.plm80_names.specs.{Printed.named_refusal_line, Printed.named_refusal_report, Printed.named_report, Verdict.IsAccepted}
 
@@ -42,6 +42,16 @@ abbrev pub shown_lines : Located → List Public → ShownRefusal → List ℕ
 shown_lines image publics one =
     named_refusal_line image.regions.code publics one.refusal ++ explanation_text image publics one.refusal one.explanation
 
+-- the line of a refusal, the conditions on which it is reached, and what shows it
+abbrev pub conditional_lines : Located → List Public → Conditions → ShownRefusal → List ℕ
+conditional_lines image publics conditions one =
+    named_refusal_line image.regions.code publics one.refusal
+    ++ (conditions_text image publics conditions ++ explanation_text image publics one.refusal one.explanation)
+
+-- refusals that are reached on the same conditions
+abbrev pub further_lines : Located → List Public → FurtherRefusals → List ℕ
+further_lines image publics group = flat_map (conditional_lines image publics group.conditions) group.shown.items
+
 -- that there is more to show than the limit allows
 abbrev pub limit_line : (are_all : Bool) → List ℕ
 limit_line true = []
@@ -50,6 +60,14 @@ limit_line false = too_many
 -- how many refusals there are
 abbrev pub count_line : ℕ → List ℕ
 count_line count = codes "REFUSALS " ++ (decimal count ++ 10 ∷ [])
+
+-- how many refusals are reached on conditions, if any are
+abbrev pub further_count : List FurtherRefusals → ℕ
+further_count further = length (flat_map (λ (group : FurtherRefusals). group.shown.items) further)
+
+abbrev pub further_count_line : ℕ → List ℕ
+further_count_line zero = []
+further_count_line (suc count) = codes "ON CONDITIONS " ++ (decimal (suc count) ++ 10 ∷ [])
 
 abbrev pub same_address : (one other : Option ℕ) → Bool
 same_address None None = true
@@ -67,15 +85,20 @@ pub data ShowsRest (image : Located) (publics : List Public) (refusal : Refusal)
   behind : (rest : List ℕ) → list_any (is_of refusal) shown ≡ false → ShowsRefusal image publics refusal rest → further ≡ 1
       → text ≡ before ++ rest → ShowsRest image publics refusal shown further before text
 
--- refusals, each with what shows it; that there are more, if so; the verifier's refusal, if it is none of these; and how many there are
+-- refusals, each with what shows it; that there are more, if so; the verifier's refusal, if it is none of these; how many there are; and
+-- behind them those that are reached on conditions, with these
 pub record ShowsAll (image : Located) (publics : List Public) (refusal : Refusal) (text : List ℕ) : Type 0 where
   pub shown : List ShownRefusal
   pub are_all : Bool
-  pub further : ℕ
+  pub further : List FurtherRefusals
+  pub are_all_further : Bool
+  pub own : ℕ
   pub lines : List ℕ
   pub each : All (IsShown (code_of image)) shown
-  pub rest : ShowsRest image publics refusal shown further (flat_map (shown_lines image publics) shown ++ limit_line are_all) lines
-  pub text_is : text ≡ lines ++ count_line (length shown + further)
+  pub each_further : All (AreShownIf (code_of image)) further
+  pub rest : ShowsRest image publics refusal shown own (flat_map (shown_lines image publics) shown ++ limit_line are_all) lines
+  pub text_is : text ≡ lines ++ (count_line (length shown + own) ++ (flat_map (further_lines image publics) further
+      ++ (limit_line are_all_further ++ further_count_line (further_count further))))
 
 -- one refusal, or all that are found
 abbrev pub ShowsRefused : (all : Bool) → Located → List Public → Refusal → (text : List ℕ) → Type 0

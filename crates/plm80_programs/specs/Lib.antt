@@ -3,6 +3,7 @@ pub mod Status
 pub mod Printed
 pub mod Explanations
 pub mod Running
+pub mod CaseTexts
 pub mod Cases
 pub mod Suggest
 pub mod InputWords

@@ -1,11 +1,13 @@
 -- What commands print of an image, and their exit statuses. (The texts are those of the crates below; that a refusal is printed alone,
 -- with status 1, is this project's own.)
-use Rattle.std.specs.Prelude.{◌≡◌, ◌<◌, ℕ, Bool, true, false, List, [], Some, All, codes, map}
+use Rattle.std.specs.Prelude.{◌≡◌, ◌<◌, ℕ, Bool, true, false, List, [], Option, None, Some, All, codes, map, slice_index_or}
 use Rattle.omf_model.specs.declared.symbols.Public.{Public}
-use Rattle.image80.specs.{declared.range.Range.Range, Image.Located, Range.in_range, Regions.Areas, Regions.in_data}
+use Rattle.decode80.specs.declared.fetching.Fetched.{Fetched}
+use Rattle.image80.specs.{declared.range.Range.Range, Image.Located, Range.in_range, Regions.Areas, Regions.in_code, Regions.in_data}
+use Rattle.image80_source.specs.Source.{IsSourceOf}
 use Rattle.image80_text.specs.{Listing.listing_of, NameText.labelled_text, NameText.named_text}
 use Rattle.machine80.specs.{Ports.lists_of, World.world_at_start}
-use Rattle.verify80.specs.{Looking.code_of, Boards.SetsStack, Vouched.Voucher}
+use Rattle.verify80.specs.{Looking.code_of, Boards.SetsStack, Reached.AreReached, Vouched.Voucher}
 use Rattle.verify80_calls.specs.Nodes.{HasItsCalls, heading_of, headings}
 use Rattle.verify80_calls.specs.{declared.graph.call_graph.Node.Node, GraphText.graph_text, ListText.list_text}
 use Rattle.verify80_stores.specs.Boards.{PromiseHoldsOnBoards, PromiseHoldsOnQuietBoards, is_quiet}
@@ -39,10 +41,24 @@ pub record ListsCode (publics : List Public) (program : Voucher) (text : List �
   pub reached : ListsReached program.image listed
   pub text_is : text ≡ labelled_text publics false listed
 
--- these, or all instructions of the code, whether the verifier accepts them or not
-abbrev pub PrintsListing : (reached : Bool) → Located → List Public → AnswerValue → Type 0
-PrintsListing true image publics answer = AnswersVerdict (λ program. PrintsText (ListsCode publics program)) image publics answer
-PrintsListing false image publics answer = answer ≡ prints (labelled_text publics false (listing_of image)) 0
+-- a source of the image in which nothing is an instruction but those to which the program may come
+pub record ListsSource (publics : List Public) (program : Voucher) (text : List ℕ) : Type 0 where
+  pub table : List (Option Fetched)
+  pub reached : AreReached (code_of program.image) table
+  pub source : IsSourceOf program.image publics table text
+
+-- a source of an image in which only code is instructions
+pub record IsCodeSource (image : Located) (publics : List Public) (text : List ℕ) : Type 0 where
+  pub table : List (Option Fetched)
+  pub code : (at : ℕ) → in_code image.regions at ≡ false → slice_index_or table at None ≡ None
+  pub source : IsSourceOf image publics table text
+
+-- the code, or a source: what the program reaches of it, or all of it, whether the verifier accepts it or not
+abbrev pub PrintsListing : (reached source : Bool) → Located → List Public → AnswerValue → Type 0
+PrintsListing true false image publics answer = AnswersVerdict (λ program. PrintsText (ListsCode publics program)) image publics answer
+PrintsListing false false image publics answer = answer ≡ prints (labelled_text publics false (listing_of image)) 0
+PrintsListing true true image publics answer = AnswersVerdict (λ program. PrintsText (ListsSource publics program)) image publics answer
+PrintsListing false true image publics answer = PrintsText (IsCodeSource image publics) answer
 
 -- ---- calls
 

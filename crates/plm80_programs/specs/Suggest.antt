@@ -1,15 +1,15 @@
 -- What `suggest` prints of an image, and reports.
 -- (The status is this project's own.)
-use Rattle.std.specs.Prelude.{◌≡◌, ◌≤◌, List, [], ◌∷◌, Option, None, Some, codes, length, map}
+use Rattle.std.specs.Prelude.{◌≡◌, ◌≤◌, ℕ, List, [], ◌∷◌, ◌++◌, Option, None, Some, codes, length, map}
 use Rattle.clap.specs.declared.parser.matches.ArgMatches.{ArgMatches}
-use Rattle.image80.specs.{declared.range.Range.Range, Image.Located, RegionsText.regions_text}
+use Rattle.image80.specs.{declared.range.Range.Range, Case.DeclaredCase, Image.Located, RegionsText.regions_text}
 use Rattle.image80_file.specs.ImageFile.{SpellsImage, without_regions}
 use Rattle.stream80.specs.WholeText.{text_limit}
-use Rattle.verify80_suggest.specs.{declared.suggesting.Advice.Advice, declared.setters.Setter.Setter, Suggestion.IsSuggestion}
-use Rattle.plm80_console.specs.Arguments.{argument_text, argument_values}
+use Rattle.verify80_suggest.specs.{declared.known.Known.Known, declared.suggesting.Advice.Advice, declared.setters.Setter.Setter, Suggestion.IsSuggestion}
+use Rattle.plm80_console.specs.{Arguments.argument_text, Arguments.argument_values, NumberText.word_value}
 use Rattle.plm80_console.specs.{Answer.AnswerValue, Answer.prints, Journal.FileValue, Ranges.AreRangesOf}
 use Rattle.plm80_programs.specs.{declared.suggest.SuggestArguments.SuggestArguments, declared.suggest.StackWords.StackWords}
-use Rattle.plm80_programs.specs.{Status.notes_status}
+use Rattle.plm80_programs.specs.{CaseTexts.AreCasesWritten, Status.notes_status}
 use Rattle.plm80_programs.specs.declared.suggest.StackWords.TheVariants as words
 
 -- of which stacks there are words: of one that no LXI SP sets, and of one that several set
@@ -19,26 +19,33 @@ stack_words (Some first) (Some second) = Some (words.Several first.at second.at)
 stack_words (Some first) None = None
 
 -- the regions that an image suggests are printed; the status is that of the notes
-pub record AdvisesRegions (image : Located) (rom ram : List Range) (advice : Advice) (answer : AnswerValue) : Type 0 where
+pub record AdvisesRegions (image : Located) (known : Known) (advice : Advice) (answer : AnswerValue) : Type 0 where
   pub new : Located
-  pub suggested : IsSuggestion image rom ram advice.first advice.second advice.tableless.items advice.notes.items new
+  pub suggested : IsSuggestion image known advice.first advice.second advice.tableless.items advice.notes.items new
   pub within : length (regions_text new.regions) ≤ text_limit
   pub answer_is : answer ≡ prints (regions_text new.regions) (notes_status advice.notes.items)
 
--- the advice on the image of a file, with the ranges that the options write
+-- what is known by the options: ranges, entries and cases; the address of a case is an entry, too
+pub record AreOptions (arguments : SuggestArguments) (rom ram : List Range) (entries : List ℕ) (cases : List DeclaredCase) : Type 0 where
+  pub is_rom : AreRangesOf (map (λ range. range.now) arguments.rom.items) rom
+  pub is_ram : AreRangesOf (map (λ range. range.now) arguments.ram.items) ram
+  pub are_cases : AreCasesWritten (map (λ case. case.now) arguments.cases.items) cases
+  pub are_entries : entries ≡ map (λ entry. word_value entry.now) arguments.entries.items ++ map (λ case. case.at) cases
+
+-- the advice on the image of a file, with what is known by the options
 pub record AnswersAdvice (arguments : SuggestArguments) (files : List FileValue) (answer : AnswerValue) : Type 0 where
   pub file : FileValue
   pub files_are : files ≡ file ∷ []
   pub image : Located
   pub contents : SpellsImage file.bytes (without_regions image)
-  pub rom : List Range
-  pub is_rom : AreRangesOf (map (λ range. range.now) arguments.rom.items) rom
-  pub ram : List Range
-  pub is_ram : AreRangesOf (map (λ range. range.now) arguments.ram.items) ram
+  pub known : Known
+  pub options : AreOptions arguments known.rom.now known.ram.now known.entries.now known.cases.now
   pub advice : Advice
-  pub advises : AdvisesRegions image rom ram advice answer
+  pub advises : AdvisesRegions image known advice answer
 
 pub record AreSuggestArguments (matches : ArgMatches) (arguments : SuggestArguments) : Type 0 where
   pub image : arguments.image.now ≡ argument_text matches (codes "IMAGE")
   pub rom : map (λ range. range.now) arguments.rom.items ≡ argument_values matches (codes "rom-range")
   pub ram : map (λ range. range.now) arguments.ram.items ≡ argument_values matches (codes "ram-range")
+  pub entries : map (λ entry. entry.now) arguments.entries.items ≡ argument_values matches (codes "entry")
+  pub cases : map (λ case. case.now) arguments.cases.items ≡ argument_values matches (codes "case")

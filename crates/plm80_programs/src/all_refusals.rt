@@ -4,19 +4,20 @@ ghost use Rattle.std.specs.Prelude.{◌≡◌, ◌≢◌, ◌+◌, ◌++◌, All
 ghost use Rattle.std.specs.List.{flat_map, list_any};
 ghost use Rattle.verify80_flow.specs.declared.refusal.Refusal.TheVariants.{Memory};
 ghost use Rattle.verify80.specs.Looking.{code_of};
+ghost use Rattle.verify80_explain.specs.Conditions.{AreShownIf};
 ghost use Rattle.verify80_explain.specs.Shows.{IsShown};
-ghost use Rattle.plm80_programs.specs.Explanations.{ShowsAll, ShowsRest, count_line, is_of, limit_line, shown_lines};
+ghost use Rattle.plm80_programs.specs.Explanations.{ShowsAll, ShowsRest, conditional_lines, count_line, further_count, further_count_line, further_lines, is_of, limit_line, shown_lines};
 
 use crate::explain::{LIMIT, refused};
 use image80::Image;
 use loader80::Refusal;
 use plm80_names::{Names, named_refusal};
 use std::alloc::{AllocError, Global};
-use verify80_explain::{ShownRefusal, ShownRefusals, explain_all};
-use verify80_explain_text::explanation_text;
+use verify80_explain::{Conditions, FurtherRefusals, ShownRefusal, ShownRefusals, explain_all};
+use verify80_explain_text::{append_conditions, explanation_text};
 
 /// The text of all refusals of points that are found of `image`, each with what shows it; behind them the verifier's own, `refusal`, if it
-/// is none of these; and how many there are. `AllocError` if memory runs out, and if `refusal` is that it did.
+/// is none of these; how many there are; and then those that are reached on conditions, with these. `AllocError` if memory runs out, and if `refusal` is that it did.
 pub(crate) fn all_refused(
     alloc: Global,
     image: &Image,
@@ -33,8 +34,8 @@ pub(crate) fn all_refused(
     text_of_all(alloc, image, refusal, names, &all)
 }
 
-/// The text of refusals of points, each with what shows it; behind them the verifier's own, `refusal`, if it is none of these; and how many
-/// there are.
+/// The text of refusals of points, each with what shows it; behind them the verifier's own, `refusal`, if it is none of these; how many
+/// there are; and then those that are reached on conditions, with these.
 fn text_of_all(
     alloc: Global,
     image: &Image,
@@ -42,13 +43,17 @@ fn text_of_all(
     names: &Names,
     all: &ShownRefusals,
 ) -> Result<Vec<u8>, AllocError>
-    requires { All (IsShown (code_of image.now)) all.now.shown.items }
+    requires shown { All (IsShown (code_of image.now)) all.now.shown.items }
+    requires further { All (AreShownIf (code_of image.now)) all.now.further.items }
     ensures { IfOk result (λ text. ShowsAll image.now names.now refusal text.items) }
 {
     let mut text = shown_text(alloc, image, &all.shown, names)?;
     append_limit(&mut text, all.are_all)?;
-    let further = append_rest(alloc, &mut text, image, refusal, names, &all.shown)?;
-    append_count(alloc, &mut text, all.shown.len(), further)?;
+    let own = append_rest(alloc, &mut text, image, refusal, names, &all.shown)?;
+    append_count(alloc, &mut text, all.shown.len(), own)?;
+    append_further(alloc, &mut text, image, &all.further, names)?;
+    append_limit(&mut text, all.are_all_further)?;
+    append_further_count(alloc, &mut text, &all.further)?;
     Ok(text)
 }
 
@@ -128,6 +133,56 @@ fn is_of(one: &ShownRefusal, refusal: Refusal) -> bool
     one.refusal.code() == refusal.code() && one.refusal.address() == refusal.address()
 }
 
+/// Appends the lines of refusals that are reached on conditions, each with these and what shows it.
+fn append_further(
+    alloc: Global,
+    text: &mut Vec<u8>,
+    image: &Image,
+    further: &[FurtherRefusals],
+    names: &Names,
+) -> Result<(), AllocError>
+    ensures { OnOk result (text.new.items ≡ text.old.items ++ flat_map (further_lines image.now names.now) further.now) }
+{
+    for group in further {
+        append_group(alloc, text, image, group, names)?;
+    }
+    Ok(())
+}
+
+/// Appends the lines of the refusals that are reached on the same conditions.
+fn append_group(
+    alloc: Global,
+    text: &mut Vec<u8>,
+    image: &Image,
+    group: &FurtherRefusals,
+    names: &Names,
+) -> Result<(), AllocError>
+    ensures { OnOk result (text.new.items ≡ text.old.items ++ further_lines image.now names.now group.now) }
+{
+    for one in &group.shown {
+        append_conditional(alloc, text, image, one, &group.conditions, names)?;
+    }
+    Ok(())
+}
+
+/// Appends the line of a refusal, the conditions on which it is reached, and what shows it.
+fn append_conditional(
+    alloc: Global,
+    text: &mut Vec<u8>,
+    image: &Image,
+    one: &ShownRefusal,
+    conditions: &Conditions,
+    names: &Names,
+) -> Result<(), AllocError>
+    ensures { OnOk result (text.new.items ≡ text.old.items ++ conditional_lines image.now names.now conditions.now one.now) }
+{
+    let line = named_refusal(alloc, image, one.refusal, names)?;
+    text.extend_from_slice(&line)?;
+    append_conditions(alloc, text, image, names.publics(), conditions)?;
+    let ways = explanation_text(alloc, image, names.publics(), one.refusal, &one.explanation)?;
+    text.extend_from_slice(&ways)
+}
+
 /// Appends the line of how many refusals there are, `shown` and `further` together.
 fn append_count(
     alloc: Global,
@@ -141,5 +196,27 @@ fn append_count(
         return Err(AllocError);
     };
     let line = format!(in alloc; "REFUSALS {count}\n")?;
+    text.extend_from_slice(line.as_bytes())
+}
+
+/// Appends the line of how many refusals are reached on conditions, if there are any.
+fn append_further_count(
+    alloc: Global,
+    text: &mut Vec<u8>,
+    further: &[FurtherRefusals],
+) -> Result<(), AllocError>
+    ensures { OnOk result (text.new.items ≡ text.old.items ++ further_count_line (further_count further.now)) }
+{
+    let mut count: usize = 0;
+    for group in further {
+        let Some(more) = count.checked_add(group.shown.len()) else {
+            return Err(AllocError);
+        };
+        count = more;
+    }
+    if count == 0 {
+        return Ok(());
+    }
+    let line = format!(in alloc; "ON CONDITIONS {count}\n")?;
     text.extend_from_slice(line.as_bytes())
 }

@@ -1,6 +1,6 @@
 //! `plm80 cases`: the CASE lines that the tables of an image suggest.
 
-ghost use Rattle.std.specs.Prelude.{◌≡◌, ◌<◌, ◌++◌, ◌∷◌, [], List, None, Some, length, option_map, IfErr, IfOk};
+ghost use Rattle.std.specs.Prelude.{◌≡◌, ◌<◌, ◌++◌, ◌∷◌, [], ℕ, List, None, Some, length, option_map, IfErr, IfOk};
 ghost use Rattle.std.specs.Prelude.{IsErrOf, OnErr, OnOk};
 ghost use Rattle.std.specs.{Io.KnownBytes.Appends, List.cons_option, List.list_any};
 ghost use Rattle.image80.specs.{Case.DeclaredCase, RegionsText.cases_text};
@@ -138,12 +138,12 @@ fn print_cases<C: Console>(console: &mut C, image: &Image) -> Result<u8, Reporte
 /// may have thousands of times as many targets as the image has bytes.
 fn write_cases<K: Sink>(alloc: Global, image: &Image, out: &mut K) -> Result<Vec<Note>, TraceFault>
     requires { K.failed out.old < u64.MAX }
-    ensures found { IfOk result (λ notes. (cases : List DeclaredCase) × FindsCases image.now cases notes.items
+    ensures found { IfOk result (λ notes. (cases : List DeclaredCase) × FindsCases image.now [] cases notes.items
         × Appends (K.written out.old) (K.written out.new) (cases_text cases)) }
     ensures front { OnErr result (LeavesFront (BeginsCases image.now) (K.written out.old) (K.written out.new)) }
 {
     let code = ImageCode::new(alloc, image)?;
-    let search = Search::of(alloc, &code)?;
+    let search = Search::of(alloc, &code, &[])?;
     write_searched(alloc, image, &code, &search, out)
 }
 
@@ -156,9 +156,9 @@ fn write_searched<K: Sink>(
     out: &mut K,
 ) -> Result<Vec<Note>, TraceFault>
     requires code { code.now ≡ image.now }
-    requires searched { IsSearched image.now search.now.reached search.now.taken }
+    requires searched { IsSearched image.now [] search.now.reached search.now.taken }
     requires countable { K.failed out.old < u64.MAX }
-    ensures found { IfOk result (λ notes. (cases : List DeclaredCase) × FindsCases image.now cases notes.items
+    ensures found { IfOk result (λ notes. (cases : List DeclaredCase) × FindsCases image.now [] cases notes.items
         × Appends (K.written out.old) (K.written out.new) (cases_text cases)) }
     ensures front { OnErr result (LeavesFront (BeginsCases image.now) (K.written out.old) (K.written out.new)) }
 {
@@ -232,7 +232,7 @@ fn added_cases<'a>(
 ) -> Result<AddedCases<'a>, AddingFault>
     ensures { IfOk result (λ added. PrintsCases (Some path.now) image.now added.answer) }
 {
-    let kept = kept_cases(alloc, image)?;
+    let kept = kept_cases(alloc, image, &[])?;
     let text = regions_with_cases(alloc, &image.regions, &kept.cases)?;
     if text.len() > TEXT_LIMIT {
         return Err(AddingFault::TooLong);
@@ -293,14 +293,19 @@ pub(crate) struct KeptCases {
     notes: Vec<Note>,
 }
 
-/// All cases that the tables of `image` suggest, with their lines. `TooLong` if the lines have more bytes than a text of regions may have.
-pub(crate) fn kept_cases(alloc: Global, image: &Image) -> Result<KeptCases, LengthFault>
-    ensures found { IfOk result (λ kept. FindsCases image.now kept.cases.items kept.notes.items) }
+/// All cases that the tables of `image` suggest, gone through from its start and from `entries`, with their lines. `TooLong` if the lines
+/// have more bytes than a text of regions may have.
+pub(crate) fn kept_cases(
+    alloc: Global,
+    image: &Image,
+    entries: &[u16],
+) -> Result<KeptCases, LengthFault>
+    ensures found { IfOk result (λ kept. FindsCases image.now entries.now kept.cases.items kept.notes.items) }
     ensures lines { IfOk result (λ kept. kept.lines.items ≡ cases_text kept.cases.items) }
-    ensures too_long { IsErrOf result LengthFault.TooLong → HasLongCases image.now }
+    ensures too_long { IsErrOf result LengthFault.TooLong → HasLongCases image.now entries.now }
 {
     let code = ImageCode::new(alloc, image)?;
-    let search = Search::of(alloc, &code)?;
+    let search = Search::of(alloc, &code, entries)?;
     keep_searched(alloc, image, &code, &search)
 }
 
@@ -312,10 +317,11 @@ fn keep_searched(
     search: &Search,
 ) -> Result<KeptCases, LengthFault>
     requires code { code.now ≡ image.now }
-    requires searched { IsSearched image.now search.now.reached search.now.taken }
-    ensures found { IfOk result (λ kept. FindsCases image.now kept.cases.items kept.notes.items) }
+    ensures found { (entries : List ℕ) → IsSearched image.now entries search.now.reached search.now.taken
+        → IfOk result (λ kept. FindsCases image.now entries kept.cases.items kept.notes.items) }
     ensures lines { IfOk result (λ kept. kept.lines.items ≡ cases_text kept.cases.items) }
-    ensures too_long { IsErrOf result LengthFault.TooLong → HasLongCases image.now }
+    ensures too_long { (entries : List ℕ) → IsSearched image.now entries search.now.reached search.now.taken
+        → IsErrOf result LengthFault.TooLong → HasLongCases image.now entries }
 {
     let mut kept = KeptCases {
         cases: Vec::new(alloc),

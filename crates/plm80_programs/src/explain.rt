@@ -50,8 +50,12 @@ and two more for each call.
 
 With --all every refusal of an instruction that the program's ways meet is
 shown, by address, each with its way; then the refusal of check, if it is none
-of these; and REFUSALS n. A way ends at its refusal: what lies behind one shows
-only once that is mended.
+of these; and REFUSALS n. A way ends at its refusal. The refusals behind these
+follow, each with what is taken for granted on the way there: IF 0057 IS PASSED
+OVER, an EI or a store outside data; IF 0084 RETURNS, a procedure that a refusal
+keeps from it; IF 007B BEGINS ANEW, at LXI SP with the stack's top. ON
+CONDITIONS n counts them. Nothing is shown behind a PCHL without targets, nor
+behind bytes that are no instruction.
 
 --names prints names as check and list do: behind a call its target's, behind
 the last line of a chain the address's.

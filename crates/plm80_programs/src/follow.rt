@@ -185,7 +185,11 @@ struct Asked<'a> {
 }
 
 /// The words that an option's values write, of one to four hexadecimal digits each. `BadNumber` is reported of the first that writes none.
-fn words_of<C: Console>(console: &mut C, name: &str, values: &[&str]) -> Result<Vec<u16>, Reported>
+pub(crate) fn words_of<C: Console>(
+    console: &mut C,
+    name: &str,
+    values: &[&str],
+) -> Result<Vec<u16>, Reported>
     ensures words { IfOk result (λ words. words.items ≡ map (λ value. word_value value.now) values.now) }
     ensures unchanged { IfOk result (λ _. C.journal console.new ≡ C.journal console.old) }
     ensures fault { IfErr result (λ _. C.journal console.new ≡ and_reported (C.journal console.old)) }

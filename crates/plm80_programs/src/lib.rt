@@ -22,6 +22,7 @@
 
 mod all_refusals;
 mod calls;
+mod case_texts;
 mod cases;
 mod check;
 mod cover;

@@ -1,13 +1,14 @@
 //! `plm80 list`: the instructions of a located program.
 
-ghost use Rattle.std.specs.Prelude.{◌≡◌, [], IfErr, IfOk};
+ghost use Rattle.std.specs.Prelude.{◌≡◌, [], true, IfErr, IfOk};
 ghost use Rattle.plm80_console.specs.Answer.{Gives, GivesUp};
 ghost use Rattle.plm80_names.specs.{Arguments.asks_names, Arguments.program_paths, Verdict.AnswersProgram};
-ghost use Rattle.plm80_programs.specs.{Arguments.AreListArguments, Printed.ListsCode, Printed.PrintsListing};
+ghost use Rattle.plm80_programs.specs.{Arguments.AreListArguments, Printed.ListsCode, Printed.ListsSource, Printed.PrintsListing};
 
 use crate::helpers::printing::{Printing, answer_of};
 use clap::ArgMatches;
 use image80::Image;
+use image80_source::{code_in_sequence, source_of};
 use image80_text::listing;
 use loader80::Vouched;
 use loader80_trace::list_reached;
@@ -16,12 +17,14 @@ use plm80_console::{Answer, Argument, Console, Kind, Reported, Syntax};
 use plm80_files::{IMAGE, REGIONS};
 use plm80_names::{NAMES, NamedFiles, Names, explain_listed};
 use std::alloc::{AllocError, Global};
+use verify80::find_reached;
 
 /// The arguments of the command `list`.
 #[derive(Clone, Copy)]
 pub struct ListArguments<'a> {
     files: NamedFiles<'a>,
     reached: bool,
+    source: bool,
 }
 
 const AFTER_HELP: &str = "\
@@ -34,8 +37,13 @@ that the program may reach has a line, and the rest of CODE is data, eight bytes
 a line, so a table doesn't garble the code after it. A refusal is printed alone,
 with exit status 1.
 
+--asm prints a source for Intel's ASM80: assembled, it gives the image's bytes
+at their addresses. CODE is instructions, as it is listed without --asm; the
+rest is DB, or DW for the address of a case's target. An address that is used
+has a label, L3084, or R2000 in DATA and STACK, and a port a name, P01.
+
 --names prints before an instruction, on a line of its own, the first public at
-its address.
+its address. With --asm this is the label, if ASM80 takes it, else a comment.
 
 Example: plm80 list readings.img readings.regions
 
@@ -54,6 +62,11 @@ pub const LIST: Syntax<'static> = Syntax {
             kind: Kind::Flag,
             help: "List the code to which the program may come",
         },
+        Argument {
+            name: "asm",
+            kind: Kind::Flag,
+            help: "Print a source that assembles to the image",
+        },
         NAMES,
     ],
 };
@@ -66,43 +79,87 @@ impl<'a> ListArguments<'a> {
         ListArguments {
             files: NamedFiles::of(matches),
             reached: matches.get_flag("reached"),
+            source: matches.get_flag("asm"),
         }
     }
 }
 
-/// Does `list`: prints the code of the image, or with `--reached` what its program may reach of it, and returns the exit status, 1 for a
-/// refusal.
+/// Does `list`: prints the code of the image, or with `--reached` what its program may reach of it, or with `--asm` a source in which that
+/// is code, and returns the exit status, 1 for a refusal.
 pub fn list_files<C: Console>(console: &mut C, arguments: ListArguments<'_>) -> Result<u8, Reported>
-    ensures done { let asked = arguments.entry in IfOk result (Gives (AnswersProgram (PrintsListing asked.reached) (asks_names asked.files))
+    ensures done { let asked = arguments.entry in IfOk result (Gives (AnswersProgram (PrintsListing asked.reached asked.source) (asks_names asked.files))
         (program_paths asked.files) (C.journal console.old) (C.journal console.new)) }
-    ensures fault { IfErr result (λ _. GivesUp (AnswersProgram (PrintsListing arguments.entry.reached) (asks_names arguments.entry.files)) (program_paths arguments.entry.files)
+    ensures fault { IfErr result (λ _. GivesUp (AnswersProgram (PrintsListing arguments.entry.reached arguments.entry.source) (asks_names arguments.entry.files)) (program_paths arguments.entry.files)
         (C.journal console.old) (C.journal console.new)) }
 {
     faults_follow_reading();
-    let ListArguments { files, reached } = arguments;
+    let ListArguments {
+        files,
+        reached,
+        source,
+    } = arguments;
     let (image, names) = files.read(console)?;
-    let answer = listed(console.alloc(), image, reached, &names);
+    let answer = listed(console.alloc(), image, reached, source, &names);
     let given = console.give_if_made(answer);
     files.explain(console, &given);
     explain_listed(console, &given, files.image, files.regions);
     given
 }
 
-/// What `list` answers: all code of `image`, or with `reached` what its program may reach of it.
+/// What `list` answers: all code of `image`, or with `reached` what its program may reach of it; as a source, if one is asked for.
 fn listed(
     alloc: Global,
     image: Image,
     reached: bool,
+    source: bool,
     names: &Names,
 ) -> Result<Answer<'static>, AllocError>
-    ensures { IfOk result (PrintsListing reached image names.now) }
+    ensures { IfOk result (PrintsListing reached source image names.now) }
 {
+    if source {
+        return sourced(alloc, image, reached, names);
+    }
     if reached {
         return answer_of(alloc, image, names, ReachedCode);
     }
     let text = listing(alloc, &image)?;
     let text = names.label(alloc, false, text)?;
     Ok(Answer::prints(text, 0))
+}
+
+/// What `list --asm` answers: the source of `image`, in which all code is instructions, or with `reached` what its program may reach of it.
+fn sourced(
+    alloc: Global,
+    image: Image,
+    reached: bool,
+    names: &Names,
+) -> Result<Answer<'static>, AllocError>
+    ensures { IfOk result (PrintsListing reached true image names.now) }
+{
+    if reached {
+        return answer_of(alloc, image, names, ReachedSource);
+    }
+    let table = code_in_sequence(alloc, &image)?;
+    let text = source_of(alloc, &image, &table, names.publics())?;
+    Ok(Answer::prints(text, 0))
+}
+
+/// The source in which the code that a program may reach is instructions.
+#[derive(Clone, Copy)]
+struct ReachedSource;
+
+impl Printing for ReachedSource {
+    ghost says = { λ _. ListsSource };
+
+    fn text(self, alloc: Global, vouched: &Vouched, names: &Names) -> Result<Vec<u8>, AllocError> {
+        let reached = find_reached(alloc, vouched)?;
+        source_of(
+            alloc,
+            vouched.image(),
+            reached.instructions(),
+            names.publics(),
+        )
+    }
 }
 
 /// The code that a program may reach, with names.

@@ -1,16 +1,19 @@
 //! `plm80 suggest`: the regions that an image's bytes suggest.
 
-ghost use Rattle.std.specs.Prelude.{◌≡◌, ◌≤◌, ◌∷◌, [], length, IfErr, IfOk, List, OnOk, ℕ};
+ghost use Rattle.std.specs.Prelude.{◌≡◌, ◌≤◌, ◌∷◌, ◌++◌, [], All, length, map, IfErr, IfOk, List, OnOk, ℕ};
+ghost use Rattle.image80.specs.Case.{AreByAddress, IsCase};
 ghost use Rattle.stream80.specs.WholeText.{text_limit};
 ghost use Rattle.image80.specs.RegionsText.{regions_text};
 ghost use Rattle.image80_file.specs.ImageFile.{SpellsImage, without_regions};
-ghost use Rattle.plm80_console.specs.{Answer.GaveUp, Answer.Gives, Answer.GivesUp, Answer.IsGiven, Answer.prints, Journal.OnlyReports, Journal.and_read};
-ghost use Rattle.plm80_programs.specs.Suggest.{AdvisesRegions, AnswersAdvice, AreSuggestArguments, stack_words};
+ghost use Rattle.plm80_console.specs.{Answer.GaveUp, Answer.Gives, Answer.GivesUp, Answer.IsGiven, Answer.prints, Journal.OnlyReports, Journal.and_read, Journal.and_reported};
+ghost use Rattle.plm80_programs.specs.Suggest.{AdvisesRegions, AnswersAdvice, AreOptions, AreSuggestArguments, stack_words};
 ghost use Rattle.plm80_programs.specs.Status.{notes_status};
 
+use crate::case_texts::cases_of;
 use crate::cases::{kept_cases, notes_status, remark_notes};
+use crate::follow::words_of;
 use clap::ArgMatches;
-use image80::{Image, Range, Regions, write_regions};
+use image80::{Case, Image, Range, Regions, write_regions};
 use loader80::TEXT_LIMIT;
 use loader80_text::LengthFault;
 use plm80_console::{
@@ -21,7 +24,9 @@ use plm80_files::{IMAGE, image_of, regions_of};
 use std::alloc::{AllocError, Global};
 use thiserror::Error;
 use verify80_cases::Note;
-use verify80_suggest::{Advice, Setter, base_regions, suggest_regions};
+use verify80_suggest::{
+    Advice, Known, KnownFault, Setter, base_regions, find_fault, suggest_regions,
+};
 
 /// The arguments of the command `suggest`.
 #[derive(Drop)]
@@ -31,6 +36,10 @@ pub struct SuggestArguments<'a> {
     rom: Vec<&'a str>,
     /// Ranges of the RAM, each as `ffff:llll`: the first address and the length in hexadecimal.
     ram: Vec<&'a str>,
+    /// Addresses at which code begins, too, in hexadecimal.
+    entries: Vec<&'a str>,
+    /// Targets of PCHLs, each as `aaaa=tttt,tttt`: the address of a PCHL and its targets in hexadecimal.
+    cases: Vec<&'a str>,
 }
 
 const AFTER_HELP: &str = "\
@@ -45,9 +54,15 @@ an array is. FIRST:LENGTH is a first address and a number of bytes, as extract
 takes them by --first and --length: one to four hexadecimal digits each, in
 either case, without h or 0x. A range ends at or below FFFF.
 
+--entry names code to which nothing leads: an interrupt's handler, or a routine
+to which a pushed address or a monitor goes. --case names the targets of a PCHL
+that has no table, the PCHL's address before them; that is an entry, too. What
+is reached from there is CODE, and what it names DATA. All options may be given
+more than once.
+
 Then check the image. The status is 1 if a PCHL has no table.
 
-Example: plm80 suggest gauge.obj --ram-range 2000:0100
+Example: plm80 suggest clock.img --ram-range 2000:0100 --entry 0038
 
 Faults and what to do: docs/FAULTS.md (installed: share/doc/plm80), man plm80.";
 
@@ -56,6 +71,12 @@ const ROM: &str = "rom-range";
 
 /// The name of the option `--ram-range`, for ranges of RAM.
 const RAM: &str = "ram-range";
+
+/// The name of the option `--entry`, for addresses at which code begins.
+const ENTRY: &str = "entry";
+
+/// The name of the option `--case`, for targets of PCHLs.
+const CASE: &str = "case";
 
 /// The command `suggest`: its name, its help and its arguments.
 pub const SUGGEST: Syntax<'static> = Syntax {
@@ -74,6 +95,16 @@ pub const SUGGEST: Syntax<'static> = Syntax {
             kind: Kind::PathsAt("FIRST:LENGTH"),
             help: "Addresses that are data, but for code and stack",
         },
+        Argument {
+            name: ENTRY,
+            kind: Kind::PathsAt("ADDRESS"),
+            help: "Code begins here, too, as that of a handler",
+        },
+        Argument {
+            name: CASE,
+            kind: Kind::PathsAt("ADDRESS=TARGETS"),
+            help: "The PCHL at this address goes to these targets",
+        },
     ],
 };
 
@@ -86,6 +117,8 @@ impl<'a> SuggestArguments<'a> {
             image: argument_text(matches, "IMAGE"),
             rom: argument_values(alloc, matches, "rom-range")?,
             ram: argument_values(alloc, matches, "ram-range")?,
+            entries: argument_values(alloc, matches, "entry")?,
+            cases: argument_values(alloc, matches, "case")?,
         })
     }
 }
@@ -101,17 +134,129 @@ pub fn advise_file<C: Console>(
     ensures fault { IfErr result (λ _. GivesUp (AnswersAdvice arguments.now) (arguments.now.image.now ∷ [])
         (C.journal console.old) (C.journal console.new)) }
 {
-    let rom = ranges_of(console, ROM, &arguments.rom)?;
-    let ram = ranges_of(console, RAM, &arguments.ram)?;
+    let options = options_of(console, arguments)?;
+    let known = options.known();
     let mut image = bare_image(console, arguments.image)?;
-    explain_ranges(console, arguments, image.start, &rom);
-    match advise(console.alloc(), &mut image, &rom, &ram) {
+    explain_ranges(console, arguments, image.start, known.rom);
+    match advise(console.alloc(), &mut image, known) {
         Ok(printed) => {
-            explain_stack(console, image.regions.stack(), &ram);
+            explain_stack(console, image.regions.stack(), known.ram);
             print_advice(console, printed)
         }
-        Err(LengthFault::TooLong) => Err(console.report(LengthFault::TooLong)),
-        Err(LengthFault::Memory) => Err(console.report_memory()),
+        Err(fault) => Err(report_advice_fault(console, fault)),
+    }
+}
+
+/// What the options say of an image.
+#[derive(Drop)]
+struct Options {
+    rom: Vec<Range>,
+    ram: Vec<Range>,
+    entries: Vec<u16>,
+    cases: Vec<Case>,
+}
+
+impl Options {
+    /// The options as what is known of an image.
+    fn known(&self) -> Known<'_>
+        ensures rom { result.rom.now ≡ self.now.rom.items }
+        ensures ram { result.ram.now ≡ self.now.ram.items }
+        ensures entries { result.entries.now ≡ self.now.entries.items }
+        ensures cases { result.cases.now ≡ self.now.cases.items }
+    {
+        Known {
+            rom: &self.rom,
+            ram: &self.ram,
+            entries: &self.entries,
+            cases: &self.cases,
+        }
+    }
+}
+
+/// What the options in `arguments` say. `BadNumber` is reported of one that has another form, `CaseTwice` if two cases have one address.
+fn options_of<C: Console>(
+    console: &mut C,
+    arguments: &SuggestArguments<'_>,
+) -> Result<Options, Reported>
+    ensures options { IfOk result (λ options. AreOptions arguments.now options.rom.items options.ram.items options.entries.items options.cases.items) }
+    ensures unchanged { IfOk result (λ _. C.journal console.new ≡ C.journal console.old) }
+    ensures fault { IfErr result (λ _. C.journal console.new ≡ and_reported (C.journal console.old)) }
+{
+    let rom = ranges_of(console, ROM, &arguments.rom)?;
+    let ram = ranges_of(console, RAM, &arguments.ram)?;
+    let cases = cases_of(console, CASE, &arguments.cases)?;
+    let mut entries = words_of(console, ENTRY, &arguments.entries)?;
+    if add_addresses(&mut entries, &cases).is_err() {
+        return Err(console.report_memory());
+    }
+    Ok(Options {
+        rom,
+        ram,
+        entries,
+        cases,
+    })
+}
+
+/// Appends the address of each case.
+fn add_addresses(entries: &mut Vec<u16>, cases: &[Case]) -> Result<(), AllocError>
+    ensures { OnOk result (entries.new.items ≡ entries.old.items ++ map (λ case. case.at) cases.now) }
+{
+    for case in cases {
+        entries.push(case.at)?;
+    }
+    Ok(())
+}
+
+/// Why no regions are suggested.
+#[derive(Clone, Copy)]
+enum AdviceFault {
+    /// The text of the regions has more bytes than a text of regions may have.
+    TooLong,
+    /// What the options say of the image can't be.
+    Unfit(KnownFault),
+    /// Out of memory.
+    Memory,
+}
+
+impl From<LengthFault> for AdviceFault {
+    fn from(fault: LengthFault) -> AdviceFault {
+        match fault {
+            LengthFault::TooLong => AdviceFault::TooLong,
+            LengthFault::Memory => AdviceFault::Memory,
+        }
+    }
+}
+
+impl From<AllocError> for AdviceFault {
+    fn from(_error: AllocError) -> AdviceFault {
+        AdviceFault::Memory
+    }
+}
+
+/// Reports why no regions are suggested.
+fn report_advice_fault<C: Console>(console: &mut C, fault: AdviceFault) -> Reported
+    ensures { C.journal console.new ≡ and_reported (C.journal console.old) }
+{
+    match fault {
+        AdviceFault::TooLong => console.report(LengthFault::TooLong),
+        AdviceFault::Unfit(fault) => {
+            let reported = console.report(fault);
+            explain_unfit(console, fault);
+            reported
+        }
+        AdviceFault::Memory => console.report_memory(),
+    }
+}
+
+/// Says what the options that name an entry or a case must name.
+fn explain_unfit<C: Console>(console: &C, fault: KnownFault) {
+    match fault {
+        KnownFault::NoInstruction(_) => console.explain(format_args!(
+            "--{ENTRY} and the targets of --{CASE} name instructions, all of whose bytes are the image's, and in a --{ROM} if there is one"
+        )),
+        KnownFault::NotPchl(_) => console.explain(format_args!(
+            "--{CASE} names the address of a PCHL, E9, before its targets"
+        )),
     }
 }
 
@@ -177,20 +322,20 @@ fn print_advice<C: Console>(console: &mut C, printed: PrintedAdvice) -> Result<u
     Ok(status)
 }
 
-/// What `suggest` answers to an image, which gets the regions, and to ranges of ROM and RAM. `TooLong` if the text of the regions has more
-/// bytes than a text of regions may have.
-fn advise(
-    alloc: Global,
-    image: &mut Image,
-    rom: &[Range],
-    ram: &[Range],
-) -> Result<PrintedAdvice, LengthFault>
-    ensures { IfOk result (λ advised. AdvisesRegions image.old rom.now ram.now advised.advice advised.answer) }
+/// What `suggest` answers to an image, which gets the regions, and to what is known of it. The cases that are known must be by address.
+/// `TooLong` if the text of the regions has more bytes than a text of regions may have.
+fn advise(alloc: Global, image: &mut Image, known: Known<'_>) -> Result<PrintedAdvice, AdviceFault>
+    requires by_address { AreByAddress known.cases.now }
+    requires each { All IsCase known.cases.now }
+    ensures { IfOk result (λ advised. AdvisesRegions image.old known.entry advised.advice advised.answer) }
 {
-    image.regions = base_regions(alloc, image, rom)?;
+    image.regions = base_regions(alloc, image, known)?;
+    if let Some(fault) = find_fault(alloc, image, known)? {
+        return Err(AdviceFault::Unfit(fault));
+    }
     // Together its cases may have thousands of times as many targets as it has bytes.
-    kept_cases(alloc, image)?;
-    let advice = suggest_regions(alloc, image, rom, ram)?;
+    kept_cases(alloc, image, known.entries)?;
+    let advice = suggest_regions(alloc, image, known)?;
     let answer = print_regions(alloc, &image.regions, &advice.notes)?;
     Ok(PrintedAdvice { advice, answer })
 }

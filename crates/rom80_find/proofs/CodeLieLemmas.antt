@@ -24,7 +24,7 @@ has_fits dump address b value h =
     ap (λ (o : Option ℕ). option_map_or (λ d. is_half b.half b.addend d (value (number_of b.target) % 65536)) o false) h
     ∙ eq-eqb _ _ (ap (half_of b.half) (sym (reduced (value (number_of b.target)) b.addend)))
 
-from_fits : (o : Option ℕ) (b : CodeByte) (value : ℕ → ℕ)
+pub from_fits : (o : Option ℕ) (b : CodeByte) (value : ℕ → ℕ)
     → option_map_or (λ d. is_half b.half b.addend d (value (number_of b.target) % 65536)) o false ≡ true → o ≡ Some (byte_by value b)
 from_fits None b value h = elim (true≢false (sym h)) [ ]
 from_fits (Some d) b value h = ap (λ (x : ℕ). Some x) (eqb-true d _ h ∙ ap (half_of b.half) (reduced (value (number_of b.target)) b.addend))
@@ -41,7 +41,7 @@ each_fits dump address value (b ∷ code) n h =
     one true e = subst (λ (k : ℕ). fits dump address b (value k % 65536) ≡ true) (eqb-true _ _ e) (has_fits dump address b value h.0)
     one false e = refl
 
-known_fits : (address : ℕ) (value : ℕ → ℕ) (n : ℕ) → address < 65536 → value 0 ≡ 0 → value 1 ≡ address → is_known address n (value n % 65536) ≡ true
+pub known_fits : (address : ℕ) (value : ℕ → ℕ) (n : ℕ) → address < 65536 → value 0 ≡ 0 → value 1 ≡ address → is_known address n (value n % 65536) ≡ true
 known_fits address value zero lt z o = rw z refl
 known_fits address value (suc zero) lt z o = eq-eqb _ _ (omega arith)
 known_fits address value (suc (suc n)) lt z o = rw (ne_eqb (suc (suc n)) 0 (λ e. omega arith), ne_eqb (suc (suc n)) 1 (λ e. omega arith)) refl

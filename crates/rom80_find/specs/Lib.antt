@@ -8,12 +8,9 @@ pub mod Lines
 pub mod Found
 -- what the crate's own functions promise one another: no public contract cites these
 pub mod Candidates
-pub mod Lone
 pub mod Marks
-pub mod Planes
-pub mod Differences
-pub mod Carries
-pub mod Search
+pub mod Fixups
+pub mod Blocks
 pub mod Laws
 pub mod Patterns
 pub mod Prints

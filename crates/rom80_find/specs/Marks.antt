@@ -1,12 +1,11 @@
 -- The addresses at which a dump has each byte, as bits of words.
-use Rattle.std.specs.Prelude.{◌≡◌, ℕ, ◌+◌, ◌*◌, ◌/◌, ◌%◌, ◌<◌, ◌==◌, ◌&&◌, ◌||◌, nat_lt, Bool, true, false, if◌then◌else◌, Option, Some, None, List, length, slice_index_or}
+use Rattle.std.specs.Prelude.{◌≡◌, ℕ, ◌+◌, ◌*◌, ◌/◌, ◌%◌, ◌<◌, ◌==◌, ◌&&◌, ◌||◌, nat_lt, Bool, false, if◌then◌else◌, Option, Some, None, List, length, slice_index_or}
 use Rattle.std.specs.Int.{bit_at}
 use Rattle.std.specs.List.{list_all}
 use Rattle.std.specs.Option.{option_map_or}
 use Rattle.rom80_find.specs.Dump.{DumpValue, dump_byte}
 use Rattle.rom80_pattern.specs.declared.code_byte.CodeByte.{CodeByte}
 use Rattle.rom80_pattern.specs.CodeBytes.{is_plain}
-use Rattle.rom80_find.specs.Lone.{is_lone}
 
 -- the bit of a word with this number is set
 abbrev pub has_bit : (word index : ℕ) → Bool
@@ -39,19 +38,15 @@ abbrev pub is_mark : (found : Option ℕ) (at index : ℕ) → Bool
 is_mark None at index = false
 is_mark (Some byte) at index = (index == byte * 131072 + at || index == 33554432 + at) && nat_lt byte 256
 
--- the row in which a byte of code is looked up, if there is one: the byte's own outside fixups, the last one for a byte of a lone value
-abbrev pub row_of : (lone : List Bool) → CodeByte → Option ℕ
-row_of lone b = if is_plain b then Some (b.addend % 256) else if is_lone lone b then Some 256 else None
+-- the row in which a byte of code is looked up: its own outside fixups, otherwise that of any byte
+abbrev pub row_of : CodeByte → ℕ
+row_of b = if is_plain b then b.addend % 256 else 256
 
--- the row of the byte, if there is one, has the address at which the byte would be with CODE at this one
-abbrev pub passes : DumpValue → (lone : List Bool) (address : ℕ) → CodeByte → Bool
-passes dump lone address b = option_map_or (λ row. has_row dump row ((address + b.offset) % 65536)) (row_of lone b) true
+-- the row of the byte has the address at which the byte would be with CODE at this one
+abbrev pub passes : DumpValue → (address : ℕ) → CodeByte → Bool
+passes dump address b = has_row dump (row_of b) ((address + b.offset) % 65536)
 
--- a bit for each address, set if with CODE there all bytes of the code that have a row are in it
-pub record AreSieved (dump : DumpValue) (lone : List Bool) (code : List CodeByte) (alive : List ℕ) : Type 0 where
+-- a bit for each address, set if with CODE there all bytes of the code are in their rows
+pub record AreSieved (dump : DumpValue) (code : List CodeByte) (alive : List ℕ) : Type 0 where
   pub whole : length alive ≡ 1024
-  pub each : (address : ℕ) → address < 65536 → bit_in alive address ≡ list_all (passes dump lone address) code
-
--- the bits of the 64 addresses from this one on, in one word
-pub record IsSievedWord (dump : DumpValue) (lone : List Bool) (code : List CodeByte) (first word : ℕ) : Type 0 where
-  pub each : (i : ℕ) → i < 64 → has_bit word i ≡ list_all (passes dump lone (first + i)) code
+  pub each : (address : ℕ) → address < 65536 → bit_in alive address ≡ list_all (passes dump address) code

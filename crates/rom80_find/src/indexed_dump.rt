@@ -1,13 +1,13 @@
 //! A dump with the addresses of each byte, by which code is looked for in it.
 
-ghost use Rattle.std.specs.Prelude.{◌≡◌, ◌<◌, IfOk};
+ghost use Rattle.std.specs.Prelude.{◌≡◌, ◌+◌, ◌<◌, ◌≤◌, IfOk};
+ghost use Rattle.rom80_find.specs.Blocks.{AreFound};
 ghost use Rattle.rom80_find.specs.Dump.{dump_of};
 ghost use Rattle.rom80_find.specs.Marks.{IsRow};
-ghost use Rattle.rom80_find.specs.Planes.{ArePlanes};
 
+use crate::bytes::{BLOCK, block_from, bytes_of};
 use crate::dump::Dump;
 use crate::marks::{marks_of, row_of_marks};
-use crate::planes::planes_of;
 use std::alloc::{AllocError, Global};
 use std::marker::Model;
 
@@ -19,32 +19,28 @@ pub(crate) const ADDRESSES: usize = 65536;
 pub(crate) struct IndexedDump<'a> {
     dump: Dump<'a>,
     marks: Vec<u64>,
-    planes: Vec<u64>,
+    bytes: Vec<u8>,
 }
 
 impl<'a> Model for IndexedDump<'a> {
     ghost use Rattle.rom80_find.specs.Dump.{DumpValue, dump_of};
-    ghost use Rattle.rom80_find.specs.Planes.{IsIndexed};
+    ghost use Rattle.rom80_find.specs.Blocks.{IsIndexed};
 
     ghost Value = { DumpValue };
 
     ghost view = { λ d. dump_of d.dump };
 
-    ghost invariant = { λ d. IsIndexed (dump_of d.dump) d.marks.items d.planes.items };
+    ghost invariant = { λ d. IsIndexed (dump_of d.dump) d.marks.items d.bytes.items };
 }
 
 impl<'a> IndexedDump<'a> {
-    /// Lists the addresses of each byte of a dump, and of each bit of a byte.
+    /// Lists the addresses of each byte of a dump, and its bytes by their addresses.
     pub(crate) fn of(alloc: Global, dump: Dump<'a>) -> Result<IndexedDump<'a>, AllocError>
         ensures { IfOk result (λ indexed. indexed ≡ dump_of dump.entry) }
     {
         let marks = marks_of(alloc, dump)?;
-        let planes = planes_of(alloc, dump)?;
-        Ok(IndexedDump {
-            dump,
-            marks,
-            planes,
-        })
+        let bytes = bytes_of(alloc, dump)?;
+        Ok(IndexedDump { dump, marks, bytes })
     }
 
     /// Returns the dump, without its list.
@@ -62,10 +58,12 @@ impl<'a> IndexedDump<'a> {
         row_of_marks(&self.marks, row)
     }
 
-    /// Returns the nine rows of the bits of the dump's bytes.
-    pub(crate) fn planes(&self) -> &[u64]
-        ensures { ArePlanes self.now 1179648 result.now }
+    /// Returns the bytes of the dump at the addresses from `first` on, as many as are compared at once; 0000 follows FFFF. A byte that
+    /// the dump doesn't have can be any.
+    pub(crate) fn block_from(&self, first: usize) -> &[u8; BLOCK]
+        requires { first + 4096 ≤ 131072 }
+        ensures { AreFound self.now first result.now }
     {
-        &self.planes
+        block_from(&self.bytes, first)
     }
 }

@@ -12,34 +12,26 @@
 //! | Part | What it does |
 //! |---|---|
 //! | `indexed_dump` | a dump with what is looked up in it for each module |
-//! | `reduced_code`, `differences` | leave out bytes that follow from others by a difference; compare the differences |
-//! | `carried_code`, `carries` | the same for high bytes whose difference a low byte chooses |
+//! | `sieve` | compares a module's bytes outside fixups at 64 addresses at once |
+//! | `fitting`, `values` | finds a word for each target at 4,096 addresses at once, and compares the bytes in fixups with it |
 //! | `listing`, `words` | find the addresses at which a pattern lies in a dump, and the words of its targets there |
 //! | `found` | says the same of modules, by LOCATE's own definition of their bytes |
 //! | `lines` | prints it |
 #![tactic(auto)]
 
+mod bytes;
 mod candidates;
-mod carried_code;
-mod carries;
-mod carry;
-mod difference;
-mod difference_row;
-mod differences;
 mod dump;
-mod fixup_bytes;
+mod fitting;
+mod fixups;
 mod found;
 mod indexed_dump;
 mod lines;
 mod listing;
-mod lone;
 mod marks;
-mod pairs;
-mod planes;
-mod reduced_code;
-mod search;
 mod sieve;
 mod solving;
+mod values;
 mod words;
 
 pub use dump::Dump;

@@ -1,35 +1,26 @@
 //! The addresses at which a module's code lies in a dump.
 
-ghost use Rattle.std.specs.Prelude.{◌≡◌, ◌<◌, ◌≤◌, ◌+◌, ◌++◌, Bool, List, length, IfOk, OnOk};
+ghost use Rattle.std.specs.Prelude.{◌≡◌, ℕ, ◌<◌, ◌≤◌, ◌+◌, ◌*◌, ◌++◌, ◌==◌, ◌&&◌, List, length, slice_index_or, true, false, IfOk, OnOk};
 ghost use Rattle.rom80_find.specs.Dump.{DumpValue};
 ghost use Rattle.rom80_pattern.specs.declared.code_byte.CodeByte.{CodeByte};
-ghost use Rattle.rom80_find.specs.Lone.{AreLone};
-ghost use Rattle.rom80_find.specs.Marks.{IsSievedWord};
+ghost use Rattle.rom80_find.specs.Blocks.{AreFitted, IsFitted};
+ghost use Rattle.rom80_find.specs.Fixups.{AreFixupsOf, AreSorted, are_there};
+ghost use Rattle.rom80_find.specs.Marks.{AreSieved, bit_in, has_bit};
 ghost use Rattle.rom80_find.specs.Places.{AreBelow, ArePlaces, place_if};
-ghost use Rattle.rom80_find.specs.Search.{SearchValue, search_of};
 
-use crate::carried_code::CarriedCode;
-use crate::carries::{has_carries, keep_with_carries};
-use crate::differences::{has_differences, keep_by_rows};
-use crate::indexed_dump::IndexedDump;
-use crate::lone::lone_values;
-use crate::reduced_code::ReducedCode;
-use crate::search::Search;
-use crate::sieve::{WORDS, sieve};
+use crate::bytes::BLOCK;
+use crate::fitting::fit_fixups;
+use crate::fixups::fixups_of;
+use crate::indexed_dump::{ADDRESSES, IndexedDump};
+use crate::sieve::sieve;
 use rom80_pattern::{CodeByte, number_of};
 use std::alloc::{AllocError, Global};
 
-/// At how many places about as much time goes into comparing a difference as into making the row of all addresses at which a dump has it.
-/// If there are fewer places, no row is made.
-const FEW_PLACES: usize = 2_048;
-
 /// Returns the addresses at which a module's code lies in a dump, in ascending order: those for which there are values of its targets with
-/// which the dump has all its bytes. The targets have numbers below `count`.
+/// which the dump has all its bytes.
 ///
-/// The time grows with the number of bytes of the code times 1,024, in steps of 64 addresses at once, and with the number of
-/// different distances and numbers by which bytes give others, times some eight as many such steps. At each address at which the bytes
-/// outside fixups fit, it grows with the number of high bytes, of values of which the code has no low byte, whose addends differ in the low
-/// byte.
+/// The bytes of the code outside fixups are compared at 64 addresses at once, and at all until none is left. Those in fixups are compared
+/// at each 4,096 addresses of which one is left, some sixteen at once.
 ///
 /// # Errors
 /// `AllocError` only if memory ran out.
@@ -37,113 +28,124 @@ pub(crate) fn places(
     alloc: Global,
     dump: &IndexedDump<'_>,
     code: &[CodeByte],
-    count: usize,
 ) -> Result<Vec<u16>, AllocError>
-    requires two { 2 ≤ count }
-    requires below { AreBelow count code.now }
     ensures { IfOk result (λ places. ArePlaces dump.now code.now 65536 places.items) }
 {
-    let mut reduced = ReducedCode::of(alloc, code, count)?;
-    let mut places = places_by_carries(alloc, dump, &reduced.bytes, count)?;
-    if reduced.differences.is_empty() {
-        return Ok(places);
-    }
-    if places.len() < FEW_PLACES {
-        let dump = dump.dump();
-        places.retain(|place| has_differences(dump, &reduced.differences, *place));
-        return Ok(places);
-    }
-    reduced
-        .differences
-        .sort_by_key(|difference| (difference.distance, difference.more))?;
-    let kept = keep_by_rows(alloc, dump, &reduced.differences, &places)?;
-    Ok(kept)
+    let alive = sieve(alloc, dump, code)?;
+    let fixups = fixups_of(alloc, code)?;
+    fitting_places(alloc, dump, &alive, &fixups)
 }
 
-/// Returns the addresses at which a module's code lies in a dump, in ascending order, found from each of its bytes but for high ones that
-/// others give by carries. Its bytes are sorted by target and half, and the targets have numbers below `count`.
-fn places_by_carries(
+/// Returns the addresses whose bits in `alive` are set and at which there are values of targets with which the dump has all `fixups` with
+/// CODE there, in ascending order.
+fn fitting_places(
     alloc: Global,
     dump: &IndexedDump<'_>,
-    code: &[CodeByte],
-    count: usize,
+    alive: &[u64],
+    fixups: &[CodeByte],
 ) -> Result<Vec<u16>, AllocError>
-    requires two { 2 ≤ count }
-    requires below { AreBelow count code.now }
-    ensures { IfOk result (λ places. ArePlaces dump.now code.now 65536 places.items) }
+    requires whole { length alive.now ≡ 1024 }
+    requires sorted { AreSorted fixups.now }
+    ensures { IfOk result (λ places. (code : List CodeByte) → AreSieved dump.now code alive.now → AreFixupsOf code fixups.now
+        → ArePlaces dump.now code 65536 places.items) }
 {
-    let carried = CarriedCode::of(alloc, code, count)?;
-    let mut places = places_by_search(alloc, dump, &carried.bytes, count)?;
-    if places.len() < FEW_PLACES {
-        let dump = dump.dump();
-        places.retain(|place| has_carries(dump, &carried.carries, *place));
-        return Ok(places);
-    }
-    let kept = keep_with_carries(alloc, dump, &carried.carries, &places)?;
-    Ok(kept)
-}
-
-/// Returns the addresses at which a module's code lies in a dump, in ascending order, found from each of its bytes rather than from
-/// differences. The targets have numbers below `count`.
-fn places_by_search(
-    alloc: Global,
-    dump: &IndexedDump<'_>,
-    code: &[CodeByte],
-    count: usize,
-) -> Result<Vec<u16>, AllocError>
-    requires two { 2 ≤ count }
-    requires below { AreBelow count code.now }
-    ensures { IfOk result (λ places. ArePlaces dump.now code.now 65536 places.items) }
-{
-    let lone = lone_values(alloc, code, count)?;
-    let alive = sieve(alloc, dump, code, &lone)?;
-    let mut search = Search::of(alloc, dump, code, &lone)?;
     let mut places = Vec::new(alloc);
-    for word in 0..WORDS {
-        push_places_of_word(&mut search, alive[word], (64 * word) as u16, &mut places)?;
+    for block in 0..ADDRESSES / BLOCK {
+        let wrong = wrong_addresses(dump, alive, fixups, block);
+        push_places_of_block(alive, &wrong, block, &mut places)?;
     }
     Ok(places)
 }
 
-/// Appends those of the 64 addresses from `first` on at which the code of a search lies. `alive` has a bit for each, set if the dump has
-/// the bytes that the search leaves out.
-fn push_places_of_word(
-    search: &mut Search<'_>,
-    alive: u64,
-    first: u16,
+/// Returns a number for each address of a block: 0 if there are values of targets with which the dump has all `fixups` with CODE there.
+/// `alive` has a bit for each address, set if the dump has any bytes in their place; where it is clear, the number can be any.
+fn wrong_addresses(
+    dump: &IndexedDump<'_>,
+    alive: &[u64],
+    fixups: &[CodeByte],
+    block: usize,
+) -> [u8; BLOCK]
+    requires whole { length alive.now ≡ 1024 }
+    requires sorted { AreSorted fixups.now }
+    requires block { block < 16 }
+    ensures whole { length result ≡ 4096 }
+    ensures each { (k : ℕ) → k < 4096 → bit_in alive.now (4096 * block + k) ≡ true → are_there dump.now (4096 * block + k) fixups.now ≡ true
+        → IsFitted dump.now fixups.now (4096 * block + k) 0 (slice_index_or result k 0) }
+{
+    let mut wrong = [0; BLOCK];
+    if is_any_left(alive, block) {
+        fit_fixups(&mut wrong, dump, BLOCK * block, fixups);
+    }
+    wrong
+}
+
+/// Whether the bit of any address of a block is set.
+fn is_any_left(alive: &[u64], block: usize) -> bool
+    requires whole { length alive.now ≡ 1024 }
+    requires block { block < 16 }
+    ensures { result ≡ false → (k : ℕ) → k < 4096 → bit_in alive.now (4096 * block + k) ≡ false }
+{
+    for word in 0..BLOCK / 64 {
+        if alive[64 * block + word] != 0 {
+            return true;
+        }
+    }
+    false
+}
+
+/// Appends the addresses of a block whose bits in `alive` are set and whose numbers in `wrong` are 0.
+fn push_places_of_block(
+    alive: &[u64],
+    wrong: &[u8; BLOCK],
+    block: usize,
     places: &mut Vec<u16>,
 ) -> Result<(), AllocError>
-    requires few { first + 64 ≤ 65536 }
-    ensures same { search.new ≡ search.old }
-    ensures places { OnOk result ((dump : DumpValue) (lone : List Bool) (code : List CodeByte) → search.old ≡ search_of dump lone code
-        → IsSievedWord dump lone code first alive → AreLone code lone → ArePlaces dump code first places.old.items
-        → ArePlaces dump code (first + 64) places.new.items) }
+    requires whole { length alive.now ≡ 1024 }
+    requires block { block < 16 }
+    ensures { OnOk result ((dump : DumpValue) (code fixups : List CodeByte)
+        → AreFitted dump code fixups (4096 * block) 4096 (λ k. bit_in alive.now (4096 * block + k)) wrong.now
+        → ArePlaces dump code (4096 * block) places.old.items → ArePlaces dump code (4096 * (block + 1)) places.new.items) }
 {
-    if alive == 0 {
-        return Ok(());
-    }
-    if search.has_no_bytes() {
-        return push_alive(alive, first, places);
-    }
-    for index in 0..64u16 {
-        let lies = search.lies(first + index, alive >> u32::from(index) & 1 == 1);
-        push_place(places, first + index, lies)?;
+    for word in 0..BLOCK / 64 {
+        let marks = &wrong[64 * word..64 * word + 64];
+        push_places_of_word(
+            alive[64 * block + word],
+            marks,
+            BLOCK * block + 64 * word,
+            places,
+        )?;
     }
     Ok(())
 }
 
-/// Appends those of the 64 addresses from `first` on whose bit in `alive` is set: a search that has no byte to look for asks no more.
-fn push_alive(alive: u64, first: u16, places: &mut Vec<u16>) -> Result<(), AllocError>
+/// Appends those of the 64 addresses from `first` on whose bits in `alive` are set and whose numbers in `wrong` are 0.
+fn push_places_of_word(
+    alive: u64,
+    wrong: &[u8],
+    first: usize,
+    places: &mut Vec<u16>,
+) -> Result<(), AllocError>
+    requires whole { length wrong.now ≡ 64 }
     requires few { first + 64 ≤ 65536 }
-    ensures { OnOk result ((search : SearchValue) (dump : DumpValue) (lone : List Bool) (code : List CodeByte) → search ≡ search_of dump lone code
-        → length search.known ≡ 0 → length search.free ≡ 0 → IsSievedWord dump lone code first alive → AreLone code lone
+    ensures { OnOk result ((dump : DumpValue) (code fixups : List CodeByte) → AreFitted dump code fixups first 64 (has_bit alive) wrong.now
         → ArePlaces dump code first places.old.items → ArePlaces dump code (first + 64) places.new.items) }
 {
-    for index in 0..64u16 {
-        let is_alive = alive >> u32::from(index) & 1 == 1;
-        push_place(places, first + index, is_alive)?;
+    if alive == 0 {
+        return Ok(());
+    }
+    for index in 0..64 {
+        let lies = is_place(alive, index, wrong[index]);
+        push_place(places, (first + index) as u16, lies)?;
     }
     Ok(())
+}
+
+/// Whether the bit with this number in `alive` is set and the number in `wrong` is 0.
+fn is_place(alive: u64, index: usize, wrong: u8) -> bool
+    requires { index < 64 }
+    ensures { result ≡ (has_bit alive index && wrong == 0) }
+{
+    (alive >> index as u32 & 1 == 1) && wrong == 0
 }
 
 /// Appends an address to a list, if `lies` is true.

@@ -55,7 +55,7 @@ fn mark_address(marks: &mut [u64], found: Option<u8>, at: usize)
 }
 
 /// Sets the bit with a number in a list of 64-bit words; the lowest bit of the first word is number 0.
-pub(crate) fn set_bit(words: &mut [u64], bit: usize)
+fn set_bit(words: &mut [u64], bit: usize)
     requires { bit < 64 * length words.old }
     ensures whole { length words.new ≡ length words.old }
     ensures each { (k : ℕ) → bit_in words.new k ≡ (bit_in words.old k || k == bit) }

@@ -1,11 +1,10 @@
 //! The values that a module's targets may have if its code lies at an address.
 
-ghost use Rattle.std.specs.Prelude.{◌≡◌, ◌≢◌, ℕ, ◌<◌, ◌≤◌, ◌&&◌, ◌||◌, ◌==◌, not, true, false, [], length, IfSome, IfNone, slice_index_or, take};
+ghost use Rattle.std.specs.Prelude.{◌≡◌, ℕ, ◌<◌, ◌≤◌, ◌&&◌, true, false, [], length, IfSome, IfNone};
 ghost use Rattle.rom80_find.specs.Dump.{DumpValue, dump_of};
 ghost use Rattle.rom80_pattern.specs.CodeBytes.{number_of};
-ghost use Rattle.rom80_find.specs.declared.candidates.Candidates.TheVariants.{Any};
 ghost use Rattle.rom80_find.specs.Candidates.{is_candidate};
-ghost use Rattle.rom80_find.specs.Places.{Describes, IsClearBut, LiesAt, HasNone, AreBelow, in_table, fits, fits_for};
+ghost use Rattle.rom80_find.specs.Places.{Describes, IsClearBut, HasNone, AreBelow, in_table, fits, fits_for};
 
 use crate::candidates::Candidates;
 use crate::dump::Dump;
@@ -26,7 +25,6 @@ pub(crate) fn solve(
     ensures within { result ≤ length code.now }
     ensures yes { result ≡ length code.now → Describes (dump_of dump.entry) code.now address table.new }
     ensures no { result < length code.now → HasNone (dump_of dump.entry) code.now address }
-    ensures clear { IsClearBut (take result code.now) table.new }
 {
     set_known_values(address, table);
     for (index, byte) in code.iter().enumerate() {
@@ -37,62 +35,12 @@ pub(crate) fn solve(
     code.len()
 }
 
-/// Whether there are values of targets with which the dump has all these bytes if CODE begins at `address`. In the table, which is scratch
-/// space, every value may be every word before and after the call.
-pub(crate) fn lies_at(
-    dump: Dump<'_>,
-    address: u16,
-    code: &[CodeByte],
-    table: &mut Vec<Candidates>,
-) -> bool
-    requires two { 2 ≤ length table.old.items }
-    requires below { AreBelow (length table.old.items) code.now }
-    requires clear { IsClearBut [] table.old.items }
-    ensures whole { length table.new.items ≡ length table.old.items }
-    ensures yes { result ≡ true → LiesAt (dump_of dump.entry) code.now address }
-    ensures no { result ≡ false → LiesAt (dump_of dump.entry) code.now address → ⊥ }
-    ensures clear { IsClearBut [] table.new.items }
-{
-    if code.is_empty() {
-        return true;
-    }
-    if !reaches_last_byte(dump, address, code) {
-        return false;
-    }
-    let fitting = solve(dump, address, code, table);
-    clear_values(&code[..fitting], table);
-    fitting == code.len()
-}
-
-/// Whether the dump has a byte where the last byte of the code would lie if CODE began at `address`; true if the code has no byte.
-fn reaches_last_byte(dump: Dump<'_>, address: u16, code: &[CodeByte]) -> bool
-    ensures { result ≡ false → LiesAt (dump_of dump.entry) code.now address → ⊥ }
-{
-    match code.last() {
-        Some(last) => dump.byte_at(address.wrapping_add(last.offset)).is_some(),
-        None => true,
-    }
-}
-
-/// Lets the values of these bytes' targets be every word again in a table of candidates.
-fn clear_values(code: &[CodeByte], table: &mut [Candidates])
-    requires below { AreBelow (length table.old) code.now }
-    requires others { IsClearBut code.now table.old }
-    ensures whole { length table.new ≡ length table.old }
-    ensures clear { IsClearBut [] table.new }
-{
-    for byte in code {
-        table[number_of(byte.target)] = Candidates::Any;
-    }
-}
-
 /// Sets in a table of candidates the two values that are known if CODE begins at `address`: absolute 0 is 0, and CODE's base is the
 /// address.
 fn set_known_values(address: u16, table: &mut [Candidates])
     requires two { 2 ≤ length table.old }
     requires clear { IsClearBut [] table.old }
     ensures whole { length table.new ≡ length table.old }
-    ensures clear { IsClearBut [] table.new }
     ensures known { (dump : DumpValue) → Describes dump [] address table.new }
 {
     table[0] = Candidates::Window(0, 0);
@@ -108,7 +56,6 @@ fn narrow_to_byte(dump: Dump<'_>, address: u16, byte: CodeByte, table: &mut [Can
         in_table table.new number word ≡ (in_table table.old number word && fits_for (dump_of dump.entry) address number word byte) }
     ensures no { result ≡ false → (word : ℕ) → word < 65536 →
         (in_table table.old (number_of byte.target) word && fits (dump_of dump.entry) address byte word) ≡ false }
-    ensures others { (n : ℕ) → n ≢ number_of byte.target → slice_index_or table.new n Any ≡ slice_index_or table.old n Any }
     ensures unchanged { result ≡ false → table.new ≡ table.old }
 {
     let number = number_of(byte.target);

@@ -1,9 +1,9 @@
 -- A walk over the addresses that a program may reach.
 use Rattle.std.proofs.Common.{◌≡◌, ◌<◌, ◌≤◌, ◌+◌, ◌⊎◌, inl, inr, ℕ, zero, suc, Bool, true, false, List, [], ◌∷◌, ◌++◌, All, Contains, length, get_or, set, refl, sym, ◌∙◌, ap, subst, true≢false, arith}
-use Rattle.std.specs.Prelude.{nat_lt}
+use Rattle.std.specs.Prelude.{nat_lt, take}
 use Rattle.std.proofs.lemmas.Bool.{cases_eq}
 use Rattle.std.proofs.lemmas.Bool.Decides.{nat_tests}
-use Rattle.std.proofs.lemmas.List.{get_or-append-add, get_or-set_other, get_or-set_same, get_or_append_left, get_or_default, get_or_past, length-append, length-set}
+use Rattle.std.proofs.lemmas.List.{get_or-append-add, get_or-set_other, get_or-set_same, get_or_append_left, get_or_default, get_or_past, length-append, length-set, take_more}
 use Rattle.std.proofs.lemmas.List.Elements.{All-append, All-nil, All-push, Contains-append_left, Contains-get_or, Contains-push}
 use Rattle.std.proofs.Math.Seq.{get_or-append_seam}
 use Rattle.std.specs.Prelude.{Ok, Err}
@@ -254,25 +254,31 @@ pub marks_kept : (image : Located) (m : List Bool) (o : List ℕ) (at : ℕ) (m'
 marks_kept image m o at m' o' roots done more x is =
     ((done_exact image (roots ++ at ∷ []) m' o' more).exact x).1 (more_roots image roots at x (((done_exact image roots m o done).exact x).0 is))
 
--- a walk from the start, and from the targets of tables too
-pub explored_start : (image : Located) (m : List Bool) (o : List ℕ) (at : ℕ) → at ≡ image.start → IsDone image (at ∷ []) m o → IsExplored image m o
-explored_start image m o at is done = record {
-  roots = at ∷ [];
-  each = all_one (IsRoot image m) at (inl is);
-  start = (0, omega arith, is);
+-- an entry more
+pub entered_more : (image : Located) (entries : List ℕ) (i d at : ℕ) (m : List Bool) (o : List ℕ) → i < length entries → at ≡ get_or entries i d →
+    IsDone image ((image.start ∷ take i entries) ++ at ∷ []) m o → IsDone image (image.start ∷ take (i + 1) entries) m o
+entered_more image entries i d at m o inside is done =
+    subst (λ roots. IsDone image (image.start ∷ roots) m o) (ap (λ a. take i entries ++ a ∷ []) is ∙ sym (take_more entries i d inside)) done
+
+-- a walk from the start, from further entries, and from the targets of tables too
+pub explored_start : (image : Located) (entries : List ℕ) (m : List Bool) (o : List ℕ) → IsDone image (image.start ∷ entries) m o → IsExplored image entries m o
+explored_start image entries m o done = record {
+  roots = image.start ∷ entries;
+  each = λ k d inside. inl (Contains-get_or (image.start ∷ entries) k d inside);
+  begun = λ k d inside. Contains-get_or (image.start ∷ entries) k d inside;
   done = done;
 }
 
-module _ (image : Located) (m : List Bool) (o : List ℕ) (at : ℕ) (m' : List Bool) (o' : List ℕ) (before : IsExplored image m o)
+module _ (image : Located) (entries : List ℕ) (m : List Bool) (o : List ℕ) (at : ℕ) (m' : List Bool) (o' : List ℕ) (before : IsExplored image entries m o)
     (more : (roots : List ℕ) → IsDone image roots m o → IsDone image (roots ++ at ∷ []) m' o') where
   still : (x : ℕ) → IsMarked m x → IsMarked m' x
   still = marks_kept image m o at m' o' before.roots before.done (more before.roots before.done)
 
-  pub explored_more : IsTableTarget image m at → IsExplored image m' o'
+  pub explored_more : IsTableTarget image m at → IsExplored image entries m' o'
   explored_more is = record {
     roots = before.roots ++ at ∷ [];
-    each = All-push (IsRoot image m') before.roots at (roots_kept image m m' still before.roots before.each) (inr (target_kept image m m' still at is));
-    start = Contains-append_left before.roots (at ∷ []) image.start before.start;
+    each = All-push (IsRoot image entries m') before.roots at (roots_kept image m m' still entries before.roots before.each) (inr (target_kept image m m' still at is));
+    begun = λ k d inside. Contains-append_left before.roots (at ∷ []) (get_or (image.start ∷ entries) k d) (before.begun k d inside);
     done = more before.roots before.done;
   }
 
@@ -280,11 +286,11 @@ module _ (image : Located) (m : List Bool) (o : List ℕ) (at : ℕ) (m' : List 
   rests_more rests all = rests_kept image m m' still rests all
 
 -- what is found by such a walk
-pub searched : (image : Located) (m taken : List Bool) (o : List ℕ) → IsExplored image m o → AreMarks (is_covered image m) 65536 taken → IsSearched image m taken
-searched image m taken o explored covered = record {
+pub searched : (image : Located) (entries : List ℕ) (m taken : List Bool) (o : List ℕ) → IsExplored image entries m o → AreMarks (is_covered image m) 65536 taken → IsSearched image entries m taken
+searched image entries m taken o explored covered = record {
   roots = explored.roots;
   each = explored.each;
-  start = explored.start;
+  begun = explored.begun;
   exact = done_exact image explored.roots m o explored.done;
   covered = covered;
 }

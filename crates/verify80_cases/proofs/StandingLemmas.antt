@@ -45,12 +45,12 @@ module _ (image : Located) (m m' : List Bool) (kept : (at : ℕ) → IsMarked m 
     goal = is.goal;
   }
 
-  root_kept : (root : ℕ) → IsRoot image m root → IsRoot image m' root
-  root_kept root (inl is) = inl is
-  root_kept root (inr is) = inr (target_kept root is)
+  root_kept : (entries : List ℕ) (root : ℕ) → IsRoot image entries m root → IsRoot image entries m' root
+  root_kept entries root (inl is) = inl is
+  root_kept entries root (inr is) = inr (target_kept root is)
 
-  pub roots_kept : (roots : List ℕ) → All (IsRoot image m) roots → All (IsRoot image m') roots
-  roots_kept roots all = λ k d inside. root_kept (get_or roots k d) (all k d inside)
+  pub roots_kept : (entries roots : List ℕ) → All (IsRoot image entries m) roots → All (IsRoot image entries m') roots
+  roots_kept entries roots all = λ k d inside. root_kept entries (get_or roots k d) (all k d inside)
 
   rest_kept : (rest : EntryRun) → IsRest image m rest → IsRest image m' rest
   rest_kept rest is = record {

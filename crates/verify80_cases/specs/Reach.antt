@@ -80,9 +80,9 @@ pub record AreReachedFrom (image : Located) (roots : List ℕ) (marks : List Boo
   pub size : length marks ≡ 65536
   pub exact : (at : ℕ) → IsMarked marks at ↔ MayReach image roots at
 
--- exactly the addresses are marked that the program may reach from its start
-abbrev pub AreReached : Located → List Bool → Type 0
-AreReached image marks = AreReachedFrom image (image.start ∷ []) marks
+-- exactly the addresses are marked that the program may reach from its start and from further entries
+abbrev pub AreReached : Located → (entries : List ℕ) → List Bool → Type 0
+AreReached image entries marks = AreReachedFrom image (image.start ∷ entries) marks
 
 -- a walk so far: what is marked may be reached, and is what is listed
 pub record IsWalk (image : Located) (roots : List ℕ) (marks : List Bool) (order : List ℕ) : Type 0 where

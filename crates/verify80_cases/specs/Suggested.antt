@@ -1,6 +1,6 @@
 -- The CASE line that a table suggests for a PCHL. (PL/M-80 compiles DO CASE to a jump through a table of words, low byte first; 8080
 -- Assembly Language Programming Manual, PCHL and JMP. Where a table ends is this project's own.)
-use Rattle.std.specs.Prelude.{◌≡◌, ◌⊎◌, ℕ, ◌+◌, ◌*◌, ◌<◌, ◌==◌, ◌≤◌, ◌↔◌, ◌&&◌, ◌||◌, Bool, true, false, not, nat_le, nat_lt, List, All, AllPairs, Contains, IfSome, Option, None, Some, Result, Ok, Err, length, map, slice_index, is_none, if◌then◌else◌}
+use Rattle.std.specs.Prelude.{◌≡◌, ◌⊎◌, ℕ, ◌+◌, ◌*◌, ◌<◌, ◌==◌, ◌≤◌, ◌↔◌, ◌&&◌, ◌||◌, Bool, true, false, not, nat_le, nat_lt, List, ◌∷◌, All, AllPairs, Contains, IfSome, Option, None, Some, Result, Ok, Err, length, map, slice_index, is_none, if◌then◌else◌}
 use Rattle.std.specs.List.{filter_map, range_with_len}
 use Rattle.std.specs.Result.{is_ok}
 use Rattle.decode80.specs.declared.fetching.Fetched.{Fetched}
@@ -173,15 +173,15 @@ pub record IsTableTarget (image : Located) (reached : List Bool) (target : ℕ) 
   pub entries : (k : ℕ) → k ≤ number → could_be_entry kind image (table + stride kind * k) ≡ true
   pub goal : target ≡ goal_of kind (memory_of image.chunks) (table + stride kind * number)
 
--- where an image is gone through from: its start, and the targets of its tables
-abbrev pub IsRoot : Located → (reached : List Bool) → ℕ → Type 0
-IsRoot image reached root = (root ≡ image.start) ⊎ IsTableTarget image reached root
+-- where an image is gone through from: its start, further entries, and the targets of its tables
+abbrev pub IsRoot : Located → (entries : List ℕ) → (reached : List Bool) → ℕ → Type 0
+IsRoot image entries reached root = Contains (image.start ∷ entries) root ⊎ IsTableTarget image reached root
 
--- a walk that has reached its end, from the start and from the targets of tables
-pub record IsExplored (image : Located) (marks : List Bool) (order : List ℕ) : Type 0 where
+-- a walk that has reached its end, from the start, from further entries and from the targets of tables
+pub record IsExplored (image : Located) (entries : List ℕ) (marks : List Bool) (order : List ℕ) : Type 0 where
   pub roots : List ℕ
-  pub each : All (IsRoot image marks) roots
-  pub start : Contains roots image.start
+  pub each : All (IsRoot image entries marks) roots
+  pub begun : All (Contains roots) (image.start ∷ entries)
   pub done : IsDone image roots marks order
 
 -- for each address whether it is reached, and whether it is in an instruction that is
@@ -189,12 +189,12 @@ pub record Searched : Type 0 where
   pub reached : List Bool
   pub taken : List Bool
 
--- what is found of an image that is gone through from its start and from the targets of its tables: the addresses that are reached,
--- and the bytes of the instructions there
-pub record IsSearched (image : Located) (reached taken : List Bool) : Type 0 where
+-- what is found of an image that is gone through from its start, from further entries and from the targets of its tables: the addresses
+-- that are reached, and the bytes of the instructions there
+pub record IsSearched (image : Located) (entries : List ℕ) (reached taken : List Bool) : Type 0 where
   pub roots : List ℕ
-  pub each : All (IsRoot image reached) roots
-  pub start : Contains roots image.start
+  pub each : All (IsRoot image entries reached) roots
+  pub begun : All (Contains roots) (image.start ∷ entries)
   pub exact : AreReachedFrom image roots reached
   pub covered : AreMarks (is_covered image reached) 65536 taken
 
@@ -244,10 +244,10 @@ pub record AreNotesBelow (image : Located) (reached taken : List Bool) (limit : 
   pub tableless_are : tableless ≡ filter_map (λ (finding : Finding). tableless_of finding.at finding.found) findings
   pub notes_are : notes ≡ filter_map (λ (finding : Finding). finding.note) findings
 
--- what is suggested of an image
-pub record AreSuggested (image : Located) (cases : List DeclaredCase) (tableless : List ℕ) (notes : List Note) : Type 0 where
+-- what is suggested of an image that is gone through from its start and from further entries
+pub record AreSuggested (image : Located) (entries : List ℕ) (cases : List DeclaredCase) (tableless : List ℕ) (notes : List Note) : Type 0 where
   pub reached : List Bool
   pub taken : List Bool
-  pub searched : IsSearched image reached taken
+  pub searched : IsSearched image entries reached taken
   pub suggested : AreSuggestedBelow image reached taken 65536 cases tableless
   pub are_notes : AreNotesBelow image reached taken 65536 cases tableless notes

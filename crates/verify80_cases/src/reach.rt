@@ -13,18 +13,21 @@ use verify80::ImageCode;
 /// How many addresses there are.
 const ADDRESSES: usize = 65_536;
 
-/// For each address whether the program may reach it from its start: along each branch, after each
+/// For each address whether the program may reach it from its start or from one of `entries`: along each branch, after each
 /// call whether it returns or not, and from a PCHL to the targets that the regions declare for it.
 /// The search goes on only from addresses with an instruction whose bytes are all code; an address without
 /// one may be marked, and leads nowhere.
 ///
 /// # Errors
 /// `AllocError` only if memory runs out.
-pub fn find_reachable(alloc: Global, code: &ImageCode<'_>) -> Result<Vec<bool>, AllocError>
-    ensures { IfOk result (λ marks. AreReached code.now marks.items) }
+pub fn find_reachable(
+    alloc: Global,
+    code: &ImageCode<'_>,
+    entries: &[u16],
+) -> Result<Vec<bool>, AllocError>
+    ensures { IfOk result (λ marks. AreReached code.now entries.now marks.items) }
 {
-    let mut visited = Visited::new(alloc)?;
-    visited.explore(code, code.start())?;
+    let visited = Visited::of(alloc, code, entries)?;
     Ok(visited.marks)
 }
 
@@ -42,7 +45,7 @@ impl Visited {
     ghost use Rattle.image80.specs.Image.{Located};
 
     /// No address is reached. `AllocError` if memory runs out.
-    pub(crate) fn new(alloc: Global) -> Result<Visited, AllocError>
+    fn new(alloc: Global) -> Result<Visited, AllocError>
         ensures { IfOk result (λ visited. (image : Located) → IsDone image [] visited.marks.items visited.order.items) }
     {
         Ok(Visited {
@@ -52,6 +55,22 @@ impl Visited {
     }
 
     ghost use Rattle.std.specs.Prelude.{◌∷◌, ◌++◌};
+
+    /// The program's start, these entries, and all that the program may reach from there. `AllocError` if memory runs out.
+    pub(crate) fn of(
+        alloc: Global,
+        code: &ImageCode<'_>,
+        entries: &[u16],
+    ) -> Result<Visited, AllocError>
+        ensures { IfOk result (λ visited. IsDone code.now (code.now.start ∷ entries.now) visited.marks.items visited.order.items) }
+    {
+        let mut visited = Visited::new(alloc)?;
+        visited.explore(code, code.start())?;
+        for entry in entries {
+            visited.explore(code, *entry)?;
+        }
+        Ok(visited)
+    }
 
     /// Adds an address and all that the program may reach from there. `marks` must have an entry
     /// for each address. `AllocError` if memory runs out.

@@ -65,14 +65,14 @@ impl Model for Search {
 }
 
 impl Search {
-    /// Searches an image from its start.
+    /// Searches an image from its start and from these entries, whether anything leads to them or not.
     ///
     /// # Errors
     /// `AllocError` only if memory runs out.
-    pub fn of(alloc: Global, code: &ImageCode<'_>) -> Result<Search, AllocError>
-        ensures { IfOk result (λ search. IsSearched code.now search.reached search.taken) }
+    pub fn of(alloc: Global, code: &ImageCode<'_>, entries: &[u16]) -> Result<Search, AllocError>
+        ensures { IfOk result (λ search. IsSearched code.now entries.now search.reached search.taken) }
     {
-        let visited = explore_with_tables(alloc, code)?;
+        let visited = explore_with_tables(alloc, code, entries)?;
         let taken = find_covered(alloc, code, &visited.marks)?;
         let heights = find_heights(alloc, code, &visited.order)?;
         Ok(Search {
@@ -134,14 +134,17 @@ impl Search {
     }
 }
 
-/// Searches an image from its start, and from the targets of each table that is found on the way.
-/// `AllocError` if memory runs out.
-fn explore_with_tables(alloc: Global, code: &ImageCode<'_>) -> Result<Visited, AllocError>
-    ensures { IfOk result (λ visited. IsExplored code.now visited.marks.items visited.order.items) }
+/// Searches an image from its start, from these entries, and from the targets of each table that is
+/// found on the way. `AllocError` if memory runs out.
+fn explore_with_tables(
+    alloc: Global,
+    code: &ImageCode<'_>,
+    entries: &[u16],
+) -> Result<Visited, AllocError>
+    ensures { IfOk result (λ visited. IsExplored code.now entries.now visited.marks.items visited.order.items) }
 {
     let mut reader = Reader::new(alloc)?;
-    let mut visited = Visited::new(alloc)?;
-    visited.explore(code, code.start())?;
+    let mut visited = Visited::of(alloc, code, entries)?;
     // Each table has an end.
     for _ in 0..u64::MAX {
         let Some(target) = reader.next_target(code, &visited)? else {

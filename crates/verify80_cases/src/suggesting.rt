@@ -28,16 +28,20 @@ pub struct Suggestions {
 /// the code begins at the word. A table is one of JMPs if the PCHL goes to the address to which the
 /// pair was added, and these are its targets. A comparison with a number of entries ends it too.
 ///
-/// What is reached follows each branch, goes on after each CALL whether it returns or not, and goes to the suggested targets: more than
-/// the verifier's walks do. Nothing rests on it, for a run that jumps elsewhere ends there.
+/// What is reached begins at the start and at `entries`, follows each branch, goes on after each CALL whether it returns or not, and goes
+/// to the suggested targets: more than the verifier's walks do. Nothing rests on it, for a run that jumps elsewhere ends there.
 ///
 /// # Errors
 /// `AllocError` only if memory runs out.
-pub fn suggest_cases(alloc: Global, image: &Image) -> Result<Suggestions, AllocError>
-    ensures { IfOk result (λ found. AreSuggested image.now found.cases.items found.tableless.items found.notes.items) }
+pub fn suggest_cases(
+    alloc: Global,
+    image: &Image,
+    entries: &[u16],
+) -> Result<Suggestions, AllocError>
+    ensures { IfOk result (λ found. AreSuggested image.now entries.now found.cases.items found.tableless.items found.notes.items) }
 {
     let code = ImageCode::new(alloc, image)?;
-    let search = Search::of(alloc, &code)?;
+    let search = Search::of(alloc, &code, entries)?;
     let mut found = Suggestions {
         cases: Vec::new(alloc),
         tableless: Vec::new(alloc),

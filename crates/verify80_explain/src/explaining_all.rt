@@ -2,12 +2,15 @@
 
 ghost use Rattle.std.specs.Prelude.{All, IfOk, IfSome, OnOk};
 ghost use Rattle.verify80.specs.Looking.{code_of};
+ghost use Rattle.verify80_explain.specs.Conditions.{AreShownIf};
 ghost use Rattle.verify80_explain.specs.Reached.{AreReached, AreWalked};
 ghost use Rattle.verify80_explain.specs.Shows.{IsShown, Shows};
 
+use crate::conditions::Conditions;
 use crate::evidence::Fault;
 use crate::explanation::Explanation;
 use crate::fault::Unexplained;
+use crate::further::show_further;
 use crate::looked::{Looked, look_at};
 use crate::point::Point;
 use crate::reached::are_reached;
@@ -35,33 +38,76 @@ pub struct ShownRefusals {
     pub shown: Vec<ShownRefusal>,
     /// Whether every walk was followed to its end, and all refusals that were found are shown.
     pub are_all: bool,
+    /// The refusals behind these, by the conditions on which walks reach them; those on the fewest conditions first.
+    pub further: Vec<FurtherRefusals>,
+    /// Whether every walk on conditions was followed to its end, and all refusals that were found are shown.
+    pub are_all_further: bool,
+}
+
+/// Refusals of points that walks reach if conditions hold.
+#[derive(Debug, Drop)]
+pub struct FurtherRefusals {
+    /// What is taken for granted.
+    pub conditions: Conditions,
+    /// The refusals by address, those of one address by number, each once.
+    pub shown: Vec<ShownRefusal>,
+}
+
+/// What tells a refusal from others: its address and its number.
+#[derive(Clone, Copy, PartialEq, Eq, PartialOrd, Ord, Hash)]
+pub(crate) struct Place {
+    at: Option<u16>,
+    code: u8,
+}
+
+impl Place {
+    /// The address and the number of a refusal.
+    pub(crate) fn of(refusal: Refusal) -> Place {
+        Place {
+            at: refusal.address(),
+            code: refusal.code(),
+        }
+    }
 }
 
 /// A point whose instruction may not be executed, by its number in a search.
 #[derive(Clone, Copy)]
-struct FaultyPoint {
+pub(crate) struct FaultyPoint {
     /// The refusal of its instruction.
-    refusal: Refusal,
+    pub(crate) refusal: Refusal,
     /// The number of the point in the search.
-    number: usize,
+    pub(crate) number: usize,
 }
 
 /// All refusals of points, those with the numbers 1 to 11, that walks of the image's program reach,
-/// each shown by a way. Walks end at a fault, so nothing is found beyond one.
+/// each shown by a way. Walks end at a fault. What lies behind one is followed on conditions: an EI,
+/// or a store outside data, is passed over; a procedure that a fault keeps from returning returns;
+/// the program begins anew if it loads the stack's top elsewhere than in its main program. Nothing
+/// is followed behind a PCHL without targets, or an address without an instruction.
 ///
 /// The limit is on what the points that are found weigh together, as for
-/// [`explain`](crate::explain), and on what the points of all ways weigh. Past it fewer refusals
-/// are shown, and `are_all` is false.
+/// [`explain`](crate::explain), and on what the points of all ways weigh; half as much is allowed
+/// for all searches on conditions. Past it fewer refusals are shown, and `are_all` or
+/// `are_all_further` is false.
 ///
 /// # Errors
 /// `AllocError` only if memory runs out.
 pub fn explain_all(alloc: Global, image: &Image, limit: usize) -> Result<ShownRefusals, AllocError>
     ensures shown { IfOk result (λ all. All (IsShown (code_of image.now)) all.shown.items) }
+    ensures further { IfOk result (λ all. All (AreShownIf (code_of image.now)) all.further.items) }
 {
     let code = ImageCode::new(alloc, image)?;
     let mut shown = Vec::new(alloc);
     let are_all = show_reached(alloc, &code, limit, &mut shown)?;
-    Ok(ShownRefusals { shown, are_all })
+    let mut further = Vec::new(alloc);
+    let answer = show_further(alloc, &code, limit / 2, &shown, &mut further);
+    let are_all_further = is_reached_within(answer)?;
+    Ok(ShownRefusals {
+        shown,
+        are_all,
+        further,
+        are_all_further,
+    })
 }
 
 /// Appends the refusals of the points that walks of a program reach to `shown`, each with a way that
@@ -126,7 +172,7 @@ fn show_all<C: Code>(
 /// Appends the refusals of these points to `shown`, each with a way that shows it, until the ways
 /// weigh more than the limit; answers whether none is left out. Walks must reach all `points`, and
 /// each must come from where its entry of `origins` says.
-fn show_each<C: Code>(
+pub(crate) fn show_each<C: Code>(
     alloc: Global,
     program: &C,
     points: &[Point],
@@ -198,7 +244,7 @@ fn weight_of<C: Code>(program: &C, explanation: &Explanation) -> usize {
 }
 
 /// The first point for each address and refusal, sorted by address and the refusal's number.
-fn find_faulty<C: Code>(
+pub(crate) fn find_faulty<C: Code>(
     alloc: Global,
     program: &C,
     points: &[Point],
@@ -214,9 +260,9 @@ fn find_faulty<C: Code>(
     Ok(faulty)
 }
 
-/// The key by which refusals are sorted: the address and the refusal's number.
-fn place_of(found: &FaultyPoint) -> (Option<u16>, u8) {
-    (found.refusal.address(), found.refusal.code())
+/// The key by which refusals are sorted.
+fn place_of(found: &FaultyPoint) -> Place {
+    Place::of(found.refusal)
 }
 
 /// The refusal of the instruction at a point; `None` if it may be executed there.

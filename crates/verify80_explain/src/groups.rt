@@ -30,6 +30,11 @@ impl Groups {
         Ok(())
     }
 
+    /// Whether a key has a number.
+    pub(crate) fn has(&self, key: usize) -> bool {
+        self.last.contains_key(&key)
+    }
+
     /// The numbers of a key, ascending. `AllocError` if memory runs out.
     pub(crate) fn of(&self, alloc: Global, key: usize) -> Result<Vec<usize>, AllocError> {
         let mut of = Vec::new(alloc);

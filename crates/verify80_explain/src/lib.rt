@@ -10,6 +10,7 @@
 //! |---|---|
 //! | [`explain`] | the ways that show a refusal |
 //! | [`explain_all`], [`ShownRefusals`], [`ShownRefusal`] | all refusals of points, each with its way |
+//! | [`FurtherRefusals`], [`Conditions`] | refusals behind these, and what is taken for granted to reach them |
 //! | [`measure`], [`ProcRow`] | the procedures of an image whose stack is too small |
 //! | [`find_chain`], [`Chain`], [`CallSite`], [`Standing`] | the calls whose bytes on the stack add up to the bound |
 //! | [`Explanation`], [`Route`], [`Call`], [`Point`] | what shows a refusal: the ways, the calls that lead to them, and their points |
@@ -18,12 +19,14 @@
 #![tactic(auto)]
 
 mod chain;
+mod conditions;
 mod evidence;
 mod explaining;
 mod explaining_all;
 mod explanation;
 mod fault;
 mod finding;
+mod further;
 mod groups;
 mod laws;
 mod links;
@@ -37,8 +40,9 @@ mod sought;
 mod ways;
 
 pub use chain::{Chain, Standing, find_chain};
+pub use conditions::Conditions;
 pub use explaining::explain;
-pub use explaining_all::{ShownRefusal, ShownRefusals, explain_all};
+pub use explaining_all::{FurtherRefusals, ShownRefusal, ShownRefusals, explain_all};
 pub use explanation::Explanation;
 pub use fault::Unexplained;
 pub use frames80::{Frame, Word};

@@ -152,6 +152,16 @@ impl Search {
         Ok(true)
     }
 
+    /// What the points that were found weigh together, `usize::MAX` at most.
+    pub(crate) fn weight(&self) -> usize {
+        self.weight
+    }
+
+    /// Whether a point was found from which this procedure returns.
+    pub(crate) fn returns(&self, procedure: Procedure) -> bool {
+        self.exits_of.has(slot(procedure))
+    }
+
     /// Adds the main program's start. `AllocError` if memory runs out.
     fn begin<C: Code>(&mut self, alloc: Global, program: &C) -> Result<(), AllocError> {
         let frame = Frame::main_entry(alloc)?;

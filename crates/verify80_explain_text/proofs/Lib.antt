@@ -1,3 +1,4 @@
 pub mod RunLemmas
 pub mod LawLemmas
 pub mod TextLemmas
+pub mod LineLemmas

@@ -5,12 +5,14 @@
 //! | Item | What it is |
 //! |---|---|
 //! | [`explanation_text`], [`chain_text`] | the text of the ways and the calls that show a refusal, and of a chain |
+//! | [`append_conditions`] | the conditions on which a refusal is reached |
 //! | [`append_explanation`], [`append_chain`] | these below a refusal or a report, or that there is too much to show |
 //! | [`ways_are_shown_in_runs`] | what the runs of a way are, as a contract |
 #![tactic(auto)]
 
 mod calls;
 mod chain;
+mod conditions;
 mod explanation;
 mod frame;
 mod instruction;
@@ -19,6 +21,7 @@ mod printed;
 mod way;
 
 pub use chain::chain_text;
+pub use conditions::append_conditions;
 pub use explanation::explanation_text;
 pub use laws::ways_are_shown_in_runs;
 pub use printed::{append_chain, append_explanation};

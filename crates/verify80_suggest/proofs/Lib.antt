@@ -2,6 +2,7 @@ mod CodeLemmas
 mod FetchLemmas
 mod LawLemmas
 mod NameLemmas
+mod OrderLemmas
 mod RangeLemmas
 mod StackLemmas
 mod TableLemmas

@@ -37,7 +37,7 @@ word_code image covered loaded goals words are address low is =
     let next = both (is_free image covered (address + 1)) goal free.1 in
     ((both (in_code image.regions address) (not (marked covered address)) free.0).0, (both (in_code image.regions (address + 1)) (not (marked covered (address + 1))) next.0).0)
 
-module _ (image : Located) (ram : List Range) (found : Found) (is : IsFound image ram found) where
+module _ (image : Located) (entries : List ℕ) (ram : List Range) (found : Found) (is : IsFound image entries ram found) where
   table_code : (address : ℕ) → address < 65536 → in_table is.words address ≡ true → in_code image.regions address ≡ true
   table_code address low here = step (marked is.words address) (nat_le 1 address) refl refl here
     where

@@ -7,6 +7,8 @@ use Rattle.std.proofs.lemmas.List.{get_or_past}
 use Rattle.std.proofs.lemmas.List.Elements.{Contains-append_left, Contains-append_right}
 use Rattle.decode80.specs.declared.fetching.Fetched.{Fetched}
 use Rattle.decode80.specs.declared.fetching.FetchFault.{FetchFault}
+use Rattle.decode80.specs.declared.fetching.FetchFault.TheVariants.{Outside}
+use Rattle.verify80.specs.LookLaws.{fetch_at}
 use Rattle.decode80.specs.declared.instr.Instr.{Instr}
 use Rattle.decode80.specs.declared.instr.Instr.TheVariants.{Jmp, JumpIf, Call, CallIf, Rst, Ret, ReturnIf, Pchl, Sphl, Hlt, Lxi, Inx, Dcx}
 use Rattle.decode80.specs.declared.pair.Pair.TheVariants.{Bc, De, Hl, Sp}
@@ -27,7 +29,6 @@ use Rattle.verify80_flow.specs.declared.refusal.Refusal.TheVariants.{FetchOutsid
 use Rattle.frames80.specs.Code.{role_of}
 use Rattle.verify80_flow.specs.Walks.{LeadsTo, Walk, called}
 use Rattle.verify80_flow.specs.Walks.Walk.{begins, goes_on, enters, comes_back}
-use Rattle.image80.specs.declared.range.Range.{Range}
 use Rattle.image80.specs.Case.{DeclaredCase}
 use Rattle.image80.specs.Image.{Located, memory_of}
 use Rattle.image80.specs.Regions.{Areas, in_code}
@@ -38,6 +39,7 @@ use Rattle.verify80_cases.specs.Reach.{MayReach, falls_to, given, leads_from, le
 use Rattle.verify80_cases.specs.Reach.MayReach.{begins as reach_begins, goes_on as reach_goes_on}
 use Rattle.verify80_cases.specs.Covered.{is_covered}
 use Rattle.verify80_cases.specs.Marks.{marked}
+use Rattle.verify80_suggest.specs.declared.known.Known.{Known}
 use Rattle.verify80_suggest.specs.declared.setters.Setter.{Setter}
 use Rattle.verify80_suggest.specs.Lacking.{LacksByte}
 use Rattle.verify80_suggest.specs.Suggestion.{IsSuggestion, with_regions}
@@ -174,7 +176,7 @@ module _ (role : Role) (i : Instr) (f : StackFrame) (moves : Moves) (targets : L
 
 -- an image with regions whose code lies in that of others, and that have the same cases
 module _ (image : Located) (known areas : Areas) (same : areas.cases ≡ known.cases) (inside : (a : ℕ) → in_code areas a ≡ true → in_code known a ≡ true)
-    (finds : LooksFindWhatIsAdmitted) where
+    (entries : List ℕ) (finds : LooksFindWhatIsAdmitted) where
   abbrev memory : List ℕ
   memory = memory_of image.chunks
 
@@ -194,7 +196,7 @@ module _ (image : Located) (known areas : Areas) (same : areas.cases ≡ known.c
       (fetch_more (in_code areas) (in_code known) (λ place. slice_index memory place) at found inside ((finds areas memory at found).0 looked).fetched)
       ∙ ap (λ ts. leads_of found.instr found.next ts) (sym (targets_same at))
 
-  pub may_reach : (p : Procedure) (at : ℕ) (f : StackFrame) → Walk (code_of narrow) p at f → MayReach wide (image.start ∷ []) at
+  pub may_reach : (p : Procedure) (at : ℕ) (f : StackFrame) → Walk (code_of narrow) p at f → MayReach wide (image.start ∷ entries) at
   may_reach p at f (begins _ _ _ b) = reach_begins at (0, omega arith, sym b.start)
   may_reach p to g (goes_on _ at f _ _ walk goes) =
       let found = goes.found in
@@ -203,46 +205,55 @@ module _ (image : Located) (known areas : Areas) (same : areas.cases ≡ known.c
       (leads (role_of (code_of narrow) p) found.instr f goes.moves (declared_targets areas at) found.next (effect_of found.instr) (led found.instr) goes.moving.moved to g goes.leads))
   may_reach q start g (enters p at f target next _ _ _ walk call into) =
       let found = call.found in
-      subst (MayReach wide (image.start ∷ [])) (sym into.start)
+      subst (MayReach wide (image.start ∷ entries)) (sym into.start)
       (reach_goes_on at target (may_reach p at f walk)
       (subst (λ xs. Contains xs target) (sym (leads_found at found call.moving.looked))
       (calls (role_of (code_of narrow) p) found.instr f call.moves (declared_targets areas at) found.next (effect_of found.instr) (led found.instr) call.moving.moved target call.call).0))
   may_reach p to g (comes_back _ at f target _ exit h taken _ walk call back returns after) =
       let found = call.found in
-      subst (MayReach wide (image.start ∷ [])) (sym call.after)
+      subst (MayReach wide (image.start ∷ entries)) (sym call.after)
       (reach_goes_on at found.next (may_reach p at f walk)
       (subst (λ xs. Contains xs found.next) (sym (leads_found at found call.moving.looked))
       (calls (role_of (code_of narrow) p) found.instr f call.moves (declared_targets areas at) found.next (effect_of found.instr) (led found.instr) call.moving.moved target call.call).1))
 
 -- the walks over what is suggested come only to what is reached
-module _ (image : Located) (rom ram : List Range) (first second : Option Setter) (tableless : List ℕ) (notes : List Note) (new : Located) (is : IsSuggestion image rom ram first second tableless notes new)
-    (finds : LooksFindWhatIsAdmitted) (faults : LooksAnswerFaultsThatHold) where
-  abbrev known : Areas
-  known = record is.base { cases = is.cases }
+module _ (image : Located) (known : Known) (first second : Option Setter) (tableless : List ℕ) (notes : List Note) (new : Located) (is : IsSuggestion image known first second tableless notes new) where
+  abbrev seen : Areas
+  seen = record is.base { cases = is.cases }
 
-  in_known : (a : ℕ) → in_code new.regions a ≡ true → in_code known a ≡ true
-  in_known a here =
+  in_seen : (a : ℕ) → in_code new.regions a ≡ true → in_code seen a ≡ true
+  in_seen a here =
       let parts = both (nat_lt a 65536) (marked is.found.code a) (sym (is.arranged.code.exact a) ∙ here) in
-      found_code (with_regions image known) ram is.found is.is_found a (below a parts.0) parts.1
+      found_code (with_regions image seen) known.entries.now known.ram.now is.found is.is_found a (below a parts.0) parts.1
 
-  in_new : (a : ℕ) → a < 65536 → is_covered (with_regions image known) is.found.reached a ≡ true → in_code new.regions a ≡ true
+  in_new : (a : ℕ) → a < 65536 → is_covered (with_regions image seen) is.found.reached a ≡ true → in_code new.regions a ≡ true
   in_new a low here = is.arranged.code.exact a
-      ∙ both_true (nat_lt a 65536) (marked is.found.code a) (is_below a low) (covered_found (with_regions image known) ram is.found is.is_found a low here)
+      ∙ both_true (nat_lt a 65536) (marked is.found.code a) (is_below a low) (covered_found (with_regions image seen) known.entries.now known.ram.now is.found is.is_found a low here)
 
-  pub walks : (p : Procedure) (at : ℕ) (f : StackFrame) → Walk (code_of new) p at f → marked is.found.reached at ≡ true
-  walks p at f walk =
-      (is.is_found.reached.exact at).1
-      (may_reach image known new.regions is.arranged.cases in_known finds p at f (subst (λ (n : Located). Walk (code_of n) p at f) is.same walk))
+  inside : (at : ℕ) → marked is.found.reached at ≡ true → at < 65536
+  inside at reached = (elim (nat_lt at 65536) as (λ b. nat_lt at 65536 ≡ b → at < 65536) [
+    | true ↦ λ e. below at e
+    | false ↦ λ e. absurd (true≢false (sym reached ∙ get_or_past is.found.reached at false (past at (length is.found.reached) is.is_found.reached.size e)))
+  ]) refl
 
-  pub outside : ((i : Instr) → (1 ≤ length (spelling i)) × (length (spelling i) ≤ 3)) → (at : ℕ) → Holds (code_of new) (FetchOutside at) → LacksByte image rom at
-  outside sizes at wrong =
-      let reached = walks wrong.procedure at wrong.frame wrong.walk in
+  -- where no instruction is fetched of what is reached, a byte is lacking
+  pub lacking : ((i : Instr) → (1 ≤ length (spelling i)) × (length (spelling i) ≤ 3)) → (at : ℕ) → marked is.found.reached at ≡ true →
+      fetch_at new.regions (memory_of image.chunks) at ≡ Err Outside → LacksByte image known.rom.now at
+  lacking sizes at reached none =
       let low : at < 65536 = inside at reached in
-      lacks image known new.regions rom is.found.reached is.is_base.exact in_new sizes at low reached
-      ((faults new.regions (memory_of image.chunks) at LooksOutside).0 (subst (λ (n : Located). look_at n.regions (memory_of n.chunks) at ≡ Err LooksOutside) is.same wrong.looked))
-    where
-      inside : (at : ℕ) → marked is.found.reached at ≡ true → at < 65536
-      inside at reached = (elim (nat_lt at 65536) as (λ b. nat_lt at 65536 ≡ b → at < 65536) [
-        | true ↦ λ e. below at e
-        | false ↦ λ e. absurd (true≢false (sym reached ∙ get_or_past is.found.reached at false (past at (length is.found.reached) is.is_found.reached.size e)))
-      ]) refl
+      lacks image seen new.regions known.rom.now is.found.reached is.is_base.exact in_new sizes at low reached none
+
+  -- an entry is reached
+  pub entry_reached : (at : ℕ) → Contains known.entries.now at → marked is.found.reached at ≡ true
+  entry_reached at has = (is.is_found.reached.exact at).1 (reach_begins at (Contains-append_right (image.start ∷ []) known.entries.now at has))
+
+  module _ (finds : LooksFindWhatIsAdmitted) (faults : LooksAnswerFaultsThatHold) where
+    pub walks : (p : Procedure) (at : ℕ) (f : StackFrame) → Walk (code_of new) p at f → marked is.found.reached at ≡ true
+    walks p at f walk =
+        (is.is_found.reached.exact at).1
+        (may_reach image seen new.regions is.arranged.cases in_seen known.entries.now finds p at f (subst (λ (n : Located). Walk (code_of n) p at f) is.same walk))
+
+    pub outside : ((i : Instr) → (1 ≤ length (spelling i)) × (length (spelling i) ≤ 3)) → (at : ℕ) → Holds (code_of new) (FetchOutside at) → LacksByte image known.rom.now at
+    outside sizes at wrong =
+        lacking sizes at (walks wrong.procedure at wrong.frame wrong.walk)
+        ((faults new.regions (memory_of image.chunks) at LooksOutside).0 (subst (λ (n : Located). look_at n.regions (memory_of n.chunks) at ≡ Err LooksOutside) is.same wrong.looked))

@@ -1,7 +1,7 @@
 -- The regions that are suggested for an image. (This project's own.)
-use Rattle.std.specs.Prelude.{◌≡◌, ◌≢◌, ℕ, ◌&&◌, ◌||◌, ◌==◌, Bool, not, List, Option, length, nat_le, if◌then◌else◌}
+use Rattle.std.specs.Prelude.{◌≡◌, ◌≢◌, ℕ, ◌&&◌, ◌||◌, ◌==◌, Bool, not, List, ◌++◌, IsPermutation, Option, length, nat_le, if◌then◌else◌}
 use Rattle.image80.specs.declared.range.Range.{Range}
-use Rattle.image80.specs.Case.{DeclaredCase}
+use Rattle.image80.specs.Case.{AreByAddress, DeclaredCase}
 use Rattle.image80.specs.Image.{Located}
 use Rattle.image80.specs.Range.{in_range, in_ranges}
 use Rattle.image80.specs.Regions.{Areas, AreRegions}
@@ -14,6 +14,7 @@ use Rattle.verify80.specs.Looking.{code_of}
 use Rattle.verify80_cases.specs.Reach.{AreReached}
 use Rattle.verify80_cases.specs.Suggested.{AreSuggested}
 use Rattle.verify80_cases.specs.declared.search.Note.{Note}
+use Rattle.verify80_suggest.specs.declared.known.Known.{Known}
 use Rattle.verify80_suggest.specs.declared.setters.Setter.{Setter}
 use Rattle.verify80_suggest.specs.Bytes.{has_byte, may_be_code}
 use Rattle.verify80_cases.specs.Covered.{is_covered}
@@ -33,10 +34,10 @@ pub record Found : Type 0 where
   pub first : Option Setter
   pub second : Option Setter
 
--- code are the instructions that are reached, and the tables outside the ranges of RAM
-pub record IsFound (image : Located) (ram : List Range) (found : Found) : Type 0 where
+-- code are the instructions that are reached from the start and from further entries, and the tables outside the ranges of RAM
+pub record IsFound (image : Located) (entries : List ℕ) (ram : List Range) (found : Found) : Type 0 where
   pub bytes : AreMarks (has_byte image.chunks) 65536 found.bytes
-  pub reached : AreReached image found.reached
+  pub reached : AreReached image entries found.reached
   pub covered : List Bool
   pub are_covered : AreMarks (is_covered image found.reached) 65536 covered
   pub words : List Bool
@@ -81,19 +82,23 @@ abbrev pub with_regions : Located → Areas → Located
 with_regions image areas = record image { regions = areas }
 
 -- the regions that are suggested: those of what is found of the image with all bytes as code that may be code, and with the cases
--- that its tables suggest
-pub record IsSuggestion (image : Located) (rom ram : List Range) (first second : Option Setter) (tableless : List ℕ) (notes : List Note) (new : Located) : Type 0 where
+-- that are known and those that its tables suggest
+pub record IsSuggestion (image : Located) (known : Known) (first second : Option Setter) (tableless : List ℕ) (notes : List Note) (new : Located) : Type 0 where
   pub base : Areas
-  pub is_base : Covers (may_be_code image.chunks rom) base.code
+  pub is_base : Covers (may_be_code image.chunks known.rom.now) base.code
+  pub base_cases : base.cases ≡ known.cases.now
+  pub tabled : List DeclaredCase
+  pub suggested : AreSuggested (with_regions image base) known.entries.now tabled tableless notes
   pub cases : List DeclaredCase
-  pub suggested : AreSuggested (with_regions image base) cases tableless notes
+  pub joined : IsPermutation (known.cases.now ++ tabled) cases
+  pub by_address : AreByAddress cases
   pub found : Found
-  pub is_found : IsFound (with_regions image (record base { cases = cases })) ram found
+  pub is_found : IsFound (with_regions image (record base { cases = cases })) known.entries.now known.ram.now found
   pub is_first : first ≡ found.first
   pub is_second : second ≡ found.second
   pub least : Areas
-  pub is_least : IsArranged found cases ram 16 least
+  pub is_least : IsArranged found cases known.ram.now 16 least
   pub wanted : ℕ
   pub is_wanted : IsWanted (with_regions image least) wanted
-  pub arranged : IsArranged found cases ram wanted new.regions
+  pub arranged : IsArranged found cases known.ram.now wanted new.regions
   pub same : new ≡ with_regions image new.regions

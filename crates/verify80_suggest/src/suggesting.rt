@@ -1,12 +1,15 @@
 //! The regions that an image suggests.
 
-ghost use Rattle.std.specs.Prelude.{◌≡◌, [], IfOk};
+ghost use Rattle.std.specs.Prelude.{◌≡◌, [], All, IfOk};
+ghost use Rattle.image80.specs.Case.{AreByAddress, IsCase};
 ghost use Rattle.verify80_suggest.specs.Bytes.{may_be_code};
 ghost use Rattle.verify80_suggest.specs.Ranges.{Covers};
 ghost use Rattle.verify80_suggest.specs.Suggestion.{IsSuggestion, IsWanted};
 
 use crate::arranging::{NO_STACK, arrange};
 use crate::bytes::{find_bytes, find_room};
+use crate::known::Known;
+use crate::ordering::joined;
 use crate::ranges::ranges_of;
 use crate::setters::Setter;
 use crate::survey::survey_of;
@@ -32,34 +35,38 @@ pub struct Advice {
     pub notes: Vec<Note>,
 }
 
-/// Gives an image the regions that its bytes suggest, whatever regions it has.
+/// Gives an image the regions that its bytes and what is `known` of it suggest, whatever regions it has.
 ///
-/// The image is gone through from its start, as [`verify80_cases::find_reachable`] does, with all its bytes as code that lie in the ranges of
-/// `rom`, or with all its bytes if there are no such ranges, and with the cases that its tables suggest. CODE is exactly the bytes
-/// of the instructions that are reached, and of the tables of these cases that lie outside the ranges of `ram`: words that follow each other
+/// The image is gone through from its start and from the entries that are known, as [`verify80_cases::find_reachable`] does, with all its
+/// bytes as code that lie in the ranges of ROM, or with all its bytes if there are no such ranges, and with the cases that are known and
+/// those that its tables suggest. CODE is exactly the bytes of the instructions that are reached, and of the tables of these cases that lie
+/// outside the ranges of RAM: words that follow each other
 /// from an address on that a reached LXI loads, each a target and in no such instruction. STACK ends at the word of the first LXI SP, 0000 for
 /// the end of memory: it is sixteen bytes, or more if the image is refused for nothing but that, but only as many as are free right below that
-/// address, neither the image's nor named by an instruction. DATA is what STA, LDA, SHLD and LHLD name, but for CODE, STACK and the image's bytes; or, if `ram`
-/// has ranges, exactly these but for CODE and STACK. The cases are those of the tables.
+/// address, neither the image's nor named by an instruction. DATA is what STA, LDA, SHLD and LHLD name, but for CODE, STACK and the image's bytes; or, if there
+/// are ranges of RAM, exactly these but for CODE and STACK. The cases are those that are known, and those of the tables.
 ///
 /// # Errors
 /// `AllocError` only if memory runs out; the image then has any regions.
 pub fn suggest_regions(
     alloc: Global,
     image: &mut Image,
-    rom: &[Range],
-    ram: &[Range],
+    known: Known<'_>,
 ) -> Result<Advice, AllocError>
+    requires by_address { AreByAddress known.cases.now }
+    requires each { All IsCase known.cases.now }
     ensures { IfOk result (λ advice.
-        IsSuggestion image.old rom.now ram.now advice.first advice.second advice.tableless.items advice.notes.items image.new) }
+        IsSuggestion image.old known.entry advice.first advice.second advice.tableless.items advice.notes.items image.new) }
 {
-    image.regions = base_regions(alloc, image, rom)?;
-    let found = suggest_cases(alloc, image)?;
-    image.regions = with_cases(alloc, &image.regions, &found.cases)?;
-    let survey = survey_of(alloc, image, ram)?;
-    image.regions = arrange(alloc, &survey, &found.cases, ram, LEAST_STACK)?;
+    let base = code_regions(alloc, image, known.rom)?;
+    image.regions = with_cases(alloc, &base, known.cases)?;
+    let found = suggest_cases(alloc, image, known.entries)?;
+    let cases = joined(alloc, known.cases, &found.cases)?;
+    image.regions = with_cases(alloc, &base, &cases)?;
+    let survey = survey_of(alloc, image, known)?;
+    image.regions = arrange(alloc, &survey, &cases, known.ram, LEAST_STACK)?;
     let wanted = wanted_stack(alloc, image)?;
-    image.regions = arrange(alloc, &survey, &found.cases, ram, wanted)?;
+    image.regions = arrange(alloc, &survey, &cases, known.ram, wanted)?;
     Ok(Advice {
         first: survey.first,
         second: survey.second,
@@ -69,11 +76,26 @@ pub fn suggest_regions(
 }
 
 /// Regions without a stack whose code is all bytes of an image that may be code: those in the
-/// ranges of `rom`, or all if it has no ranges.
+/// ranges of ROM that are known, or all if there are none. The cases are those that are known.
 ///
 /// # Errors
 /// `AllocError` only if memory runs out.
-pub fn base_regions(alloc: Global, image: &Image, rom: &[Range]) -> Result<Regions, AllocError>
+pub fn base_regions(alloc: Global, image: &Image, known: Known<'_>) -> Result<Regions, AllocError>
+    requires by_address { AreByAddress known.cases.now }
+    requires each { All IsCase known.cases.now }
+    ensures code { IfOk result (λ regions. Covers (may_be_code image.now.chunks known.entry.rom.now) regions.code) }
+    ensures cases { IfOk result (λ regions. regions.cases ≡ known.entry.cases.now) }
+{
+    let regions = code_regions(alloc, image, known.rom)?;
+    with_cases(alloc, &regions, known.cases)
+}
+
+/// Regions without a stack and without cases whose code is all bytes of an image that may be code:
+/// those in the ranges of `rom`, or all if it has no ranges.
+///
+/// # Errors
+/// `AllocError` only if memory runs out.
+fn code_regions(alloc: Global, image: &Image, rom: &[Range]) -> Result<Regions, AllocError>
     ensures code { IfOk result (λ regions. Covers (may_be_code image.now.chunks rom.now) regions.code) }
     ensures cases { IfOk result (λ regions. regions.cases ≡ []) }
 {

@@ -4,16 +4,17 @@ ghost use Rattle.std.specs.Prelude.{IfOk};
 ghost use Rattle.verify80_suggest.specs.Suggestion.{IsFound};
 
 use crate::bytes::find_bytes;
+use crate::known::Known;
 use crate::names::find_named;
 use crate::setters::{Setter, find_setters};
 use crate::tables::{find_code, find_table_words};
-use image80::{Image, Range};
+use image80::Image;
 use std::alloc::{AllocError, Global};
 use std::marker::Model;
 use verify80::ImageCode;
 use verify80_cases::{find_covered, find_reachable};
 
-/// What is found of an image by following its code from the start.
+/// What is found of an image by following its code from the start and from the entries that are known.
 #[derive(Drop)]
 pub(crate) struct Survey {
     /// For each address whether the image has a byte there.
@@ -46,20 +47,24 @@ impl Model for Survey {
     } };
 }
 
-/// Follows the code of an image from its start, by its regions, and notes what is found at each
-/// address, where `ram` has the ranges that are said to be RAM.
+/// Follows the code of an image from its start and from the entries that are known, by its regions,
+/// and notes what is found at each address, with the ranges that are known to be RAM.
 ///
 /// # Errors
 /// `AllocError` only if memory runs out.
-pub(crate) fn survey_of(alloc: Global, image: &Image, ram: &[Range]) -> Result<Survey, AllocError>
-    ensures { IfOk result (λ survey. IsFound image.now ram.now survey) }
+pub(crate) fn survey_of(
+    alloc: Global,
+    image: &Image,
+    known: Known<'_>,
+) -> Result<Survey, AllocError>
+    ensures { IfOk result (λ survey. IsFound image.now known.entry.entries.now known.entry.ram.now survey) }
 {
     let bytes = find_bytes(alloc, &image.chunks)?;
     let code = ImageCode::new(alloc, image)?;
-    let reached = find_reachable(alloc, &code)?;
+    let reached = find_reachable(alloc, &code, known.entries)?;
     let covered = find_covered(alloc, &code, &reached)?;
     let words = find_table_words(alloc, &code, &reached, &covered)?;
-    let is_code = find_code(alloc, &covered, &words, ram)?;
+    let is_code = find_code(alloc, &covered, &words, known.ram)?;
     let named = find_named(alloc, &code, &reached)?;
     let setters = find_setters(&code, &reached);
     Ok(Survey {

@@ -86,7 +86,7 @@ impl<'a> ModulePattern<'a> {
         if code.is_empty() {
             return Ok(Vec::new(alloc));
         }
-        places(alloc, dump, code, count_of_values(code))
+        places(alloc, dump, code)
     }
 
     /// Returns the words of the module's targets if it lies at `address`, by ascending numbers: of a segment its base, of STACK its top,

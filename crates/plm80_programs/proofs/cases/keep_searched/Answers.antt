@@ -22,17 +22,17 @@ loop-address-preserved c =
     }
 
 pub returns-clause-found : goal.returns-clause-found
-returns-clause-found c =
+returns-clause-found c = λ entries searched.
     let all : c.loop-address.address ≡ 65536 = omega (arith, c.loop-address-test.false, c.loop-address.auto.address-end) in
-    finds_cases c.args.image.now c.args.search.now.reached c.args.search.now.taken c.loop-address.address c.loop-address.kept.cases.items
-    c.loop-address.kept.notes.items c.requires.searched all c.loop-address.invariant.found
+    finds_cases c.args.image.now entries c.args.search.now.reached c.args.search.now.taken c.loop-address.address c.loop-address.kept.cases.items
+    c.loop-address.kept.notes.items searched all c.loop-address.invariant.found
 
 pub returns-clause-lines : goal.returns-clause-lines
 returns-clause-lines c = c.loop-address.invariant.lines_are
 
 pub returns-in_err-add-clause-too_long : goal.returns-in_err-add-clause-too_long
-returns-in_err-add-clause-too_long c = λ is.
+returns-in_err-add-clause-too_long c = λ entries searched is.
     let kept = c.loop-address.kept in
-    long_cases c.args.image.now c.args.search.now.reached c.args.search.now.taken c.loop-address.address kept.cases.items kept.notes.items
-    kept.lines.items c.loop-address.invariant.found c.loop-address.invariant.lines_are c.requires.searched c.in_ok-found.found
+    long_cases c.args.image.now entries c.args.search.now.reached c.args.search.now.taken c.loop-address.address kept.cases.items kept.notes.items
+    kept.lines.items c.loop-address.invariant.found c.loop-address.invariant.lines_are searched c.in_ok-found.found
     c.in_ok-found.ensures (c.in_err-add.ensures.too_long (search rules))

@@ -1,6 +1,6 @@
 use Rattle.plm80_programs.proofs.CaseLemmas.{finds_cases, shown_front, shown_front_more, shown_more, shown_nothing}
 use Rattle.plm80_programs.proofs.FrontLemmas.{on_err}
-use Rattle.plm80_programs.proofs.Names.{◌≡◌, ◌∙◌, arith, refl}
+use Rattle.plm80_programs.proofs.Names.{[], ◌≡◌, ◌∙◌, arith, refl}
 use Rattle.plm80_programs.proofs.cases.write_searched.Goals as goal
 
 pub loop-address-init : goal.loop-address-init
@@ -24,7 +24,7 @@ returns-clause-found g c =
     let all : c.loop-address.address ≡ 65536 = omega (arith, c.loop-address-test.false, c.loop-address.auto.address-end) in
     let shown = c.loop-address.invariant.shown in (
       shown.cases,
-      finds_cases c.args.image.now c.args.search.now.reached c.args.search.now.taken c.loop-address.address shown.cases c.loop-address.notes.items
+      finds_cases c.args.image.now [] c.args.search.now.reached c.args.search.now.taken c.loop-address.address shown.cases c.loop-address.notes.items
           c.requires.searched all shown.found,
       shown.written,
     )

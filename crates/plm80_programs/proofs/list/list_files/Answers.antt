@@ -5,7 +5,7 @@ use Rattle.plm80_programs.proofs.list.list_files.Goals as goal
 
 pub returns : goal.returns
 returns g c =
-    let both = program_or_gives_up c.in_ok-image.ensures.read (g.C.Console.journal c.give_if_made-given.new.self) (PrintsListing c.args.arguments.reached)
+    let both = program_or_gives_up c.in_ok-image.ensures.read (g.C.Console.journal c.give_if_made-given.new.self) (PrintsListing c.args.arguments.reached c.args.arguments.source)
     c.listed-answer.result c.give_if_made-given.result c.listed-answer.ensures c.give_if_made-given.ensures.given c.give_if_made-given.ensures.fault in
     record { done = both.0; fault = both.1 }
 

@@ -1,16 +1,21 @@
 use Rattle.plm80_programs.proofs.Names.{◌≤◌, List, length, ◌∙◌, ap, subst, Located, Note, IsSuggestion, regions_text, text_limit, with_regions, prints}
-use Rattle.plm80_programs.proofs.Names.{ℕ, Option, Range, Areas, Setter, notes_status}
+use Rattle.plm80_programs.proofs.Names.{ℕ, Option, Areas, Setter, notes_status}
+use Rattle.verify80_suggest.specs.declared.known.Known.{Known}
 use Rattle.plm80_programs.proofs.suggest.advise.Goals as goal
 
 -- what is suggested of an image doesn't depend on the regions that it has
-of_any_regions : (image : Located) (areas : Areas) (rom ram : List Range) (first second : Option Setter) (tableless : List ℕ)
-    (notes : List Note) (new : Located) → IsSuggestion (with_regions image areas) rom ram first second tableless notes new
-    → IsSuggestion image rom ram first second tableless notes new
-of_any_regions image areas rom ram first second tableless notes new s = record {
+of_any_regions : (image : Located) (areas : Areas) (known : Known) (first second : Option Setter) (tableless : List ℕ)
+    (notes : List Note) (new : Located) → IsSuggestion (with_regions image areas) known first second tableless notes new
+    → IsSuggestion image known first second tableless notes new
+of_any_regions image areas known first second tableless notes new s = record {
   base = s.base;
   is_base = s.is_base;
-  cases = s.cases;
+  base_cases = s.base_cases;
+  tabled = s.tabled;
   suggested = s.suggested;
+  cases = s.cases;
+  joined = s.joined;
+  by_address = s.by_address;
   found = s.found;
   is_found = s.is_found;
   is_first = s.is_first;
@@ -25,15 +30,14 @@ of_any_regions image areas rom ram first second tableless notes new s = record {
 
 pub returns : goal.returns
 returns c =
-    let rom = c.args.rom.now in
-    let ram = c.args.ram.now in
+    let known = c.args.known in
     let areas = c.in_ok-image-inside.field-0 in
     let advice = c.in_ok-advice.advice in
     let new = c.suggest_regions.new.image in
     record {
       new = new;
-      suggested = of_any_regions c.args.image.now areas rom ram advice.first advice.second advice.tableless.items advice.notes.items new
-          (subst (λ (i : Located). IsSuggestion (with_regions i areas) rom ram advice.first advice.second advice.tableless.items advice.notes.items new)
+      suggested = of_any_regions c.args.image.now areas known advice.first advice.second advice.tableless.items advice.notes.items new
+          (subst (λ (i : Located). IsSuggestion (with_regions i areas) known advice.first advice.second advice.tableless.items advice.notes.items new)
           c.image.view_is c.in_ok-advice.ensures);
       within = subst (λ (i : Located). length (regions_text i.regions) ≤ text_limit) c.image-2.view_is c.in_ok-answer.ensures.within;
       answer_is = c.in_ok-answer.ensures.answer

@@ -1,17 +1,12 @@
--- the addresses so far
-use Rattle.std.proofs.Common.{◌≡◌, ◌+◌, Bool, List}
+-- the places so far
+use Rattle.std.proofs.Common.{◌+◌, List}
+use Rattle.rom80_find.specs.Blocks.{AreFitted}
 use Rattle.rom80_find.specs.Dump.{DumpValue}
 use Rattle.rom80_pattern.specs.declared.code_byte.CodeByte.{CodeByte}
-use Rattle.rom80_find.specs.Lone.{AreLone}
-use Rattle.rom80_find.specs.Marks.{IsSievedWord}
+use Rattle.rom80_find.specs.Marks.{has_bit}
 use Rattle.rom80_find.specs.Places.{ArePlaces}
-use Rattle.rom80_find.specs.Search.{search_of}
 use Rattle.rom80_find.proofs.listing.push_places_of_word.Given as goal
 
 abbrev pub invariant-loop-index : goal.invariant-loop-index
-invariant-loop-index l = record {
-  same : l.search ≡ l.fn.search;
-  places : (dump : DumpValue) (lone : List Bool) (code : List CodeByte) → l.fn.search ≡ search_of dump lone code
-      → IsSievedWord dump lone code l.first l.alive → AreLone code lone → ArePlaces dump code l.first l.fn.places.items
-      → ArePlaces dump code (l.first + l.index) l.places.items;
-}
+invariant-loop-index l = (dump : DumpValue) (code fixups : List CodeByte) → AreFitted dump code fixups l.first 64 (has_bit l.alive) l.wrong
+    → ArePlaces dump code l.first l.fn.places.items → ArePlaces dump code (l.first + l.index) l.places.items

@@ -4,6 +4,6 @@ use Rattle.verify80_cases.proofs.search.explore_with_tables.Given as goal
 
 abbrev pub invariant-loop : goal.invariant-loop
 invariant-loop l = record {
-  explored : IsExplored l.code l.visited.marks.items l.visited.order.items;
+  explored : IsExplored l.code l.entries l.visited.marks.items l.visited.order.items;
   rests : AreRests l.code l.visited.marks.items l.reader.unfinished.items;
 }

@@ -1,0 +1,54 @@
+-- A program as it is followed on conditions: what lies behind a refused instruction is reached if they hold. (This project's own.)
+use Rattle.std.specs.Prelude.{◌==◌, ℕ, Bool, false, List, Option, Result, Ok, Err, All, if◌then◌else◌}
+use Rattle.std.specs.{List.list_any, Option.option_map_or}
+use Rattle.decode80.specs.declared.fetching.Fetched.{Fetched}
+use Rattle.decode80.specs.declared.instr.Instr.TheVariants.{Nop}
+use Rattle.decode80.specs.Fetch.{ahead}
+use Rattle.frames80.specs.declared.code.LookFault.{LookFault}
+use Rattle.frames80.specs.declared.code.LookFault.TheVariants.{Outside, Unused, EnablesInterrupts, Pchl as PchlUndeclared, DirectStore}
+use Rattle.frames80.specs.declared.effect.Effect.{Effect}
+use Rattle.frames80.specs.declared.effect.Effect.TheVariants.{Call, CallIf}
+use Rattle.frames80.specs.Effects.{effect_of}
+use Rattle.frames80.specs.Code.{Code}
+use Rattle.verify80_explain.specs.declared.conditions.Conditions.{Conditions}
+use Rattle.verify80_explain.specs.declared.explaining_all.FurtherRefusals.{FurtherRefusals}
+use Rattle.verify80_explain.specs.Shows.{IsShown}
+
+-- an instruction that does nothing, with the address after it
+abbrev pub nothing_before : ℕ → Fetched
+nothing_before next = record { instr = Nop; next = next }
+
+-- the address is one of these
+abbrev pub is_among : List ℕ → ℕ → Bool
+is_among addresses at = list_any (λ of. of == at) addresses
+
+-- an effect calls one of these procedures
+abbrev pub calls_returning : (returning : List ℕ) → Effect → Bool
+calls_returning returning (Call to) = is_among returning to
+calls_returning returning (CallIf to) = is_among returning to
+calls_returning returning _ = false
+
+-- what was found at an address, on conditions: a call of a procedure that returns does nothing, and so does a refused EI, STA or SHLD
+-- that is passed over
+abbrev pub seen_if : Conditions → ℕ → Result Fetched LookFault → Result Fetched LookFault
+seen_if conditions at (Ok found) =
+    if calls_returning conditions.returning.items (effect_of found.instr) then Ok (nothing_before found.next) else Ok found
+seen_if conditions at (Err EnablesInterrupts) =
+    if is_among conditions.passed.items at then Ok (nothing_before (ahead at 1)) else Err EnablesInterrupts
+seen_if conditions at (Err DirectStore) =
+    if is_among conditions.passed.items at then Ok (nothing_before (ahead at 3)) else Err DirectStore
+seen_if conditions at (Err fault) = Err fault
+
+-- a program on conditions
+abbrev pub code_if : Conditions → Code → Code
+code_if conditions code = record {
+  look = λ at. seen_if conditions at (code.look at);
+  targets = code.targets;
+  start = option_map_or (λ at. at) conditions.begins code.start;
+  top = code.top;
+  stack = code.stack;
+}
+
+-- refusals are shown by what stands with them, if these conditions hold
+abbrev pub AreShownIf : Code → FurtherRefusals → Type 0
+AreShownIf code further = All (IsShown (code_if further.conditions code)) further.shown.items
