@@ -1,12 +1,13 @@
 -- The lines of an image's code, one address after another.
-use Rattle.std.specs.Prelude.{◌≡◌, ℕ, zero, suc, ◌+◌, ◌-◌, ◌<◌, ◌≤◌, Bool, true, false, List, [], ◌∷◌, ◌++◌, Option, None, Some, length, drop, codes, slice_index, if◌then◌else◌, refl}
+use Rattle.std.specs.Prelude.{◌≡◌, ℕ, zero, suc, ◌+◌, ◌-◌, ◌<◌, ◌≤◌, Bool, true, false, List, [], ◌∷◌, ◌++◌, Option, None, Some, length, drop, codes, slice_index, slice_index_or, if◌then◌else◌, refl}
 use Rattle.std.specs.List.{flat_map, range_with_len}
 use Rattle.std.proofs.Common.{◌∙◌, ap, sym, subst, arith, add-one, append_assoc, append-nil, length-append}
+use Rattle.std.proofs.lemmas.Bool.{true≢false}
 use Rattle.decode80.specs.declared.fetching.Fetched.{Fetched}
 use Rattle.image80.specs.Regions.{Areas}
 use Rattle.verify80.specs.Reached.{found_at}
 use Rattle.loader80_trace.specs.Lines.{filled}
-use Rattle.loader80_trace.specs.Cover.{cover_lines, data_before, data_from, is_data, line_at, line_of, tally}
+use Rattle.loader80_trace.specs.Cover.{cover_lines, data_before, data_from, is_data, line_at, line_of, mark_if, marked_line_at, marked_lines, tally}
 
 -- the lines from an address on
 unfoldable pub rest_lines : (shown : Bool) → (counts : List ℕ) → Areas → List ℕ → List (Option Fetched) → (at left : ℕ) → List ℕ
@@ -39,6 +40,42 @@ pub rest_none : (shown : Bool) (counts : List ℕ) (regions : Areas) (memory : L
 unfolding rest_lines
 rest_none shown counts regions memory table at zero lines whole none so_far = sym (append-nil lines) ∙ so_far
 rest_none shown counts regions memory table at (suc left) lines whole none so_far = absurd (omega arith)
+
+-- the same of lines with marks
+unfoldable pub rest_marked : (marks : List Bool) → Areas → List ℕ → List (Option Fetched) → (at left : ℕ) → List ℕ
+rest_marked marks regions memory table at left = flat_map (marked_line_at marks regions memory table) (range_with_len at left)
+
+pub all_marked : (marks : List Bool) (regions : Areas) (memory : List ℕ) (table : List (Option Fetched)) (before : List ℕ) → before ++ rest_marked marks regions memory table 0 65536 ≡ before ++ marked_lines marks regions memory table
+unfolding marked_lines rest_marked
+all_marked marks regions memory table before = refl
+
+pub next_marked : (marks : List Bool) (regions : Areas) (memory : List ℕ) (table : List (Option Fetched)) (at : ℕ) (old mid new whole : List ℕ) → at < 65536 →
+    old ++ rest_marked marks regions memory table at (65536 - at) ≡ whole → mid ≡ old ++ mark_if (slice_index_or marks at false) at
+    → new ≡ mid ++ line_of false 0 (is_data regions table) memory at (found_at table at) →
+    new ++ rest_marked marks regions memory table (at + 1) (65536 - (at + 1)) ≡ whole
+unfolding rest_marked
+next_marked marks regions memory table at old mid new whole inside so_far first second =
+    by_left (65536 - at) (omega (arith, inside)) so_far (omega arith)
+  where
+    made : new ≡ old ++ marked_line_at marks regions memory table at
+    made = second ∙ ap (λ (l : List ℕ). l ++ line_of false 0 (is_data regions table) memory at (found_at table at)) first
+        ∙ append_assoc old (mark_if (slice_index_or marks at false) at) (line_of false 0 (is_data regions table) memory at (found_at table at))
+        ∙ ap (λ (l : List ℕ). old ++ (mark_if (slice_index_or marks at false) at ++ l)) (counted_line false 0 (slice_index [] at) (is_data regions table) memory at (found_at table at) (λ never. elim (true≢false (sym never)) [ ]))
+
+    by_left : (left : ℕ) → 0 < left → old ++ rest_marked marks regions memory table at left ≡ whole → left - 1 ≡ 65536 - (at + 1) →
+        new ++ rest_marked marks regions memory table (at + 1) (65536 - (at + 1)) ≡ whole
+    by_left zero some so_far less = absurd (omega (arith, some))
+    by_left (suc left) some so_far less =
+        let others : List ℕ = flat_map (marked_line_at marks regions memory table) (range_with_len (at + 1) left) in
+        let same : 65536 - (at + 1) ≡ left = omega (arith, less) in
+        ap (λ (n : ℕ). new ++ flat_map (marked_line_at marks regions memory table) (range_with_len (at + 1) n)) same
+        ∙ ap (λ (l : List ℕ). l ++ others) made
+        ∙ append_assoc old (marked_line_at marks regions memory table at) others ∙ so_far
+
+pub none_marked : (marks : List Bool) (regions : Areas) (memory : List ℕ) (table : List (Option Fetched)) (at left : ℕ) (lines whole : List ℕ) → left ≡ 0 → lines ++ rest_marked marks regions memory table at left ≡ whole → lines ≡ whole
+unfolding rest_marked
+none_marked marks regions memory table at zero lines whole none so_far = sym (append-nil lines) ∙ so_far
+none_marked marks regions memory table at (suc left) lines whole none so_far = absurd (omega arith)
 
 -- the bytes of data before the next address
 pub data_before-more : (data_here : ℕ → Bool) (at : ℕ) → data_before data_here (at + 1) ≡ (if data_here at then data_before data_here at + 1 else 0)

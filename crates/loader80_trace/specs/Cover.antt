@@ -1,6 +1,6 @@
 -- The code of an image, line by line: the instructions at the addresses that walks reach, and the other bytes as data. (Texts:
 -- 8080 Assembly Language Programming Manual; the columns are this project's.)
-use Rattle.std.specs.Prelude.{◌≡◌, ℕ, zero, suc, ◌+◌, ◌-◌, ◌%◌, ◌==◌, ◌&&◌, ◌||◌, Bool, true, false, not, nat_le, nat_lt, is_some, List, [], ◌∷◌, ◌++◌, Option, None, Some, length, slice_index, codes, if◌then◌else◌}
+use Rattle.std.specs.Prelude.{◌≡◌, ℕ, zero, suc, ◌+◌, ◌-◌, ◌%◌, ◌==◌, ◌&&◌, ◌||◌, Bool, true, false, not, nat_le, nat_lt, is_some, List, [], ◌∷◌, ◌++◌, Option, None, Some, length, slice_index, slice_index_or, codes, if◌then◌else◌}
 use Rattle.std.specs.Fmt.{decimal}
 use Rattle.std.specs.List.{flat_map, range_with_len}
 use Rattle.decode80.specs.declared.fetching.Fetched.{Fetched}
@@ -66,6 +66,21 @@ line_at shown counts regions memory table at = line_of shown (slice_index counts
 -- the lines of all addresses
 unfoldable pub cover_lines : (shown : Bool) → (counts : List ℕ) → Areas → List ℕ → List (Option Fetched) → List ℕ
 cover_lines shown counts regions memory table = flat_map (line_at shown counts regions memory table) (range_with_len 0 65536)
+
+-- the line before an address that is marked
+abbrev pub mark_line : (at : ℕ) → List ℕ
+mark_line at = codes "REFUSED AT " ++ (word_text at ++ 10 ∷ [])
+
+abbrev pub mark_if : Bool → (at : ℕ) → List ℕ
+mark_if true at = mark_line at
+mark_if false at = []
+
+abbrev pub marked_line_at : (marks : List Bool) → Areas → List ℕ → List (Option Fetched) → ℕ → List ℕ
+marked_line_at marks regions memory table at = mark_if (slice_index_or marks at false) at ++ line_at false [] regions memory table at
+
+-- the lines of all addresses, with one before each that is marked
+unfoldable pub marked_lines : (marks : List Bool) → Areas → List ℕ → List (Option Fetched) → List ℕ
+marked_lines marks regions memory table = flat_map (marked_line_at marks regions memory table) (range_with_len 0 65536)
 
 -- how many of `left` addresses, from one on, pass a test
 unfoldable pub tally : (ℕ → Bool) → (at left : ℕ) → ℕ

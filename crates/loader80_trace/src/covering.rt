@@ -9,4 +9,4 @@ mod covering;
 mod line;
 mod places;
 
-pub use covering::{cover, list_instructions, list_reached};
+pub use covering::{cover, list_instructions, list_marked, list_reached};

@@ -9,7 +9,7 @@
 //! | [`count_steps`], [`Counts`] | how often a run begins the instruction at each address |
 //! | [`memory_bytes`] | the bytes of a memory |
 //! | [`laws`] | a run goes on from where it was stopped, as a contract |
-//! | [`list_reached`], [`list_instructions`] | the lines alone; and of any table of instructions |
+//! | [`list_reached`], [`list_instructions`], [`list_marked`] | the lines alone; those of any table of instructions; and with marks |
 //! | [`cover`] | the lines with how often each instruction was begun, and the sums |
 #![tactic(auto)]
 
@@ -25,7 +25,7 @@ mod stepping;
 mod tracing;
 
 pub use counting::{Counts, count_steps};
-pub use covering::{cover, list_instructions, list_reached};
+pub use covering::{cover, list_instructions, list_marked, list_reached};
 pub use fault::TraceFault;
 pub use finishing::{Finished, finish};
 pub use limits::{Limits, Span};

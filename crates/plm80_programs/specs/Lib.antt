@@ -2,6 +2,7 @@ pub mod Arguments
 pub mod Status
 pub mod Printed
 pub mod Explanations
+pub mod Reached
 pub mod Running
 pub mod CaseTexts
 pub mod Cases

@@ -16,6 +16,7 @@ use Rattle.loader80.specs.declared.running.Ended.{Ended}
 use Rattle.loader80_trace.specs.{declared.limits.Limits.Limits, Counts.CountsSteps, Cover.CoversReached, Cover.ListsReached, Traces.EndsSo}
 use Rattle.plm80_console.specs.{Answer.AnswerValue, Answer.prints, Journal.FileValue, Ranges.AreRangesOf}
 use Rattle.plm80_names.specs.{Printed.named_report, Verdict.AnswersProgram, Verdict.AnswersVerdict, Arguments.asks_names}
+use Rattle.plm80_programs.specs.Reached.{AnswersReach, ShowsCalls, ShowsCode, ShowsSource}
 use Rattle.plm80_programs.specs.{declared.stores.StoresArguments.StoresArguments, Status.end_status, Status.stores_status}
 
 -- a text that says something is printed, with status 0
@@ -53,11 +54,12 @@ pub record IsCodeSource (image : Located) (publics : List Public) (text : List �
   pub code : (at : ℕ) → in_code image.regions at ≡ false → slice_index_or table at None ≡ None
   pub source : IsSourceOf image publics table text
 
--- the code, or a source: what the program reaches of it, or all of it, whether the verifier accepts it or not
+-- the code, or a source: what the program reaches of it, or all of it, whether the verifier accepts it or not; of what walks reach of a
+-- program that is refused nothing is proved
 abbrev pub PrintsListing : (reached source : Bool) → Located → List Public → AnswerValue → Type 0
-PrintsListing true false image publics answer = AnswersVerdict (λ program. PrintsText (ListsCode publics program)) image publics answer
+PrintsListing true false image publics answer = AnswersReach (λ program. PrintsText (ListsCode publics program)) (ShowsCode image publics) image answer
 PrintsListing false false image publics answer = answer ≡ prints (labelled_text publics false (listing_of image)) 0
-PrintsListing true true image publics answer = AnswersVerdict (λ program. PrintsText (ListsSource publics program)) image publics answer
+PrintsListing true true image publics answer = AnswersReach (λ program. PrintsText (ListsSource publics program)) (ShowsSource image publics) image answer
 PrintsListing false true image publics answer = PrintsText (IsCodeSource image publics) answer
 
 -- ---- calls
@@ -75,7 +77,7 @@ pub record IsCallsText (dot : Bool) (publics : List Public) (program : Voucher) 
   pub text_is : text ≡ calls_text dot program.image publics nodes
 
 abbrev pub PrintsCalls : (dot : Bool) → Located → List Public → AnswerValue → Type 0
-PrintsCalls dot image publics answer = AnswersVerdict (λ program. PrintsText (IsCallsText dot publics program)) image publics answer
+PrintsCalls dot image publics answer = AnswersReach (λ program. PrintsText (IsCallsText dot publics program)) (ShowsCalls dot image publics) image answer
 
 -- ---- stores
 

@@ -90,7 +90,7 @@ fn append_shown(
 }
 
 /// Appends the line that there are more refusals to show, unless `are_all`.
-fn append_limit(text: &mut Vec<u8>, are_all: bool) -> Result<(), AllocError>
+pub(crate) fn append_limit(text: &mut Vec<u8>, are_all: bool) -> Result<(), AllocError>
     ensures { OnOk result (text.new.items ≡ text.old.items ++ limit_line are_all) }
 {
     if are_all {

@@ -1,12 +1,14 @@
-//! `plm80 calls`: the calls of a located program, or its refusal.
+//! `plm80 calls`: the calls of a located program.
 
 ghost use Rattle.std.specs.Prelude.{IfErr, IfOk};
 ghost use Rattle.plm80_console.specs.Answer.{Gives, GivesUp};
 ghost use Rattle.plm80_names.specs.{Arguments.asks_names, Arguments.program_paths, Verdict.AnswersProgram};
-ghost use Rattle.plm80_programs.specs.{Arguments.AreCallsArguments, Printed.IsCallsText, Printed.PrintsCalls};
+ghost use Rattle.plm80_programs.specs.{Arguments.AreCallsArguments, Printed.IsCallsText, Printed.PrintsCalls, Reached.ShowsCalls};
 
-use crate::helpers::printing::{Printing, answer_of};
+use crate::helpers::printing::Printing;
+use crate::helpers::reached::{Reaching, Unproved, answer_or_reach};
 use clap::ArgMatches;
+use image80::Image;
 use loader80::Vouched;
 use plm80_console::laws::faults_follow_reading;
 use plm80_console::{Argument, Console, Kind, Reported, Syntax};
@@ -14,6 +16,7 @@ use plm80_files::{IMAGE, REGIONS};
 use plm80_names::{NAMES, NamedFiles, Names};
 use std::alloc::{AllocError, Global};
 use verify80_calls::{CallGraph, graph_text, list_text};
+use verify80_explain_text::{reach_graph, reach_text};
 
 /// The arguments of the command `calls`.
 #[derive(Clone, Copy)]
@@ -31,6 +34,11 @@ it calls, and the bytes that the call needs, its return address included
 Graphviz; the chain that gives the main program's bound is bold. --names prints
 behind a procedure its name, as check does, and behind a call that of its
 target; in a graph names are in the labels.
+
+An image that is refused has the status 1. Its calls are those that are reached
+if what is refused were passed over: below NOT PROVED REFUSALS n stand the
+refusals, and what is taken for granted. Bounds aren't known. Refused places
+have lines of their own; in a graph they are what red edges lead to.
 
 Example: plm80 calls readings.img readings.regions
 
@@ -65,7 +73,7 @@ impl<'a> CallsArguments<'a> {
     }
 }
 
-/// Does `calls`: prints the calls of the image, or its refusal, and returns the exit status, 1 for a refusal.
+/// Does `calls`: prints the calls of the image, or if it is refused those that walks reach, and returns the exit status, 1 for a refusal.
 pub fn show_calls<C: Console>(
     console: &mut C,
     arguments: CallsArguments<'_>,
@@ -78,7 +86,7 @@ pub fn show_calls<C: Console>(
     faults_follow_reading();
     let CallsArguments { files, dot } = arguments;
     let (image, names) = files.read(console)?;
-    let answer = answer_of(console.alloc(), image, &names, Calls { dot });
+    let answer = answer_or_reach(console.alloc(), image, &names, Calls { dot });
     let given = console.give_if_made(answer);
     files.explain(console, &given);
     given
@@ -101,5 +109,26 @@ impl Printing for Calls {
         } else {
             list_text(alloc, image, publics, &graph)
         }
+    }
+}
+
+impl Reaching for Calls {
+    ghost shows = { λ calls. ShowsCalls calls.dot };
+
+    fn reached_text(
+        &self,
+        alloc: Global,
+        image: &Image,
+        names: &Names,
+        unproved: &Unproved,
+    ) -> Result<Vec<u8>, AllocError> {
+        let points = unproved.reach.points.as_slice();
+        if self.dot {
+            return reach_graph(alloc, image, names.publics(), unproved.count(), points);
+        }
+        let mut text = unproved.head(alloc, image, names)?;
+        let lines = reach_text(alloc, image, names.publics(), points)?;
+        text.extend_from_slice(&lines)?;
+        Ok(text)
     }
 }

@@ -5,6 +5,7 @@
 //! | [`CallGraph`], [`Node`] | the procedures of a program, each with its bound and its calls |
 //! | [`list_text`] | a line for each procedure, and one for each of its calls |
 //! | [`graph_text`] | the procedures and their calls as a graph for Graphviz |
+//! | [`append_id`], [`append_escaped_name`] | the words of another graph |
 //! | [`bounds_are_made_of_chains`] | the bytes of the calls that are bold in a graph add up to the bound, as a contract |
 
 mod call_graph;
@@ -16,6 +17,6 @@ mod needs;
 mod words;
 
 pub use call_graph::{CallGraph, Node};
-pub use digraph::graph_text;
+pub use digraph::{append_escaped_name, append_id, graph_text};
 pub use laws::bounds_are_made_of_chains;
 pub use lines::list_text;

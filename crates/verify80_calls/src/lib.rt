@@ -10,6 +10,7 @@
 //! | [`CallGraph`], [`Node`] | the procedures of a program, each with its bound and its calls |
 //! | [`list_text`] | a line for each procedure, and one for each of its calls |
 //! | [`graph_text`] | the procedures and their calls as a graph for Graphviz |
+//! | [`append_id`], [`append_escaped_name`] | the words of another graph |
 //! | [`bounds_are_made_of_chains`] | the bytes of the calls that are bold in a graph add up to the bound, as a contract |
 #![tactic(auto)]
 
@@ -18,5 +19,8 @@ mod graph;
 mod points;
 
 pub use calls::{Call, find_calls};
-pub use graph::{CallGraph, Node, bounds_are_made_of_chains, graph_text, list_text};
+pub use graph::{
+    CallGraph, Node, append_escaped_name, append_id, bounds_are_made_of_chains, graph_text,
+    list_text,
+};
 pub use verify80_flow::Procedure;

@@ -1,10 +1,11 @@
 //! What is taken for granted of a program, so that its ways go on behind refused instructions.
 
 ghost use Rattle.std.specs.Prelude.{◌≡◌};
+ghost use Rattle.frames80.specs.Effects.{effect_of as effects_of};
 ghost use Rattle.verify80.specs.Looking.{code_of};
-ghost use Rattle.verify80_explain.specs.Conditions.{calls_returning, code_if, is_among};
+ghost use Rattle.verify80_explain.specs.Conditions.{call_if, code_from, is_among};
 
-use decode80::{Fetched, Instr, ahead};
+use decode80::{Condition, Fetched, Instr, ahead};
 use frames80::{Code, Effect, LookFault, effect_of};
 use std::alloc::Global;
 use verify80::ImageCode;
@@ -41,10 +42,25 @@ impl Conditions {
 #[derive(Drop)]
 pub(crate) struct ConditionalCode<'a, 'b> {
     pub(crate) code: &'a ImageCode<'b>,
+    /// The address at which the program begins anew; `None` if it begins at its start. That of the conditions counts for nothing.
+    pub(crate) begins: Option<u16>,
     pub(crate) conditions: &'a Conditions,
 }
 
 impl<'a, 'b> ConditionalCode<'a, 'b> {
+    /// The program on all of these conditions.
+    pub(crate) fn new(code: &'a ImageCode<'b>, conditions: &'a Conditions) -> ConditionalCode<'a, 'b>
+        ensures code { result.code.now ≡ code.now }
+        ensures begins { result.begins ≡ conditions.now.begins }
+        ensures conditions { result.conditions.now ≡ conditions.now }
+    {
+        ConditionalCode {
+            code,
+            begins: conditions.begins,
+            conditions,
+        }
+    }
+
     /// Whether the instruction at this address is passed over if it is refused for a fault.
     fn is_passed(&self, at: u16) -> bool
         ensures { result ≡ is_among self.now.conditions.now.passed.items at }
@@ -53,33 +69,36 @@ impl<'a, 'b> ConditionalCode<'a, 'b> {
         passed.contains(&at)
     }
 
-    /// Whether an effect calls a procedure that is taken as returning.
-    fn calls_returning(&self, effect: Effect) -> bool
-        ensures { result ≡ calls_returning self.now.conditions.now.returning.items effect }
+    /// What is followed in place of an instruction: of a call of a procedure that is taken as returning a call on a condition, which may
+    /// or may not be made.
+    fn call_if(&self, found: Fetched) -> Fetched
+        ensures { result ≡ call_if self.now.conditions.now.returning.items found (effects_of found.instr) }
     {
         let returning = self.conditions.returning.as_slice();
-        match effect {
-            Effect::Call(to) | Effect::CallIf(to) => returning.contains(&to),
-            _ => false,
+        match effect_of(found.instr) {
+            Effect::Call(to) if returning.contains(&to) => Fetched {
+                instr: Instr::CallIf(Condition::NonZero, to),
+                next: found.next,
+            },
+            _ => found,
         }
     }
 }
 
 impl<'a, 'b> Code for ConditionalCode<'a, 'b> {
-    ghost code = { λ program. code_if program.conditions.now (code_of program.code.now) };
+    ghost code = { λ program. code_from program.begins program.conditions.now (code_of program.code.now) };
 
     /// The instruction at an address and the address after it, or why none may be executed there. One that a condition passes over is
-    /// a NOP, and so is a call of a procedure that is taken as returning.
+    /// a NOP, and a call of a procedure that is taken as returning a call on a condition, so that what is behind it is reached, and the
+    /// procedure, too.
     fn look(&self, at: u16) -> Result<Fetched, LookFault> {
         match self.code.look(at) {
-            Ok(found) if self.calls_returning(effect_of(found.instr)) => {
-                Ok(nothing_before(found.next))
-            }
+            Ok(found) => Ok(self.call_if(found)),
             Err(LookFault::EnablesInterrupts) if self.is_passed(at) => {
                 Ok(nothing_before(ahead(at, 1)))
             }
             Err(LookFault::DirectStore) if self.is_passed(at) => Ok(nothing_before(ahead(at, 3))),
-            looked => looked,
+            Err(fault) => Err(fault),
         }
     }
 
@@ -90,7 +109,7 @@ impl<'a, 'b> Code for ConditionalCode<'a, 'b> {
 
     /// The address where the program begins anew, or where the main program starts.
     fn start(&self) -> u16 {
-        match self.conditions.begins {
+        match self.begins {
             Some(at) => at,
             None => self.code.start(),
         }

@@ -1,9 +1,11 @@
 //! All refusals of points that the walks of an image reach, each shown by a way.
 
-ghost use Rattle.std.specs.Prelude.{All, IfOk, IfSome, OnOk};
+ghost use Rattle.std.specs.Prelude.{◌≡◌, All, IfOk, IfSome, OnOk};
 ghost use Rattle.verify80.specs.Looking.{code_of};
+ghost use Rattle.verify80_flow.specs.Refusal.{look_refusal as refusal_by_look};
 ghost use Rattle.verify80_explain.specs.Conditions.{AreShownIf};
 ghost use Rattle.verify80_explain.specs.Reached.{AreReached, AreWalked};
+ghost use Rattle.verify80_explain.specs.Reaching.{IsRefusedIfWalked, RefusesFor};
 ghost use Rattle.verify80_explain.specs.Shows.{IsShown, Shows};
 
 use crate::conditions::Conditions;
@@ -141,7 +143,7 @@ fn grow_and_show<C: Code>(
 }
 
 /// The answer of a search, with `Limit` and `NotShown` as `false`: not all was found.
-fn is_reached_within(reached: Result<bool, Unexplained>) -> Result<bool, AllocError> {
+pub(crate) fn is_reached_within(reached: Result<bool, Unexplained>) -> Result<bool, AllocError> {
     match reached {
         Ok(is_whole) => Ok(is_whole),
         Err(Unexplained::Memory) => Err(AllocError),
@@ -266,11 +268,13 @@ fn place_of(found: &FaultyPoint) -> Place {
 }
 
 /// The refusal of the instruction at a point; `None` if it may be executed there.
-fn refusal_at<C: Code>(
+pub(crate) fn refusal_at<C: Code>(
     alloc: Global,
     program: &C,
     point: &Point,
-) -> Result<Option<Refusal>, Unexplained> {
+) -> Result<Option<Refusal>, Unexplained>
+    ensures { IfOk result (λ refusal. IfSome refusal (IsRefusedIfWalked (C.code program.now) point.now)) }
+{
     let at = point.at;
     Ok(match look_at(alloc, program, point)? {
         Looked::Wrong(fault) => Some(refusal_of(Fault::Look(fault), at)),
@@ -280,13 +284,11 @@ fn refusal_at<C: Code>(
 }
 
 /// The refusal of this fault at an address.
-fn refusal_of(fault: Fault, at: u16) -> Refusal {
+pub(crate) fn refusal_of(fault: Fault, at: u16) -> Refusal
+    ensures { RefusesFor fault at result }
+{
     match fault {
-        Fault::Look(LookFault::Outside) => Refusal::FetchOutside(at),
-        Fault::Look(LookFault::Unused) => Refusal::UnusedOpcode(at),
-        Fault::Look(LookFault::EnablesInterrupts) => Refusal::EnablesInterrupts(at),
-        Fault::Look(LookFault::Pchl) => Refusal::Pchl(at),
-        Fault::Look(LookFault::DirectStore) => Refusal::DirectStore(at),
+        Fault::Look(fault) => look_refusal(fault, at),
         Fault::Frame(FrameFault::Sphl) => Refusal::Sphl(at),
         Fault::Frame(FrameFault::StackByByte) => Refusal::StackByByte(at),
         Fault::Frame(FrameFault::SetsStack) => Refusal::SetsStack(at),
@@ -294,5 +296,18 @@ fn refusal_of(fault: Fault, at: u16) -> Refusal {
         Fault::Frame(FrameFault::ReturnNotOwn) => Refusal::ReturnNotOwn(at),
         Fault::Frame(FrameFault::ReturnFromMain) => Refusal::ReturnFromMain(at),
         Fault::Frame(FrameFault::Memory) => Refusal::Memory,
+    }
+}
+
+/// The refusal of an address at which no instruction may be executed, for this reason.
+pub(crate) fn look_refusal(fault: LookFault, at: u16) -> Refusal
+    ensures { result ≡ refusal_by_look fault at }
+{
+    match fault {
+        LookFault::Outside => Refusal::FetchOutside(at),
+        LookFault::Unused => Refusal::UnusedOpcode(at),
+        LookFault::EnablesInterrupts => Refusal::EnablesInterrupts(at),
+        LookFault::Pchl => Refusal::Pchl(at),
+        LookFault::DirectStore => Refusal::DirectStore(at),
     }
 }

@@ -28,7 +28,7 @@ const MOST_ROUNDS: usize = 64;
 
 /// Where conditions are looked for: those that have been found, and what may still be spent.
 #[derive(Drop)]
-struct Conditioning<'a, 'b> {
+pub(crate) struct Conditioning<'a, 'b> {
     code: &'a ImageCode<'b>,
     /// The addresses at which the program may begin anew; `None` is its start.
     begins: IndexSet<Option<u16>>,
@@ -46,7 +46,7 @@ struct Conditioning<'a, 'b> {
 
 /// A refusal that is reached on conditions.
 #[derive(Drop)]
-struct Candidate {
+pub(crate) struct Candidate {
     place: Place,
     conditions: Conditions,
 }
@@ -124,7 +124,7 @@ fn show_if(
     ensures { All (IsShown (code_if conditions.now (code_of code.now))) shown.old.items
         → All (IsShown (code_if conditions.now (code_of code.now))) shown.new.items }
 {
-    let program = ConditionalCode { code, conditions };
+    let program = ConditionalCode::new(code, conditions);
     show_new(alloc, &program, places, left, shown)
 }
 
@@ -168,7 +168,7 @@ fn new_among(
 
 impl<'a, 'b> Conditioning<'a, 'b> {
     /// No conditions: the program begins at its start. Of refusals those that are known have been found.
-    fn new(
+    pub(crate) fn new(
         alloc: Global,
         code: &'a ImageCode<'b>,
         limit: usize,
@@ -189,7 +189,7 @@ impl<'a, 'b> Conditioning<'a, 'b> {
 
     /// Searches on the conditions that are known, and adds those that the refusals found ask for, until none are new. Appends the
     /// refusals that are reached only on some.
-    fn look_for_all(
+    pub(crate) fn look_for_all(
         &mut self,
         alloc: Global,
         candidates: &mut Vec<Candidate>,
@@ -232,7 +232,7 @@ impl<'a, 'b> Conditioning<'a, 'b> {
     }
 
     /// All conditions that are known, for a program that begins at the address with this number.
-    fn all_from(&self, alloc: Global, number: usize) -> Result<Conditions, AllocError> {
+    pub(crate) fn all_from(&self, alloc: Global, number: usize) -> Result<Conditions, AllocError> {
         let mut conditions = Conditions::new(alloc, self.begin_of(number));
         for at in &self.passed {
             conditions.passed.push(*at)?;
@@ -240,6 +240,8 @@ impl<'a, 'b> Conditioning<'a, 'b> {
         for entry in &self.returning {
             conditions.returning.push(*entry)?;
         }
+        conditions.passed.sort()?;
+        conditions.returning.sort()?;
         Ok(conditions)
     }
 
@@ -251,14 +253,39 @@ impl<'a, 'b> Conditioning<'a, 'b> {
         }
     }
 
+    /// The addresses at which the program may begin; `None` is its start.
+    pub(crate) fn begins(&self, alloc: Global) -> Result<Vec<Option<u16>>, AllocError> {
+        let mut begins = Vec::new(alloc);
+        for begin in &self.begins {
+            begins.push(*begin)?;
+        }
+        Ok(begins)
+    }
+
+    /// Lets the points of further searches weigh so much together.
+    pub(crate) fn allow(&mut self, limit: usize) {
+        self.left = limit;
+    }
+
+    /// Whether no limit was reached.
+    pub(crate) fn is_whole(&self) -> bool {
+        self.is_whole
+    }
+
     /// The points that are reached on these conditions, as far as what may be spent allows.
     fn search(&mut self, alloc: Global, conditions: &Conditions) -> Result<Search, Unexplained> {
-        let program = ConditionalCode {
-            code: self.code,
-            conditions,
-        };
+        let program = ConditionalCode::new(self.code, conditions);
+        self.search_program(alloc, &program)
+    }
+
+    /// The points of a program that are reached, as far as what may be spent allows.
+    pub(crate) fn search_program<C: Code>(
+        &mut self,
+        alloc: Global,
+        program: &C,
+    ) -> Result<Search, Unexplained> {
         let mut search = Search::new(alloc);
-        if !search.grow(alloc, &program, self.left)? {
+        if !search.grow(alloc, program, self.left)? {
             self.is_whole = false;
         }
         self.left = self.left.saturating_sub(search.weight());
@@ -274,10 +301,7 @@ impl<'a, 'b> Conditioning<'a, 'b> {
         search: &Search,
         refused: &mut IndexSet<u16>,
     ) -> Result<(), Unexplained> {
-        let program = ConditionalCode {
-            code: self.code,
-            conditions,
-        };
+        let program = ConditionalCode::new(self.code, conditions);
         for point in search.points.as_slice() {
             match look_at(alloc, &program, point)? {
                 Looked::Moved(_moves, _next) => {}
@@ -340,10 +364,7 @@ impl<'a, 'b> Conditioning<'a, 'b> {
         search: &Search,
         candidates: &mut Vec<Candidate>,
     ) -> Result<(), Unexplained> {
-        let program = ConditionalCode {
-            code: self.code,
-            conditions,
-        };
+        let program = ConditionalCode::new(self.code, conditions);
         let faulty = find_faulty(alloc, &program, search.points.as_slice())?;
         for found in new_among(alloc, faulty, &self.found)?.as_slice() {
             if self.left == 0 {

@@ -11,6 +11,7 @@
 //! | [`explain`] | the ways that show a refusal |
 //! | [`explain_all`], [`ShownRefusals`], [`ShownRefusal`] | all refusals of points, each with its way |
 //! | [`FurtherRefusals`], [`Conditions`] | refusals behind these, and what is taken for granted to reach them |
+//! | [`reach_all`], [`Reach`], [`ReachedPoint`], [`refusals_of`] | where walks stand if what is refused doesn't stop them |
 //! | [`measure`], [`ProcRow`] | the procedures of an image whose stack is too small |
 //! | [`find_chain`], [`Chain`], [`CallSite`], [`Standing`] | the calls whose bytes on the stack add up to the bound |
 //! | [`Explanation`], [`Route`], [`Call`], [`Point`] | what shows a refusal: the ways, the calls that lead to them, and their points |
@@ -33,6 +34,7 @@ mod links;
 mod looked;
 mod point;
 mod reached;
+mod reaching;
 mod ring;
 mod route;
 mod search;
@@ -48,6 +50,7 @@ pub use fault::Unexplained;
 pub use frames80::{Frame, Word};
 pub use laws::{chains_are_uses, what_is_shown_holds};
 pub use point::Point;
+pub use reaching::{Reach, ReachedPoint, reach_all, refusals_of};
 pub use route::{Call, Route};
 pub use verify80::measure;
 pub use verify80_bounds::CallSite;

@@ -4,6 +4,7 @@ use Rattle.std.specs.List.{flat_map}
 use Rattle.image80.specs.Image.{Located}
 use Rattle.omf_model.specs.declared.symbols.Public.{Public}
 use Rattle.verify80_explain.specs.declared.conditions.Conditions.{Conditions}
+use Rattle.verify80_explain.specs.declared.reaching.Reach.{Reach}
 use Rattle.verify80_explain_text.specs.Explained.{end_text, with_address}
 
 -- that this holds of an address
@@ -21,3 +22,10 @@ conditions_text image publics conditions =
     begins_line image publics conditions.begins
     ++ (flat_map (condition_line image publics (codes " IS PASSED OVER")) conditions.passed.items
     ++ flat_map (condition_line image publics (codes " RETURNS")) conditions.returning.items)
+
+-- the same of all conditions on which walks reach what they do, from any of the beginnings on
+abbrev pub reach_conditions : Located → List Public → Reach → List ℕ
+reach_conditions image publics reach =
+    flat_map (begins_line image publics) reach.begins.items
+    ++ (flat_map (condition_line image publics (codes " IS PASSED OVER")) reach.conditions.passed.items
+    ++ flat_map (condition_line image publics (codes " RETURNS")) reach.conditions.returning.items)

@@ -2,13 +2,13 @@
 
 ghost use Rattle.std.specs.Prelude.{◌≡◌, ◌++◌, OnOk, codes};
 ghost use Rattle.std.specs.List.{flat_map};
-ghost use Rattle.verify80_explain_text.specs.Conditions.{begins_line, condition_line, conditions_text};
+ghost use Rattle.verify80_explain_text.specs.Conditions.{begins_line, condition_line, conditions_text, reach_conditions};
 
 use crate::calls::{append_address, append_end};
 use image80::Image;
 use image80_text::PublicTable;
 use std::alloc::{AllocError, Global};
-use verify80_explain::Conditions;
+use verify80_explain::{Conditions, Reach};
 
 /// Appends the conditions, a line each: where the program begins anew, which instructions are passed over, and which procedures return,
 /// as `IF 0057 RETURNS`. Behind an address comes its name, if the publics have one.
@@ -124,4 +124,39 @@ fn append_condition(
     append_address(text, b"IF ".as_slice(), at)?;
     text.extend_from_slice(holds)?;
     append_end(alloc, text, image, publics, at)
+}
+
+/// Appends the conditions on which walks reach what they do: where the program begins anew, which instructions are passed over, and which
+/// procedures return, a line each, as [`append_conditions`].
+///
+/// # Errors
+/// `AllocError` only if memory runs out; then part of the lines may have been appended.
+pub fn append_reach_conditions(
+    alloc: Global,
+    text: &mut Vec<u8>,
+    image: &Image,
+    publics: &PublicTable,
+    reach: &Reach,
+) -> Result<(), AllocError>
+    ensures { OnOk result (text.new.items ≡ text.old.items ++ reach_conditions image.now publics.now reach.now) }
+{
+    append_all_begins(alloc, text, image, publics, &reach.begins)?;
+    append_passed(alloc, text, image, publics, &reach.conditions.passed)?;
+    append_returning(alloc, text, image, publics, &reach.conditions.returning)
+}
+
+/// Appends that the program begins anew at each of these addresses.
+fn append_all_begins(
+    alloc: Global,
+    text: &mut Vec<u8>,
+    image: &Image,
+    publics: &PublicTable,
+    begins: &[Option<u16>],
+) -> Result<(), AllocError>
+    ensures { OnOk result (text.new.items ≡ text.old.items ++ flat_map (begins_line image.now publics.now) begins.now) }
+{
+    for begin in begins {
+        append_begins(alloc, text, image, publics, *begin)?;
+    }
+    Ok(())
 }

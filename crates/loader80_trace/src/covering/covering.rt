@@ -1,8 +1,8 @@
 //! The lines of an image's code.
 
-ghost use Rattle.std.specs.Prelude.{◌≡◌, ◌<◌, ◌≤◌, ◌++◌, false, [], IfOk, OnOk, length, slice_index, true, if◌then◌else◌};
+ghost use Rattle.std.specs.Prelude.{◌≡◌, ◌<◌, ◌≤◌, ◌++◌, false, [], IfOk, OnOk, length, slice_index, slice_index_or, true, if◌then◌else◌};
 ghost use Rattle.image80.specs.Image.{memory_of};
-ghost use Rattle.loader80_trace.specs.Cover.{CoversReached, ListsReached, cover_lines, data_before, is_begun, is_data, is_instruction, line_of, sums_line, tally};
+ghost use Rattle.loader80_trace.specs.Cover.{CoversReached, ListsReached, cover_lines, data_before, is_begun, is_data, is_instruction, line_of, mark_if, mark_line, marked_lines, sums_line, tally};
 ghost use Rattle.verify80.specs.Reached.{found_at};
 
 use crate::covering::line::{append_data, append_instruction};
@@ -13,6 +13,7 @@ use loader80::Vouched;
 use machine80::FlatBus;
 use std::alloc::{AllocError, Global};
 use std::fmt::Write;
+use text80::word_digits;
 use verify80::{Reached, find_reached};
 
 /// The lines of a vouched image's code, by address: one for each instruction that walks reach, as a listing has it,
@@ -40,6 +41,77 @@ pub fn list_instructions(
     ensures { IfOk result (λ listed. listed.items ≡ cover_lines false [] image.now.regions (memory_of image.now.chunks) reached.now) }
 {
     lines_of(alloc, image, reached, false, &[])
+}
+
+/// The lines of [`list_instructions`], with a line `REFUSED AT aaaa` before that of each address that is marked. An address without an
+/// entry isn't.
+///
+/// # Errors
+/// `AllocError` only if memory runs out.
+pub fn list_marked(
+    alloc: Global,
+    image: &Image,
+    reached: &[Option<Fetched>],
+    marks: &[bool],
+) -> Result<Vec<u8>, AllocError>
+    ensures { IfOk result (λ listed. listed.items ≡ marked_lines marks.now image.now.regions (memory_of image.now.chunks) reached.now) }
+{
+    let memory = FlatBus::new(alloc, image)?;
+    let layout = Layout {
+        regions: &image.regions,
+        memory: &memory,
+        reached,
+    };
+    let mut lines = Vec::new(alloc);
+    append_marked(alloc, &layout, marks, &mut lines)?;
+    Ok(lines)
+}
+
+/// Appends the lines that begin at all addresses, in order, with a line before each address that is marked.
+fn append_marked(
+    alloc: Global,
+    layout: &Layout<'_>,
+    marks: &[bool],
+    lines: &mut Vec<u8>,
+) -> Result<(), AllocError>
+    ensures { OnOk result (lines.new.items ≡ lines.old.items
+        ++ marked_lines marks.now layout.now.regions.now layout.now.memory.now layout.now.reached.now) }
+{
+    let mut before = 0;
+    for at in 0..65536usize {
+        append_mark(marks, at, lines)?;
+        append_line(alloc, layout, false, 0, at as u16, before, lines)?;
+        before = data_behind(layout, at, before);
+    }
+    Ok(())
+}
+
+/// Appends the line before an address that is marked; nothing if it isn't. `at` must be below 65536.
+fn append_mark(marks: &[bool], at: usize, lines: &mut Vec<u8>) -> Result<(), AllocError>
+    requires { at < 65536 }
+    ensures { OnOk result (lines.new.items ≡ lines.old.items ++ mark_if (slice_index_or marks.now at false) at) }
+{
+    if is_marked(marks, at) {
+        return append_mark_line(at as u16, lines);
+    }
+    Ok(())
+}
+
+/// Whether an address is marked.
+fn is_marked(marks: &[bool], at: usize) -> bool
+    ensures { result ≡ slice_index_or marks.now at false }
+{
+    marks.get(at).copied().unwrap_or(false)
+}
+
+/// Appends the line before a marked address.
+fn append_mark_line(at: u16, lines: &mut Vec<u8>) -> Result<(), AllocError>
+    ensures { OnOk result (lines.new.items ≡ lines.old.items ++ mark_line at) }
+{
+    lines.extend_from_slice(b"REFUSED AT ".as_slice())?;
+    lines.extend_from_slice(&word_digits(at))?;
+    lines.push(b'\n')?;
+    Ok(())
 }
 
 /// The lines of [`list_reached`], each instruction with how often a run began it by `counts`, or `-` if it didn't; and

@@ -80,7 +80,10 @@ fn append_box(
 }
 
 /// Appends the name of a procedure's box: its entry or `MAIN`, in quotes.
-fn append_id(text: &mut Vec<u8>, procedure: Procedure) -> Result<(), AllocError>
+///
+/// # Errors
+/// `AllocError` if memory runs out.
+pub fn append_id(text: &mut Vec<u8>, procedure: Procedure) -> Result<(), AllocError>
     ensures { OnOk result (text.new.items ≡ text.old.items ++ node_id procedure) }
 {
     match procedure {
@@ -111,7 +114,10 @@ fn append_label(text: &mut Vec<u8>, node: &Node) -> Result<(), AllocError>
 }
 
 /// Appends the name of an address, escaped for a label; nothing if the publics have none.
-fn append_escaped_name(
+///
+/// # Errors
+/// `AllocError` if memory runs out.
+pub fn append_escaped_name(
     alloc: Global,
     text: &mut Vec<u8>,
     image: &Image,

@@ -1,0 +1,83 @@
+-- What is printed of what walks reach of an image that the verifier refuses. (That it is printed, that nothing of it is proved to be all,
+-- and the form of the lines, are this project's own.)
+use Rattle.std.specs.Prelude.{◌≡◌, ◌≢◌, ◌⊎◌, ◌==◌, ℕ, Bool, true, false, List, [], ◌∷◌, ◌++◌, Option, All, codes, length, map, slice_index_or}
+use Rattle.std.specs.{Fmt.decimal, List.flat_map, List.list_any, Option.option_map_or}
+use Rattle.omf_model.specs.declared.symbols.Public.{Public}
+use Rattle.decode80.specs.declared.fetching.Fetched.{Fetched}
+use Rattle.image80.specs.{Image.Located, Image.memory_of}
+use Rattle.image80_source.specs.Source.{IsSourceOf}
+use Rattle.image80_text.specs.NameText.{labelled_text}
+use Rattle.loader80_trace.specs.Cover.{marked_lines}
+use Rattle.verify80.specs.{Looking.code_of, Vouched.Voucher}
+use Rattle.verify80_flow.specs.{declared.refusal.Refusal.Refusal, declared.refusal.Refusal.TheVariants.Memory, Faults.Holds, Refusal.refusal_address}
+use Rattle.verify80_explain.specs.{declared.reaching.Reach.Reach, declared.reaching.ReachedPoint.ReachedPoint, Reaching.AreReachedOn, Reaching.IsRefusalAmong}
+use Rattle.verify80_explain_text.specs.{Conditions.reach_conditions, Reaching.reach_text, ReachGraph.graph_text}
+use Rattle.verify80_follow.specs.Reaching.{AreFollowed}
+use Rattle.plm80_console.specs.{Answer.AnswerValue, Answer.prints}
+use Rattle.plm80_names.specs.{Printed.named_refusal_line, Verdict.IsAccepted}
+use Rattle.plm80_programs.specs.{declared.helpers.reached.Unproved.Unproved, Explanations.limit_line}
+
+-- a refusal is the verifier's, or that of a point that walks reach
+abbrev pub IsListed : Refusal → List ReachedPoint → Refusal → Type 0
+IsListed own points refusal = (refusal ≡ own) ⊎ IsRefusalAmong points refusal
+
+-- what walks reach of an image that is refused, on the conditions that stand with it, and refusals of it
+pub record IsUnproved (image : Located) (refusal : Refusal) (unproved : Unproved) : Type 0 where
+  pub reached : AreReachedOn (code_of image) unproved.reach
+  pub listed : All (IsListed refusal unproved.reach.points.items) unproved.refusals.items
+
+-- A program that is accepted has such an answer; of another one such a text is printed of what walks reach, and the status is 1.
+pub data AnswersReach (Answers : Voucher → AnswerValue → Type 0) (Shows : Unproved → (text : List ℕ) → Type 0) (image : Located) (answer : AnswerValue) : Type 0 where
+  accepted : (program : Voucher) → IsAccepted image program → Answers program answer → AnswersReach Answers Shows image answer
+  refused : (refusal : Refusal) (unproved : Unproved) (text : List ℕ) → Holds (code_of image) refusal → refusal ≢ Memory → IsUnproved image refusal unproved
+      → Shows unproved text → answer ≡ prints text 1 → AnswersReach Answers Shows image answer
+
+-- that nothing is proved, and how many refusals there are
+abbrev pub count_words : Unproved → List ℕ
+count_words unproved = codes "NOT PROVED REFUSALS " ++ (decimal (length unproved.refusals.items) ++ 10 ∷ [])
+
+-- the lines before what walks reach: the refusals; that not all was followed, if so; and the conditions
+abbrev pub head_lines : Located → List Public → Unproved → List ℕ
+head_lines image publics unproved =
+    count_words unproved ++ (flat_map (named_refusal_line image.regions.code publics) unproved.refusals.items
+    ++ (limit_line unproved.reach.is_whole ++ reach_conditions image publics unproved.reach))
+
+-- ---- calls
+
+-- the calls that walks reach, as lines or as a graph
+abbrev pub reached_calls : (dot : Bool) → Located → List Public → Unproved → List ℕ
+reached_calls false image publics unproved = head_lines image publics unproved ++ reach_text image publics unproved.reach.points.items
+reached_calls true image publics unproved = graph_text image publics (length unproved.refusals.items) unproved.reach.points.items
+
+abbrev pub ShowsCalls : (dot : Bool) → Located → List Public → Unproved → (text : List ℕ) → Type 0
+ShowsCalls dot image publics unproved text = text ≡ reached_calls dot image publics unproved
+
+-- ---- list
+
+-- whether a refusal names an address
+abbrev pub is_refusal_at : (at : ℕ) → Refusal → Bool
+is_refusal_at at refusal = option_map_or (λ named. named == at) (refusal_address refusal) false
+
+-- the addresses that refusals name are marked, and no others
+abbrev pub AreMarksOf : List Refusal → List Bool → Type 0
+AreMarksOf refusals marks = (at : ℕ) → slice_index_or marks at false ≡ list_any (is_refusal_at at) refusals
+
+abbrev pub places_of : List ReachedPoint → List ℕ
+places_of points = map (λ (point : ReachedPoint). point.standing.at) points
+
+-- the instructions at which walks stand, each with the line of its name, those that are refused behind a line that says so
+pub record ShowsCode (image : Located) (publics : List Public) (unproved : Unproved) (text : List ℕ) : Type 0 where
+  pub table : List (Option Fetched)
+  pub marks : List Bool
+  pub reached : AreFollowed image (places_of unproved.reach.points.items) table
+  pub marked : AreMarksOf unproved.refusals.items marks
+  pub text_is : text ≡ head_lines image publics unproved
+      ++ labelled_text publics false (marked_lines marks image.regions (memory_of image.chunks) table)
+
+-- a source, behind a comment that nothing is proved, in which nothing is an instruction but those at which walks stand
+pub record ShowsSource (image : Located) (publics : List Public) (unproved : Unproved) (text : List ℕ) : Type 0 where
+  pub table : List (Option Fetched)
+  pub source : List ℕ
+  pub reached : AreFollowed image (places_of unproved.reach.points.items) table
+  pub is_source : IsSourceOf image publics table source
+  pub text_is : text ≡ codes "; " ++ (count_words unproved ++ source)

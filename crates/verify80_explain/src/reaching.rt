@@ -1,0 +1,270 @@
+//! All that walks of an image's program reach, on conditions.
+
+ghost use Rattle.std.specs.Prelude.{◌≡◌, All, IfOk, IfSome, OnOk, Some};
+ghost use Rattle.verify80.specs.Looking.{code_of};
+ghost use Rattle.verify80_explain.specs.Conditions.{code_from};
+ghost use Rattle.verify80_explain.specs.Reached.{AreWalked};
+ghost use Rattle.verify80_explain.specs.Reaching.{AreReachedOn, IsReachedAt, IsReachedOn, IsRefusalAmong, IsRefusedAt};
+ghost use Rattle.verify80_explain.specs.Ways.{IsWalked};
+ghost use Rattle.verify80_flow.specs.Refusal.{refusal_address};
+
+use crate::chain::{Standing, depth_at};
+use crate::conditions::{ConditionalCode, Conditions};
+use crate::explaining_all::{Place, is_reached_within, look_refusal, refusal_at};
+use crate::fault::Unexplained;
+use crate::further::Conditioning;
+use crate::point::Point;
+use crate::reached::are_reached;
+use frames80::{Code, slot};
+use image80::Image;
+use indexmap::IndexSet;
+use std::alloc::{AllocError, Global};
+use verify80::ImageCode;
+use verify80_flow::Refusal;
+
+/// Where a walk stands, and whether it may go on.
+#[derive(Clone, Copy, Debug)]
+pub struct ReachedPoint {
+    /// The procedure, the address and the depth.
+    pub standing: Standing,
+    /// Why the instruction may not be executed there; `None` if it may.
+    pub refusal: Option<Refusal>,
+}
+
+/// Where walks of a program stand, and the conditions on which they do.
+#[derive(Debug, Drop)]
+pub struct Reach {
+    /// Where the program begins: `None` is its start; at the others it begins anew, with an empty stack.
+    pub begins: Vec<Option<u16>>,
+    /// The instructions that are passed over, and the procedures that return.
+    pub conditions: Conditions,
+    /// Where walks stand, from any of the beginnings on: each procedure, address, depth and refusal once; the main program's points
+    /// first, then those of other procedures by entry, and those of one procedure by address and depth.
+    pub points: Vec<ReachedPoint>,
+    /// Whether every walk on these conditions was followed to its end.
+    pub is_whole: bool,
+}
+
+/// What tells a reached point from others.
+#[derive(Clone, Copy, PartialEq, Eq, Hash)]
+struct Key {
+    place: usize,
+    at: u16,
+    depth: i64,
+    refusal: Option<u8>,
+}
+
+impl Key {
+    /// The key of a point.
+    fn of(point: ReachedPoint) -> Key {
+        let ReachedPoint { standing, refusal } = point;
+        Key {
+            place: slot(standing.procedure),
+            at: standing.at,
+            depth: standing.depth,
+            refusal: match refusal {
+                Some(refusal) => Some(refusal.code()),
+                None => None,
+            },
+        }
+    }
+}
+
+/// Where walks of the image's program stand if what the verifier refuses doesn't stop them: on all the
+/// conditions of [`explain_all`](crate::explain_all) at once. The limit is on what the points of all
+/// searches weigh together, as for [`explain`](crate::explain); past it `is_whole` is false.
+///
+/// # Errors
+/// `AllocError` only if memory runs out.
+pub fn reach_all(alloc: Global, image: &Image, limit: usize) -> Result<Reach, AllocError>
+    ensures { IfOk result (AreReachedOn (code_of image.now)) }
+{
+    let code = ImageCode::new(alloc, image)?;
+    let mut conditioning = Conditioning::new(alloc, &code, limit / 2, &[])?;
+    let mut candidates = Vec::new(alloc);
+    let found = conditioning.look_for_all(alloc, &mut candidates);
+    let are_all = is_reached_within(found.map(|()| true))?;
+    conditioning.allow(limit / 2);
+    let begins = conditioning.begins(alloc)?;
+    let conditions = conditioning.all_from(alloc, 0)?;
+    let mut points = Vec::new(alloc);
+    let are_reached = reach_from_each(
+        alloc,
+        &code,
+        &mut conditioning,
+        &begins,
+        &conditions,
+        &mut points,
+    )?;
+    points.sort_by_key(place_of)?;
+    let is_whole = are_all && are_reached && conditioning.is_whole();
+    Ok(Reach {
+        begins,
+        conditions,
+        points,
+        is_whole,
+    })
+}
+
+/// The key by which points are sorted.
+fn place_of(point: &ReachedPoint) -> (usize, u16, i64) {
+    let standing = point.standing;
+    (slot(standing.procedure), standing.at, standing.depth)
+}
+
+/// The refusals at points, by address, those of one address by number, each once.
+///
+/// # Errors
+/// `AllocError` only if memory runs out.
+pub fn refusals_of(alloc: Global, points: &[ReachedPoint]) -> Result<Vec<Refusal>, AllocError>
+    ensures { IfOk result (λ refusals. All (IsRefusalAmong points.now) refusals.items) }
+{
+    let mut seen = IndexSet::new(alloc);
+    let mut refusals = Vec::new(alloc);
+    for number in 0..points.len() {
+        if let Some(refusal) = points[number].refusal {
+            if seen.insert(Place::of(refusal))? {
+                refusals.push(refusal)?;
+            }
+        }
+    }
+    refusals.sort_by_key(|refusal| Place::of(*refusal))?;
+    Ok(refusals)
+}
+
+/// Appends where walks stand that begin at any of these addresses, on the conditions. Answers whether none is left out.
+fn reach_from_each(
+    alloc: Global,
+    code: &ImageCode,
+    conditioning: &mut Conditioning<'_, '_>,
+    begins: &[Option<u16>],
+    conditions: &Conditions,
+    points: &mut Vec<ReachedPoint>,
+) -> Result<bool, AllocError>
+    ensures { OnOk result (All (IsReachedOn (code_of code.now) begins.now conditions.now) points.old.items
+        → All (IsReachedOn (code_of code.now) begins.now conditions.now) points.new.items) }
+{
+    let mut seen = IndexSet::new(alloc);
+    let mut are_all = true;
+    for number in 0..begins.len() {
+        let program = ConditionalCode {
+            code,
+            begins: begins[number],
+            conditions,
+        };
+        let Some(found) = reach_of(alloc, code, &program, conditioning, &mut seen)? else {
+            are_all = false;
+            continue;
+        };
+        points.extend_from_slice(&found)?;
+    }
+    Ok(are_all)
+}
+
+/// Where walks of a program stand, but for what has been seen; `None` if there are too many. `plain` is the program without conditions.
+fn reach_of<C: Code>(
+    alloc: Global,
+    plain: &ImageCode,
+    program: &C,
+    conditioning: &mut Conditioning<'_, '_>,
+    seen: &mut IndexSet<Key>,
+) -> Result<Option<Vec<ReachedPoint>>, AllocError>
+    ensures { IfOk result (λ found. IfSome found (λ points. All (IsReachedAt (code_of plain.now) (C.code program.now)) points.items)) }
+{
+    match search_for(alloc, plain, program, conditioning, seen) {
+        Ok(found) => Ok(found),
+        Err(Unexplained::Memory) => Err(AllocError),
+        Err(Unexplained::Limit | Unexplained::NotShown) => Ok(None),
+    }
+}
+
+/// Where walks of a program stand, as [`reach_of`]; `None` if the points of the search don't come from one another.
+fn search_for<C: Code>(
+    alloc: Global,
+    plain: &ImageCode,
+    program: &C,
+    conditioning: &mut Conditioning<'_, '_>,
+    seen: &mut IndexSet<Key>,
+) -> Result<Option<Vec<ReachedPoint>>, Unexplained>
+    ensures { IfOk result (λ found. IfSome found (λ points. All (IsReachedAt (code_of plain.now) (C.code program.now)) points.items)) }
+{
+    let search = conditioning.search_program(alloc, program)?;
+    let points = search.points.as_slice();
+    if !are_reached(alloc, program, points, search.origins.as_slice())? {
+        return Ok(None);
+    }
+    let found = stand_at(alloc, plain, program, points, seen)?;
+    Ok(Some(found))
+}
+
+/// Where walks stand by these points, all of which walks must reach, but for what has been seen.
+fn stand_at<C: Code>(
+    alloc: Global,
+    plain: &ImageCode,
+    program: &C,
+    points: &[Point],
+    seen: &mut IndexSet<Key>,
+) -> Result<Vec<ReachedPoint>, Unexplained>
+    requires { AreWalked (C.code program.now) points.now }
+    ensures { IfOk result (λ found. All (IsReachedAt (code_of plain.now) (C.code program.now)) found.items) }
+{
+    let mut found = Vec::new(alloc);
+    for number in 0..points.len() {
+        let point = reached_point(alloc, plain, program, &points[number])?;
+        if !seen.insert(Key::of(point))? {
+            continue;
+        }
+        found.push(point)?;
+    }
+    Ok(found)
+}
+
+/// Where a walk stands that reaches a point, and whether it may go on there.
+fn reached_point<C: Code>(
+    alloc: Global,
+    plain: &ImageCode,
+    program: &C,
+    point: &Point,
+) -> Result<ReachedPoint, Unexplained>
+    requires { IsWalked (C.code program.now) point.now }
+    ensures { IfOk result (IsReachedAt (code_of plain.now) (C.code program.now)) }
+{
+    let standing = Standing {
+        procedure: point.procedure,
+        at: point.at,
+        depth: depth_at(program, point)?,
+    };
+    let refusal = refusal_there(alloc, plain, program, point)?;
+    Ok(ReachedPoint { standing, refusal })
+}
+
+/// Why the instruction at a point may not be executed: whatever the frame is, which a condition may pass over, or with this frame.
+fn refusal_there<C: Code>(
+    alloc: Global,
+    plain: &ImageCode,
+    program: &C,
+    point: &Point,
+) -> Result<Option<Refusal>, Unexplained>
+    requires { IsWalked (C.code program.now) point.now }
+    ensures { IfOk result (λ refusal. IfSome refusal (IsRefusedAt (code_of plain.now) (C.code program.now) point.now.at)) }
+{
+    match plain.look(point.at) {
+        Err(fault) => Ok(Some(look_refusal(fault, point.at))),
+        Ok(_) => {
+            let refusal = refusal_at(alloc, program, point)?;
+            Ok(refusal_of_address(refusal, point.at))
+        }
+    }
+}
+
+/// A refusal, if it is of this address.
+fn refusal_of_address(refusal: Option<Refusal>, at: u16) -> Option<Refusal>
+    ensures { IfSome result (λ it. (refusal ≡ Some it) × (refusal_address it ≡ Some at)) }
+{
+    let found = refusal?;
+    if found.address() == Some(at) {
+        Some(found)
+    } else {
+        None
+    }
+}

@@ -1,0 +1,12 @@
+-- what was appended, and what is left to append
+use Rattle.std.proofs.Common.{◌≡◌, ◌++◌, length}
+use Rattle.std.specs.Prelude.{None}
+use Rattle.verify80_explain_text.specs.Reaching.{headed_lines, lines_by}
+use Rattle.verify80_explain_text.proofs.reach.append_points.Given as goal
+
+abbrev pub invariant-loop-rest : goal.invariant-loop-rest
+invariant-loop-rest l =
+    l.text.items ++ lines_by (headed_lines l.image l.publics) l.before l.rest ≡ l.initial.text.items ++ lines_by (headed_lines l.image l.publics) None l.fn.points
+
+abbrev pub decreases-loop-rest : goal.decreases-loop-rest
+decreases-loop-rest l = length l.rest
