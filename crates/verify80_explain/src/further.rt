@@ -124,7 +124,11 @@ fn show_if(
     ensures { All (IsShown (code_if conditions.now (code_of code.now))) shown.old.items
         → All (IsShown (code_if conditions.now (code_of code.now))) shown.new.items }
 {
-    let program = ConditionalCode::new(code, conditions);
+    let program = ConditionalCode {
+        code,
+        begins: conditions.begins,
+        conditions,
+    };
     show_new(alloc, &program, places, left, shown)
 }
 

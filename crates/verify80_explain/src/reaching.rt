@@ -122,11 +122,13 @@ pub fn refusals_of(alloc: Global, points: &[ReachedPoint]) -> Result<Vec<Refusal
     let mut seen = IndexSet::new(alloc);
     let mut refusals = Vec::new(alloc);
     for number in 0..points.len() {
-        if let Some(refusal) = points[number].refusal {
-            if seen.insert(Place::of(refusal))? {
-                refusals.push(refusal)?;
-            }
+        let Some(refusal) = points[number].refusal else {
+            continue;
+        };
+        if !seen.insert(Place::of(refusal))? {
+            continue;
         }
+        refusals.push(refusal)?;
     }
     refusals.sort_by_key(|refusal| Place::of(*refusal))?;
     Ok(refusals)

@@ -14,19 +14,19 @@
 mod calls;
 mod chain;
 mod conditions;
+mod digraph;
 mod explanation;
 mod frame;
 mod instruction;
 mod laws;
 mod printed;
 mod reach;
-mod reach_graph;
 mod way;
 
 pub use chain::chain_text;
 pub use conditions::{append_conditions, append_reach_conditions};
+pub use digraph::reach_graph;
 pub use explanation::explanation_text;
 pub use laws::ways_are_shown_in_runs;
 pub use printed::{append_chain, append_explanation};
 pub use reach::reach_text;
-pub use reach_graph::reach_graph;

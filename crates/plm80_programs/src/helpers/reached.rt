@@ -147,7 +147,8 @@ fn add_unless_among(refusals: &mut Vec<Refusal>, refusal: Refusal) -> Result<(),
     if is_there {
         return Ok(());
     }
-    refusals.push(refusal)
+    refusals.push(refusal)?;
+    Ok(())
 }
 
 /// Appends the line of each refusal, with the name of its address.

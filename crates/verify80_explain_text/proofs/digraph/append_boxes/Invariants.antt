@@ -3,7 +3,7 @@ use Rattle.std.proofs.Common.{◌≡◌, ◌++◌, length}
 use Rattle.std.specs.Prelude.{None}
 use Rattle.verify80_explain_text.specs.Reaching.{lines_by}
 use Rattle.verify80_explain_text.specs.ReachGraph.{box_of}
-use Rattle.verify80_explain_text.proofs.reach_graph.append_boxes.Given as goal
+use Rattle.verify80_explain_text.proofs.digraph.append_boxes.Given as goal
 
 abbrev pub invariant-loop-rest : goal.invariant-loop-rest
 invariant-loop-rest l =

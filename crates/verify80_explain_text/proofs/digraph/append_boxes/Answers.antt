@@ -1,7 +1,7 @@
 use Rattle.std.proofs.Common.{refl}
 use Rattle.verify80_explain_text.specs.ReachGraph.{box_of}
 use Rattle.verify80_explain_text.proofs.ReachLemmas.{lines_end, lines_next}
-use Rattle.verify80_explain_text.proofs.reach_graph.append_boxes.Goals as goal
+use Rattle.verify80_explain_text.proofs.digraph.append_boxes.Goals as goal
 
 pub loop-rest-preserved : goal.loop-rest-preserved
 loop-rest-preserved c =
