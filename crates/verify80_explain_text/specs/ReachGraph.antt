@@ -23,11 +23,14 @@ abbrev pub label_word : Procedure → List ℕ
 label_word Main = codes " [label=\"MAIN "
 label_word (Entry entry) = codes " [label=\""
 
--- the box of a procedure, whose bound isn't known
+-- the label of a box: a word and an address with its name, and that the bound isn't known
+abbrev pub box_label : Located → List Public → (word : List ℕ) → (address : ℕ) → List ℕ
+box_label image publics word address =
+    with_address word address ++ (escaped_name image publics address ++ codes "\\nBOUND ?\"];\n")
+
+-- the box of a procedure
 abbrev pub box_line : Located → List Public → Procedure → List ℕ
-box_line image publics procedure =
-    node_id procedure ++ (with_address (label_word procedure) (address_of image procedure)
-    ++ (escaped_name image publics (address_of image procedure) ++ codes "\\nBOUND ?\"];\n"))
+box_line image publics procedure = node_id procedure ++ box_label image publics (label_word procedure) (address_of image procedure)
 
 abbrev pub box_unless : Located → List Public → Option Procedure → Procedure → List ℕ
 box_unless image publics before procedure = if is_before before procedure then [] else box_line image publics procedure
@@ -48,11 +51,14 @@ call_edge standing (Some target) =
     node_id standing.procedure ++ (with_address (codes " -> \"") target ++ (edge_label standing ++ codes "];\n"))
 
 -- an edge to an address with a refusal
+abbrev pub refused_end : Standing → Refusal → List ℕ
+refused_end standing refusal =
+    with_address (codes " -> \"") standing.at ++ (refusal_text refusal ++ (edge_label standing ++ codes ", color=red];\n"))
+
 abbrev pub refused_edge : Standing → Option Refusal → List ℕ
 refused_edge standing None = []
 refused_edge standing (Some refusal) =
-    node_id standing.procedure ++ (with_address (codes " -> \"") standing.at
-    ++ (refusal_text refusal ++ (edge_label standing ++ codes ", color=red];\n")))
+    node_id standing.procedure ++ refused_end standing refusal
 
 -- those of the call at a point, and of its refusal
 abbrev pub edge_lines : Code → ReachedPoint → List ℕ

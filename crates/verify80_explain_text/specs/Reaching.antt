@@ -47,10 +47,14 @@ called_at code at = option_and_then (λ (found : Fetched). called_by (effect_of 
 abbrev pub standing_text : Standing → List ℕ
 standing_text standing = with_address (codes "  AT ") standing.at ++ (codes " DEPTH " ++ signed_decimal standing.depth)
 
+-- what is called, and that it isn't known what this needs
+abbrev pub target_text : Located → List Public → (target : ℕ) → List ℕ
+target_text image publics target = with_address (codes " CALLS ") target ++ (codes " NEEDS ?" ++ end_text image publics target)
+
 abbrev pub call_lines : Located → List Public → Standing → Option ℕ → List ℕ
 call_lines image publics standing None = []
 call_lines image publics standing (Some target) =
-    standing_text standing ++ (with_address (codes " CALLS ") target ++ (codes " NEEDS ?" ++ end_text image publics target))
+    standing_text standing ++ target_text image publics target
 
 abbrev pub refusal_text : Refusal → List ℕ
 refusal_text refusal = codes " REFUSED " ++ (decimal (refusal_code refusal) ++ (32 ∷ refusal_name refusal))

@@ -1,10 +1,10 @@
 //! Where walks stand, as a graph for Graphviz.
 
-ghost use Rattle.std.specs.Prelude.{◌≡◌, ◌++◌, IfOk, None, OnOk};
+ghost use Rattle.std.specs.Prelude.{◌≡◌, ◌++◌, IfOk, None, OnOk, codes};
 ghost use Rattle.std.specs.List.{flat_map};
 ghost use Rattle.verify80.specs.Looking.{code_of};
 ghost use Rattle.verify80_explain_text.specs.Reaching.{lines_by};
-ghost use Rattle.verify80_explain_text.specs.ReachGraph.{box_line, box_of, box_unless, edge_label, edge_lines, graph_head, graph_text, refused_edge, call_edge};
+ghost use Rattle.verify80_explain_text.specs.ReachGraph.{box_line, box_of, box_label, box_unless, call_edge, edge_label, edge_lines, graph_head, graph_text, refused_edge, refused_end};
 
 use crate::calls::append_address;
 use crate::reach::{append_refusal, called_at};
@@ -101,9 +101,24 @@ fn append_box(
         Procedure::Entry(entry) => (b" [label=\"".as_slice(), entry),
     };
     append_id(text, procedure)?;
+    append_label_of(alloc, text, image, publics, word, address)
+}
+
+/// Appends the label of a box, which begins with this word and an address.
+fn append_label_of(
+    alloc: Global,
+    text: &mut Vec<u8>,
+    image: &Image,
+    publics: &PublicTable,
+    word: &[u8],
+    address: u16,
+) -> Result<(), AllocError>
+    ensures { OnOk result (text.new.items ≡ text.old.items ++ box_label image.now publics.now word.now address) }
+{
     append_address(text, word, address)?;
     append_escaped_name(alloc, text, image, publics, address)?;
-    text.extend_from_slice(b"\\nBOUND ?\"];\n".as_slice())
+    text.extend_from_slice(b"\\nBOUND ?\"];\n".as_slice())?;
+    Ok(())
 }
 
 /// Appends the edges of each point. `code` must be that of the image.
@@ -165,8 +180,27 @@ fn append_refused(
         return Ok(());
     };
     append_id(text, standing.procedure)?;
+    append_refused_end(alloc, text, standing, refusal)
+}
+
+/// Appends where the edge to a refusal ends, with its label.
+fn append_refused_end(
+    alloc: Global,
+    text: &mut Vec<u8>,
+    standing: Standing,
+    refusal: Refusal,
+) -> Result<(), AllocError>
+    ensures { OnOk result (text.new.items ≡ text.old.items ++ refused_end standing refusal) }
+{
     append_address(text, b" -> \"".as_slice(), standing.at)?;
     append_refusal(alloc, text, refusal)?;
+    append_red_label(alloc, text, standing)
+}
+
+/// Appends the label of a red edge, and its end.
+fn append_red_label(alloc: Global, text: &mut Vec<u8>, standing: Standing) -> Result<(), AllocError>
+    ensures { OnOk result (text.new.items ≡ text.old.items ++ (edge_label standing ++ codes ", color=red];\n")) }
+{
     append_label(alloc, text, standing)?;
     text.extend_from_slice(b", color=red];\n".as_slice())
 }

@@ -3,7 +3,7 @@
 ghost use Rattle.std.specs.Prelude.{◌≡◌, ◌++◌, IfOk, None, OnOk};
 ghost use Rattle.verify80.specs.Looking.{code_of};
 ghost use Rattle.verify80_explain_text.specs.Explained.{with_address};
-ghost use Rattle.verify80_explain_text.specs.Reaching.{call_lines, called_at as called_in, heading, headed_lines, lines_by, point_lines, procedure_line, reach_text as text_of_reach, refusal_text, refused_lines, standing_text};
+ghost use Rattle.verify80_explain_text.specs.Reaching.{call_lines, called_at as called_in, heading, headed_lines, lines_by, point_lines, procedure_line, reach_text as text_of_reach, refusal_text, refused_lines, standing_text, target_text};
 
 use crate::calls::{append_address, append_end};
 use frames80::{Code, Effect, effect_of};
@@ -136,9 +136,23 @@ fn append_call(
         return Ok(());
     };
     append_standing(alloc, text, standing)?;
+    append_target(alloc, text, image, publics, target)
+}
+
+/// Appends what is called, and that it isn't known what this needs.
+fn append_target(
+    alloc: Global,
+    text: &mut Vec<u8>,
+    image: &Image,
+    publics: &PublicTable,
+    target: u16,
+) -> Result<(), AllocError>
+    ensures { OnOk result (text.new.items ≡ text.old.items ++ target_text image.now publics.now target) }
+{
     append_address(text, b" CALLS ".as_slice(), target)?;
     text.extend_from_slice(b" NEEDS ?".as_slice())?;
-    append_end(alloc, text, image, publics, target)
+    append_end(alloc, text, image, publics, target)?;
+    Ok(())
 }
 
 /// Appends the line of a refusal, with the name of its address; nothing if there is none.
