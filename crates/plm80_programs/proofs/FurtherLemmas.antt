@@ -1,5 +1,5 @@
 -- How many refusals are reached on conditions, one group more; and a text that grew by four parts.
-use Rattle.std.proofs.Common.{◌≡◌, ℕ, ◌+◌, ◌<◌, List, [], ◌∷◌, ◌++◌, length, get_or, take, append_assoc, length-append, ap, ◌∙◌}
+use Rattle.std.proofs.Common.{◌≡◌, ℕ, ◌+◌, ◌<◌, List, [], ◌∷◌, ◌++◌, length, get_or, take, append_assoc, length-append, ap, sym, ◌∙◌}
 use Rattle.std.specs.List.{flat_map}
 use Rattle.std.proofs.lemmas.Grind.{flat_map-append}
 use Rattle.std.proofs.lemmas.List.{append-nil, take_more}
@@ -24,3 +24,18 @@ pub four_parts : (before a b c d one two three all : List ℕ) → one ≡ befor
 four_parts before a b c d one two three all first second third last =
     last ∙ ap (λ (l : List ℕ). l ++ d) third ∙ ap (λ (l : List ℕ). (l ++ c) ++ d) second ∙ ap (λ (l : List ℕ). ((l ++ b) ++ c) ++ d) first
     ∙ append_assoc ((before ++ a) ++ b) c d ∙ append_assoc (before ++ a) b (c ++ d) ∙ append_assoc before a (b ++ (c ++ d))
+
+-- a text behind which stand the lines of the first of some things goes on with those of the next one
+pub one_more : {A : Type 0} (line : A → List ℕ) (items : List A) (before text after : List ℕ) (i : ℕ) (d : A) → i < length items →
+    after ≡ text ++ line (get_or items i d) → text ≡ before ++ flat_map line (take i items) →
+    after ≡ before ++ flat_map line (take (i + 1) items)
+one_more {A} line items before text after i d inside is so_far =
+    is
+    ∙ ap (λ (l : List ℕ). l ++ line (get_or items i d)) so_far
+    ∙ append_assoc before (flat_map line (take i items)) (line (get_or items i d))
+    ∙ ap (λ (l : List ℕ). before ++ l) (sym more)
+  where
+    more : flat_map line (take (i + 1) items) ≡ flat_map line (take i items) ++ line (get_or items i d)
+    more = ap (flat_map line) (take_more items i d inside)
+        ∙ flat_map-append line (take i items) (get_or items i d ∷ [])
+        ∙ ap (λ (l : List ℕ). flat_map line (take i items) ++ l) (append-nil (line (get_or items i d)))

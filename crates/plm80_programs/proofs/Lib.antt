@@ -7,3 +7,4 @@ pub mod GivenLemmas
 pub mod PrintLemmas
 pub mod RunLemmas
 mod Names
+mod MarkLemmas

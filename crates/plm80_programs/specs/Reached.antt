@@ -1,7 +1,7 @@
 -- What is printed of what walks reach of an image that the verifier refuses. (That it is printed, that nothing of it is proved to be all,
 -- and the form of the lines, are this project's own.)
 use Rattle.std.specs.Prelude.{◌≡◌, ◌≢◌, ◌⊎◌, ◌==◌, ℕ, Bool, true, false, List, [], ◌∷◌, ◌++◌, Option, All, codes, length, map, slice_index_or}
-use Rattle.std.specs.{Fmt.decimal, List.flat_map, List.list_any, Option.option_map_or}
+use Rattle.std.specs.{Fmt.decimal, List.filter_map, List.flat_map, List.list_any}
 use Rattle.omf_model.specs.declared.symbols.Public.{Public}
 use Rattle.decode80.specs.declared.fetching.Fetched.{Fetched}
 use Rattle.image80.specs.{Image.Located, Image.memory_of}
@@ -54,13 +54,13 @@ ShowsCalls dot image publics unproved text = text ≡ reached_calls dot image pu
 
 -- ---- list
 
--- whether a refusal names an address
-abbrev pub is_refusal_at : (at : ℕ) → Refusal → Bool
-is_refusal_at at refusal = option_map_or (λ named. named == at) (refusal_address refusal) false
+-- whether an address is this one
+abbrev pub is_place : (at place : ℕ) → Bool
+is_place at place = place == at
 
 -- the addresses that refusals name are marked, and no others
 abbrev pub AreMarksOf : List Refusal → List Bool → Type 0
-AreMarksOf refusals marks = (at : ℕ) → slice_index_or marks at false ≡ list_any (is_refusal_at at) refusals
+AreMarksOf refusals marks = (at : ℕ) → slice_index_or marks at false ≡ list_any (is_place at) (filter_map refusal_address refusals)
 
 abbrev pub places_of : List ReachedPoint → List ℕ
 places_of points = map (λ (point : ReachedPoint). point.standing.at) points

@@ -1,16 +1,17 @@
 //! Commands that print what walks reach of an image that the verifier refuses.
 
-ghost use Rattle.std.specs.Prelude.{◌≡◌, ◌++◌, ◌∷◌, [], ℕ, List, All, IfOk, OnOk, codes, length, map, replicate, false};
-ghost use Rattle.std.specs.{Fmt.decimal, List.flat_map};
+ghost use Rattle.std.specs.Prelude.{◌≡◌, ◌++◌, ◌∷◌, [], ℕ, List, All, IfOk, OnOk, length, replicate, false, slice_index_or};
+ghost use Rattle.std.specs.List.{filter_map, flat_map, list_any};
 ghost use Rattle.decode80.specs.declared.fetching.Fetched.{Fetched};
 ghost use Rattle.image80.specs.Image.{Located};
 ghost use Rattle.omf_model.specs.declared.symbols.Public.{Public};
 ghost use Rattle.verify80.specs.Looking.{code_of};
+ghost use Rattle.verify80_flow.specs.Refusal.{refusal_address};
 ghost use Rattle.verify80_explain.specs.Reaching.{IsRefusalAmong};
 ghost use Rattle.verify80_follow.specs.Reaching.{AreFollowed};
 ghost use Rattle.plm80_names.specs.Printed.{named_refusal_line};
 ghost use Rattle.plm80_programs.specs.Printed.{PrintsText};
-ghost use Rattle.plm80_programs.specs.Reached.{AnswersReach, AreMarksOf, IsListed, IsUnproved, count_words, head_lines, places_of as places_in};
+ghost use Rattle.plm80_programs.specs.Reached.{AnswersReach, AreMarksOf, IsListed, IsUnproved, count_words, head_lines, is_place, places_of as places_in};
 
 use crate::all_refusals::append_limit;
 use crate::explain::LIMIT;
@@ -36,6 +37,8 @@ pub struct Unproved {
 
 /// What a command prints of an image that the verifier refuses.
 pub trait Reaching {
+    ghost use Rattle.plm80_programs.specs.declared.helpers.reached.Unproved.{Unproved};
+
     // What the text says of an image with these names and what walks reach of it.
     ghost shows: { Self → Located → List Public → Unproved → List ℕ → Type 0 };
 
@@ -131,8 +134,9 @@ impl Unproved {
     pub fn marks(&self, alloc: Global) -> Result<Vec<bool>, AllocError>
         ensures { IfOk result (λ marks. AreMarksOf self.now.refusals.items marks.items) }
     {
+        let places = named_places(alloc, &self.refusals)?;
         let mut marks = vec![in alloc; false; 65_536]?;
-        set_marks(&mut marks, &self.refusals);
+        set_marks(&mut marks, &places);
         Ok(marks)
     }
 }
@@ -188,14 +192,22 @@ fn places_of(alloc: Global, points: &[ReachedPoint]) -> Result<Vec<u16>, AllocEr
     points.iter().map(|point| point.standing.at).collect(alloc)
 }
 
-/// Sets the mark of each address that a refusal names. `marks` must have an entry for each address, none of them set.
-fn set_marks(marks: &mut [bool], refusals: &[Refusal])
-    requires { marks.old ≡ replicate 65536 false }
-    ensures { AreMarksOf refusals.now marks.new }
+/// The addresses that refusals name.
+fn named_places(alloc: Global, refusals: &[Refusal]) -> Result<Vec<u16>, AllocError>
+    ensures { IfOk result (λ places. places.items ≡ filter_map refusal_address refusals.now) }
 {
-    for refusal in refusals {
-        if let Some(at) = refusal.address() {
-            marks[usize::from(at)] = true;
-        }
+    refusals
+        .iter()
+        .filter_map(|refusal| refusal.address())
+        .collect(alloc)
+}
+
+/// Sets the mark of each of these addresses. `marks` must have an entry for each address, none of them set.
+fn set_marks(marks: &mut Vec<bool>, places: &[u16])
+    requires { marks.old.items ≡ replicate 65536 false }
+    ensures { (at : ℕ) → slice_index_or marks.new.items at false ≡ list_any (is_place at) places.now }
+{
+    for place in places {
+        marks[usize::from(*place)] = true;
     }
 }

@@ -6,7 +6,7 @@ use Rattle.plm80_programs.proofs.calls.show_calls.Goals as goal
 pub returns : goal.returns
 returns g c =
     let both = program_or_gives_up c.in_ok-image.ensures.read (g.C.Console.journal c.give_if_made-given.new.self) (PrintsCalls c.args.arguments.dot)
-    c.answer_of-answer.result c.give_if_made-given.result c.answer_of-answer.ensures c.give_if_made-given.ensures.given c.give_if_made-given.ensures.fault in
+    c.answer_or_reach-answer.result c.give_if_made-given.result c.answer_or_reach-answer.ensures c.give_if_made-given.ensures.given c.give_if_made-given.ensures.fault in
     record { done = both.0; fault = both.1 }
 
 pub returns-in_err-image-clause-fault : goal.returns-in_err-image-clause-fault
