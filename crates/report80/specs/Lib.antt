@@ -1,0 +1,4 @@
+pub mod MemoryText
+pub mod StackText
+pub mod DrawingText
+pub mod PageText
