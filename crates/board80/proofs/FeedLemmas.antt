@@ -45,29 +45,31 @@ digit : (n : ℕ) → is_line_feed (slice_index (codes "0123456789ABCDEF") n) �
 digit n = digit_not is_line_feed n refl refl
 
 byte : (b : ℕ) → IsLine (byte_text b)
-byte b = cons _ _ (digit (b / 16)) (cons _ [] (digit (b % 16)) nil)
+byte b =
+    cons (slice_index (codes "0123456789ABCDEF") (b / 16)) (slice_index (codes "0123456789ABCDEF") (b % 16) ∷ []) (digit (b / 16))
+    (cons (slice_index (codes "0123456789ABCDEF") (b % 16)) [] (digit (b % 16)) nil)
 
 word : (w : ℕ) → IsLine (word_text w)
 word w = join (byte_text (w / 256)) (byte_text (w % 256)) (byte (w / 256)) (byte (w % 256))
 
 spaced : (bytes : List ℕ) → IsLine (spaced_text bytes)
 spaced [] = nil
-spaced (b ∷ bs) = cons 32 _ refl (join (byte_text b) (spaced_text bs) (byte b) (spaced bs))
+spaced (b ∷ bs) = cons 32 (byte_text b ++ spaced_text bs) refl (join (byte_text b) (spaced_text bs) (byte b) (spaced bs))
 
 item_bytes : (b : Bytes) → IsLine (bytes_text b)
 item_bytes (One v) = byte v
-item_bytes (Group g) = cons 40 _ refl (join (byte_text g.first) (spaced_text g.others ++ 41 ∷ []) (byte g.first) (join (spaced_text g.others) (41 ∷ []) (spaced g.others) (cons 41 [] refl nil)))
+item_bytes (Group g) = cons 40 (group_text g) refl (join (byte_text g.first) (spaced_text g.others ++ 41 ∷ []) (byte g.first) (join (spaced_text g.others) (41 ∷ []) (spaced g.others) (cons 41 [] refl nil)))
 
 item : (i : Item) → IsItem i → IsLine (item_text i)
 item i i_in = join (bytes_text i.bytes) (times_text i.times) (item_bytes i.bytes) (times_lack 10 i.times (omega arith) i_in.fits)
 
 items : (is : List Item) → All IsItem is → IsLine (items_text is)
 items [] is_in = nil
-items (i ∷ is) is_in = cons 32 _ refl (join (item_text i) (items_text is) (item i (All-head IsItem i is is_in)) (items is (All-tail IsItem i is is_in)))
+items (i ∷ is) is_in = cons 32 (item_text i ++ items_text is) refl (join (item_text i) (items_text is) (item i (All-head IsItem i is is_in)) (items is (All-tail IsItem i is is_in)))
 
 for_ever : (b : Option Bytes) → IsLine (for_ever_text b)
 for_ever None = nil
-for_ever (Some b) = cons 32 _ refl (join (bytes_text b) (42 ∷ []) (item_bytes b) (cons 42 [] refl nil))
+for_ever (Some b) = cons 32 (bytes_text b ++ 42 ∷ []) refl (join (bytes_text b) (42 ∷ []) (item_bytes b) (cons 42 [] refl nil))
 
 source : (p : Place) → IsLine (source_text p)
 source (Port v) = byte v
@@ -75,7 +77,7 @@ source (Cell v) = word v
 
 rows : (rs : List Row) → IsLine (rows_text rs)
 rows [] = nil
-rows (r ∷ rs) = cons 32 _ refl (join (byte_text r.byte ++ 61 ∷ byte_text r.answer) (rows_text rs) (join (byte_text r.byte) (61 ∷ byte_text r.answer) (byte r.byte) (cons 61 _ refl (byte r.answer))) (rows rs))
+rows (r ∷ rs) = cons 32 (row_text r ++ rows_text rs) refl (join (byte_text r.byte ++ 61 ∷ byte_text r.answer) (rows_text rs) (join (byte_text r.byte) (61 ∷ byte_text r.answer) (byte r.byte) (cons 61 (byte_text r.answer) refl (byte r.answer))) (rows rs))
 
 other : (b : ℕ) → IsLine (other_text b)
 other b = join (codes " *=") (byte_text b) (written (codes " *=") (refl, (refl, (refl, tt)))) (byte b)
@@ -97,7 +99,7 @@ place (Cell v) = join (codes "AT ") (word_text v) (written (codes "AT ") (refl, 
 
 -- a proper line has no line feed
 pub line : (l : Line) → IsProper l → IsLine (line_text l)
-line (Memory k r) l_in = join (kind_text k) (range_text r) (kind k) (join (word_text r.first) (32 ∷ word_text r.length) (word r.first) (cons 32 _ refl (word r.length)))
+line (Memory k r) l_in = join (kind_text k) (range_text r) (kind k) (join (word_text r.first) (32 ∷ word_text r.length) (word r.first) (cons 32 (word_text r.length) refl (word r.length)))
 line (Interrupt a) l_in = join (codes "INTERRUPT ") (word_text a) (written (codes "INTERRUPT ") (refl, (refl, (refl, (refl, (refl, (refl, (refl, (refl, (refl, (refl, tt))))))))))) (word a)
 line (Reads p a) l_in = join (place_text p) (answers_text a) (place p) (answers a l_in.1)
 

@@ -7,3 +7,4 @@ pub mod FeedLemmas
 pub mod BoardLemmas
 pub mod SeenLemmas
 pub mod AnswerLemmas
+pub mod ReadLemmas

@@ -1,5 +1,5 @@
 -- The texts of lists.
-use Rattle.std.proofs.Common.{◌≡◌, ◌≢◌, ℕ, ◌<◌, ◌^◌, true, false, List, [], ◌∷◌, ◌++◌, get_or, take, drop, append_assoc, refl, ap, sym, subst, ◌∙◌, arith}
+use Rattle.std.proofs.Common.{◌≡◌, ◌≢◌, ℕ, ◌/◌, ◌%◌, ◌<◌, ◌^◌, true, false, List, [], ◌∷◌, ◌++◌, get_or, take, drop, append_assoc, refl, ap, sym, subst, ◌∙◌, arith}
 use Rattle.std.specs.Prelude.{All, Option, Some, None, IfSome}
 use Rattle.std.specs.List.{flat_map}
 use Rattle.std.proofs.lemmas.List.Elements.{All-head, All-tail}
@@ -52,8 +52,8 @@ group_first g h xs ys g_in h_in same =
 pub bytes_first : (b c : Bytes) (xs ys : List ℕ) → AreItemBytes b → AreItemBytes c → bytes_text b ++ xs ≡ bytes_text c ++ ys → (b ≡ c) × (xs ≡ ys)
 bytes_first (One v) (One w) xs ys v_in w_in same = let both = byte_first v w xs ys v_in w_in same in (ap One both.0, both.1)
 bytes_first (Group g) (Group h) xs ys g_in h_in same = let both = group_first g h xs ys g_in h_in (ap (λ t. drop 1 t) same) in (ap Group both.0, both.1)
-bytes_first (One v) (Group h) xs ys v_in h_in same = absurd (no_digit 40 _ refl refl (ap (λ t. get_or t 0 0) same))
-bytes_first (Group g) (One w) xs ys g_in w_in same = absurd (no_digit 40 _ refl refl (ap (λ t. get_or t 0 0) (sym same)))
+bytes_first (One v) (Group h) xs ys v_in h_in same = absurd (no_digit 40 (v / 16) refl refl (ap (λ t. get_or t 0 0) same))
+bytes_first (Group g) (One w) xs ys g_in w_in same = absurd (no_digit 40 (w / 16) refl refl (ap (λ t. get_or t 0 0) (sym same)))
 
 item_is : (i j : Item) → i.bytes ≡ j.bytes → i.times ≡ j.times → i ≡ j
 item_is i j bytes times =

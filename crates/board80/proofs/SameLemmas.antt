@@ -1,5 +1,5 @@
 -- Answers and lines with the same text are the same.
-use Rattle.std.proofs.Common.{◌≡◌, ◌≢◌, ℕ, ◌+◌, ◌<◌, true, false, List, [], ◌∷◌, ◌++◌, get_or, take, drop, append_assoc, append-nil, refl, ap, sym, subst, ◌∙◌, arith}
+use Rattle.std.proofs.Common.{◌≡◌, ◌≢◌, ℕ, ◌+◌, ◌/◌, ◌%◌, ◌<◌, true, false, List, [], ◌∷◌, ◌++◌, get_or, take, drop, append_assoc, append-nil, refl, ap, sym, subst, ◌∙◌, arith}
 use Rattle.std.specs.Prelude.{All, Option, Some, None, IfSome, codes}
 use Rattle.std.specs.List.{flat_map}
 use Rattle.text80.specs.Digits.{byte_text, word_text}
@@ -50,7 +50,7 @@ table_same t u t_in u_in same =
 
 -- no list begins as a table
 bytes_not_by : (b : Bytes) (xs ys : List ℕ) → bytes_text b ++ xs ≡ 66 ∷ 89 ∷ ys → ⊥
-bytes_not_by (One v) xs ys same = no_digit 89 _ refl refl (ap (λ t. get_or t 1 0) same)
+bytes_not_by (One v) xs ys same = no_digit 89 (v % 16) refl refl (ap (λ t. get_or t 1 0) same)
 bytes_not_by (Group g) xs ys same = let letter : ◌≡◌ {A = ℕ} 40 66 = ap (λ t. get_or t 0 0) same in absurd (omega arith)
 
 pub list_not_by : (list : ListedBytes) (table : List ℕ) → list_text list ≡ codes " BY " ++ table → ⊥

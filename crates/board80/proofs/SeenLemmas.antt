@@ -37,8 +37,8 @@ pub inside_slot : (s : Slots) (k : ℕ) → s.first ≤ k → k < s.first + s.co
 inside_slot s k low high = and_from (nat_le s.first k) (nat_lt k (s.first + s.count)) (le-leb s.first k low) (lt-ltb k (s.first + s.count) high)
 
 -- all slots are free where none up to the end is marked
-pub all_free : (s : Slots) (marks : List Bool) (end : ℕ) → end ≡ s.first + s.count → ((k : ℕ) → s.first ≤ k → k < end → is_marked marks k ≡ false) → (slot : ℕ) → in_slots s slot ≡ true → is_marked marks slot ≡ false
-all_free s marks end is none slot inside = let both = slot_inside s slot inside in none slot both.0 (subst (λ e. slot < e) (sym is) both.1)
+pub all_free : (s : Slots) (marks : List Bool) (past : ℕ) → past ≡ s.first + s.count → ((k : ℕ) → s.first ≤ k → k < past → is_marked marks k ≡ false) → (slot : ℕ) → in_slots s slot ≡ true → is_marked marks slot ≡ false
+all_free s marks past is none slot inside = let both = slot_inside s slot inside in none slot both.0 (subst (λ p. slot < p) (sym is) both.1)
 
 -- a line is free where its slots are
 pub free_is : (taken : List Bool) (devices : List Bool) (s : Slots) (line : Line) (lines : List Line) (r : Bool) → ((slot : ℕ) → takes line slot ≡ in_slots s slot) → HasSeen (record { taken = taken; devices = devices }) lines →

@@ -35,14 +35,14 @@ NoRow rest = (row : Row) (more : List ℕ) → IsRow row → rest ≡ 32 ∷ (ro
 pub rows_most : (rs ss : List Row) (rest : List ℕ) (other : ℕ) → All IsRow rs → All IsRow ss → NoRow rest → rows_text rs ++ rest ≡ rows_text ss ++ other_text other → (rs ≡ ss) × (rest ≡ other_text other)
 rows_most [] [] rest other rs_in ss_in none same = (refl, same)
 rows_most [] (s ∷ ss) rest other rs_in ss_in none same = absurd (none s (rows_text ss ++ other_text other) (All-head IsRow s ss ss_in) same)
-rows_most (r ∷ rs) [] rest other rs_in ss_in none same = absurd (no_digit 42 _ refl refl (ap (λ t. get_or t 1 0) same))
+rows_most (r ∷ rs) [] rest other rs_in ss_in none same = absurd (no_digit 42 (r.byte / 16) refl refl (ap (λ t. get_or t 1 0) same))
 rows_most (r ∷ rs) (s ∷ ss) rest other rs_in ss_in none same =
     let head = row_first r s (rows_text rs ++ rest) (rows_text ss ++ other_text other) (All-head IsRow r rs rs_in) (All-head IsRow s ss ss_in) (ap (λ t. drop 1 t) same) in
     let tail = rows_most rs ss rest other (All-tail IsRow r rs rs_in) (All-tail IsRow s ss ss_in) none head.1 in
     (ap (λ x. x ∷ rs) head.0 ∙ ap (λ xs. s ∷ xs) tail.0, tail.1)
 
 pub no_row_at_other : (other : ℕ) → NoRow (other_text other)
-no_row_at_other other row more row_in same = no_digit 42 _ refl refl (ap (λ t. get_or t 1 0) (sym same))
+no_row_at_other other row more row_in same = no_digit 42 (row.byte / 16) refl refl (ap (λ t. get_or t 1 0) (sym same))
 
 -- sources with the same text are the same
 pub source_same : (p q : Place) → IsPlace p → IsPlace q → source_text p ≡ source_text q → p ≡ q
@@ -57,7 +57,7 @@ digit_word n = digit_not (λ c. c == 32) n refl refl
 
 pub byte_word : (byte : ℕ) (more : List ℕ) → IsWord more → IsWord (byte_text byte ++ more)
 byte_word byte more word =
-    All-cons (λ b. (b == 32) ≡ false) _ _ (digit_word (byte / 16)) (All-cons (λ b. (b == 32) ≡ false) _ more (digit_word (byte % 16)) word)
+    All-cons (λ b. (b == 32) ≡ false) (slice_index (codes "0123456789ABCDEF") (byte / 16)) (slice_index (codes "0123456789ABCDEF") (byte % 16) ∷ more) (digit_word (byte / 16)) (All-cons (λ b. (b == 32) ≡ false) (slice_index (codes "0123456789ABCDEF") (byte % 16)) more (digit_word (byte % 16)) word)
 
 pub source_word : (p : Place) → IsWord (source_text p)
 source_word (Port v) = byte_word v [] (All-nil (λ b. (b == 32) ≡ false))

@@ -70,18 +70,24 @@ times_first t u xs ys t_fits u_fits xs_end ys_end same =
     let cut = word_first (times_text t) (times_text u) xs ys (times_lack 32 t (omega arith) t_fits) (times_lack 32 u (omega arith) u_fits) xs_end ys_end same in
     (times_same t u t_fits u_fits cut.0, cut.1)
 
+one_more : (n : ℕ) → 1 + n ≡ suc n
+one_more n = omega arith
+
 -- a cut at the first space
 before_is_word : (text : List ℕ) → IsWord (take (position_or_len (λ byte. byte == 32) text) text)
 before_is_word [] = All-nil (λ byte. (byte == 32) ≡ false)
 before_is_word (b ∷ bs) =
     (elim (b == 32) as (λ t. (b == 32) ≡ t → IsWord (take (cond (not t) (1 + position_or_len (λ byte. byte == 32) bs) 0) (b ∷ bs)))
-    [ true ↦ λ _. All-nil (λ byte. (byte == 32) ≡ false) | false ↦ λ no. All-cons (λ byte. (byte == 32) ≡ false) b (take (position_or_len (λ byte. byte == 32) bs) bs) no (before_is_word bs) ]) refl
+    [ true ↦ λ _. All-nil (λ byte. (byte == 32) ≡ false)
+    | false ↦ λ no. subst (λ k. IsWord (take k (b ∷ bs))) (sym (one_more (position_or_len (λ byte. byte == 32) bs)))
+        (All-cons (λ byte. (byte == 32) ≡ false) b (take (position_or_len (λ byte. byte == 32) bs) bs) no (before_is_word bs)) ]) refl
 
 after_at_end : (text : List ℕ) → IsAtEnd (drop (position_or_len (λ byte. byte == 32) text) text)
 after_at_end [] = tt
 after_at_end (b ∷ bs) =
     (elim (b == 32) as (λ t. (b == 32) ≡ t → IsAtEnd (drop (cond (not t) (1 + position_or_len (λ byte. byte == 32) bs) 0) (b ∷ bs)))
-    [ true ↦ λ yes. eqb-true b 32 yes | false ↦ λ no. after_at_end bs ]) refl
+    [ true ↦ λ yes. eqb-true b 32 yes
+    | false ↦ λ no. subst (λ k. IsAtEnd (drop k (b ∷ bs))) (sym (one_more (position_or_len (λ byte. byte == 32) bs))) (after_at_end bs) ]) refl
 
 -- the place of the first space
 pub space_at : (text : List ℕ) (i : ℕ) → i < length text → get_or text i 0 ≡ 32 → ((k : ℕ) → k < i → (get_or text k 0 == 32) ≡ false) → i ≡ position_or_len (λ byte. byte == 32) text
