@@ -1,6 +1,6 @@
 -- The rules of a board, what a text spells, and why it is refused.
 -- (The text is this project's own.)
-use Rattle.std.specs.Prelude.{◌≡◌, ℕ, ◌+◌, ◌<◌, ◌≤◌, ◌==◌, ◌^◌, Bool, true, false, ◌&&◌, nat_le, nat_lt, List, [], ◌∷◌, ◌++◌, length, map, All, AllPairs, Option, Some, None, IfSome, slice_index_or}
+use Rattle.std.specs.Prelude.{◌≡◌, ℕ, ◌+◌, ◌<◌, ◌≤◌, ◌==◌, ◌^◌, Bool, true, false, ◌&&◌, nat_le, nat_lt, List, [], ◌∷◌, ◌++◌, length, map, All, filter_map, Option, Some, None, IfSome, slice_index_or}
 use Rattle.std.specs.List.{list_any}
 use Rattle.image80.specs.declared.range.Range.{Range}
 use Rattle.image80.specs.Lines.{parts}
@@ -124,6 +124,26 @@ pub record Fits (before : List Line) (line : Line) : Type 0 where
 -- the rules of a board: each line fits after those before it
 abbrev pub IsBoard : List Line → Type 0
 IsBoard lines = (before : List Line) (line : Line) (after : List Line) → lines ≡ before ++ line ∷ after → Fits before line
+
+-- the range of a line, if it is of this kind of memory
+abbrev pub range_of : Kind → Line → Option Range
+range_of Rom (Memory Rom range) = Some range
+range_of Ram (Memory Ram range) = Some range
+range_of Device (Memory Device range) = Some range
+range_of _ _ = None
+
+-- the ranges of one kind, in the order of the lines
+abbrev pub ranges_of : Kind → List Line → List Range
+ranges_of kind lines = filter_map (range_of kind) lines
+
+-- the address of a line's interrupt
+abbrev pub interrupt_of : Line → Option ℕ
+interrupt_of (Interrupt address) = Some address
+interrupt_of _ = None
+
+-- the addresses of interrupts, in the order of the lines
+abbrev pub interrupts_of : List Line → List ℕ
+interrupts_of lines = filter_map interrupt_of lines
 
 -- the text spells the board
 pub record Spells (text : List ℕ) (lines : List Line) : Type 0 where

@@ -1,9 +1,11 @@
 //! A board.
 
-ghost use Rattle.std.specs.Prelude.{◌≡◌};
-ghost use Rattle.board80.specs.Board.{IsBoard};
+ghost use Rattle.std.specs.Prelude.{◌≡◌, IfOk};
+ghost use Rattle.board80.specs.Board.{IsBoard, interrupts_of, ranges_of};
 
-use crate::line::Line;
+use crate::line::{Kind, Line};
+use image80::Range;
+use std::alloc::{AllocError, Global};
 use std::marker::Model;
 
 /// A board: its memory, devices and interrupts, and what its ports and cells answer, as lines in their order.
@@ -43,5 +45,31 @@ impl Board {
         ensures rules { IsBoard self.now }
     {
         &self.lines
+    }
+
+    /// The ranges of one kind of memory, in the order of the text.
+    ///
+    /// # Errors
+    /// `AllocError` only if memory runs out.
+    pub fn ranges(&self, alloc: Global, kind: Kind) -> Result<Vec<Range>, AllocError>
+        ensures { IfOk result (λ ranges. ranges.items ≡ ranges_of kind self.now) }
+    {
+        self.lines
+            .iter()
+            .filter_map(|line| line.range(kind))
+            .collect(alloc)
+    }
+
+    /// The addresses of interrupts' handlers, in the order of the text.
+    ///
+    /// # Errors
+    /// `AllocError` only if memory runs out.
+    pub fn interrupts(&self, alloc: Global) -> Result<Vec<u16>, AllocError>
+        ensures { IfOk result (λ addresses. addresses.items ≡ interrupts_of self.now) }
+    {
+        self.lines
+            .iter()
+            .filter_map(|line| line.interrupt())
+            .collect(alloc)
     }
 }

@@ -27,6 +27,8 @@ mod read_table;
 mod seen;
 mod slots;
 mod table;
+#[cfg(test)]
+mod tests;
 mod write;
 mod write_answers;
 

@@ -1,7 +1,7 @@
 //! The lines of a board.
 
 ghost use Rattle.std.specs.Prelude.{◌≡◌, ◌+◌, ◌≤◌, ℕ};
-ghost use Rattle.board80.specs.Board.{IsProper, takes, taken_fault};
+ghost use Rattle.board80.specs.Board.{IsProper, interrupt_of, range_of, takes, taken_fault};
 ghost use Rattle.board80.specs.Reading.{in_slots, slot_count};
 
 use crate::answers::Answers;
@@ -33,6 +33,28 @@ pub enum Line {
 }
 
 impl Line {
+    /// The range of a line of this kind of memory, `None` for any other line.
+    pub fn range(&self, kind: Kind) -> Option<Range>
+        ensures { result ≡ range_of kind self.now }
+    {
+        match (kind, self) {
+            (Kind::Rom, Line::Memory(Kind::Rom, range)) => Some(*range),
+            (Kind::Ram, Line::Memory(Kind::Ram, range)) => Some(*range),
+            (Kind::Device, Line::Memory(Kind::Device, range)) => Some(*range),
+            _ => None,
+        }
+    }
+
+    /// The address of an INTERRUPT line, `None` for any other line.
+    pub fn interrupt(&self) -> Option<u16>
+        ensures { result ≡ interrupt_of self.now }
+    {
+        match self {
+            Line::Interrupt(address) => Some(*address),
+            _ => None,
+        }
+    }
+
     /// The slots that the line takes for itself. A range must lie in memory.
     pub(crate) fn slots(&self) -> Slots
         requires { IsProper self.now }
