@@ -20,8 +20,8 @@ use Rattle.board80.proofs.FeedLemmas as feed
 use Rattle.board80.proofs.SameLemmas.{line_same}
 
 pub board_none : IsBoard []
-board_none [] line after same = cc
-board_none (b ∷ bs) line after same = cc
+board_none [] line later same = cc
+board_none (b ∷ bs) line later same = cc
 
 -- where a line stands among lines and one more
 data Stands (ls : List Line) (l : Line) (before : List Line) (m : Line) : Type 0 where
@@ -241,3 +241,12 @@ spells_itself ls rules = record { same = refl; rules = rules }
 pub known_version : {T : Type 0} (result : Result T BoardFault) (text : List ℕ) (others : List (List ℕ)) → parts text ≡ heading ∷ others → IfErr result (λ fault. Refuses text BadVersion → fault ≡ BadVersion)
 known_version (Ok value) text others is = tt
 known_version (Err fault) text others is = λ refused. absurd (refused others is)
+
+-- the lines that are written are the text
+lines_joined : (ls : List Line) → flat_map (λ l. line_text l ++ 10 ∷ []) ls ≡ text_of (map line_text ls)
+lines_joined [] = refl
+lines_joined (l ∷ ls) = ap (λ t. (line_text l ++ 10 ∷ []) ++ t) (lines_joined ls)
+
+pub text_is : (front fed whole : List ℕ) (ls : List Line) → front ≡ heading → fed ≡ front ++ 10 ∷ [] → whole ≡ fed ++ flat_map (λ l. line_text l ++ 10 ∷ []) ls → whole ≡ board_text ls
+text_is front fed whole ls first feed more =
+    more ∙ ap (λ t. t ++ flat_map (λ l. line_text l ++ 10 ∷ []) ls) (feed ∙ ap (λ t. t ++ 10 ∷ []) first) ∙ ap (λ t. (heading ++ 10 ∷ []) ++ t) (lines_joined ls)

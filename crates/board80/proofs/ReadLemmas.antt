@@ -4,7 +4,7 @@ use Rattle.std.specs.Prelude.{◌==◌, All, Option, Some, None, IfSome, Result,
 use Rattle.std.specs.Fmt.{decimal}
 use Rattle.std.specs.List.{flat_map}
 use Rattle.std.specs.Str.{IsUtf8}
-use Rattle.std.specs.Str.Parse.{ParsesUnsigned, digits_value}
+use Rattle.std.specs.Str.Parse.{IsNumeral, ParsesUnsigned, digits_value, without_leading_plus}
 use Rattle.std.proofs.lemmas.Bool.{eqb-true, ne_eqb}
 use Rattle.std.proofs.lemmas.Fmt.{IsAscii-from_digits, decimal_is_IsNumeral, parse-decimal}
 use Rattle.std.proofs.lemmas.List.Concat.{flat_map-append}
@@ -164,11 +164,20 @@ pub decimal_utf8 : (n : ℕ) (digits : List ℕ) → n < 2 ^ 64 → digits ≡ d
 decimal_utf8 n digits fits is =
     subst IsUtf8 (sym is) (IsUtf8-from_ascii (decimal n) (IsAscii-from_digits (decimal n) (decimal_is_IsNumeral n fits).0.1))
 
-pub parsed_same : {E : Type 0} (m n : ℕ) (digits : List ℕ) (r : Result ℕ E) → n < 2 ^ 64 → digits ≡ decimal n → ParsesUnsigned 64 10 digits r → r ≡ Ok m → m ≡ n
-parsed_same m n digits r fits is parsed ok = let both = sym ok ∙ parse-decimal 64 n digits r fits fits is parsed in cc
+-- a numeral that 64 bits hold
+abbrev pub IsHeld : List ℕ → Type 0
+IsHeld digits = IsNumeral 10 digits × (digits_value 10 digits < 2 ^ 64)
 
-pub parsed_never : {E : Type 0} (e : E) (n : ℕ) (digits : List ℕ) (r : Result ℕ E) → n < 2 ^ 64 → digits ≡ decimal n → ParsesUnsigned 64 10 digits r → r ≡ Err e → ⊥
-parsed_never e n digits r fits is parsed err = let both = sym err ∙ parse-decimal 64 n digits r fits fits is parsed in cc
+-- a text that is written for a count is read as it
+pub parsed_same : (m n : ℕ) (text : List ℕ) → n < 2 ^ 64 → text ≡ decimal n → IsHeld (without_leading_plus text) × (m ≡ digits_value 10 (without_leading_plus text)) → m ≡ n
+parsed_same m n text fits is parsed =
+    let r : Result ℕ ℕ = Ok m in
+    let both : r ≡ Ok n = parse-decimal 64 n text r fits fits is parsed in cc
+
+pub parsed_never : (n : ℕ) (text : List ℕ) → n < 2 ^ 64 → text ≡ decimal n → (IsHeld (without_leading_plus text) → ⊥) → ⊥
+parsed_never n text fits is parsed =
+    let r : Result ℕ ℕ = Err 0 in
+    let both : r ≡ Ok n = parse-decimal 64 n text r fits fits is parsed in cc
 
 -- tables
 pub table_read : (text word after rest : List ℕ) (p : Place) (rs : List Row) (o : ℕ) → text ≡ word ++ after → word ≡ source_text p → after ≡ rows_text rs ++ rest → rest ≡ other_text o →

@@ -1,6 +1,6 @@
 //! Bytes, addresses and words at the beginning of a text.
 
-ghost use Rattle.std.specs.Prelude.{◌≡◌, ◌≢◌, ◌<◌, ℕ, List, ◌++◌, length, ◌==◌, IfSome, IfNone};
+ghost use Rattle.std.specs.Prelude.{◌≡◌, ◌≢◌, ◌<◌, ◌≤◌, ℕ, List, ◌++◌, length, ◌==◌, IfSome, IfNone};
 ghost use Rattle.std.specs.List.{position_or_len};
 ghost use Rattle.text80.specs.Digits.{byte_text, word_text};
 ghost use Rattle.board80.specs.Reading.{IsAtEnd, IsWord};
@@ -46,7 +46,8 @@ pub(crate) fn first_word(text: &[u8]) -> (&[u8], &[u8])
 
 /// The place of the text's first space, or its end if it has none.
 fn space(text: &[u8]) -> usize
-    ensures { result ≡ position_or_len (λ byte. byte == 32) text.now }
+    ensures place { result ≡ position_or_len (λ byte. byte == 32) text.now }
+    ensures within { result ≤ length text.now }
 {
     for (place, byte) in text.iter().enumerate() {
         if *byte == b' ' {

@@ -117,7 +117,10 @@ fn read_range(text: &[u8]) -> Option<Range>
 {
     let (first, after) = read_address(text)?;
     let (length, rest) = read_address(after.strip_prefix(b" ")?)?;
-    if !rest.is_empty() || length == 0 || u32::from(first) + u32::from(length) > 65536 {
+    if !rest.is_empty() {
+        return None;
+    }
+    if length == 0 || u32::from(first) + u32::from(length) > 65536 {
         return None;
     }
     Some(Range { first, length })

@@ -95,10 +95,10 @@ fn read_for_ever(alloc: Global, text: &[u8]) -> Result<Option<Bytes>, AllocError
     let Some((bytes, after)) = read_bytes(alloc, inner)? else {
         return Ok(None);
     };
-    if after != b"*".as_slice() {
-        return Ok(None);
+    match after {
+        [b'*'] => Ok(Some(bytes)),
+        _ => Ok(None),
     }
-    Ok(Some(bytes))
 }
 
 /// Reads a byte, or a group in brackets, at the beginning of the text, and returns it and the text after it; `None` if
@@ -193,15 +193,30 @@ fn read_count(alloc: Global, digits: &[u8]) -> Result<Option<u64>, AllocError>
     ensures spelled { IfOk result (λ read. IfSome read (λ count. digits.now ≡ decimal count)) }
     ensures none { IfOk result (λ read. IfNone read ((count : ℕ) → count < 2 ^ 64 → digits.now ≢ decimal count)) }
 {
-    let Ok(text) = str::from_utf8(digits) else {
-        return Ok(None);
-    };
-    let Ok(count) = u64::from_str_radix(text, 10) else {
-        return Ok(None);
-    };
-    // A sign or a leading zero is no form of the count.
+    match str::from_utf8(digits) {
+        Ok(text) => count_of_text(alloc, text),
+        Err(_) => Ok(None),
+    }
+}
+
+/// The count that a text writes in decimal without leading zeros; `None` if it has another form or 64 bits don't hold it.
+fn count_of_text(alloc: Global, text: &str) -> Result<Option<u64>, AllocError>
+    ensures spelled { IfOk result (λ read. IfSome read (λ count. text.now ≡ decimal count)) }
+    ensures none { IfOk result (λ read. IfNone read ((count : ℕ) → count < 2 ^ 64 → text.now ≢ decimal count)) }
+{
+    match u64::from_str_radix(text, 10) {
+        Ok(count) => count_if_written(alloc, text, count),
+        Err(_) => Ok(None),
+    }
+}
+
+/// The count if the text is what is written for it: a sign or a leading zero is no form of a count.
+fn count_if_written(alloc: Global, text: &str, count: u64) -> Result<Option<u64>, AllocError>
+    ensures spelled { IfOk result (λ read. IfSome read (λ found. (found ≡ count) × (text.now ≡ decimal count))) }
+    ensures none { IfOk result (λ read. IfNone read (text.now ≢ decimal count)) }
+{
     let written = format!(in alloc; "{count}")?;
-    if written.as_bytes() == digits {
+    if text == written.as_str() {
         Ok(Some(count))
     } else {
         Ok(None)

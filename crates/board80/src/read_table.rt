@@ -1,8 +1,9 @@
 //! The reader of tables of answers.
 
-ghost use Rattle.std.specs.Prelude.{◌≡◌, ◌≢◌, ◌<◌, ◌↔◌, ℕ, List, [], ◌∷◌, ◌++◌, length, All, IsTrue, IfOk, IfSome, IfNone};
+ghost use Rattle.std.specs.Prelude.{◌≡◌, ◌≢◌, ◌<◌, ℕ, List, ◌∷◌, ◌++◌, length, nat_lt, All, IfOk, IfSome, IfNone};
+ghost use Rattle.std.specs.List.{IsAllAdjacentAnswer};
 ghost use Rattle.text80.specs.Digits.{byte_text, word_text};
-ghost use Rattle.board80.specs.Board.{IsAscending, IsPlace, IsRow, IsTable};
+ghost use Rattle.board80.specs.Board.{IsPlace, IsRow, IsTable};
 ghost use Rattle.board80.specs.BoardText.{other_text, row_text, rows_text, source_text, table_text};
 ghost use Rattle.board80.specs.Reading.{IsAtEnd};
 ghost use Rattle.board80.specs.Table.{TableRows};
@@ -94,7 +95,7 @@ fn read_last(text: &[u8]) -> Option<u8>
 
 /// Whether each row's byte is below the next one's.
 fn ascend(rows: &[Row]) -> bool
-    ensures { IsTrue result ↔ IsAscending rows.now }
+    ensures { IsAllAdjacentAnswer (λ a b r. r ≡ nat_lt a.byte b.byte) rows.now result }
 {
     rows.is_sorted_by(|row, next| row.byte < next.byte)
 }

@@ -50,9 +50,11 @@ impl Table {
     pub fn answer_to(&self, byte: u8) -> u8
         ensures { result ≡ answer_to self.now byte }
     {
-        match self.rows.iter().find(|row| row.byte == byte) {
-            Some(row) => row.answer,
-            None => self.other,
+        for row in &self.rows {
+            if row.byte == byte {
+                return row.answer;
+            }
         }
+        self.other
     }
 }

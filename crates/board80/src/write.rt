@@ -1,7 +1,8 @@
 //! The writer of boards.
 
-ghost use Rattle.std.specs.Prelude.{◌≡◌, ◌∷◌, ◌++◌, [], OnOk, OnErr, IfOk};
+ghost use Rattle.std.specs.Prelude.{◌≡◌, ◌∷◌, ◌++◌, [], codes, OnOk, OnErr, IfOk};
 ghost use Rattle.std.specs.List.{flat_map};
+ghost use Rattle.text80.specs.Digits.{word_text};
 ghost use Rattle.board80.specs.Board.{Spells};
 ghost use Rattle.board80.specs.BoardText.{board_text, kind_text, line_text, place_text, range_text};
 
@@ -55,15 +56,20 @@ fn put_line(alloc: Global, text: &mut Vec<u8>, line: &Line) -> Result<(), AllocE
             put_kind(text, *kind)?;
             put_range(text, *range)
         }
-        Line::Interrupt(address) => {
-            text.extend_from_slice(b"INTERRUPT ".as_slice())?;
-            text.extend_from_slice(&word_digits(*address))
-        }
+        Line::Interrupt(address) => put_interrupt(text, *address),
         Line::Reads(place, answers) => {
             put_place(text, *place)?;
             put_answers(alloc, text, answers)
         }
     }
+}
+
+/// Appends the word of an interrupt and its address.
+fn put_interrupt(text: &mut Vec<u8>, address: u16) -> Result<(), AllocError>
+    ensures { OnOk result (text.new.items ≡ text.old.items ++ (codes "INTERRUPT " ++ word_text address)) }
+{
+    text.extend_from_slice(b"INTERRUPT ".as_slice())?;
+    text.extend_from_slice(&word_digits(address))
 }
 
 /// Appends the word of a kind of memory and a space.
