@@ -116,11 +116,15 @@ fn read_range(text: &[u8]) -> Option<Range>
     ensures none { IfNone result ((range : Range) → IsInMemory range → 0 < range.length → text.now ≢ range_text range) }
 {
     let (first, after) = read_address(text)?;
-    let (length, rest) = read_address(after.strip_prefix(b" ")?)?;
+    let behind = after.strip_prefix(b" ")?;
+    let (length, rest) = read_address(behind)?;
     if !rest.is_empty() {
         return None;
     }
-    if length == 0 || u32::from(first) + u32::from(length) > 65536 {
+    if length == 0 {
+        return None;
+    }
+    if u32::from(first) + u32::from(length) > 65536 {
         return None;
     }
     Some(Range { first, length })

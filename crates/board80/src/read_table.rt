@@ -1,9 +1,8 @@
 //! The reader of tables of answers.
 
-ghost use Rattle.std.specs.Prelude.{◌≡◌, ◌≢◌, ◌<◌, ℕ, List, ◌∷◌, ◌++◌, length, nat_lt, All, IfOk, IfSome, IfNone};
-ghost use Rattle.std.specs.List.{IsAllAdjacentAnswer};
+ghost use Rattle.std.specs.Prelude.{◌≡◌, ◌≢◌, ◌<◌, ◌↔◌, ℕ, List, ◌∷◌, ◌++◌, length, All, IsTrue, IfOk, IfSome, IfNone};
 ghost use Rattle.text80.specs.Digits.{byte_text, word_text};
-ghost use Rattle.board80.specs.Board.{IsPlace, IsRow, IsTable};
+ghost use Rattle.board80.specs.Board.{IsAscending, IsPlace, IsRow, IsTable};
 ghost use Rattle.board80.specs.BoardText.{other_text, row_text, rows_text, source_text, table_text};
 ghost use Rattle.board80.specs.Reading.{IsAtEnd};
 ghost use Rattle.board80.specs.Table.{TableRows};
@@ -95,7 +94,7 @@ fn read_last(text: &[u8]) -> Option<u8>
 
 /// Whether each row's byte is below the next one's.
 fn ascend(rows: &[Row]) -> bool
-    ensures { IsAllAdjacentAnswer (λ a b r. r ≡ nat_lt a.byte b.byte) rows.now result }
+    ensures { IsTrue result ↔ IsAscending rows.now }
 {
     rows.is_sorted_by(|row, next| row.byte < next.byte)
 }
