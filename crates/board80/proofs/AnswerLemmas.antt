@@ -122,3 +122,17 @@ row_passed rows i byte other row inside is not =
     sym (ap (λ rs. answer_of_row (find (λ r. r.byte == byte) rs) other) (drop_more rows i row inside)
     ∙ ap (λ (x : Row). answer_of_row (cond (x.byte == byte) (Some x) (find (λ r. r.byte == byte) (drop (i + 1) rows))) other) (sym is)
     ∙ ap (λ b. answer_of_row (cond b (Some row) (find (λ r. r.byte == byte) (drop (i + 1) rows))) other) (ne_eqb row.byte byte not))
+
+past_items : (items : List Item) (i : ℕ) → length items ≤ i → drop i items ≡ []
+past_items [] zero past = refl
+past_items [] (suc i) past = refl
+past_items (x ∷ xs) zero past = absurd (omega arith)
+past_items (x ∷ xs) (suc i) past = past_items xs i (omega arith)
+
+-- or into what comes for ever
+pub byte_last : (list : ListedBytes) (b : Bytes) (i index left : ℕ) → length list.items ≤ i → list.for_ever ≡ Some b → left ≤ index →
+    ((tail : List ℕ) → slice_get (items_bytes (drop i list.items) ++ tail) left ≡ slice_get (items_bytes list.items ++ tail) index) →
+    Some (slice_index (bytes_of b) (left % length (bytes_of b))) ≡ byte_at list index
+byte_last list b i index left past is below same =
+    for_ever_falls list.items b index left below (λ tail. ap (λ is. slice_get (items_bytes is ++ tail) left) (sym (past_items list.items i past)) ∙ same tail)
+    ∙ ap (λ o. slice_get (items_bytes list.items ++ for_ever_bytes (suc index) o) index) (sym is)

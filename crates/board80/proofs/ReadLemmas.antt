@@ -1,6 +1,6 @@
 -- What the parts of a text that were read say of the whole.
 use Rattle.std.proofs.Common.{◌≡◌, ◌≢◌, ℕ, suc, ◌+◌, ◌<◌, ◌≤◌, ◌^◌, Bool, true, false, cond, List, [], ◌∷◌, ◌++◌, length, get_or, take, drop, append_assoc, append-nil, refl, ap, sym, subst, ◌∙◌, arith}
-use Rattle.std.specs.Prelude.{◌==◌, All, Option, Some, None, IfSome, Result, Ok, Err}
+use Rattle.std.specs.Prelude.{◌==◌, All, codes, Option, Some, None, IfNone, IfOk, IfSome, Result, Ok, Err}
 use Rattle.std.specs.Fmt.{decimal}
 use Rattle.std.specs.List.{flat_map}
 use Rattle.std.specs.Str.{IsUtf8}
@@ -12,20 +12,22 @@ use Rattle.std.proofs.lemmas.Str.{IsUtf8-from_ascii}
 use Rattle.text80.specs.Digits.{byte_text, word_text}
 use Rattle.image80.specs.declared.range.Range.{Range}
 use Rattle.image80.specs.Range.{IsInMemory}
+use Rattle.board80.specs.declared.answers.Answers.{Answers}
+use Rattle.board80.specs.declared.answers.Answers.TheVariants.{Listed, By}
 use Rattle.board80.specs.declared.byte_list.Bytes.{Bytes}
 use Rattle.board80.specs.declared.byte_list.Item.{Item}
 use Rattle.board80.specs.declared.place.Place.{Place}
 use Rattle.board80.specs.declared.place.Place.TheVariants.{Port, Cell}
 use Rattle.board80.specs.declared.table.Row.{Row}
-use Rattle.board80.specs.Board.{AreBytes, AreItemBytes, IsAscending, IsGroup, IsItem, IsList, IsPlace, IsRow, IsTable}
-use Rattle.board80.specs.BoardText.{bytes_text, for_ever_text, group_text, item_text, items_text, list_text, other_text, range_text, row_text, rows_text, source_text, spaced_text, table_text, times_text}
+use Rattle.board80.specs.Board.{AreAnswers, AreBytes, AreItemBytes, IsAscending, IsGroup, IsItem, IsList, IsPlace, IsRow, IsTable}
+use Rattle.board80.specs.BoardText.{answers_text, bytes_text, for_ever_text, group_text, item_text, items_text, list_text, other_text, range_text, row_text, rows_text, source_text, spaced_text, table_text, times_text}
 use Rattle.board80.specs.ByteList.{ListedBytes}
 use Rattle.board80.specs.Group.{GroupBytes}
 use Rattle.board80.specs.Reading.{IsAtEnd, IsWord}
 use Rattle.board80.specs.Table.{TableRows}
 use Rattle.board80.proofs.DigitLemmas.{address_first, byte_first}
 use Rattle.board80.proofs.ListLemmas.{NoByte, NoItem, bytes_first, group_open, items_most, spaced_most}
-use Rattle.board80.proofs.SameLemmas.{range_same}
+use Rattle.board80.proofs.SameLemmas.{list_not_by}
 use Rattle.board80.proofs.TableLemmas.{NoRow, rows_most, word_of_table}
 use Rattle.board80.proofs.WordLemmas.{times_lack, times_same, word_first}
 
@@ -179,6 +181,12 @@ parsed_never n text fits is parsed =
     let r : Result ℕ ℕ = Err 0 in
     let both : r ≡ Ok n = parse-decimal 64 n text r fits fits is parsed in cc
 
+pub none_written : {E : Type 0} (result : Result (Option ℕ) E) (text : List ℕ) (m : ℕ) → IsHeld (without_leading_plus text) × (m ≡ digits_value 10 (without_leading_plus text)) →
+    IfOk result (λ read. IfNone read (text ≢ decimal m)) → IfOk result (λ read. IfNone read ((n : ℕ) → n < 2 ^ 64 → text ≢ decimal n))
+none_written (Ok (Some found)) text m parsed none = tt
+none_written (Ok None) text m parsed none = λ n fits is. none (subst (λ k. text ≡ decimal k) (sym (parsed_same m n text fits is parsed)) is)
+none_written (Err e) text m parsed none = tt
+
 -- tables
 pub table_read : (text word after rest : List ℕ) (p : Place) (rs : List Row) (o : ℕ) → text ≡ word ++ after → word ≡ source_text p → after ≡ rows_text rs ++ rest → rest ≡ other_text o →
     text ≡ table_text (record { source = p; rows = rs; other = o })
@@ -291,3 +299,12 @@ range_numbers text after behind rest f l r first f_in space len l_in r_in same =
     let head = range_tail text after f r first f_in r_in same in
     let tail = address_first l r.length rest [] l_in r_in.length (sym len ∙ ap (λ t. drop 1 t) (sym space ∙ head.1) ∙ sym (append-nil (word_text r.length))) in
     (head.0, tail)
+
+pub no_list_empty : (text : List ℕ) → (length text == 0) ≡ true → (list : ListedBytes) → IsList list → text ≢ list_text list
+no_list_empty [] empty list list_in same = list_in.some (sym same)
+no_list_empty (b ∷ bs) empty list list_in same = let none : length (b ∷ bs) ≡ 0 = eqb-true (length (b ∷ bs)) 0 empty in absurd (omega arith)
+
+-- answers
+pub no_answers : (text table : List ℕ) → text ≡ codes " BY " ++ table → NoTable table → (answers : Answers) → AreAnswers answers → text ≢ answers_text answers
+no_answers text table cut none (Listed l) l_in same = list_not_by l table (sym same ∙ cut)
+no_answers text table cut none (By t) t_in same = none t t_in (ap (λ x. drop 4 x) (sym cut ∙ same))

@@ -11,13 +11,16 @@ use text80::word_of_digits;
 /// `None` if the text begins with anything else.
 pub(crate) fn read_byte(text: &[u8]) -> Option<(u8, &[u8])>
     ensures found { IfSome result (λ (byte, rest). text.now ≡ byte_text byte ++ rest.now) }
+    ensures byte { IfSome result (λ (byte, _). byte < 256) }
     ensures shorter { IfSome result (λ (_, rest). length rest.now < length text.now) }
     ensures none { IfNone result ((byte : ℕ) (rest : List ℕ) → byte < 256 → text.now ≢ byte_text byte ++ rest) }
 {
     if text.len() < 2 {
         return None;
     }
-    let word = word_of_digits([b'0', b'0', text[0], text[1]])?;
+    let Some(word) = word_of_digits([b'0', b'0', text[0], text[1]]) else {
+        return None;
+    };
     Some(((word % 256) as u8, &text[2..]))
 }
 

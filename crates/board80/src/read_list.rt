@@ -1,6 +1,6 @@
 //! The reader of lists of answers.
 
-ghost use Rattle.std.specs.Prelude.{◌≡◌, ◌≢◌, ◌<◌, ◌^◌, ℕ, List, [], ◌∷◌, ◌++◌, length, All, IfOk, IfSome, IfNone};
+ghost use Rattle.std.specs.Prelude.{◌≡◌, ◌≢◌, ◌<◌, ◌↔◌, ◌^◌, ℕ, List, [], ◌∷◌, ◌++◌, length, All, IsTrue, IfOk, IfSome, IfNone};
 ghost use Rattle.std.specs.Fmt.{decimal};
 ghost use Rattle.text80.specs.Digits.{byte_text};
 ghost use Rattle.board80.specs.Board.{AreBytes, AreItemBytes, IsGroup, IsItem, IsList};
@@ -22,7 +22,10 @@ pub(crate) fn read_list(alloc: Global, text: &[u8]) -> Result<Option<ByteList>, 
     ensures none { IfOk result (λ read. IfNone read ((list : ListedBytes) → IsList list → text.now ≢ list_text list)) }
 {
     // A list begins with the space before its first item.
-    if text.is_empty() || text[0] != b' ' {
+    if text.is_empty() {
+        return Ok(None);
+    }
+    if text[0] != b' ' {
         return Ok(None);
     }
     let (items, rest) = read_items(alloc, text)?;
@@ -95,10 +98,17 @@ fn read_for_ever(alloc: Global, text: &[u8]) -> Result<Option<Bytes>, AllocError
     let Some((bytes, after)) = read_bytes(alloc, inner)? else {
         return Ok(None);
     };
-    match after {
-        [b'*'] => Ok(Some(bytes)),
-        _ => Ok(None),
+    if !is_star(after) {
+        return Ok(None);
     }
+    Ok(Some(bytes))
+}
+
+/// Whether the text is a star.
+fn is_star(text: &[u8]) -> bool
+    ensures { IsTrue result ↔ text.now ≡ 42 ∷ [] }
+{
+    text == b"*".as_slice()
 }
 
 /// Reads a byte, or a group in brackets, at the beginning of the text, and returns it and the text after it; `None` if

@@ -8,21 +8,21 @@ use Rattle.board80.proofs.read_line.read_range.Goals as goal
 pub returns-then-not-is_empty-clause-none : goal.returns-then-not-is_empty-clause-none
 returns-then-not-is_empty-clause-none c = λ range inside some same.
     let numbers = range_numbers c.args.text.now c.in_ok-first.after.now c.in_ok-behind.behind.now c.in_ok-length.rest.now c.in_ok-first.first c.in_ok-length.length range
-    c.in_ok-first.ensures.found (omega arith) (strip_prefix_is Decides-eqb c.in_ok-first.after.now (32 ∷ []) (Some c.in_ok-behind.behind) c.in_ok-behind.ensures)
+    c.in_ok-first.ensures.found (omega arith) (strip_prefix_is Decides-eqb c.in_ok-first.after.now (32 ∷ []) (Some c.in_ok-behind.behind) c.in_ok-behind.ensures.cases)
     c.in_ok-length.ensures.found (omega arith) inside same in
     let empty = ap (λ r. length r == 0) numbers.1.1 in cc
 
 pub returns-then-length-eq0-clause-none : goal.returns-then-length-eq0-clause-none
 returns-then-length-eq0-clause-none c = λ range inside some same.
     let numbers = range_numbers c.args.text.now c.in_ok-first.after.now c.in_ok-behind.behind.now c.in_ok-length.rest.now c.in_ok-first.first c.in_ok-length.length range
-    c.in_ok-first.ensures.found (omega arith) (strip_prefix_is Decides-eqb c.in_ok-first.after.now (32 ∷ []) (Some c.in_ok-behind.behind) c.in_ok-behind.ensures)
+    c.in_ok-first.ensures.found (omega arith) (strip_prefix_is Decides-eqb c.in_ok-first.after.now (32 ∷ []) (Some c.in_ok-behind.behind) c.in_ok-behind.ensures.cases)
     c.in_ok-length.ensures.found (omega arith) inside same in
     let same_length : c.in_ok-length.length ≡ range.length = numbers.1.0 in omega arith
 
 pub returns-then-from-gt65536-clause-none : goal.returns-then-from-gt65536-clause-none
 returns-then-from-gt65536-clause-none c = λ range inside some same.
     let numbers = range_numbers c.args.text.now c.in_ok-first.after.now c.in_ok-behind.behind.now c.in_ok-length.rest.now c.in_ok-first.first c.in_ok-length.length range
-    c.in_ok-first.ensures.found (omega arith) (strip_prefix_is Decides-eqb c.in_ok-first.after.now (32 ∷ []) (Some c.in_ok-behind.behind) c.in_ok-behind.ensures)
+    c.in_ok-first.ensures.found (omega arith) (strip_prefix_is Decides-eqb c.in_ok-first.after.now (32 ∷ []) (Some c.in_ok-behind.behind) c.in_ok-behind.ensures.cases)
     c.in_ok-length.ensures.found (omega arith) inside same in
     let same_first : c.in_ok-first.first ≡ range.first = numbers.0 in
     let same_length : c.in_ok-length.length ≡ range.length = numbers.1.0 in

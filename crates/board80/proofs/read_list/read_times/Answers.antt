@@ -8,5 +8,5 @@ use Rattle.board80.proofs.read_list.read_times.Goals as goal
 pub returns-then-count-lt2-clause-none : goal.returns-then-count-lt2-clause-none
 returns-then-count-lt2-clause-none c =
     no_times_small c.args.text.now c.in-Some.digits.now c.in-Some-2.count
-    (strip_prefix_is Decides-eqb c.args.text.now (42 ∷ []) (Some c.in-Some.digits) c.in-Some.ensures)
+    (strip_prefix_is Decides-eqb c.args.text.now (42 ∷ []) (Some c.in-Some.digits) c.in-Some.ensures.cases)
     (rw c.in-Some-2.is at c.in_ok-count.ensures.spelled) (omega arith) (omega arith)
