@@ -28,6 +28,7 @@ pub(crate) fn read_byte(text: &[u8]) -> Option<(u8, &[u8])>
 /// it; `None` if the text begins with anything else.
 pub(crate) fn read_address(text: &[u8]) -> Option<(u16, &[u8])>
     ensures found { IfSome result (λ (address, rest). text.now ≡ word_text address ++ rest.now) }
+    ensures word { IfSome result (λ (address, _). address < 65536) }
     ensures none { IfNone result ((address : ℕ) (rest : List ℕ) → address < 65536 → text.now ≢ word_text address ++ rest) }
 {
     if text.len() < 4 {

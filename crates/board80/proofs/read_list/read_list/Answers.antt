@@ -11,4 +11,4 @@ returns-then-text-ne32-clause-none c = no_list_start c.args.text.now c.if-text-n
 pub returns-in-None-clause-none : goal.returns-in-None-clause-none
 returns-in-None-clause-none c =
     no_list_tail c.args.text.now c.in_ok-items.rest.now c.in_ok-items.items.items c.in_ok-items.ensures.found c.in_ok-items.ensures.proper c.in_ok-items.ensures.ended c.in_ok-items.ensures.at_end
-    (λ empty. let e = ap (λ r. length r == 0) empty in cc) (rw c.in-None.is at c.in_ok-read_for_ever.ensures.none)
+    (λ empty. let e = ap (λ r. length r == 0) empty in cc) (rw c.in-None.is at c.in_ok-bytes.ensures.none)
