@@ -77,17 +77,19 @@ one_more n = omega arith
 before_is_word : (text : List ℕ) → IsWord (take (position_or_len (λ byte. byte == 32) text) text)
 before_is_word [] = All-nil (λ byte. (byte == 32) ≡ false)
 before_is_word (b ∷ bs) =
-    (elim (b == 32) as (λ t. (b == 32) ≡ t → IsWord (take (cond (not t) (1 + position_or_len (λ byte. byte == 32) bs) 0) (b ∷ bs)))
-    [ true ↦ λ _. All-nil (λ byte. (byte == 32) ≡ false)
-    | false ↦ λ no. subst (λ k. IsWord (take k (b ∷ bs))) (sym (one_more (position_or_len (λ byte. byte == 32) bs)))
-        (All-cons (λ byte. (byte == 32) ≡ false) b (take (position_or_len (λ byte. byte == 32) bs) bs) no (before_is_word bs)) ]) refl
+    (elim (b == 32) as (λ t. (b == 32) ≡ t → IsWord (take (cond (not t) (1 + position_or_len (λ byte. byte == 32) bs) 0) (b ∷ bs))) [
+      | true ↦ λ _. All-nil (λ byte. (byte == 32) ≡ false)
+      | false ↦ λ no. subst (λ k. IsWord (take k (b ∷ bs))) (sym (one_more (position_or_len (λ byte. byte == 32) bs)))
+          (All-cons (λ byte. (byte == 32) ≡ false) b (take (position_or_len (λ byte. byte == 32) bs) bs) no (before_is_word bs))
+    ]) refl
 
 after_at_end : (text : List ℕ) → IsAtEnd (drop (position_or_len (λ byte. byte == 32) text) text)
 after_at_end [] = tt
 after_at_end (b ∷ bs) =
-    (elim (b == 32) as (λ t. (b == 32) ≡ t → IsAtEnd (drop (cond (not t) (1 + position_or_len (λ byte. byte == 32) bs) 0) (b ∷ bs)))
-    [ true ↦ λ yes. eqb-true b 32 yes
-    | false ↦ λ no. subst (λ k. IsAtEnd (drop k (b ∷ bs))) (sym (one_more (position_or_len (λ byte. byte == 32) bs))) (after_at_end bs) ]) refl
+    (elim (b == 32) as (λ t. (b == 32) ≡ t → IsAtEnd (drop (cond (not t) (1 + position_or_len (λ byte. byte == 32) bs) 0) (b ∷ bs))) [
+      | true ↦ λ yes. eqb-true b 32 yes
+      | false ↦ λ no. subst (λ k. IsAtEnd (drop k (b ∷ bs))) (sym (one_more (position_or_len (λ byte. byte == 32) bs))) (after_at_end bs)
+    ]) refl
 
 -- the place of the first space
 pub space_at : (text : List ℕ) (i : ℕ) → i < length text → get_or text i 0 ≡ 32 → ((k : ℕ) → k < i → (get_or text k 0 == 32) ≡ false) → i ≡ position_or_len (λ byte. byte == 32) text
