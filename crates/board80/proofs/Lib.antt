@@ -1,0 +1,10 @@
+pub mod DigitLemmas
+pub mod WordLemmas
+pub mod ListLemmas
+pub mod TableLemmas
+pub mod SameLemmas
+pub mod FeedLemmas
+pub mod BoardLemmas
+pub mod SeenLemmas
+pub mod AnswerLemmas
+pub mod ReadLemmas
