@@ -49,7 +49,10 @@ pub(crate) struct ConditionalCode<'a, 'b> {
 
 impl<'a, 'b> ConditionalCode<'a, 'b> {
     /// The program on all of these conditions.
-    pub(crate) fn new(code: &'a ImageCode<'b>, conditions: &'a Conditions) -> ConditionalCode<'a, 'b>
+    pub(crate) fn new(
+        code: &'a ImageCode<'b>,
+        conditions: &'a Conditions,
+    ) -> ConditionalCode<'a, 'b>
         ensures code { result.code.now ≡ code.now }
         ensures begins { result.begins ≡ conditions.now.begins }
         ensures conditions { result.conditions.now ≡ conditions.now }

@@ -44,7 +44,9 @@ pub fn reach_graph(
 fn append_head(alloc: Global, text: &mut Vec<u8>, refusals: usize) -> Result<(), AllocError>
     ensures { OnOk result (text.new.items ≡ text.old.items ++ graph_head refusals) }
 {
-    let head = format!(in alloc; "// NOT PROVED REFUSALS {refusals}\ndigraph calls {{\n    label=\"NOT PROVED, REFUSALS {refusals}\";\n    node [shape=box];\n")?;
+    let head = format!(in alloc;
+        "// NOT PROVED REFUSALS {refusals}\ndigraph calls {{\n    label=\"NOT PROVED, REFUSALS {refusals}\";\n    node [shape=box];\n"
+    )?;
     text.extend_from_slice(head.as_bytes())
 }
 
@@ -145,7 +147,12 @@ fn append_edges_of(
 ) -> Result<(), AllocError>
     ensures { OnOk result (text.new.items ≡ text.old.items ++ edge_lines (code_of code.now) point) }
 {
-    append_call(alloc, text, point.standing, called_at(code, point.standing.at))?;
+    append_call(
+        alloc,
+        text,
+        point.standing,
+        called_at(code, point.standing.at),
+    )?;
     append_refused(alloc, text, point.standing, point.refusal)
 }
 

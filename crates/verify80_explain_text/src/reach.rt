@@ -50,7 +50,14 @@ fn append_points(
     let mut before = None;
     let mut rest = points;
     while let [point, after @ ..] = rest {
-        append_heading(alloc, text, image, publics, before, point.standing.procedure)?;
+        append_heading(
+            alloc,
+            text,
+            image,
+            publics,
+            before,
+            point.standing.procedure,
+        )?;
         append_point(alloc, text, image, code, publics, *point)?;
         before = Some(point.standing.procedure);
         rest = after;
@@ -106,7 +113,14 @@ fn append_point(
     requires { code.now ≡ image.now }
     ensures { OnOk result (text.new.items ≡ text.old.items ++ point_lines image.now publics.now point) }
 {
-    append_call(alloc, text, image, publics, point.standing, called_at(code, point.standing.at))?;
+    append_call(
+        alloc,
+        text,
+        image,
+        publics,
+        point.standing,
+        called_at(code, point.standing.at),
+    )?;
     append_refused(alloc, text, image, publics, point.standing, point.refusal)
 }
 
@@ -175,11 +189,7 @@ fn append_refused(
 }
 
 /// Appends an address, and how many bytes the procedure has on the stack there.
-fn append_standing(
-    alloc: Global,
-    text: &mut Vec<u8>,
-    standing: Standing,
-) -> Result<(), AllocError>
+fn append_standing(alloc: Global, text: &mut Vec<u8>, standing: Standing) -> Result<(), AllocError>
     ensures { OnOk result (text.new.items ≡ text.old.items ++ standing_text standing) }
 {
     append_address(text, b"  AT ".as_slice(), standing.at)?;

@@ -145,9 +145,8 @@ impl Unproved {
 fn add_unless_among(refusals: &mut Vec<Refusal>, refusal: Refusal) -> Result<(), AllocError>
     ensures { (points : List ReachedPoint) → All (IsRefusalAmong points) refusals.old.items → All (IsListed refusal points) refusals.new.items }
 {
-    let is_there = refusals
-        .iter()
-        .any(|one| one.code() == refusal.code() && one.address() == refusal.address());
+    let is_there = refusals.iter().any(|one| one.code() == refusal.code()
+        && one.address() == refusal.address());
     if is_there {
         return Ok(());
     }

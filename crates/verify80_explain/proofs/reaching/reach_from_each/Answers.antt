@@ -23,5 +23,5 @@ pub loop-number-preserved : goal.loop-number-preserved
 loop-number-preserved c = λ all.
     let P : ReachedPoint → Type 0 = IsReachedOn (code_of c.args.code.now) c.args.begins.now c.args.conditions.now in
     let found = reached_on (code_of c.args.code.now) c.args.conditions.now c.args.begins.now c.loop-number.number _ c.in-Some.found.items c.loop-number-test.true
-        (of_some _ c.in_ok-found.field-0 c.in-Some.found c.in-Some.is c.in_ok-found.ensures) in
+    (of_some _ c.in_ok-found.field-0 c.in-Some.found c.in-Some.is c.in_ok-found.ensures) in
     subst (All P) (sym c.in_ok-extend_from_slice.ensures.items) (All-append P c.loop-number.points.items _ (c.loop-number.invariant all) (subst (All P) (sym c.deref.ensures.value) found))
