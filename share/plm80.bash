@@ -18,12 +18,12 @@ _plm80() {
             ;;
     esac
     if [[ $COMP_CWORD -eq 1 ]]; then
-        COMPREPLY=($(compgen -W 'lib link locate map module check explain calls stores follow run trace cover inputs absolute extract compare find suggest cases list regions help --why -h --help -V --version' -- "$word"))
+        COMPREPLY=($(compgen -W 'lib link locate map module check explain calls stores follow report run trace cover inputs absolute extract compare find suggest cases list regions help --why -h --help -V --version' -- "$word"))
         return
     fi
     case ${COMP_WORDS[1]} in
         link) options='--name --out --map --reasons --why -h --help' ;;
-        locate) options='--code --stack --common --data --memory --stack-size --memory-size --rom-range --ram-range --restart --publics --why -h --help' ;;
+        locate) options='--code --stack --common --data --memory --stack-size --memory-size --rom-range --ram-range --board --restart --publics --why -h --help' ;;
         map) options='--code --stack --common --data --memory --stack-size --memory-size --why -h --help' ;;
         run) options='--steps --outputs --last --dump --names --why -h --help' ;;
         trace) options='--from --count --steps --outputs --names --why -h --help' ;;
@@ -31,18 +31,18 @@ _plm80() {
         extract) options='--first --length --fill --sum --why -h --help' ;;
         absolute) options='--first --start --name --rom --why -h --help' ;;
         compare) options='--first --fill --names --why -h --help' ;;
-        suggest) options='--rom-range --ram-range --entry --case --why -h --help' ;;
+        suggest) options='--rom-range --ram-range --board --entry --case --why -h --help' ;;
         find) options='--first --why -h --help' ;;
-        lib | regions | inputs | module) options='--why -h --help' ;;
-        check) options='--names --why -h --help' ;;
-        explain) options='--all --names --why -h --help' ;;
-        stores) options='--names --quiet-ram --why -h --help' ;;
-        follow) options='--names --quiet-ram --list --interrupted --handler --why -h --help' ;;
+        lib | regions | inputs | module | report) options='--why -h --help' ;;
+        check) options='--names --board --why -h --help' ;;
+        explain) options='--all --names --board --why -h --help' ;;
+        stores) options='--names --quiet-ram --board --why -h --help' ;;
+        follow) options='--names --quiet-ram --list --interrupted --handler --board --why -h --help' ;;
         list) options='--reached --asm --names --why -h --help' ;;
         cases) options='--out --why -h --help' ;;
-        calls) options='--dot --names --why -h --help' ;;
+        calls) options='--dot --names --board --why -h --help' ;;
         help)
-            [[ $COMP_CWORD -eq 2 ]] && COMPREPLY=($(compgen -W 'lib link locate map module check explain calls stores follow run trace cover inputs absolute extract compare find suggest cases list regions help' -- "$word"))
+            [[ $COMP_CWORD -eq 2 ]] && COMPREPLY=($(compgen -W 'lib link locate map module check explain calls stores follow report run trace cover inputs absolute extract compare find suggest cases list regions help' -- "$word"))
             return
             ;;
         *) return ;;

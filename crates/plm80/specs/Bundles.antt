@@ -4,7 +4,7 @@ use Rattle.loader80.specs.declared.{replies.Outcome.Outcome, fault.SessionFault.
 use Rattle.loader80_text.specs.{Bundle.BundleSends, Bundle.bundle_limit, BundleText.bundle_texts}
 use Rattle.loader80_text.specs.declared.bundles.fault.BundleFault.{BundleFault, TheVariants.Session}
 use Rattle.plm80_console.specs.Journal.{Journal, and_input, and_printed, and_reported}
-use Rattle.plm80_programs.specs.Status.{end_status}
+use Rattle.plm80_runs.specs.Status.{end_status}
 
 -- its exit status: that of the run's end, or 1 of a refusal; every other fault has none
 abbrev pub bundle_status : Result Outcome BundleFault → Result ℕ BundleFault

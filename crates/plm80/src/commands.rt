@@ -15,9 +15,10 @@ use plm80_objects::{
     write_absolute, write_library_file,
 };
 use plm80_programs::{
-    advise_file, check_files, cover_files, explain_files, follow_files, list_files, list_stores,
-    migrate_file, run_files, show_calls, suggest_for_files, trace_files, write_inputs_file,
+    check_files, explain_files, follow_files, list_files, list_stores, report_files, show_calls,
 };
+use plm80_regions::{advise_file, migrate_file, suggest_for_files};
+use plm80_runs::{cover_files, run_files, trace_files, write_inputs_file};
 use std::process::ExitCode;
 
 /// Does the command, and gives the exit status: 1 if an image is refused, 2 at a fault, 3 or 4 as a run ends, and else 0. A fault is
@@ -68,7 +69,7 @@ fn perform<C: Console>(console: &mut C, request: Request<'_>) -> Result<u8, Repo
         Request::Locate(arguments) => locate_file(console, &arguments),
         Request::Run(arguments) => run_files(console, arguments),
         Request::List(arguments) => list_files(console, arguments),
-        Request::Check(files) => check_files(console, files),
+        Request::Check(arguments) => check_files(console, arguments),
         Request::Explain(arguments) => explain_files(console, arguments),
         Request::Library(arguments) => write_library_file(console, &arguments),
         Request::Regions(arguments) => migrate_file(console, arguments),
@@ -86,5 +87,6 @@ fn perform<C: Console>(console: &mut C, request: Request<'_>) -> Result<u8, Repo
         Request::Module(arguments) => describe_file(console, arguments),
         Request::Find(arguments) => find_modules(console, &arguments),
         Request::Suggest(arguments) => advise_file(console, &arguments),
+        Request::Report(arguments) => report_files(console, arguments),
     }
 }

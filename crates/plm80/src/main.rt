@@ -23,7 +23,7 @@ use loader80::{Outcome, SessionFault};
 pub use loader80_text::{BUNDLE_LIMIT, BundleFault, bundle};
 use plm80_console::{Console, Reported, exit_code};
 use plm80_host::HostConsole;
-use plm80_programs::{EndWords, status_of};
+use plm80_runs::{EndWords, status_of};
 use std::alloc::{AllocError, Global};
 use std::env;
 use std::io::{ErrorKind, IsTerminal};

@@ -3,7 +3,7 @@
 use Rattle.std.specs.Prelude.{◌≡◌, ◌≢◌, ℕ, ◌==◌, nat_lt, Bool, false, ◌&&◌, Option, None, Some, if◌then◌else◌, List, length, slice_get}
 use Rattle.std.specs.{List.list_any, List.position_or_len, List.after_first, Option.option_map_or, Str.bytes_eq}
 use Rattle.clap.specs.{declared.parser.matches.ArgMatches.ArgMatches, Matches.first_value, Matches.found_of}
-use Rattle.plm80_console.specs.declared.syntax.Kind.TheVariants.{Path, Paths, Written, WrittenOption, WrittenIfGiven, Replaced, PathsAt}
+use Rattle.plm80_console.specs.declared.syntax.Kind.TheVariants.{Path, Paths, Written, WrittenOption, WrittenIfGiven, Replaced, PathsAt, PathInPlaceOf}
 use Rattle.plm80_console.specs.{Arguments.argument_values, Kinds.is_written, Kinds.may_replace}
 use Rattle.plm80_console.specs.declared.syntax.{Argument.Argument, Kind.Kind}
 
@@ -34,6 +34,7 @@ has_path Written matches name path = is_value matches name path
 has_path (WrittenOption word) matches name path = is_value matches name path
 has_path (WrittenIfGiven word) matches name path = is_value matches name path
 has_path (Replaced word old) matches name path = is_value matches name path
+has_path (PathInPlaceOf others) matches name path = is_value matches name path
 has_path Paths matches name path = is_among_values matches name path
 has_path (PathsAt word) matches name path = is_behind_values matches name path
 has_path _ matches name path = false

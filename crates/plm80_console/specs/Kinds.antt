@@ -2,7 +2,7 @@
 use Rattle.std.specs.Prelude.{ℕ, Bool, true, false, List, ◌++◌, codes}
 use Rattle.std.specs.Str.{bytes_eq}
 use Rattle.plm80_console.specs.declared.syntax.Kind.{Kind}
-use Rattle.plm80_console.specs.declared.syntax.Kind.TheVariants.{Path, Paths, Words, Written, WrittenOption, WrittenIfGiven, Replaced, Required, Number, Count, Flag, PathsAt}
+use Rattle.plm80_console.specs.declared.syntax.Kind.TheVariants.{Path, Paths, Words, Written, WrittenOption, WrittenIfGiven, Replaced, Required, Number, Count, Flag, PathsAt, PathInPlaceOf}
 
 -- no command line is taken without it
 abbrev pub is_required : Kind → Bool
@@ -53,3 +53,4 @@ shown_text (Number word) name = value_shown name word.now
 shown_text (PathsAt word) name = value_shown name word.now
 shown_text Flag name = codes "--" ++ name
 shown_text (Count default) name = value_shown name (codes "N")
+shown_text (PathInPlaceOf others) name = value_shown name (codes "FILE")

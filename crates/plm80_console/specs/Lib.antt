@@ -14,3 +14,4 @@ pub mod SyntaxTable
 -- what the crate's own functions promise one another: no public contract cites these
 pub mod HiddenCharacters
 pub mod SharedPaths
+pub mod AnswerLaws

@@ -7,7 +7,7 @@
 //! | [`Console`], [`Reported`] | what a command runs on: reports faults, reads and writes files, prints; a fault that was reported |
 //! | [`exit_code`] | the exit status of an answer, or of a fault that was reported |
 //! | [`Syntax`], [`Argument`], [`Kind`] | a command and its arguments, as tables for clap |
-//! | [`OptionText`], [`ranges_of`] | an option with its value; a [`Console`] reads it as a number, a name, or ranges of addresses |
+//! | [`OptionText`], [`words_of`], [`ranges_of`] | an option with its value; a [`Console`] reads it as a number, a name, addresses, or ranges of them |
 //! | [`explain_board`], [`RangeTexts`] | ranges that may have been meant otherwise, in words |
 //! | [`Answer`], [`WrittenFile`] | what a command answers: files, lines and a status; a [`Console`] does it |
 //! | [`ReadFile`], [`FaultOf`] | a file with its path; a fault with the path of its file |
@@ -43,7 +43,7 @@ pub use number_text::{
     are_digits, byte_of_digits, count_of_digits, length_of_digits, word_of_digits,
 };
 pub use one_line::OneLine;
-pub use options::OptionText;
+pub use options::{OptionText, words_of};
 pub use pieces::TakePieces;
 pub use ranges::{RangeTexts, explain_board, ranges_of};
 pub use read_file::{FaultOf, ReadFile};

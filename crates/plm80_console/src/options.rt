@@ -1,6 +1,6 @@
 //! The values of options: numbers and names.
 
-ghost use Rattle.std.specs.Prelude.{◌≡◌, unwrap_or, option_map, IfErr, IfOk, IfSome, IsSomeAnd, OnErr};
+ghost use Rattle.std.specs.Prelude.{◌≡◌, map, unwrap_or, option_map, IfErr, IfOk, IfSome, IsSomeAnd, OnErr};
 ghost use Rattle.clap.specs.Matches.{first_value, found_of};
 ghost use Rattle.plm80_console.specs.NumberText.{IsByteText, IsCountText, IsLengthText, IsWordText, count_value, word_value};
 ghost use Rattle.plm80_console.specs.{Arguments.argument_text, Journal.and_reported};
@@ -173,4 +173,24 @@ impl<'a> OptionText<'a> {
         console.explain(format_args!("--{name} {text}: {wanted}"));
         reported
     }
+}
+
+/// The words that an option's values write, of one to four hexadecimal digits each. `BadNumber` is reported of the first that writes none.
+pub fn words_of<C: Console>(
+    console: &mut C,
+    name: &str,
+    values: &[&str],
+) -> Result<Vec<u16>, Reported>
+    ensures words { IfOk result (λ words. words.items ≡ map (λ value. word_value value.now) values.now) }
+    ensures unchanged { IfOk result (λ _. C.journal console.new ≡ C.journal console.old) }
+    ensures fault { IfErr result (λ _. C.journal console.new ≡ and_reported (C.journal console.old)) }
+{
+    let mut words = Vec::new(console.alloc());
+    for value in values {
+        let word = OptionText::new(name, value).word(console)?;
+        if words.push(word).is_err() {
+            return Err(console.report_memory());
+        }
+    }
+    Ok(words)
 }

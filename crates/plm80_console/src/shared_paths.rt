@@ -166,7 +166,8 @@ impl<'a> Argument<'a> {
             | Kind::Written
             | Kind::WrittenOption(_)
             | Kind::WrittenIfGiven(_)
-            | Kind::Replaced { .. } => match matches.get_str(self.name) {
+            | Kind::Replaced { .. }
+            | Kind::PathInPlaceOf(_) => match matches.get_str(self.name) {
                 Some(own) => comparison.is_one(console, own, path),
                 None => false,
             },
@@ -204,6 +205,7 @@ impl<'a> Argument<'a> {
             | Kind::PathsAt(value) => { format!(in alloc; "--{} <{value}>", self.name) }
             Kind::Flag => format!(in alloc; "--{}", self.name),
             Kind::Count(_) => format!(in alloc; "--{} <N>", self.name),
+            Kind::PathInPlaceOf(_) => format!(in alloc; "--{} <FILE>", self.name),
         }
     }
 }

@@ -55,6 +55,9 @@ pub enum Kind<'a> {
     /// An option that may be given more than once, whose values are each a number, an equals sign and the path of a file to
     /// read; the help text calls one by this word.
     PathsAt(&'a str),
+    /// An option whose value is the path of a file to read, which the help text calls `FILE`. It stands in place of the options of
+    /// these names, and is refused beside one of them.
+    PathInPlaceOf(&'a [&'a str]),
 }
 
 impl<'a> Syntax<'a> {
@@ -67,9 +70,9 @@ impl<'a> Syntax<'a> {
             .about(self.about)
             .after_help(self.after_help);
         for argument in self.arguments {
-            command = command.arg(argument.arg(alloc))?;
+            command = command.arg(argument.arg(alloc)?)?;
         }
-        command.arg(WHY.arg(alloc))
+        command.arg(WHY.arg(alloc)?)
     }
 }
 
@@ -81,8 +84,20 @@ pub const WHY: Argument<'static> = Argument {
 };
 
 impl<'a> Argument<'a> {
-    /// This argument as clap takes it.
-    fn arg(&self, alloc: Global) -> Arg<'a>
+    /// This argument as clap takes it. `AllocError` only if memory runs out.
+    fn arg(&self, alloc: Global) -> Result<Arg<'a>, AllocError>
+        ensures name { IfOk result (λ arg. arg.id ≡ self.now.name) }
+        ensures required { IfOk result (λ arg. arg.required ≡ is_required self.now.kind) }
+    {
+        let arg = self.arg_beside_all(alloc);
+        match self.kind {
+            Kind::PathInPlaceOf(others) => arg.conflicts_with_all(others),
+            _ => Ok(arg),
+        }
+    }
+
+    /// This argument as clap takes it if it may stand beside all others.
+    fn arg_beside_all(&self, alloc: Global) -> Arg<'a>
         ensures name { result.id ≡ self.now.name }
         ensures required { result.required ≡ is_required self.now.kind }
     {
@@ -99,6 +114,7 @@ impl<'a> Argument<'a> {
             Kind::Count(default) => option(arg, self.name, "N").default_value(default),
             Kind::Flag => arg.long(self.name).action(ArgAction::SetTrue),
             Kind::PathsAt(value) => option(arg, self.name, value).action(ArgAction::Append),
+            Kind::PathInPlaceOf(_) => option(arg, self.name, "FILE"),
         }
     }
 }

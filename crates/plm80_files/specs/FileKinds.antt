@@ -67,6 +67,9 @@ is_explained role.Regions other = true
 is_explained role.Inputs kind.Regions = true
 is_explained role.Inputs kind.ObjectFile = true
 is_explained role.Inputs other = false
+is_explained role.Board kind.Text = false
+is_explained role.Board kind.Unknown = false
+is_explained role.Board other = true
 
 -- of which kinds it is said which path the role has: files that commands with that path read beside it. Of regions it is said after
 -- their other words.
@@ -81,6 +84,7 @@ is_misplaced role.Regions other = false
 is_misplaced role.Inputs kind.ObjectFile = true
 is_misplaced role.Inputs kind.Regions = true
 is_misplaced role.Inputs other = false
+is_misplaced role.Board other = false
 
 -- a file that is read by commands which read a text of regions beside it
 abbrev pub stands_beside_regions : FileKind → Bool

@@ -54,6 +54,7 @@ pub enum FileRole {
     Image,
     Regions,
     Inputs,
+    Board,
 }
 
 impl FileKind {
@@ -148,6 +149,23 @@ impl FileKind {
         }
     }
 
+    /// Words on a file of this kind that was to be the text of a board; `None` if it may be one, or is a file of which nothing is known.
+    fn words_for_board(self) -> Option<&'static str>
+        ensures { is_some result ≡ is_explained FileRole.Board self }
+    {
+        match self {
+            FileKind::Empty => Some("the file is empty: its first line is BOARD 1"),
+            FileKind::ObjectFile => Some("this is an object file, not the text of a board"),
+            FileKind::Library => Some("this is a library, not the text of a board"),
+            FileKind::Regions => Some("this is a regions text, not that of a board"),
+            FileKind::Inputs => Some("this is an inputs text, not that of a board"),
+            FileKind::IntelHex => Some("this is Intel HEX, not the text of a board"),
+            FileKind::SRecords => Some("these are S-records, not the text of a board"),
+            FileKind::Elf => Some("this is an ELF file, not the text of a board"),
+            FileKind::Text | FileKind::Unknown => None,
+        }
+    }
+
     /// Words on which path an image has, if a file of this kind in its place seems to be another file of the command; else `None`.
     fn place_of_image(self) -> Option<&'static str>
         ensures { is_some result ≡ is_misplaced FileRole.Image self }
@@ -180,6 +198,7 @@ impl FileRole {
             FileRole::ObjectFile | FileRole::Image => kind.words_for_object(),
             FileRole::Regions => kind.words_for_regions(),
             FileRole::Inputs => kind.words_for_inputs(),
+            FileRole::Board => kind.words_for_board(),
         }
     }
 
@@ -189,7 +208,7 @@ impl FileRole {
         ensures { is_some result ≡ is_misplaced self kind }
     {
         match self {
-            FileRole::ObjectFile | FileRole::Regions => None,
+            FileRole::ObjectFile | FileRole::Regions | FileRole::Board => None,
             FileRole::Image => kind.place_of_image(),
             FileRole::Inputs => kind.place_of_inputs(),
         }

@@ -51,8 +51,8 @@ pub const FLAWS: &[LineFlaw] = &[
     LineFlaw::OddDigits,
 ];
 
-/// The flaws of the first line of a text of regions, whose digit stands alone.
-pub(crate) const VERSION_FLAWS: &[LineFlaw] = &[
+/// The flaws of the first line of a text of regions or of a board, whose digit stands alone.
+pub const VERSION_FLAWS: &[LineFlaw] = &[
     LineFlaw::NotAscii,
     LineFlaw::CarriageReturn,
     LineFlaw::ControlZ,

@@ -5,6 +5,7 @@ use Rattle.place80.specs.declared.options.Options.{Options}
 use Rattle.plm80_console.specs.Arguments.{argument_text, argument_values}
 use Rattle.plm80_console.specs.NumberText.{IsByteText, IsLengthText, IsWordText, word_value}
 use Rattle.plm80_console.specs.declared.options.OptionText.{OptionText}
+use Rattle.plm80_boards.specs.Boards.{IsBoardPath}
 use Rattle.plm80_names.specs.Arguments.{IsFlag}
 use Rattle.plm80_objects.specs.{declared.absolute.AbsoluteArguments.AbsoluteArguments, declared.compare.CompareArguments.CompareArguments}
 use Rattle.plm80_objects.specs.{declared.extract.Extent.Extent, declared.extract.ExtractArguments.ExtractArguments}
@@ -55,6 +56,7 @@ pub record AreLocateArguments (matches : ArgMatches) (arguments : LocateArgument
   pub options : AreLocateTexts matches arguments.options
   pub rom : map (λ range. range.now) arguments.rom.items ≡ argument_values matches (codes "rom-range")
   pub ram : map (λ range. range.now) arguments.ram.items ≡ argument_values matches (codes "ram-range")
+  pub board : IsBoardPath matches arguments.board
   pub restart : IsFlag matches (codes "restart") arguments.restart
   pub publics : IsFlag matches (codes "publics") arguments.publics
 

@@ -1,6 +1,6 @@
 -- What `module`, `map`, `locate` and `lib` answer to object files.
 -- (ISIS-II User's Guide, LOCATE and LIB. The form of the lines is this project's own.)
-use Rattle.std.specs.Prelude.{◌≡◌, ℕ, false, List, [], ◌∷◌, ◌++◌, None, map}
+use Rattle.std.specs.Prelude.{◌≡◌, ℕ, false, List, [], ◌∷◌, ◌++◌, Option, None, map}
 use Rattle.std.specs.List.{flat_map}
 use Rattle.omf_model.specs.Modules.{ModuleValue}
 use Rattle.omf_module.specs.Spelled.{SpellsFile}
@@ -10,7 +10,10 @@ use Rattle.omf_text.specs.ModuleText.{module_text}
 use Rattle.place80.specs.{declared.options.Options.Options, Layout.layout_of, PlaceFault.locate_fault}
 use Rattle.place80_text.specs.Map.{IsMap}
 use Rattle.plm80_console.specs.Journal.{FileValue, Journal, OnlyReports}
-use Rattle.plm80_console.specs.{Answer.AnswerValue, Answer.prints, Ranges.AreRangesOf, Replaced.GaveUpKeeping, Replaced.IsReplacedKeeping}
+use Rattle.board80.specs.declared.line.Kind.TheVariants.{Ram, Rom}
+use Rattle.board80.specs.declared.line.Line.{Line}
+use Rattle.plm80_boards.specs.Boards.{AreRangesIn}
+use Rattle.plm80_console.specs.{Answer.AnswerValue, Answer.prints, Replaced.GaveUpKeeping, Replaced.IsReplacedKeeping}
 use Rattle.plm80_objects.specs.Locate.{WritesProgram, fault_of, unmapped_of}
 use Rattle.plm80_objects.specs.{declared.library.LibraryArguments.LibraryArguments, declared.locate.LocateArguments.LocateArguments}
 use Rattle.plm80_objects.specs.{declared.map.MapArguments.MapArguments, Arguments.AreNumbersOf, Read.AreRead}
@@ -51,13 +54,14 @@ pub record WritesLocated (arguments : LocateArguments) (options : Options) (rom 
   pub on_board : unmapped_of rom ram arguments.restart options program ≡ None
   pub writes : WritesProgram arguments.image.now arguments.regions.now arguments.restart arguments.publics options program answer
 
-pub record LocatesFile (arguments : LocateArguments) (files : List FileValue) (answer : AnswerValue) : Type 0 where
+-- the same of one file, with the memory of the board, or that which the options name if there is no board
+pub record LocatesFile (arguments : LocateArguments) (board : Option (List Line)) (files : List FileValue) (answer : AnswerValue) : Type 0 where
   pub options : Options
   pub are_options : AreNumbersOf arguments.options options
   pub rom : List Range
-  pub is_rom : AreRangesOf (map (λ range. range.now) arguments.rom.items) rom
+  pub is_rom : AreRangesIn Rom board (map (λ range. range.now) arguments.rom.items) rom
   pub ram : List Range
-  pub is_ram : AreRangesOf (map (λ range. range.now) arguments.ram.items) ram
+  pub is_ram : AreRangesIn Ram board (map (λ range. range.now) arguments.ram.items) ram
   pub answers : AnswersModules (OfProgram (WritesLocated arguments options rom ram)) files answer
 
 -- ---- lib

@@ -1,14 +1,15 @@
 //! `plm80 locate`: an object file's one module at its places, as an image and its regions.
 
-ghost use Rattle.std.specs.Prelude.{◌≡◌, ◌⊎◌, ◌∷◌, None, Some, [], length, IfOk, IfErr, OnOk};
+ghost use Rattle.std.specs.Prelude.{◌≡◌, ◌⊎◌, ◌∷◌, ◌++◌, None, Some, [], length, IfOk, IfErr, OnOk};
 ghost use Rattle.image80.specs.RegionsText.{regions_text};
 ghost use Rattle.place80.specs.declared.place_fault.PlaceFault.TheVariants.{Memory};
 ghost use Rattle.plm80_console.specs.{Answer.Gives, Answer.GivesUp, Answer.writes_both, Journal.OnlyReports, Journal.and_reported, Journal.file_value};
 ghost use Rattle.plm80_files.specs.LinkFiles.{AreModulesRead};
+ghost use Rattle.plm80_boards.specs.Boards.{WithBoard, board_paths};
 ghost use Rattle.plm80_objects.specs.Locate.{IsImageOf, fault_of, image_file, unmapped_of};
 ghost use Rattle.plm80_objects.specs.{Arguments.AreLocateArguments, Modules.LocatesFile, Modules.WritesLocated};
 
-use crate::helpers::board_options::{RAM_RANGE, ROM_RANGE, unmapped_of};
+use crate::helpers::board_options::{BOARD_TEXT, RAM_RANGE, ROM_RANGE, unmapped_of};
 use crate::helpers::causes::{report_place_fault, report_unmapped};
 use crate::helpers::empty_segments::explain_empty_segments;
 use crate::helpers::locate_options::{
@@ -22,9 +23,10 @@ use omf_core::segment_id::ABSOLUTE;
 use omf_module::Module;
 use place80::{Options, PlaceFault, layout, locate, locate_with_restart};
 use place80_text::{Board, write_image_with_publics};
+use plm80_boards::{GivenBoard, board_path};
 use plm80_console::{
     Answer, Argument, Console, Kind, RangeTexts, Reported, Syntax, WrittenFile, argument_text,
-    argument_values, explain_board, ranges_of,
+    argument_values, explain_board,
 };
 use plm80_files::{explain_unread, read_modules};
 use std::alloc::{AllocError, Global};
@@ -40,6 +42,8 @@ pub struct LocateArguments<'a> {
     rom: Vec<&'a str>,
     /// Ranges of the board's RAM, each as `ffff:llll`: the first address and the length in hexadecimal.
     ram: Vec<&'a str>,
+    /// The path of the board's text.
+    board: Option<&'a str>,
     restart: bool,
     publics: bool,
 }
@@ -56,7 +60,8 @@ before it ends, rounded up to a multiple of 100h if it is paged. Relocations add
 the base of their segment; those to STACK add the address after its last byte.
 
 --rom-range and --ram-range name the board's memory, as suggest takes them: CODE
-must then lie in ROM or RAM, and every other segment in RAM.
+must then lie in ROM or RAM, and every other segment in RAM. --board takes both
+from the ROM and RAM lines of a text (docs/FORMATS.md, 'Boards').
 
 --restart puts a JMP to the program's start at address 0, where the processor
 begins; nothing else may occupy 0000 to 0002.
@@ -98,6 +103,7 @@ pub const LOCATE: Syntax<'static> = Syntax {
         MEMORY_SIZE,
         ROM_RANGE,
         RAM_RANGE,
+        BOARD_TEXT,
         Argument {
             name: "restart",
             kind: Kind::Flag,
@@ -123,6 +129,7 @@ impl<'a> LocateArguments<'a> {
             options: LocateTexts::of(matches),
             rom: argument_values(alloc, matches, "rom-range")?,
             ram: argument_values(alloc, matches, "ram-range")?,
+            board: board_path(matches),
             restart: matches.get_flag("restart"),
             publics: matches.get_flag("publics"),
         })
@@ -135,14 +142,29 @@ pub fn locate_file<C: Console>(
     console: &mut C,
     arguments: &LocateArguments<'_>,
 ) -> Result<u8, Reported>
-    ensures done { let asked = arguments.now in IfOk result (Gives (LocatesFile asked) (asked.object.now ∷ [])
+    ensures done { let asked = arguments.now in IfOk result (Gives (WithBoard asked.board (LocatesFile asked))
+        (board_paths asked.board ++ asked.object.now ∷ []) (C.journal console.old) (C.journal console.new)) }
+    ensures fault { let asked = arguments.now in IfErr result (λ _. GivesUp (WithBoard asked.board (LocatesFile asked))
+        (board_paths asked.board ++ asked.object.now ∷ []) (C.journal console.old) (C.journal console.new)) }
+{
+    let given = GivenBoard::read(console, arguments.board)?;
+    locate_on_board(console, arguments, &given)
+}
+
+/// Does `locate` on the board, if one is given.
+fn locate_on_board<C: Console>(
+    console: &mut C,
+    arguments: &LocateArguments<'_>,
+    given_board: &GivenBoard,
+) -> Result<u8, Reported>
+    ensures done { let asked = arguments.now in IfOk result (Gives (LocatesFile asked given_board.now.board) (asked.object.now ∷ [])
         (C.journal console.old) (C.journal console.new)) }
-    ensures fault { let asked = arguments.now in IfErr result (λ _. GivesUp (LocatesFile asked) (asked.object.now ∷ [])
+    ensures fault { let asked = arguments.now in IfErr result (λ _. GivesUp (LocatesFile asked given_board.now.board) (asked.object.now ∷ [])
         (C.journal console.old) (C.journal console.new)) }
 {
     let options = arguments.options.numbers(console)?;
-    let rom = ranges_of(console, ROM_RANGE.name, &arguments.rom)?;
-    let ram = ranges_of(console, RAM_RANGE.name, &arguments.ram)?;
+    let rom = given_board.rom(console, ROM_RANGE.name, &arguments.rom)?;
+    let ram = given_board.ram(console, RAM_RANGE.name, &arguments.ram)?;
     let board = Board {
         rom: &rom,
         ram: &ram,
@@ -220,6 +242,9 @@ fn answer_on_board<'a, C: Console>(
         Ok(Some(found)) => {
             let reported = report_unmapped(console, program, options, found);
             explain_ranges(console, arguments);
+            if let Some(path) = arguments.board {
+                console.explain(format_args!("ranges of ROM and RAM are those of {path}"));
+            }
             return Err(reported);
         }
         Err(AllocError) => return Err(console.report_memory()),

@@ -74,9 +74,13 @@ same_address None None = true
 same_address (Some a) (Some b) = a == b
 same_address _ _ = false
 
--- whether what is shown is a refusal: it has its number and its address
+-- whether a refusal is another one: it has its number and its address
+abbrev pub is_same_refusal : Refusal → Refusal → Bool
+is_same_refusal refusal one = (refusal_code one == refusal_code refusal) && same_address (refusal_address one) (refusal_address refusal)
+
+-- whether what is shown is a refusal
 abbrev pub is_of : Refusal → ShownRefusal → Bool
-is_of refusal one = (refusal_code one.refusal == refusal_code refusal) && same_address (refusal_address one.refusal) (refusal_address refusal)
+is_of refusal one = is_same_refusal refusal one.refusal
 
 -- a text goes on with the verifier's refusal and what shows it, unless that is shown already
 pub data ShowsRest (image : Located) (publics : List Public) (refusal : Refusal) (shown : List ShownRefusal) (further : ℕ)

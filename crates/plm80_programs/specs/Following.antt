@@ -1,19 +1,26 @@
 -- What `follow` prints of an image. (The lines of a program that is followed are those of the crates below; that where a search stopped is
 -- printed alone, with status 1, is this project's own.)
-use Rattle.std.specs.Prelude.{◌≡◌, ℕ, Bool, true, false, List, [], ◌∷◌, ◌++◌, Option, All, codes, length, map, not}
+use Rattle.std.specs.Prelude.{◌≡◌, ℕ, Bool, true, false, List, [], ◌∷◌, ◌++◌, Option, None, Some, All, codes, length, map, not}
 use Rattle.text80.specs.Digits.{word_text}
 use Rattle.omf_model.specs.declared.symbols.Public.{Public}
 use Rattle.decode80.specs.declared.fetching.Fetched.{Fetched}
-use Rattle.image80.specs.{declared.range.Range.Range, Image.Located, Image.memory_of}
-use Rattle.image80_text.specs.NameText.{labelled_text, named_text}
-use Rattle.loader80_trace.specs.Cover.{cover_lines}
+use Rattle.image80.specs.{declared.range.Range.Range, Image.Located}
+use Rattle.image80_text.specs.NameText.{named_text}
 use Rattle.verify80_stores.specs.{declared.stores.Stores.Stores, Boards.is_quiet}
 use Rattle.verify80_follow.specs.{declared.fit.Table.Table, declared.handling.Handler.Handler, FollowText.bounds_lines, FollowText.live_lines, FollowText.ways_lines, Live.PromiseOfLive, Live.handler_bounds, Promise.PromiseOf, Reaching.AreFollowed, Reaching.AreStoresFollowed, Reaching.places_of}
 use Rattle.verify80_follow_search.specs.declared.stop.StopReason.{StopReason}
 use Rattle.verify80_follow_search.specs.declared.stop.StopReason.TheVariants.{FetchOutside, UnusedOpcode, EnablesInterrupts, DirectStore, StackNotSet, LeavesStack, UnknownReturn, UnknownJump, UnknownPointer, NotGivenBack, EnablesEarly, UsesPointer, StoresQuiet, NoRoom, TooManyStates, Unfit}
-use Rattle.plm80_console.specs.{Answer.AnswerValue, Answer.prints, Journal.FileValue, NumberText.word_value, Ranges.AreRangesOf}
+use Rattle.board80.specs.declared.line.Line.{Line}
+use Rattle.plm80_boards.specs.{Boards.interrupts_in, Quiet.AreInRam}
+use Rattle.plm80_console.specs.{Answer.AnswerValue, Answer.prints, Journal.FileValue, Ranges.AreRangesOf}
 use Rattle.plm80_names.specs.{Verdict.AnswersProgram, Arguments.asks_names}
-use Rattle.plm80_programs.specs.{declared.follow.Followed.Followed, declared.follow.Followed.TheVariants.By, declared.follow.FollowedAll.FollowedAll, declared.follow.FollowedAll.TheVariants.Alone, declared.follow.FollowedAll.TheVariants.Live, declared.follow.FollowedAll.TheVariants.Stopped as StoppedAll, declared.follow.LiveTables.LiveTables, declared.follow.Followed.TheVariants.Stopped, declared.follow.FollowArguments.FollowArguments, Printed.IsAllData, Printed.stores_lines}
+use Rattle.plm80_programs.specs.declared.follow.Followed.{Followed}
+use Rattle.plm80_programs.specs.declared.follow.Followed.TheVariants.{By, Stopped}
+use Rattle.plm80_programs.specs.declared.follow.FollowedAll.{FollowedAll}
+use Rattle.plm80_programs.specs.declared.follow.FollowedAll.TheVariants.{Alone, Live, Stopped as StoppedAll}
+use Rattle.plm80_programs.specs.declared.follow.LiveTables.{LiveTables}
+use Rattle.plm80_programs.specs.declared.follow.FollowArguments.{FollowArguments}
+use Rattle.plm80_programs.specs.{Followed.code_lines, Printed.IsAllData, Printed.stores_lines}
 
 -- the lines of a table that follows a program: what is said of its states and its stack, its stores and jumps with what all that rests on, and its ways
 abbrev pub followed_lines : (first : List ℕ) → (quiet : List Range) → Located → List Public → Table → List Handler → Stores → List ℕ
@@ -61,7 +68,7 @@ IsFollowedAllBy interrupted handlers quiet image (StoppedAll stop) = Unit {0}
 
 -- the code to which a program may come that a table follows, if it is listed
 abbrev pub listing_lines : (lists : Bool) → Located → List Public → (reached : List (Option Fetched)) → List ℕ
-listing_lines true image publics reached = labelled_text publics false (cover_lines false [] image.regions (memory_of image.chunks) reached)
+listing_lines true image publics reached = code_lines image publics reached
 listing_lines false image publics reached = []
 
 -- what is printed of a table behind its first lines, with that of its handlers
@@ -87,10 +94,21 @@ pub record PrintsFollowed (quiet : List Range) (interrupted : Bool) (handlers : 
   pub are_data : All (IsAllData image.regions) quiet
   pub says : SaysFollowed quiet interrupted handlers lists image publics answer
 
--- the same of two files, with the ranges and the addresses that the options write
-pub record AnswersFollowing (arguments : FollowArguments) (files : List FileValue) (answer : AnswerValue) : Type 0 where
+-- the same with quiet RAM of a board
+pub record PrintsWithRam (board : List Line) (interrupted : Bool) (handlers : List ℕ) (lists : Bool) (image : Located) (publics : List Public) (answer : AnswerValue) : Type 0 where
   pub quiet : List Range
+  pub ram : AreInRam board image.regions quiet
+  pub prints_followed : PrintsFollowed quiet interrupted handlers lists image publics answer
+
+-- the same with the ranges that are named, or on a board with RAM of it
+abbrev pub PrintsFollowedOn : Option (List Line) → (named : List Range) → (interrupted : Bool) → (handlers : List ℕ) → (lists : Bool) → Located → List Public → AnswerValue → Type 0
+PrintsFollowedOn None named interrupted handlers lists image publics answer = PrintsFollowed named interrupted handlers lists image publics answer
+PrintsFollowedOn (Some board) named interrupted handlers lists image publics answer = PrintsWithRam board interrupted handlers lists image publics answer
+
+-- the same of two files, with the ranges and the addresses that the options write, or those of the board
+pub record AnswersFollowing (arguments : FollowArguments) (board : Option (List Line)) (files : List FileValue) (answer : AnswerValue) : Type 0 where
+  pub named : List Range
   pub addresses : List ℕ
-  pub written : AreRangesOf (map (λ range. range.now) arguments.quiet.items) quiet
-  pub handlers : map (λ text. word_value text.now) arguments.handlers.items ≡ addresses
-  pub is : AnswersProgram (PrintsFollowed quiet arguments.interrupted addresses arguments.lists) (asks_names arguments.files) files answer
+  pub written : AreRangesOf (map (λ range. range.now) arguments.quiet.items) named
+  pub handlers : interrupts_in board arguments.handlers.items ≡ addresses
+  pub is : AnswersProgram (PrintsFollowedOn board named arguments.interrupted addresses arguments.lists) (asks_names arguments.files) files answer

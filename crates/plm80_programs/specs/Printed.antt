@@ -1,23 +1,24 @@
 -- What commands print of an image, and their exit statuses. (The texts are those of the crates below; that a refusal is printed alone,
 -- with status 1, is this project's own.)
-use Rattle.std.specs.Prelude.{◌≡◌, ◌<◌, ℕ, Bool, true, false, List, [], Option, None, Some, All, codes, map, slice_index_or}
+use Rattle.std.specs.Prelude.{◌≡◌, ◌<◌, ◌==◌, ◌&&◌, ℕ, Bool, true, false, List, [], Option, None, All, codes, length, map, slice_index_or, if◌then◌else◌}
 use Rattle.omf_model.specs.declared.symbols.Public.{Public}
 use Rattle.decode80.specs.declared.fetching.Fetched.{Fetched}
 use Rattle.image80.specs.{declared.range.Range.Range, Image.Located, Range.in_range, Regions.Areas, Regions.in_code, Regions.in_data}
 use Rattle.image80_source.specs.Source.{IsSourceOf}
 use Rattle.image80_text.specs.{Listing.listing_of, NameText.labelled_text, NameText.named_text}
-use Rattle.machine80.specs.{Ports.lists_of, World.world_at_start}
 use Rattle.verify80.specs.{Looking.code_of, Boards.SetsStack, Reached.AreReached, Vouched.Voucher}
 use Rattle.verify80_calls.specs.Nodes.{HasItsCalls, heading_of, headings}
 use Rattle.verify80_calls.specs.{declared.graph.call_graph.Node.Node, GraphText.graph_text, ListText.list_text}
 use Rattle.verify80_stores.specs.Boards.{PromiseHoldsOnBoards, PromiseHoldsOnQuietBoards, is_quiet}
 use Rattle.verify80_stores.specs.{declared.stores.Stores.Stores, Stores.AreStoresOf, StoresText.stores_text_of}
-use Rattle.loader80.specs.declared.running.Ended.{Ended}
-use Rattle.loader80_trace.specs.{declared.limits.Limits.Limits, Counts.CountsSteps, Cover.CoversReached, Cover.ListsReached, Traces.EndsSo}
+use Rattle.loader80_trace.specs.Cover.{ListsReached}
 use Rattle.plm80_console.specs.{Answer.AnswerValue, Answer.prints, Journal.FileValue, Ranges.AreRangesOf}
+use Rattle.board80.specs.declared.line.Line.{Line}
+use Rattle.plm80_boards.specs.Quiet.{IsQuietIn}
 use Rattle.plm80_names.specs.{Printed.named_report, Verdict.AnswersProgram, Verdict.AnswersVerdict, Arguments.asks_names}
+use Rattle.plm80_programs.specs.Followed.{AnswersFollowed, ListsFollowedCode, ListsFollowedSource}
 use Rattle.plm80_programs.specs.Reached.{AnswersReach, ShowsCalls, ShowsCode, ShowsSource}
-use Rattle.plm80_programs.specs.{declared.stores.StoresArguments.StoresArguments, Status.end_status, Status.stores_status}
+use Rattle.plm80_programs.specs.declared.stores.StoresArguments.{StoresArguments}
 
 -- a text that says something is printed, with status 0
 pub record PrintsText (Says : List ℕ → Type 0) (answer : AnswerValue) : Type 0 where
@@ -55,11 +56,13 @@ pub record IsCodeSource (image : Located) (publics : List Public) (text : List �
   pub source : IsSourceOf image publics table text
 
 -- the code, or a source: what the program reaches of it, or all of it, whether the verifier accepts it or not; of what walks reach of a
--- program that is refused nothing is proved
+-- program that is refused, and not followed, nothing is proved
 abbrev pub PrintsListing : (reached source : Bool) → Located → List Public → AnswerValue → Type 0
-PrintsListing true false image publics answer = AnswersReach (λ program. PrintsText (ListsCode publics program)) (ShowsCode image publics) image answer
+PrintsListing true false image publics answer =
+    AnswersFollowed (λ program. PrintsText (ListsCode publics program)) (ShowsCode image publics) (ListsFollowedCode image publics) image answer
 PrintsListing false false image publics answer = answer ≡ prints (labelled_text publics false (listing_of image)) 0
-PrintsListing true true image publics answer = AnswersReach (λ program. PrintsText (ListsSource publics program)) (ShowsSource image publics) image answer
+PrintsListing true true image publics answer =
+    AnswersFollowed (λ program. PrintsText (ListsSource publics program)) (ShowsSource image publics) (ListsFollowedSource image publics) image answer
 PrintsListing false true image publics answer = PrintsText (IsCodeSource image publics) answer
 
 -- ---- calls
@@ -80,6 +83,11 @@ abbrev pub PrintsCalls : (dot : Bool) → Located → List Public → AnswerValu
 PrintsCalls dot image publics answer = AnswersReach (λ program. PrintsText (IsCallsText dot publics program)) (ShowsCalls dot image publics) image answer
 
 -- ---- stores
+
+-- the exit status of the stores of a program: 0 if none of them, no jump and no use of SP is listed
+abbrev pub stores_status : Stores → ℕ
+stores_status stores =
+    if (length stores.open.items == 0 && length stores.open_jumps.items == 0) && stores.sets_stack then 0 else 1
 
 -- the lines of a program's stores, with the names of their addresses
 abbrev pub stores_lines : (quiet : List Range) → Located → List Public → Stores → List ℕ
@@ -108,20 +116,14 @@ pub record PrintsStores (quiet : List Range) (image : Located) (publics : List P
   pub are_data : All (IsAllData image.regions) quiet
   pub verdict : AnswersVerdict (ListsStores quiet publics) image publics answer
 
--- the same of two files, with the ranges that the options write
-pub record AnswersStores (arguments : StoresArguments) (files : List FileValue) (answer : AnswerValue) : Type 0 where
+-- the same with quiet ranges that are named, or on a board with RAM of it
+pub record PrintsStoresOn (board : Option (List Line)) (named : List Range) (image : Located) (publics : List Public) (answer : AnswerValue) : Type 0 where
   pub quiet : List Range
-  pub written : AreRangesOf (map (λ range. range.now) arguments.quiet.items) quiet
-  pub is : AnswersProgram (PrintsStores quiet) (asks_names arguments.files) files answer
+  pub is_quiet : IsQuietIn board image.regions named quiet
+  pub prints_stores : PrintsStores quiet image publics answer
 
--- ---- cover
-
--- the instructions to which the program may come, with how often its run on these inputs began each; the status is the run's
-pub record CountsRun (inputs : List (ℕ × ℕ)) (limits : Limits) (publics : List Public) (program : Voucher) (answer : AnswerValue) : Type 0 where
-  pub ended : Ended
-  pub run : EndsSo program.image.regions (Some limits.outputs) (world_at_start program.image (lists_of inputs) []) limits.steps ended
-  pub counts : List ℕ
-  pub counted : CountsSteps program.image.regions (Some limits.outputs) (world_at_start program.image (lists_of inputs) []) ended.steps counts
-  pub listed : List ℕ
-  pub covers : CoversReached program.image counts listed
-  pub answer_is : answer ≡ prints (labelled_text publics false listed) (end_status ended.end)
+-- the same of two files, with the ranges that the options write
+pub record AnswersStores (arguments : StoresArguments) (board : Option (List Line)) (files : List FileValue) (answer : AnswerValue) : Type 0 where
+  pub named : List Range
+  pub written : AreRangesOf (map (λ range. range.now) arguments.quiet.items) named
+  pub is : AnswersProgram (PrintsStoresOn board named) (asks_names arguments.files) files answer

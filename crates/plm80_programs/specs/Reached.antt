@@ -10,27 +10,37 @@ use Rattle.image80_text.specs.NameText.{labelled_text}
 use Rattle.loader80_trace.specs.Cover.{marked_lines}
 use Rattle.verify80.specs.{Looking.code_of, Vouched.Voucher}
 use Rattle.verify80_flow.specs.{declared.refusal.Refusal.Refusal, declared.refusal.Refusal.TheVariants.Memory, Faults.Holds, Refusal.refusal_address}
-use Rattle.verify80_explain.specs.{declared.reaching.Reach.Reach, declared.reaching.ReachedPoint.ReachedPoint, Reaching.AreReachedOn, Reaching.IsRefusalAmong}
+use Rattle.verify80_explain.specs.{declared.reaching.ReachedPoint.ReachedPoint, Reaching.AreReachedOn, Reaching.IsRefusalAmong}
 use Rattle.verify80_explain_text.specs.{Conditions.reach_conditions, Reaching.reach_text, ReachGraph.graph_text}
 use Rattle.verify80_follow.specs.Reaching.{AreFollowed}
 use Rattle.plm80_console.specs.{Answer.AnswerValue, Answer.prints}
 use Rattle.plm80_names.specs.{Printed.named_refusal_line, Verdict.IsAccepted}
-use Rattle.plm80_programs.specs.{declared.helpers.reached.Unproved.Unproved, Explanations.limit_line}
+use Rattle.plm80_programs.specs.declared.reached.Unproved.{Unproved}
+use Rattle.plm80_programs.specs.Explanations.{is_same_refusal, limit_line}
 
 -- a refusal is the verifier's, or that of a point that walks reach
 abbrev pub IsListed : Refusal → List ReachedPoint → Refusal → Type 0
 IsListed own points refusal = (refusal ≡ own) ⊎ IsRefusalAmong points refusal
 
--- what walks reach of an image that is refused, on the conditions that stand with it, and refusals of it
+-- what walks reach of an image that is refused, on the conditions that stand with it, and refusals of it, the verifier's own among them
 pub record IsUnproved (image : Located) (refusal : Refusal) (unproved : Unproved) : Type 0 where
   pub reached : AreReachedOn (code_of image) unproved.reach
   pub listed : All (IsListed refusal unproved.reach.points.items) unproved.refusals.items
+  pub own : list_any (is_same_refusal refusal) unproved.refusals.items ≡ true
 
--- A program that is accepted has such an answer; of another one such a text is printed of what walks reach, and the status is 1.
+-- such a text is printed of what walks reach, and the status is 1
+pub record ShowsRefusals (Shows : Unproved → (text : List ℕ) → Type 0) (image : Located) (refusal : Refusal) (answer : AnswerValue) : Type 0 where
+  pub no_memory : refusal ≢ Memory
+  pub unproved : Unproved
+  pub is_unproved : IsUnproved image refusal unproved
+  pub text : List ℕ
+  pub shows : Shows unproved text
+  pub answer_is : answer ≡ prints text 1
+
+-- A program that is accepted has such an answer; of another one that is printed.
 pub data AnswersReach (Answers : Voucher → AnswerValue → Type 0) (Shows : Unproved → (text : List ℕ) → Type 0) (image : Located) (answer : AnswerValue) : Type 0 where
   accepted : (program : Voucher) → IsAccepted image program → Answers program answer → AnswersReach Answers Shows image answer
-  refused : (refusal : Refusal) (unproved : Unproved) (text : List ℕ) → Holds (code_of image) refusal → refusal ≢ Memory → IsUnproved image refusal unproved
-      → Shows unproved text → answer ≡ prints text 1 → AnswersReach Answers Shows image answer
+  refused : (refusal : Refusal) → Holds (code_of image) refusal → ShowsRefusals Shows image refusal answer → AnswersReach Answers Shows image answer
 
 -- that nothing is proved, and how many refusals there are
 abbrev pub count_words : Unproved → List ℕ

@@ -6,7 +6,7 @@ ghost use Rattle.verify80_flow.specs.declared.refusal.Refusal.TheVariants.{Memor
 ghost use Rattle.verify80.specs.Looking.{code_of};
 ghost use Rattle.verify80_explain.specs.Conditions.{AreShownIf};
 ghost use Rattle.verify80_explain.specs.Shows.{IsShown};
-ghost use Rattle.plm80_programs.specs.Explanations.{ShowsAll, ShowsRest, conditional_lines, count_line, further_count, further_count_line, further_lines, is_of, limit_line, shown_lines};
+ghost use Rattle.plm80_programs.specs.Explanations.{ShowsAll, ShowsRest, conditional_lines, count_line, further_count, further_count_line, further_lines, is_of, is_same_refusal, limit_line, shown_lines};
 
 use crate::explain::{LIMIT, refused};
 use image80::Image;
@@ -126,11 +126,18 @@ fn is_among(shown: &[ShownRefusal], refusal: Refusal) -> bool
     shown.iter().any(|one| is_of(one, refusal))
 }
 
-/// Whether `one` has the number and the address of `refusal`.
+/// Whether `one` shows `refusal`.
 fn is_of(one: &ShownRefusal, refusal: Refusal) -> bool
     ensures { result ≡ is_of refusal one.now }
 {
-    one.refusal.code() == refusal.code() && one.refusal.address() == refusal.address()
+    is_same(refusal, one.refusal)
+}
+
+/// Whether `one` has the number and the address of `refusal`.
+pub(crate) fn is_same(refusal: Refusal, one: Refusal) -> bool
+    ensures { result ≡ is_same_refusal refusal one }
+{
+    one.code() == refusal.code() && one.address() == refusal.address()
 }
 
 /// Appends the lines of refusals that are reached on conditions, each with these and what shows it.

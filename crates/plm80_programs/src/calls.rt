@@ -1,15 +1,19 @@
 //! `plm80 calls`: the calls of a located program.
 
-ghost use Rattle.std.specs.Prelude.{IfErr, IfOk};
+ghost use Rattle.std.specs.Prelude.{◌++◌, IfErr, IfOk};
+ghost use Rattle.plm80_boards.specs.Boards.{WithBoard, board_paths};
 ghost use Rattle.plm80_console.specs.Answer.{Gives, GivesUp};
 ghost use Rattle.plm80_names.specs.{Arguments.asks_names, Arguments.program_paths, Verdict.AnswersProgram};
-ghost use Rattle.plm80_programs.specs.{Arguments.AreCallsArguments, Printed.IsCallsText, Printed.PrintsCalls, Reached.ShowsCalls};
+ghost use Rattle.plm80_programs.specs.Arguments.{AreCallsArguments};
+ghost use Rattle.plm80_programs.specs.Printed.{IsCallsText, PrintsCalls};
+ghost use Rattle.plm80_programs.specs.Reached.{ShowsCalls};
 
-use crate::helpers::printing::Printing;
-use crate::helpers::reached::{Reaching, Unproved, answer_or_reach};
+use crate::printing::Printing;
+use crate::reached::{Reaching, Unproved, answer_or_reach};
 use clap::ArgMatches;
 use image80::Image;
 use loader80::Vouched;
+use plm80_boards::{BOARD, GivenBoard, board_path};
 use plm80_console::laws::faults_follow_reading;
 use plm80_console::{Argument, Console, Kind, Reported, Syntax};
 use plm80_files::{IMAGE, REGIONS};
@@ -23,6 +27,8 @@ use verify80_explain_text::{reach_graph, reach_text};
 pub struct CallsArguments<'a> {
     files: NamedFiles<'a>,
     dot: bool,
+    /// The path of the board's text.
+    board: Option<&'a str>,
 }
 
 const AFTER_HELP: &str = "\
@@ -39,6 +45,8 @@ An image that is refused has the status 1. Its calls are those that are reached
 if what is refused were passed over: below NOT PROVED REFUSALS n stand the
 refusals, and what is taken for granted. Bounds aren't known. Refused places
 have lines of their own; in a graph they are what red edges lead to.
+
+--board says which regions lie outside a board's memory, as check does.
 
 Example: plm80 calls readings.img readings.regions
 
@@ -58,6 +66,11 @@ pub const CALLS: Syntax<'static> = Syntax {
             help: "Print a graph for Graphviz",
         },
         NAMES,
+        Argument {
+            name: BOARD,
+            kind: Kind::PathInPlaceOf(&[]),
+            help: "The board's text: say if regions lie outside its memory",
+        },
     ],
 };
 
@@ -69,6 +82,7 @@ impl<'a> CallsArguments<'a> {
         CallsArguments {
             files: NamedFiles::of(matches),
             dot: matches.get_flag("dot"),
+            board: board_path(matches),
         }
     }
 }
@@ -78,17 +92,34 @@ pub fn show_calls<C: Console>(
     console: &mut C,
     arguments: CallsArguments<'_>,
 ) -> Result<u8, Reported>
-    ensures done { let asked = arguments.entry in IfOk result (Gives (AnswersProgram (PrintsCalls asked.dot) (asks_names asked.files))
-        (program_paths asked.files) (C.journal console.old) (C.journal console.new)) }
-    ensures fault { IfErr result (λ _. GivesUp (AnswersProgram (PrintsCalls arguments.entry.dot) (asks_names arguments.entry.files)) (program_paths arguments.entry.files)
+    ensures done { let asked = arguments.entry in IfOk result (Gives (WithBoard asked.board (λ _. AnswersProgram (PrintsCalls asked.dot)
+        (asks_names asked.files))) (board_paths asked.board ++ program_paths asked.files) (C.journal console.old) (C.journal console.new)) }
+    ensures fault { let asked = arguments.entry in IfErr result (λ _. GivesUp (WithBoard asked.board (λ _. AnswersProgram (PrintsCalls asked.dot)
+        (asks_names asked.files))) (board_paths asked.board ++ program_paths asked.files) (C.journal console.old) (C.journal console.new)) }
+{
+    let board = GivenBoard::read(console, arguments.board)?;
+    show_on_board(console, arguments.files, arguments.dot, &board)
+}
+
+/// Does `calls`, and says where the regions don't lie as the board has memory, if one is given.
+fn show_on_board<C: Console>(
+    console: &mut C,
+    files: NamedFiles<'_>,
+    dot: bool,
+    board: &GivenBoard,
+) -> Result<u8, Reported>
+    ensures done { IfOk result (Gives (AnswersProgram (PrintsCalls dot) (asks_names files.entry)) (program_paths files.entry)
+        (C.journal console.old) (C.journal console.new)) }
+    ensures fault { IfErr result (λ _. GivesUp (AnswersProgram (PrintsCalls dot) (asks_names files.entry)) (program_paths files.entry)
         (C.journal console.old) (C.journal console.new)) }
 {
     faults_follow_reading();
-    let CallsArguments { files, dot } = arguments;
     let (image, names) = files.read(console)?;
+    let misplaced = board.misplaced(console.alloc(), &image.regions);
     let answer = answer_or_reach(console.alloc(), image, &names, Calls { dot });
     let given = console.give_if_made(answer);
     files.explain(console, &given);
+    misplaced.remark(console, &given);
     given
 }
 

@@ -1,8 +1,9 @@
 //! `plm80 explain`: why the verifier refuses a located program, shown by ways through its procedures.
 
-ghost use Rattle.std.specs.Prelude.{◌≡◌, ◌≢◌, [], IfErr, IfOk, OnOk};
+ghost use Rattle.std.specs.Prelude.{◌≡◌, ◌≢◌, ◌++◌, [], IfErr, IfOk, OnOk};
 ghost use Rattle.verify80_flow.specs.declared.refusal.Refusal.TheVariants.{Memory};
 ghost use Rattle.verify80_explain_text.specs.Printed.{GoesOnWithChain};
+ghost use Rattle.plm80_boards.specs.Boards.{WithBoard, board_paths};
 ghost use Rattle.plm80_console.specs.Answer.{Gives, GivesUp};
 ghost use Rattle.plm80_names.specs.Arguments.{asks_names, program_paths};
 ghost use Rattle.plm80_names.specs.{Printed.named_report, Verdict.AnswersProgram};
@@ -13,6 +14,7 @@ use crate::all_refusals::all_refused;
 use clap::ArgMatches;
 use image80::Image;
 use loader80::{Refusal, Vouched, vouch};
+use plm80_boards::{BOARD, GivenBoard, board_path};
 use plm80_console::laws::faults_follow_reading;
 use plm80_console::{Answer, Argument, Console, Kind, Reported, Syntax};
 use plm80_files::{IMAGE, REGIONS};
@@ -33,6 +35,8 @@ pub(crate) const LIMIT: usize = 2_359_296;
 pub struct ExplainArguments<'a> {
     files: NamedFiles<'a>,
     all: bool,
+    /// The path of the board's text.
+    board: Option<&'a str>,
 }
 
 const AFTER_HELP: &str = "\
@@ -58,7 +62,8 @@ CONDITIONS n counts them. Nothing is shown behind a PCHL without targets, nor
 behind bytes that are no instruction.
 
 --names prints names as check and list do: behind a call its target's, behind
-the last line of a chain the address's.
+the last line of a chain the address's. --board says which regions lie outside a
+board's memory, as check does.
 
 Example: plm80 explain readings.img readings.regions
 
@@ -78,6 +83,11 @@ pub const EXPLAIN: Syntax<'static> = Syntax {
             help: "Show every refusal of an instruction",
         },
         NAMES,
+        Argument {
+            name: BOARD,
+            kind: Kind::PathInPlaceOf(&[]),
+            help: "The board's text: say if regions lie outside its memory",
+        },
     ],
 };
 
@@ -89,6 +99,7 @@ impl<'a> ExplainArguments<'a> {
         ExplainArguments {
             files: NamedFiles::of(matches),
             all: matches.get_flag("all"),
+            board: board_path(matches),
         }
     }
 }
@@ -99,23 +110,40 @@ pub fn explain_files<C: Console>(
     console: &mut C,
     arguments: ExplainArguments<'_>,
 ) -> Result<u8, Reported>
-    ensures done { let asked = arguments.entry in IfOk result (Gives (AnswersProgram (PrintsExplanation asked.all) (asks_names asked.files))
-        (program_paths asked.files) (C.journal console.old) (C.journal console.new)) }
-    ensures fault { IfErr result (λ _. GivesUp (AnswersProgram (PrintsExplanation arguments.entry.all) (asks_names arguments.entry.files)) (program_paths arguments.entry.files)
+    ensures done { let asked = arguments.entry in IfOk result (Gives (WithBoard asked.board (λ _. AnswersProgram (PrintsExplanation asked.all)
+        (asks_names asked.files))) (board_paths asked.board ++ program_paths asked.files) (C.journal console.old) (C.journal console.new)) }
+    ensures fault { let asked = arguments.entry in IfErr result (λ _. GivesUp (WithBoard asked.board (λ _. AnswersProgram (PrintsExplanation asked.all)
+        (asks_names asked.files))) (board_paths asked.board ++ program_paths asked.files) (C.journal console.old) (C.journal console.new)) }
+{
+    let board = GivenBoard::read(console, arguments.board)?;
+    explain_on_board(console, arguments.files, arguments.all, &board)
+}
+
+/// Does `explain`, and says where the regions don't lie as the board has memory, if one is given.
+fn explain_on_board<C: Console>(
+    console: &mut C,
+    files: NamedFiles<'_>,
+    all: bool,
+    board: &GivenBoard,
+) -> Result<u8, Reported>
+    ensures done { IfOk result (Gives (AnswersProgram (PrintsExplanation all) (asks_names files.entry)) (program_paths files.entry)
+        (C.journal console.old) (C.journal console.new)) }
+    ensures fault { IfErr result (λ _. GivesUp (AnswersProgram (PrintsExplanation all) (asks_names files.entry)) (program_paths files.entry)
         (C.journal console.old) (C.journal console.new)) }
 {
     faults_follow_reading();
-    let (image, names) = arguments.files.read(console)?;
-    let answer = explained(console.alloc(), image, arguments.all, &names);
+    let (image, names) = files.read(console)?;
+    let misplaced = board.misplaced(console.alloc(), &image.regions);
+    let answer = explained(console.alloc(), image, all, &names);
     let given = console.give_if_made(answer);
-    let files = arguments.files;
     explain_given(console, &given, files.names, files.image, None);
-    if let (true, Ok(1)) = (arguments.all, &given) {
+    if let (true, Ok(1)) = (all, &given) {
         console.explain(
             "a way ends at its refusal, and more may lie behind it: docs/FIRMWARE.md shows how to see that ('An EPROM that is refused')",
         );
     }
     explain_accepted(console, &given, files.image, files.regions, GapUse::Fetched);
+    misplaced.remark(console, &given);
     given
 }
 

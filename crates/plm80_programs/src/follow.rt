@@ -1,22 +1,25 @@
 //! `plm80 follow`: a program followed by what is known of each byte of its stack.
 
-ghost use Rattle.std.specs.Prelude.{◌≡◌, IfErr, IfOk, [], codes, length, map, true};
-ghost use Rattle.plm80_console.specs.{Journal.and_reported, NumberText.word_value, Answer.Gives, Answer.GivesUp, Answer.IsAnswered, Answer.IsGivenUp};
+ghost use Rattle.std.specs.Prelude.{◌≡◌, ◌++◌, IfErr, IfOk, [], codes, length, map, true};
+ghost use Rattle.plm80_boards.specs.Boards.{WithBoard, board_paths};
+ghost use Rattle.plm80_console.specs.{Journal.and_reported, Answer.Gives, Answer.GivesUp, Answer.IsAnswered, Answer.IsGivenUp};
 ghost use Rattle.image80_text.specs.NameText.{named_text};
 ghost use Rattle.plm80_names.specs.Arguments.{program_paths};
 ghost use Rattle.verify80_follow.specs.FollowText.{bounds_lines, live_lines, ways_lines};
 ghost use Rattle.plm80_programs.specs.Arguments.{AreFollowArguments};
 ghost use Rattle.plm80_programs.specs.Printed.{stores_lines};
-ghost use Rattle.plm80_programs.specs.Following.{AnswersFollowing, IsFollowedAllBy, IsFollowedBy, KeepsLivePromise, PrintsFollowed, PrintsTable, SaysFollowed, followed_lines, listing_lines, reason_words, stopped_line};
+ghost use Rattle.plm80_programs.specs.Following.{AnswersFollowing, IsFollowedAllBy, IsFollowedBy, KeepsLivePromise, PrintsFollowed, PrintsFollowedOn, PrintsTable, PrintsWithRam, SaysFollowed, followed_lines, listing_lines, reason_words, stopped_line};
 
 use crate::stores::{require_data, stores_lines};
+use board80::Board;
 use clap::ArgMatches;
 use decode80::Fetched;
 use image80::{Image, Range};
 use loader80_trace::list_instructions;
+use plm80_boards::{BOARD, GivenBoard, board_path, quiet_outside};
 use plm80_console::laws::faults_follow_reading;
 use plm80_console::{
-    Answer, Argument, Console, Kind, OptionText, Reported, Syntax, argument_values, ranges_of,
+    Answer, Argument, Console, Kind, Reported, Syntax, argument_values, ranges_of,
 };
 use plm80_files::{IMAGE, REGIONS};
 use plm80_names::{NAMES, NamedFiles, Names, explain_given};
@@ -73,6 +76,10 @@ says how many bytes an interrupt takes at most, with the 2 of its return address
 STACK counts the most of them. WRITES 2000 0002 is data that handlers write, its
 first address and length: no other, so that the rest may be --quiet-ram.
 
+--board takes both from a board's text (docs/FORMATS.md, 'Boards'): its interrupts
+are the handlers, and quiet is its RAM in DATA that they don't write, unless the
+program can't be followed so.
+
 The exit status is 0 if the program is followed. Else it is 1, and one line says
 where the search stopped and why, as in STOPPED 3009 RETURN UNKNOWN: that is
 advice. It doesn't say that the program goes wrong there. --why says more of it,
@@ -113,6 +120,11 @@ pub const FOLLOW: Syntax<'static> = Syntax {
             kind: Kind::PathsAt("ADDRESS"),
             help: "Interrupts come to this handler: follow it, too, and count its stack",
         },
+        Argument {
+            name: BOARD,
+            kind: Kind::PathInPlaceOf(&["quiet-ram", "handler"]),
+            help: "The board's text, for its RAM in data and its interrupts",
+        },
     ],
 };
 
@@ -128,6 +140,8 @@ pub struct FollowArguments<'a> {
     interrupted: bool,
     /// The addresses of handlers, in hexadecimal.
     handlers: Vec<&'a str>,
+    /// The path of the board's text.
+    board: Option<&'a str>,
 }
 
 impl<'a> FollowArguments<'a> {
@@ -141,6 +155,7 @@ impl<'a> FollowArguments<'a> {
             lists: matches.get_flag("list"),
             interrupted: matches.get_flag("interrupted"),
             handlers: argument_values(alloc, matches, "handler")?,
+            board: board_path(matches),
         })
     }
 }
@@ -150,23 +165,38 @@ pub fn follow_files<C: Console>(
     console: &mut C,
     arguments: &FollowArguments<'_>,
 ) -> Result<u8, Reported>
-    ensures done { let asked = arguments.now in IfOk result (Gives (AnswersFollowing asked) (program_paths asked.files)
+    ensures done { let asked = arguments.now in IfOk result (Gives (WithBoard asked.board (AnswersFollowing asked))
+        (board_paths asked.board ++ program_paths asked.files) (C.journal console.old) (C.journal console.new)) }
+    ensures fault { let asked = arguments.now in IfErr result (λ _. GivesUp (WithBoard asked.board (AnswersFollowing asked))
+        (board_paths asked.board ++ program_paths asked.files) (C.journal console.old) (C.journal console.new)) }
+{
+    let board = GivenBoard::read(console, arguments.board)?;
+    follow_on_board(console, arguments, &board)
+}
+
+/// Does `follow` on the board, if one is given.
+fn follow_on_board<C: Console>(
+    console: &mut C,
+    arguments: &FollowArguments<'_>,
+    board: &GivenBoard,
+) -> Result<u8, Reported>
+    ensures done { let asked = arguments.now in IfOk result (Gives (AnswersFollowing asked board.now.board) (program_paths asked.files)
         (C.journal console.old) (C.journal console.new)) }
-    ensures fault { IfErr result (λ _. GivesUp (AnswersFollowing arguments.now) (program_paths arguments.now.files)
+    ensures fault { let asked = arguments.now in IfErr result (λ _. GivesUp (AnswersFollowing asked board.now.board) (program_paths asked.files)
         (C.journal console.old) (C.journal console.new)) }
 {
     faults_follow_reading();
-    let quiet = ranges_of(console, "quiet-ram", &arguments.quiet)?;
-    let handlers = words_of(console, "handler", &arguments.handlers)?;
+    let named = ranges_of(console, "quiet-ram", &arguments.quiet)?;
+    let handlers = board.interrupts(console, "handler", &arguments.handlers)?;
     let files = arguments.files;
     let (image, names) = files.read(console)?;
     let asked = Asked {
-        quiet: &quiet,
+        quiet: &named,
         lists: arguments.lists,
         interrupted: arguments.interrupted,
         handlers: &handlers,
     };
-    let given = print_followed(console, &image, &names, &arguments.quiet, asked);
+    let given = print_on_board(console, &image, &names, &arguments.quiet, board, asked);
     explain_given(console, &given, files.names, files.image, None);
     given
 }
@@ -184,24 +214,95 @@ struct Asked<'a> {
     handlers: &'a [u16],
 }
 
-/// The words that an option's values write, of one to four hexadecimal digits each. `BadNumber` is reported of the first that writes none.
-pub(crate) fn words_of<C: Console>(
-    console: &mut C,
-    name: &str,
-    values: &[&str],
-) -> Result<Vec<u16>, Reported>
-    ensures words { IfOk result (λ words. words.items ≡ map (λ value. word_value value.now) values.now) }
-    ensures unchanged { IfOk result (λ _. C.journal console.new ≡ C.journal console.old) }
-    ensures fault { IfErr result (λ _. C.journal console.new ≡ and_reported (C.journal console.old)) }
-{
-    let mut words = Vec::new(console.alloc());
-    for value in values {
-        let word = OptionText::new(name, value).word(console)?;
-        if words.push(word).is_err() {
-            return Err(console.report_memory());
-        }
+impl<'a> Asked<'a> {
+    /// The same with other quiet ranges.
+    fn with_quiet(self, quiet: &'a [Range]) -> Asked<'a>
+        ensures quiet { result.quiet ≡ quiet.entry }
+        ensures lists { result.lists ≡ self.entry.lists }
+        ensures interrupted { result.interrupted ≡ self.entry.interrupted }
+        ensures handlers { result.handlers ≡ self.entry.handlers }
+    {
+        Asked { quiet, ..self }
     }
-    Ok(words)
+}
+
+/// Prints how the program of `image` is followed, or where that stops, and returns the exit status. Quiet are the ranges that are asked for,
+/// which `texts` write, or RAM of the board.
+fn print_on_board<C: Console>(
+    console: &mut C,
+    image: &Image,
+    names: &Names,
+    texts: &[&str],
+    board: &GivenBoard,
+    asked: Asked<'_>,
+) -> Result<u8, Reported>
+    ensures done { let way = asked.entry in IfOk result (IsAnswered (PrintsFollowedOn board.now.board way.quiet.now way.interrupted way.handlers.now way.lists
+        image.now names.now) (C.journal console.old) (C.journal console.new)) }
+    ensures fault { let way = asked.entry in IfErr result (λ _. IsGivenUp (PrintsFollowedOn board.now.board way.quiet.now way.interrupted way.handlers.now
+        way.lists image.now names.now) (C.journal console.old) (C.journal console.new)) }
+{
+    match &board.board {
+        None => print_followed(console, image, names, texts, asked),
+        Some(given) => print_with_ram(console, image, names, given, asked),
+    }
+}
+
+/// Prints how the program of `image` is followed with quiet RAM of the board, or where that stops, and returns the exit status.
+fn print_with_ram<C: Console>(
+    console: &mut C,
+    image: &Image,
+    names: &Names,
+    board: &Board,
+    asked: Asked<'_>,
+) -> Result<u8, Reported>
+    ensures done { let way = asked.entry in IfOk result (IsAnswered (PrintsWithRam board.now way.interrupted way.handlers.now way.lists image.now names.now)
+        (C.journal console.old) (C.journal console.new)) }
+    ensures fault { let way = asked.entry in IfErr result (λ _. IsGivenUp (PrintsWithRam board.now way.interrupted way.handlers.now way.lists image.now
+        names.now) (C.journal console.old) (C.journal console.new)) }
+{
+    match answer_with_ram(console.alloc(), image, names, board, asked) {
+        Ok(FollowedAnswer { answer, stop }) => {
+            let status = console.give(answer)?;
+            explain_stop(console, &stop);
+            Ok(status)
+        }
+        Err(AllocError) => Err(console.report_memory()),
+    }
+}
+
+/// What `follow` answers with the board's RAM in data that no handler writes, or without quiet RAM if the program can't be followed so.
+fn answer_with_ram(
+    alloc: Global,
+    image: &Image,
+    names: &Names,
+    board: &Board,
+    asked: Asked<'_>,
+) -> Result<FollowedAnswer, AllocError>
+    ensures { let way = asked.entry in IfOk result (λ followed. PrintsWithRam board.now way.interrupted way.handlers.now way.lists image.now names.now
+        followed.answer) }
+{
+    let writes = handler_writes(alloc, image, asked)?;
+    let quiet = quiet_outside(alloc, board, &image.regions, &writes)?;
+    let followed = answer_of_following(alloc, image, names, asked.with_quiet(&quiet))?;
+    if followed.stop.is_none() {
+        return Ok(followed);
+    }
+    answer_of_following(alloc, image, names, asked.with_quiet(&[]))
+}
+
+/// The data that handlers write, if the program can be followed with them without quiet RAM.
+fn handler_writes(
+    alloc: Global,
+    image: &Image,
+    asked: Asked<'_>,
+) -> Result<Vec<Range>, AllocError> {
+    if asked.handlers.is_empty() {
+        return Ok(Vec::new(alloc));
+    }
+    match find_all(alloc, image, asked.with_quiet(&[]))? {
+        FollowedAll::Live(LiveTables { writes, .. }) => Ok(writes),
+        FollowedAll::Alone(_, _) | FollowedAll::Stopped(_) => Ok(Vec::new(alloc)),
+    }
 }
 
 /// Prints how the program of `image` is followed, or where that stops, and returns the exit status. The quiet ranges are those that `texts`
@@ -365,7 +466,7 @@ fn listing_of(
 
 /// What comes of following a program.
 #[derive(Drop)]
-enum Followed {
+pub(crate) enum Followed {
     /// A table follows it; and whether SP must be at the stack's top when it begins.
     By(Table, bool),
     Stopped(Stop),
@@ -557,7 +658,7 @@ fn stop_at(alloc: Global, image: &Image, reason: StopReason) -> Stop {
 
 /// Searches for a table that follows the program of `image` from its start, and from the places at which handlers begin it anew: with SP anywhere at
 /// its start, or else with SP at the stack's top.
-fn find_table(
+pub(crate) fn find_table(
     alloc: Global,
     image: &Image,
     quiet: &[Range],

@@ -3,16 +3,18 @@
 ghost use Rattle.std.specs.Prelude.{◌≡◌, [], true, IfErr, IfOk};
 ghost use Rattle.plm80_console.specs.Answer.{Gives, GivesUp};
 ghost use Rattle.plm80_names.specs.{Arguments.asks_names, Arguments.program_paths, Verdict.AnswersProgram};
-ghost use Rattle.plm80_programs.specs.{Arguments.AreListArguments, Printed.ListsCode, Printed.ListsSource, Printed.PrintsListing, Reached.ShowsCode, Reached.ShowsSource};
+ghost use Rattle.plm80_programs.specs.{Arguments.AreListArguments, Followed.ListsFollowedCode, Followed.ListsFollowedSource, Printed.ListsCode};
+ghost use Rattle.plm80_programs.specs.{Printed.ListsSource, Printed.PrintsListing, Reached.ShowsCode, Reached.ShowsSource};
 
-use crate::helpers::printing::Printing;
-use crate::helpers::reached::{Reaching, Unproved, answer_or_reach};
+use crate::followed::{FollowedCode, Following, answer_or_follow, append_followed};
+use crate::printing::Printing;
+use crate::reached::{Reaching, Unproved};
 use clap::ArgMatches;
 use image80::Image;
 use image80_source::{code_in_sequence, source_of};
 use image80_text::listing;
 use loader80::Vouched;
-use loader80_trace::{list_marked, list_reached};
+use loader80_trace::{list_instructions, list_marked, list_reached};
 use plm80_console::laws::faults_follow_reading;
 use plm80_console::{Answer, Argument, Console, Kind, Reported, Syntax};
 use plm80_files::{IMAGE, REGIONS};
@@ -36,9 +38,11 @@ or whose instruction leaves the range, has a line of its own with the text ??.
 With --reached the image is verified first, as by check. Then each instruction
 that the program may reach has a line, and the rest of CODE is data, eight bytes
 a line, so a table doesn't garble the code after it. Of an image that is refused
-it is the code that is reached if what is refused were passed over: below NOT
-PROVED REFUSALS n stand the refusals, and what is taken for granted; a refused
-instruction has a line REFUSED AT before it. The exit status is 1.
+but that follow takes it is the code that is followed, below FOLLOWED n STATES.
+Of any other one it is the code that is reached if what is refused were passed
+over: below NOT PROVED REFUSALS n stand the refusals, and what is taken for
+granted; a refused instruction has a line REFUSED AT before it, and the exit
+status is 1.
 
 --asm prints a source for Intel's ASM80: assembled, it gives the image's bytes
 at their addresses. CODE is instructions, as it is listed without --asm; the
@@ -123,7 +127,7 @@ fn listed(
         return sourced(alloc, image, reached, names);
     }
     if reached {
-        return answer_or_reach(alloc, image, names, ReachedCode);
+        return answer_or_follow(alloc, image, names, ReachedCode);
     }
     let text = listing(alloc, &image)?;
     let text = names.label(alloc, false, text)?;
@@ -140,7 +144,7 @@ fn sourced(
     ensures { IfOk result (PrintsListing reached true image names.now) }
 {
     if reached {
-        return answer_or_reach(alloc, image, names, ReachedSource);
+        return answer_or_follow(alloc, image, names, ReachedSource);
     }
     let table = code_in_sequence(alloc, &image)?;
     let text = source_of(alloc, &image, &table, names.publics())?;
@@ -214,6 +218,44 @@ impl Reaching for ReachedCode {
         let listed = list_marked(alloc, image, &table, &marks)?;
         let listed = names.label(alloc, false, listed)?;
         let mut text = unproved.head(alloc, image, names)?;
+        text.extend_from_slice(&listed)?;
+        Ok(text)
+    }
+}
+
+impl Following for ReachedSource {
+    ghost lists = { λ _. ListsFollowedSource };
+
+    fn followed_text(
+        &self,
+        alloc: Global,
+        image: &Image,
+        names: &Names,
+        code: &FollowedCode,
+    ) -> Result<Vec<u8>, AllocError> {
+        let source = source_of(alloc, image, &code.reached, names.publics())?;
+        let mut text = Vec::new(alloc);
+        text.extend_from_slice(b"; ".as_slice())?;
+        append_followed(alloc, &mut text, code)?;
+        text.extend_from_slice(&source)?;
+        Ok(text)
+    }
+}
+
+impl Following for ReachedCode {
+    ghost lists = { λ _. ListsFollowedCode };
+
+    fn followed_text(
+        &self,
+        alloc: Global,
+        image: &Image,
+        names: &Names,
+        code: &FollowedCode,
+    ) -> Result<Vec<u8>, AllocError> {
+        let listed = list_instructions(alloc, image, &code.reached)?;
+        let listed = names.label(alloc, false, listed)?;
+        let mut text = Vec::new(alloc);
+        append_followed(alloc, &mut text, code)?;
         text.extend_from_slice(&listed)?;
         Ok(text)
     }

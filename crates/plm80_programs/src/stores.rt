@@ -1,15 +1,18 @@
 //! `plm80 stores`: the stores of a program that may leave its data, and its jumps by PCHL.
 
-ghost use Rattle.std.specs.Prelude.{◌≡◌, false, All, IfErr, IfNone, IfOk, IfSome, OnOk};
+ghost use Rattle.std.specs.Prelude.{◌≡◌, ◌++◌, false, All, IfErr, IfNone, IfOk, IfSome, OnOk};
 ghost use Rattle.image80.specs.Regions.{in_data};
 ghost use Rattle.plm80_console.specs.{Answer.Gives, Answer.GivesUp, Answer.IsAnswered, Answer.IsGivenUp, Answer.prints, Journal.and_reported};
 ghost use Rattle.plm80_names.specs.{Arguments.program_paths, Verdict.AnswersVerdict};
-ghost use Rattle.plm80_programs.specs.Printed.{AnswersStores, IsAllData, ListsStores, PrintsStores, stores_lines};
-ghost use Rattle.plm80_programs.specs.{Arguments.AreStoresArguments, Status.stores_status};
+ghost use Rattle.plm80_boards.specs.Boards.{WithBoard, board_paths};
+ghost use Rattle.plm80_programs.specs.Printed.{AnswersStores, IsAllData, ListsStores, PrintsStores, PrintsStoresOn, stores_lines};
+ghost use Rattle.plm80_programs.specs.Arguments.{AreStoresArguments};
+ghost use Rattle.plm80_programs.specs.Printed.{stores_status};
 
 use clap::ArgMatches;
 use image80::{Image, Range, Regions};
 use loader80::Vouched;
+use plm80_boards::{BOARD, GivenBoard, board_path};
 use plm80_console::laws::faults_follow_reading;
 use plm80_console::{
     Answer, Argument, Console, Kind, Reported, Syntax, argument_values, ranges_of,
@@ -35,7 +38,8 @@ Devices may write to data at any time, so what a program keeps there isn't
 believed. --quiet-ram names RAM that only the program writes, at these addresses
 alone: a byte that it stores there is remembered. All of them have to be DATA;
 each range has a line QUIET. FIRST:LENGTH is as suggest takes it, and the option
-may be given more than once.
+may be given more than once. --board takes the RAM of a board's text that is DATA
+(docs/FORMATS.md, 'Boards'); none if the board has interrupts.
 
 The exit status is 0 if there is no line STORE, JUMP or SP NOT SET, 1 if there is
 one, or if the image is refused: then the refusal is printed alone, as by check.
@@ -60,6 +64,11 @@ pub const STORES: Syntax<'static> = Syntax {
             kind: Kind::PathsAt("FIRST:LENGTH"),
             help: "RAM in data that only the program writes, at these addresses alone",
         },
+        Argument {
+            name: BOARD,
+            kind: Kind::PathInPlaceOf(&[QUIET]),
+            help: "The board's text, for its RAM in data",
+        },
     ],
 };
 
@@ -72,6 +81,8 @@ pub struct StoresArguments<'a> {
     files: NamedFiles<'a>,
     /// Ranges that only the program writes, each as `ffff:llll`: the first address and the length in hexadecimal.
     quiet: Vec<&'a str>,
+    /// The path of the board's text.
+    board: Option<&'a str>,
 }
 
 impl<'a> StoresArguments<'a> {
@@ -82,6 +93,7 @@ impl<'a> StoresArguments<'a> {
         Ok(StoresArguments {
             files: NamedFiles::of(matches),
             quiet: argument_values(alloc, matches, "quiet-ram")?,
+            board: board_path(matches),
         })
     }
 }
@@ -91,19 +103,53 @@ pub fn list_stores<C: Console>(
     console: &mut C,
     arguments: &StoresArguments<'_>,
 ) -> Result<u8, Reported>
-    ensures done { let asked = arguments.now in IfOk result (Gives (AnswersStores asked) (program_paths asked.files)
+    ensures done { let asked = arguments.now in IfOk result (Gives (WithBoard asked.board (AnswersStores asked))
+        (board_paths asked.board ++ program_paths asked.files) (C.journal console.old) (C.journal console.new)) }
+    ensures fault { let asked = arguments.now in IfErr result (λ _. GivesUp (WithBoard asked.board (AnswersStores asked))
+        (board_paths asked.board ++ program_paths asked.files) (C.journal console.old) (C.journal console.new)) }
+{
+    let board = GivenBoard::read(console, arguments.board)?;
+    list_on_board(console, arguments, &board)
+}
+
+/// Does `stores` on the board, if one is given.
+fn list_on_board<C: Console>(
+    console: &mut C,
+    arguments: &StoresArguments<'_>,
+    board: &GivenBoard,
+) -> Result<u8, Reported>
+    ensures done { let asked = arguments.now in IfOk result (Gives (AnswersStores asked board.now.board) (program_paths asked.files)
         (C.journal console.old) (C.journal console.new)) }
-    ensures fault { IfErr result (λ _. GivesUp (AnswersStores arguments.now) (program_paths arguments.now.files)
+    ensures fault { let asked = arguments.now in IfErr result (λ _. GivesUp (AnswersStores asked board.now.board) (program_paths asked.files)
         (C.journal console.old) (C.journal console.new)) }
 {
     faults_follow_reading();
-    let quiet = ranges_of(console, QUIET, &arguments.quiet)?;
+    let named = ranges_of(console, QUIET, &arguments.quiet)?;
     let files = arguments.files;
     let (image, names) = files.read(console)?;
-    let given = print_stores(console, image, &names, &arguments.quiet, &quiet);
+    let given = print_on_board(console, image, &names, &arguments.quiet, board, named);
     files.explain(console, &given);
     explain_accepted(console, &given, files.image, files.regions, GapUse::Read);
     given
+}
+
+/// Prints what is known of the stores and jumps of `image`, or its refusal, and returns the exit status. Quiet are the ranges `named`, which
+/// `texts` write, or RAM of the board.
+fn print_on_board<C: Console>(
+    console: &mut C,
+    image: Image,
+    names: &Names,
+    texts: &[&str],
+    board: &GivenBoard,
+    named: Vec<Range>,
+) -> Result<u8, Reported>
+    ensures done { IfOk result (IsAnswered (PrintsStoresOn board.now.board named.items image names.now) (C.journal console.old) (C.journal console.new)) }
+    ensures fault { IfErr result (λ _. IsGivenUp (PrintsStoresOn board.now.board named.items image names.now) (C.journal console.old) (C.journal console.new)) }
+{
+    match board.quiet(console.alloc(), &image.regions, named) {
+        Ok(quiet) => print_stores(console, image, names, texts, &quiet),
+        Err(AllocError) => Err(console.report_memory()),
+    }
 }
 
 /// Prints what is known of the stores and jumps of `image`, or its refusal, and returns the exit status. `quiet` are the ranges that

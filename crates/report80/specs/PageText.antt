@@ -49,6 +49,10 @@ calls_text image publics nodes = part_text (codes "Calls") (drawing_text image p
 abbrev pub others_text : List Public → (stores : List ℕ) → List ℕ
 others_text publics stores = part_text (codes "Stores and jumps") stores ++ part_text (codes "Names") (names_text publics)
 
+-- behind that the page of an image that is refused has the calls that are reached, and its names
+abbrev pub refused_text : List Public → (calls : List ℕ) → List ℕ
+refused_text publics calls = part_text (codes "Calls") calls ++ part_text (codes "Names") (names_text publics)
+
 -- behind that the page of a program that is accepted has its procedures, its calls, its stores and its names
 abbrev pub program_text : Located → List Public → List Node → (stores : List ℕ) → List ℕ
 program_text image publics nodes stores =

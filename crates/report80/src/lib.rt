@@ -1,12 +1,13 @@
 //! The page of an image: what is known of it, on one page of HTML.
 //!
-//! Proved: what the page shows, in order: the verdict, the memory, the sums, the procedures, their calls, the stores and the names.
+//! Proved: what the page shows, in order: the verdict, the memory and the sums; of a program that is accepted also the procedures, their
+//! calls, the stores and the names, of another one the calls that are reached and the names.
 //!
 //! | Item | What it is |
 //! |---|---|
 //! | [`program_page`] | the page of a program that the verifier accepts |
-//! | [`image_page`] | the page of an image that it refuses |
-//! | [`Findings`] | what is known of a program |
+//! | [`refused_page`] | the page of an image that it refuses |
+//! | [`Findings`], [`RefusedFindings`] | what is known of a program, or of such an image |
 #![tactic(auto)]
 
 mod chain;
@@ -18,4 +19,4 @@ mod page;
 mod part;
 mod stack;
 
-pub use page::{Findings, image_page, program_page};
+pub use page::{Findings, RefusedFindings, program_page, refused_page};

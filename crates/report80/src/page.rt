@@ -4,7 +4,7 @@ ghost use Rattle.std.specs.Prelude.{◌≡◌, ◌++◌, IfOk, OnOk, codes};
 ghost use Rattle.image80.specs.RegionsText.{regions_text};
 ghost use Rattle.page80.specs.Reading.{shown_in};
 ghost use Rattle.report80.specs.MemoryText.{map_text};
-ghost use Rattle.report80.specs.PageText.{calls_text, image_text, others_text, part_text, program_text, stack_text};
+ghost use Rattle.report80.specs.PageText.{calls_text, image_text, others_text, part_text, program_text, refused_text, stack_text};
 
 use crate::drawing::append_drawing;
 use crate::memory::{append_map, append_sums};
@@ -47,15 +47,45 @@ pub fn program_page(
     page.into_bytes()
 }
 
-/// The page of an image that the verifier refuses; the verdict is the line of the refusal.
+/// What is known of an image that the verifier refuses.
+#[derive(Clone, Copy)]
+pub struct RefusedFindings<'a> {
+    /// The refusals, and on which conditions they hold, as lines.
+    pub verdict: &'a [u8],
+    /// The calls that are reached, as lines.
+    pub calls: &'a [u8],
+    /// The names of addresses.
+    pub publics: &'a PublicTable,
+}
+
+/// The page of an image that the verifier refuses.
 ///
 /// # Errors
 /// `AllocError` if memory runs out.
-pub fn image_page(alloc: Global, image: &Image, verdict: &[u8]) -> Result<Vec<u8>, AllocError>
-    ensures { IfOk result (λ html. shown_in html.items ≡ image_text image.now verdict.now) }
+pub fn refused_page(
+    alloc: Global,
+    image: &Image,
+    findings: RefusedFindings<'_>,
+) -> Result<Vec<u8>, AllocError>
+    ensures { let known = findings.entry in IfOk result (λ html. shown_in html.items
+        ≡ image_text image.now known.verdict.now ++ refused_text known.publics.now known.calls.now) }
 {
-    let page = begun_page(alloc, image, verdict)?;
+    let mut page = begun_page(alloc, image, findings.verdict)?;
+    append_reached(alloc, &mut page, findings.calls, findings.publics)?;
     page.into_bytes()
+}
+
+/// Appends the calls that are reached of an image that the verifier refuses, and the names.
+fn append_reached(
+    alloc: Global,
+    page: &mut Page,
+    calls: &[u8],
+    publics: &PublicTable,
+) -> Result<(), AllocError>
+    ensures { OnOk result (page.new ≡ page.old ++ refused_text publics.now calls.now) }
+{
+    append_part(page, b"Calls".as_slice(), calls)?;
+    append_names(alloc, page, publics)
 }
 
 /// The page with what every image has.

@@ -13,8 +13,10 @@ use Rattle.rom80_find.specs.declared.lines.finding.Finding.{Finding}
 use Rattle.rom80_find.specs.declared.lines.finding.Finding.TheVariants.{Short, Missing, There}
 use Rattle.rom80_find.specs.Lies.{AreModulePlaces}
 use Rattle.rom80_find.specs.Lines.{missing_line, short_line}
-use Rattle.rom80_find.specs.Found.{IsFound, short, missing, there, IsPlacesText, PrintsModules, is_short, is_missing, has_place}
+use Rattle.rom80_find.specs.Found.{IsFound, short, missing, there, PrintsModules, is_short, is_missing, has_place}
 use Rattle.rom80_find.specs.Prints.{FindsModule, PrintsFound, PrintsModule, PrintsPlaces}
+use Rattle.rom80_find.specs.declared.places.Places.{Places}
+use Rattle.rom80_find.specs.Listed.{Lists, Shows}
 use Rattle.rom80_find.proofs.PlaceTextLemmas.{zip_more}
 
 -- ---- one module
@@ -35,23 +37,24 @@ pub finds_short : (dump : DumpValue) (m p : ModuleValue) (before : List ℕ) →
 finds_short dump m p before same is_short = subst (λ (q : ModuleValue). FindsModule dump q Short before before) same
     (record { text = short_line p.name; is = short is_short; after_is = sym (append-nil before) })
 
-pub finds_missing : (dump : DumpValue) (m p : ModuleValue) (places before : List ℕ) → p ≡ m → is_short p ≡ false
-    → AreModulePlaces dump p places → length places ≡ 0 → FindsModule dump m Missing before before
-finds_missing dump m p places before same long are none = subst (λ (q : ModuleValue). FindsModule dump q Missing before before) same
+pub finds_missing : (dump : DumpValue) (m p : ModuleValue) (places : Places) (before : List ℕ) → p ≡ m → is_short p ≡ false
+    → Lists (AreModulePlaces dump p) places → places.count ≡ 0 → FindsModule dump m Missing before before
+finds_missing dump m p places before same long h none = subst (λ (q : ModuleValue). FindsModule dump q Missing before before) same
     (record {
       text = missing_line p.name;
-      is = missing long (subst (λ (l : List ℕ). AreModulePlaces dump p l) (sym (no_places places none)) are);
+      is = missing long (subst (λ (l : List ℕ). AreModulePlaces dump p l) (sym (no_places h.all (sym h.shows.count_is ∙ none))) h.are);
       after_is = sym (append-nil before);
     })
 
-pub finds_there : (dump : DumpValue) (m p : ModuleValue) (places shown before after : List ℕ) → p ≡ m → is_short p ≡ false
-    → AreModulePlaces dump p places → (length places ≡ 0 → ⊥) → shown ≡ places → PrintsPlaces dump p shown before after
-    → FindsModule dump m There before after
-finds_there dump m p places shown before after same long are some is printed =
+pub finds_there : (dump : DumpValue) (m p : ModuleValue) (places : Places) (before after : List ℕ) → p ≡ m → is_short p ≡ false
+    → Lists (AreModulePlaces dump p) places → (places.count ≡ 0 → ⊥)
+    → ((all : List ℕ) → Shows places all → PrintsPlaces dump p all before after) → FindsModule dump m There before after
+finds_there dump m p places before after same long h some prints =
+    let printed = prints h.all h.shows in
     subst (λ (q : ModuleValue). FindsModule dump q There before after) same
     (record {
       text = printed.text;
-      is = there places printed.text long are (some_places places some) (subst (λ (l : List ℕ). IsPlacesText dump p l printed.text) is printed.is);
+      is = there h.all printed.text long h.are (some_places h.all (λ e. some (h.shows.count_is ∙ e))) printed.is;
       after_is = printed.after_is;
     })
 

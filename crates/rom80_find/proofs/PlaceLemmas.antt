@@ -12,6 +12,8 @@ use Rattle.std.proofs.lemmas.List.Quantifiers.{all_pairs_push}
 use Rattle.rom80_find.specs.Dump.{DumpValue}
 use Rattle.rom80_pattern.specs.declared.code_byte.CodeByte.{CodeByte}
 use Rattle.rom80_find.specs.Places.{LiesAt, place_if, ArePlaces, is_listed}
+use Rattle.rom80_find.specs.declared.places.Places.{Places}
+use Rattle.rom80_find.specs.Listed.{Lists, Shows}
 use Rattle.rom80_pattern.specs.CodeBytes.{is_plain}
 use Rattle.rom80_find.specs.Blocks.{AreFitted, IsFitted}
 use Rattle.rom80_find.specs.Fixups.{AreFixupsOf, are_there}
@@ -94,12 +96,28 @@ module _ (dump : DumpValue) (code fixups : List CodeByte) (at : ℕ) (sorted : A
         away false e l = sieved_away e l
 
     -- by a mark
-    pub next_place : (mark : ℕ) (new : List ℕ) → (here ≡ true → IsFitted dump fixups at 0 mark)
+    next_place : (mark : ℕ) (new : List ℕ) → (here ≡ true → IsFitted dump fixups at 0 mark)
         → new ≡ places ++ place_if (here && mark == 0) at → ArePlaces dump code (at + 1) new
     next_place mark new fitted is = next (here && mark == 0) new
         (λ e. (and_parts here (mark == 0) e).0)
         (λ e. let parts = and_parts here (mark == 0) e in (fitted parts.0).yes (eqb-true mark 0 parts.1))
         (λ e on l. true≢false (sym (and_from here (mark == 0) on (eq-eqb mark 0 ((fitted on).no refl l))) ∙ e)) is
+
+-- what follows of each list follows of the one that is listed
+pub lists_as : (P Q : List ℕ → Type 0) (places : Places) → ((all : List ℕ) → P all → Q all) → Lists P places → Lists Q places
+lists_as P Q places so h = record { all = h.all; are = so h.all h.are; shows = h.shows }
+
+-- so of places of which the first are kept
+pub next_listed : (dump : DumpValue) (code fixups : List CodeByte) (at : ℕ) → AreFixupsOf code fixups → (here : Bool)
+    → here ≡ list_all (passes dump at) code → (old new : Places) → Lists (ArePlaces dump code at) old → (mark : ℕ)
+    → (here ≡ true → IsFitted dump fixups at 0 mark) → (lies : Bool) → lies ≡ (here && mark == 0)
+    → ((all : List ℕ) → Shows old all → Shows new (all ++ place_if lies at)) → Lists (ArePlaces dump code (at + 1)) new
+next_listed dump code fixups at sorted here sieved old new h mark fitted lies is added = record {
+  all = h.all ++ place_if lies at;
+  are = next_place dump code fixups at sorted here sieved h.all h.are mark (h.all ++ place_if lies at) fitted
+      (ap (λ (t : Bool). h.all ++ place_if t at) is);
+  shows = added h.all h.shows;
+}
 
 -- a word of which no address is left
 pub none_in_word : (dump : DumpValue) (code fixups : List CodeByte) (first : ℕ) (wrong places : List ℕ)

@@ -9,7 +9,10 @@ use Rattle.rom80_find.specs.Dump.{DumpValue}
 use Rattle.rom80_find.specs.Places.{is_listed}
 use Rattle.rom80_find.specs.Lies.{HasModule, AreModulePlaces}
 use Rattle.rom80_find.specs.Found.{IsPlaceText}
-use Rattle.rom80_find.specs.Prints.{PrintsPlace, PrintsEach}
+use Rattle.rom80_find.specs.Lines.{more_line}
+use Rattle.rom80_find.specs.declared.places.Places.{Places}
+use Rattle.rom80_find.specs.Listed.{Lists, Shows}
+use Rattle.rom80_find.specs.Prints.{PrintsPlace, PrintsEach, PrintsPlaces}
 
 concat_more : (ls : List (List ℕ)) (l : List ℕ) → concat (ls ++ l ∷ []) ≡ concat ls ++ l
 concat_more [] l = append-nil l
@@ -51,10 +54,26 @@ first_ones P zero (p ∷ ps) h = tt
 first_ones P (suc n) [] h = tt
 first_ones P (suc n) (p ∷ ps) h = (h.0, first_ones P n ps h.1)
 
-pub first_places : (dump : DumpValue) (m : ModuleValue) (places : List ℕ) → AreModulePlaces dump m places
-    → AllByRecursion (HasModule dump m) (take 16 places)
+pub first_places : (dump : DumpValue) (m : ModuleValue) (places : Places) → Lists (AreModulePlaces dump m) places
+    → AllByRecursion (HasModule dump m) places.first.items
 first_places dump m places h =
-    first_ones (HasModule dump m) 16 places (all_listed dump m places (λ a e. (h.lies a e).1))
+    subst (λ (l : List ℕ). AllByRecursion (HasModule dump m) l) (sym h.shows.first_are)
+    (first_ones (HasModule dump m) 16 h.all (all_listed dump m h.all (λ a e. (h.are.lies a e).1)))
+
+-- the texts of the first places, and behind them how many there are more
+pub prints_places : (dump : DumpValue) (m : ModuleValue) (places : Places) (before between after : List ℕ)
+    → PrintsEach dump m places.first.items before between → after ≡ between ++ more_line places.count
+    → (all : List ℕ) → Shows places all → PrintsPlaces dump m all before after
+prints_places dump m places before between after printed is all h = record {
+  text = concat printed.texts ++ more_line (length all);
+  is = record {
+    texts = printed.texts;
+    each = subst (λ (l : List ℕ). AllZip (IsPlaceText dump m) l printed.texts) h.first_are printed.each;
+    text_is = refl;
+  };
+  after_is = is ∙ ap (λ t. t ++ more_line places.count) printed.after_is ∙ append_assoc before (concat printed.texts) (more_line places.count)
+      ∙ ap (λ n. before ++ (concat printed.texts ++ more_line n)) h.count_is;
+}
 
 -- what holds of all holds of one of them
 pub one_of : (P : ℕ → Type 0) (xs : List ℕ) (i x : ℕ) → i < length xs → x ≡ get_or xs i 0 → AllByRecursion P xs → P x

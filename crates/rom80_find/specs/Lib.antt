@@ -13,4 +13,5 @@ pub mod Fixups
 pub mod Blocks
 pub mod Laws
 pub mod Patterns
+pub mod Listed
 pub mod Prints

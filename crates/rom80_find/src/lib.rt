@@ -29,6 +29,7 @@ mod indexed_dump;
 mod lines;
 mod listing;
 mod marks;
+mod places;
 mod sieve;
 mod solving;
 mod values;

@@ -1,23 +1,25 @@
 //! The addresses at which a module's code lies in a dump.
 
-ghost use Rattle.std.specs.Prelude.{◌≡◌, ℕ, ◌<◌, ◌≤◌, ◌+◌, ◌*◌, ◌++◌, ◌==◌, ◌&&◌, List, length, slice_index_or, true, false, IfOk, OnOk};
+ghost use Rattle.std.specs.Prelude.{◌≡◌, ℕ, ◌<◌, ◌≤◌, ◌+◌, ◌*◌, ◌==◌, ◌&&◌, List, length, slice_index_or, true, false, IfOk, OnOk};
 ghost use Rattle.rom80_find.specs.Dump.{DumpValue};
 ghost use Rattle.rom80_pattern.specs.declared.code_byte.CodeByte.{CodeByte};
 ghost use Rattle.rom80_find.specs.Blocks.{AreFitted, IsFitted};
 ghost use Rattle.rom80_find.specs.Fixups.{AreFixupsOf, AreSorted, are_there};
+ghost use Rattle.rom80_find.specs.Listed.{Lists};
 ghost use Rattle.rom80_find.specs.Marks.{AreSieved, bit_in, has_bit};
-ghost use Rattle.rom80_find.specs.Places.{AreBelow, ArePlaces, place_if};
+ghost use Rattle.rom80_find.specs.Places.{AreBelow, ArePlaces};
 
 use crate::bytes::BLOCK;
 use crate::fitting::fit_fixups;
 use crate::fixups::fixups_of;
 use crate::indexed_dump::{ADDRESSES, IndexedDump};
+use crate::places::Places;
 use crate::sieve::sieve;
 use rom80_pattern::{CodeByte, number_of};
 use std::alloc::{AllocError, Global};
 
-/// Returns the addresses at which a module's code lies in a dump, in ascending order: those for which there are values of its targets with
-/// which the dump has all its bytes.
+/// Returns the addresses at which a module's code lies in a dump: those for which there are values of its targets with which the dump has
+/// all its bytes.
 ///
 /// The bytes of the code outside fixups are compared at 64 addresses at once, and at all until none is left. Those in fixups are compared
 /// at each 4,096 addresses of which one is left, some sixteen at once.
@@ -28,8 +30,8 @@ pub(crate) fn places(
     alloc: Global,
     dump: &IndexedDump<'_>,
     code: &[CodeByte],
-) -> Result<Vec<u16>, AllocError>
-    ensures { IfOk result (λ places. ArePlaces dump.now code.now 65536 places.items) }
+) -> Result<Places, AllocError>
+    ensures { IfOk result (λ places. Lists (ArePlaces dump.now code.now 65536) places) }
 {
     let alive = sieve(alloc, dump, code)?;
     let fixups = fixups_of(alloc, code)?;
@@ -37,19 +39,19 @@ pub(crate) fn places(
 }
 
 /// Returns the addresses whose bits in `alive` are set and at which there are values of targets with which the dump has all `fixups` with
-/// CODE there, in ascending order.
+/// CODE there.
 fn fitting_places(
     alloc: Global,
     dump: &IndexedDump<'_>,
     alive: &[u64],
     fixups: &[CodeByte],
-) -> Result<Vec<u16>, AllocError>
+) -> Result<Places, AllocError>
     requires whole { length alive.now ≡ 1024 }
     requires sorted { AreSorted fixups.now }
     ensures { IfOk result (λ places. (code : List CodeByte) → AreSieved dump.now code alive.now → AreFixupsOf code fixups.now
-        → ArePlaces dump.now code 65536 places.items) }
+        → Lists (ArePlaces dump.now code 65536) places) }
 {
-    let mut places = Vec::new(alloc);
+    let mut places = Places::new(alloc);
     for block in 0..ADDRESSES / BLOCK {
         let wrong = wrong_addresses(dump, alive, fixups, block);
         push_places_of_block(alive, &wrong, block, &mut places)?;
@@ -98,13 +100,15 @@ fn push_places_of_block(
     alive: &[u64],
     wrong: &[u8; BLOCK],
     block: usize,
-    places: &mut Vec<u16>,
+    places: &mut Places,
 ) -> Result<(), AllocError>
     requires whole { length alive.now ≡ 1024 }
     requires block { block < 16 }
-    ensures { OnOk result ((dump : DumpValue) (code fixups : List CodeByte)
+    requires count { places.old.count ≤ 4096 * block }
+    ensures count { OnOk result (places.new.count ≤ 4096 * (block + 1)) }
+    ensures places { OnOk result ((dump : DumpValue) (code fixups : List CodeByte)
         → AreFitted dump code fixups (4096 * block) 4096 (λ k. bit_in alive.now (4096 * block + k)) wrong.now
-        → ArePlaces dump code (4096 * block) places.old.items → ArePlaces dump code (4096 * (block + 1)) places.new.items) }
+        → Lists (ArePlaces dump code (4096 * block)) places.old → Lists (ArePlaces dump code (4096 * (block + 1))) places.new) }
 {
     for word in 0..BLOCK / 64 {
         let marks = &wrong[64 * word..64 * word + 64];
@@ -123,19 +127,21 @@ fn push_places_of_word(
     alive: u64,
     wrong: &[u8],
     first: usize,
-    places: &mut Vec<u16>,
+    places: &mut Places,
 ) -> Result<(), AllocError>
     requires whole { length wrong.now ≡ 64 }
     requires few { first + 64 ≤ 65536 }
-    ensures { OnOk result ((dump : DumpValue) (code fixups : List CodeByte) → AreFitted dump code fixups first 64 (has_bit alive) wrong.now
-        → ArePlaces dump code first places.old.items → ArePlaces dump code (first + 64) places.new.items) }
+    requires count { places.old.count ≤ first }
+    ensures count { OnOk result (places.new.count ≤ first + 64) }
+    ensures places { OnOk result ((dump : DumpValue) (code fixups : List CodeByte) → AreFitted dump code fixups first 64 (has_bit alive) wrong.now
+        → Lists (ArePlaces dump code first) places.old → Lists (ArePlaces dump code (first + 64)) places.new) }
 {
     if alive == 0 {
         return Ok(());
     }
     for index in 0..64 {
         let lies = is_place(alive, index, wrong[index]);
-        push_place(places, (first + index) as u16, lies)?;
+        places.push_if(lies, (first + index) as u16)?;
     }
     Ok(())
 }
@@ -146,16 +152,6 @@ fn is_place(alive: u64, index: usize, wrong: u8) -> bool
     ensures { result ≡ (has_bit alive index && wrong == 0) }
 {
     (alive >> index as u32 & 1 == 1) && wrong == 0
-}
-
-/// Appends an address to a list, if `lies` is true.
-fn push_place(places: &mut Vec<u16>, address: u16, lies: bool) -> Result<(), AllocError>
-    ensures { OnOk result (places.new.items ≡ places.old.items ++ place_if lies address) }
-{
-    if lies {
-        places.push(address)?;
-    }
-    Ok(())
 }
 
 /// Returns the length of a table that has an entry for each number of a target in the code, and for absolute 0 and CODE, the numbers 0 and

@@ -9,11 +9,11 @@ use Rattle.image80.specs.Regions.{in_code}
 use Rattle.verify80_cases.specs.Marks.{marked}
 use Rattle.verify80_cases.specs.declared.table.EntryRun.{EntryRun}
 use Rattle.verify80_cases.specs.declared.table.TableKind.{TableKind}
-use Rattle.verify80_cases.specs.declared.table.TableKind.TheVariants.{Words, Jumps}
+use Rattle.verify80_cases.specs.declared.table.TableKind.TheVariants.{Words, Jumps, Keys}
 use Rattle.verify80_cases.specs.Reading.{IsBehindFirst, IsFirstGoal, IsRest}
 use Rattle.verify80.specs.Looking.{declared_targets}
 use Rattle.verify80.specs.LookLaws.{fetch_at}
-use Rattle.verify80_cases.specs.Suggested.{GoesByTable, IsBegun, IsTableTarget, could_be_entry, goal_of, holds_pchl, is_entry, is_target, stride, word_in}
+use Rattle.verify80_cases.specs.Suggested.{GoesByTable, IsBegun, IsTableTarget, could_be_entry, goal_of, holds_pchl, is_entry, is_free, is_target, stride, word_in}
 
 -- an entry of what isn't taken could be one
 pub entry_could_be : (kind : TableKind) (image : Located) (reached taken : List Bool) (address : ℕ) → is_entry kind image reached taken address ≡ true → could_be_entry kind image address ≡ true
@@ -37,10 +37,35 @@ entry_could_be Jumps image reached taken address is =
     step true true false d e = absurd (true≢false (sym e))
     step true false c d e = absurd (true≢false (sym e))
     step false b c d e = absurd (true≢false (sym e))
+entry_could_be (Keys order last) image reached taken address is =
+    keyed (nat_le (address + 3) 65536) (is_free image taken address) (is_free image taken (address + 1)) (is_free image taken (address + 2))
+    (in_code image.regions address) (in_code image.regions (address + 1)) (in_code image.regions (address + 2)) _ (code address) (code (address + 1)) (code (address + 2)) is
+  where
+    code : (at : ℕ) → is_free image taken at ≡ true → in_code image.regions at ≡ true
+    code at free = step (in_code image.regions at) (marked taken at) free
+      where
+        step : (c m : Bool) → (c && not m) ≡ true → c ≡ true
+        step true m e = refl
+        step false m e = absurd (true≢false (sym e))
+
+    all : (a b c : Bool) → a ≡ true → b ≡ true → c ≡ true → ((a && (b && c)) && true) ≡ true
+    all true true true i j k = refl
+    all true true false i j k = absurd (true≢false (sym k))
+    all true false c i j k = absurd (true≢false (sym j))
+    all false b c i j k = absurd (true≢false (sym i))
+
+    keyed : (a f g h c d e t : Bool) → (f ≡ true → c ≡ true) → (g ≡ true → d ≡ true) → (h ≡ true → e ≡ true) →
+        (a && ((f && (g && h)) && t)) ≡ true → (a && ((c && (d && e)) && t)) ≡ true
+    keyed true true true true c d e true i j k is = all c d e (i refl) (j refl) (k refl)
+    keyed true true true true c d e false i j k is = absurd (true≢false (sym is))
+    keyed true true true false c d e t i j k is = absurd (true≢false (sym is))
+    keyed true true false h c d e t i j k is = absurd (true≢false (sym is))
+    keyed true false g h c d e t i j k is = absurd (true≢false (sym is))
+    keyed false f g h c d e t i j k is = absurd (true≢false (sym is))
 
 module _ (image : Located) (reached : List Bool) where
   -- all of a table is left
-  pub begun_rest : (run : EntryRun) (at : ℕ) → GoesByTable image reached at run.first run.limit → IsRest image reached run
+  pub begun_rest : (run : EntryRun) (at : ℕ) → GoesByTable image reached at run.kind run.first run.limit → IsRest image reached run
   begun_rest run at by = record {
     at = at;
     table = run.first;
@@ -55,6 +80,7 @@ module _ (image : Located) (reached : List Bool) where
       begins : (kind : TableKind) → run.first ≡ run.first + stride kind * 0
       begins Words = omega arith
       begins Jumps = omega arith
+      begins (Keys _ _) = omega arith
 
   -- the entries up to the first of what is left
   up_to : (rest : EntryRun) (is : IsRest image reached rest) → could_be_entry rest.kind image rest.first ≡ true → (k : ℕ) → k ≤ is.number →
@@ -71,10 +97,10 @@ module _ (image : Located) (reached : List Bool) where
   pub first_target : (rest : EntryRun) (goal : ℕ) → IsRest image reached rest → IsFirstGoal image rest goal → IsTableTarget image reached goal
   first_target rest goal is first = record {
     at = is.at;
+    kind = rest.kind;
     table = is.table;
     limit = is.limit;
     by = is.by;
-    kind = rest.kind;
     number = is.number;
     inside = omega (arith, is.left, first.some);
     entries = up_to rest is first.entry;
@@ -86,7 +112,7 @@ module _ (image : Located) (reached : List Bool) where
     at = is.at;
     table = is.table;
     limit = is.limit;
-    by = is.by;
+    by = subst (λ kind. GoesByTable image reached is.at kind is.table is.limit) (sym behind.kind) is.by;
     number = is.number + 1;
     first = behind.first ∙ advanced next.kind behind.kind;
     left = omega (arith, is.left, behind.limit);
@@ -97,6 +123,7 @@ module _ (image : Located) (reached : List Bool) where
       by_kind : (kind : TableKind) → rest.first ≡ is.table + stride kind * is.number → rest.first + stride kind ≡ is.table + stride kind * (is.number + 1)
       by_kind Words e = omega (arith, e)
       by_kind Jumps e = omega (arith, e)
+      by_kind (Keys _ _) e = omega (arith, e)
 
       advanced : (kind : TableKind) → kind ≡ rest.kind → rest.first + stride rest.kind ≡ is.table + stride kind * (is.number + 1)
       advanced kind same = subst (λ one. rest.first + stride rest.kind ≡ is.table + stride one * (is.number + 1)) (sym same) (by_kind rest.kind is.first)
@@ -120,6 +147,6 @@ module _ (image : Located) (reached taken : List Bool) where
       step false entry = tt
 
   pub run_is_rest : (at : ℕ) (r : Option EntryRun) → holds_pchl (fetch_at image.regions (memory_of image.chunks) at) ≡ true → length (declared_targets image.regions at) ≡ 0 →
-      IfSome r (λ (run : EntryRun). IsBegun image reached at run.first run.limit) → IfSome r (IsRest image reached)
+      IfSome r (λ (run : EntryRun). IsBegun image reached at run.kind run.first run.limit) → IfSome r (IsRest image reached)
   run_is_rest at None pchl undeclared begun = tt
   run_is_rest at (Some run) pchl undeclared begun = begun_rest image reached run at (record { is_pchl = pchl; undeclared = undeclared; begun = begun })

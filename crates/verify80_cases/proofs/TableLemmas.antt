@@ -1,5 +1,5 @@
 -- The entries of a table, and the case of its PCHL.
-use Rattle.std.specs.Prelude.{◌≡◌, ℕ, ◌+◌, ◌*◌, ◌<◌, ◌&&◌, Bool, true, false, eqb, nat_le, nat_lt, List, [], ◌∷◌, ◌++◌, All, Contains, IsPermutation, None, Some, length, slice_index, refl, if◌then◌else◌}
+use Rattle.std.specs.Prelude.{◌≡◌, ℕ, ◌+◌, ◌*◌, ◌<◌, ◌&&◌, Bool, true, false, not, eqb, nat_le, nat_lt, List, [], ◌∷◌, ◌++◌, All, Contains, IsPermutation, None, Some, length, slice_index, refl, if◌then◌else◌}
 use Rattle.std.specs.List.{dedup}
 use Rattle.std.specs.List.Sorted.{IsSorted}
 use Rattle.std.specs.Ordering.{nat_cmp}
@@ -14,13 +14,19 @@ use Rattle.std.proofs.lemmas.Map.Keys.{IsStrictlyIncreasing-dedup}
 use Rattle.image80.specs.Image.{Located, memory_of}
 use Rattle.image80.specs.Regions.{in_code}
 use Rattle.verify80_cases.specs.Marks.{marked}
-use Rattle.verify80_cases.specs.Suggested.{AreEntries, IsBegun, IsSuggested, IsSuggestedCase, goal_of, goals_of, goes_on_behind, is_entry, is_free, is_open, is_target, is_undeclared, stride, word_in}
+use Rattle.verify80_cases.specs.Suggested.{AreEntries, IsBegun, IsSuggested, IsSuggestedCase, goal_of, goals_of, goes_on_behind, is_ended, is_entry, is_free, is_open, is_target, is_undeclared, stride, word_in, word_place}
 use Rattle.verify80_cases.specs.declared.table.TableKind.{TableKind}
-use Rattle.verify80_cases.specs.declared.table.TableKind.TheVariants.{Words, Jumps}
+use Rattle.verify80_cases.specs.declared.table.TableKind.TheVariants.{Words, Jumps, Keys}
 
 both : (a b : Bool) → (a && b) ≡ true → (a ≡ true) × (b ≡ true)
 both true b e = (refl, e)
 both false b e = absurd (true≢false (sym e))
+
+third : (a b t r : Bool) → (a && (b && (t && r))) ≡ true → t ≡ true
+third true true true r e = refl
+third true true false r e = absurd (true≢false (sym e))
+third true false t r e = absurd (true≢false (sym e))
+third false b t r e = absurd (true≢false (sym e))
 
 -- where PCHL goes by an entry is an address at which an instruction stands
 pub entry_target : (kind : TableKind) (image : Located) (reached taken : List Bool) (address : ℕ) → is_entry kind image reached taken address ≡ true →
@@ -30,13 +36,10 @@ entry_target Words image reached taken address is =
     (both (is_free image taken address) (is_free image taken (address + 1) && is_target image (word_in (memory_of image.chunks) address))
     (both (nat_le (address + 2) 65536) (is_free image taken address && (is_free image taken (address + 1) && is_target image (word_in (memory_of image.chunks) address))) is).1).1).1
 entry_target Jumps image reached taken address is =
-    step (nat_le (address + 3) 65536) (eqb (slice_index (memory_of image.chunks) address) 195) (is_target image address) _ is
-  where
-    step : (a b t r : Bool) → (a && (b && (t && r))) ≡ true → t ≡ true
-    step true true true r e = refl
-    step true true false r e = absurd (true≢false (sym e))
-    step true false t r e = absurd (true≢false (sym e))
-    step false b t r e = absurd (true≢false (sym e))
+    third (nat_le (address + 3) 65536) (eqb (slice_index (memory_of image.chunks) address) 195) (is_target image address) _ is
+entry_target (Keys order last) image reached taken address is =
+    third (nat_le (address + 3) 65536) (is_free image taken address && (is_free image taken (address + 1) && is_free image taken (address + 2)))
+    (is_target image (word_in (memory_of image.chunks) (word_place order address))) _ is
 
 -- what an answer says of an entry
 pub entry_is : (image : Located) (reached taken : List Bool) (kind : TableKind) (address goal : ℕ) →
@@ -136,7 +139,7 @@ open_undeclared image reached at is = (both (marked reached at) (is_undeclared i
 
 -- the case of the goals
 module _ (image : Located) (reached taken : List Bool) (kind : TableKind) (at table limit : ℕ) (goals sorted : List ℕ) (below : at < 65536) (is_here : is_open image reached at ≡ true)
-    (begun : IsBegun image reached at table limit) (are : AreEntries image reached taken kind table limit goals) (small : All (λ target. target < 65536) goals) (some : 0 < length goals)
+    (begun : IsBegun image reached at kind table limit) (are : AreEntries image reached taken kind table limit goals) (small : All (λ target. target < 65536) goals) (some : 0 < length goals)
     (moved : IsPermutation goals sorted) (up : IsSorted nat_cmp sorted) where
   there : (w : ℕ) → Contains goals w → Contains (dedup eqb sorted) w
   there w inside = Contains-dedup_nat sorted w (Contains-permutation goals sorted w moved inside)
@@ -166,7 +169,7 @@ module _ (image : Located) (reached taken : List Bool) (kind : TableKind) (at ta
       }
 
   pub suggested_case : (distinct : List ℕ) («end» : ℕ) (may : Bool) → distinct ≡ dedup eqb sorted → «end» ≡ table + stride kind * length goals →
-      may ≡ (nat_lt (length goals) limit && goes_on_behind image taken «end») →
+      may ≡ (nat_lt (length goals) limit && (goes_on_behind image taken «end» && not (is_ended kind (memory_of image.chunks) «end»))) →
       IsSuggestedCase image reached taken (record { case = record { at = at; targets = distinct }; table = table; «end» = «end»; may_go_on = may })
   suggested_case distinct «end» may distinct_is is_end is_may =
       subst (λ ts. IsSuggestedCase image reached taken (record { case = record { at = at; targets = ts }; table = table; «end» = «end»; may_go_on = may })) (sym distinct_is)

@@ -1,6 +1,6 @@
 -- What a trail has stands before the address that it leads to.
-use Rattle.std.specs.Prelude.{◌≡◌, ℕ, Bool, List, [], ◌∷◌, ◌++◌, All, Contains, IfSome, Option, None, Some}
-use Rattle.std.proofs.Common.{subst, ◌∙◌}
+use Rattle.std.specs.Prelude.{◌≡◌, ◌⊎◌, ℕ, Bool, List, [], ◌∷◌, ◌++◌, All, Contains, IfSome, Option, None, Some}
+use Rattle.std.proofs.Common.{inl, inr, subst, ◌∙◌}
 use Rattle.std.proofs.lemmas.List.{get_or_default}
 use Rattle.std.proofs.lemmas.List.Elements.{All-nil, All-push, Contains-append_left, Contains-push}
 use Rattle.image80.specs.Image.{Located}
@@ -12,7 +12,10 @@ use Rattle.verify80_cases.specs.Reading.IsLimitOf.{none as NoneOf, compared as C
 use Rattle.verify80_cases.specs.Standing.{GoesOn, StandsBefore}
 use Rattle.verify80_cases.specs.Standing.StandsBefore.{last, earlier}
 use Rattle.verify80_cases.specs.Suggested.{IsBegun, IsLimit}
+use Rattle.verify80_cases.specs.Suggested.IsBegun.{loads}
 use Rattle.verify80_cases.specs.Suggested.IsLimit.{none, compared}
+use Rattle.verify80_cases.specs.declared.table.TableKind.{TableKind}
+use Rattle.verify80_cases.specs.declared.table.TableKind.TheVariants.{Words, Jumps}
 use Rattle.verify80_cases.specs.Trails.{AreBefore, ArePassed, IsBefore, IsPassed, cpi_of, lxi_of}
 
 -- the instructions that were passed stand before the place
@@ -24,6 +27,10 @@ pub record IsTrail (image : Located) (reached : List Bool) (place : ℕ) (trail 
   pub passed : List ℕ
   pub stand : Stand image reached place passed
   pub are : ArePassed passed trail
+
+-- a table of addresses or of JMPs
+abbrev IsPlain : TableKind → Type 0
+IsPlain kind = (kind ≡ Words) ⊎ (kind ≡ Jumps)
 
 module _ (image : Located) (reached : List Bool) where
   pub no_trail : (place : ℕ) (trail : Trail) → ((passed : List ℕ) → ArePassed passed trail) → IsTrail image reached place trail
@@ -65,21 +72,26 @@ module _ (image : Located) (reached : List Bool) where
   before_of at o place is before = subst (IsBefore image reached at) is before
 
   pub begun_by : (at : ℕ) (trail : Trail) (table : Table) (run : EntryRun) → AreBefore image reached at trail → lxi_of trail.load ≡ Some table.lxi →
-      IfSome table.comparison (λ cpi. cpi_of trail.bound ≡ Some cpi) → IsRunOf image table run → IsBegun image reached at run.first run.limit
-  begun_by at trail table run before lxi comparison is = record {
-    lxi = table.lxi;
-    before = before_of at (lxi_of trail.load) table.lxi lxi before.load;
-    loaded = is.loaded;
-    is_limit = limit table.comparison comparison is.is_limit;
-  }
+      IfSome table.comparison (λ cpi. cpi_of trail.bound ≡ Some cpi) → IsPlain table.kind → IsRunOf image table run → IsBegun image reached at run.kind run.first run.limit
+  begun_by at trail table run before lxi comparison plain is = loads (plain_as plain)
+      (record {
+        lxi = table.lxi;
+        before = before_of at (lxi_of trail.load) table.lxi lxi before.load;
+        loaded = is.loaded;
+        is_limit = limit table.comparison comparison is.is_limit;
+      })
     where
+      plain_as : IsPlain table.kind → IsPlain run.kind
+      plain_as (inl words) = inl (is.kind ∙ words)
+      plain_as (inr jumps) = inr (is.kind ∙ jumps)
+
       limit : (o : Option ℕ) → IfSome o (λ cpi. cpi_of trail.bound ≡ Some cpi) → IsLimitOf image o run.limit → IsLimit image reached at run.limit
       limit o said (NoneOf none_is) = none none_is
       limit o said (ComparedOf cpi is_cpi byte) =
           compared cpi (before_of at (cpi_of trail.bound) cpi (subst (λ x. IfSome x (λ c. cpi_of trail.bound ≡ Some c)) is_cpi said) before.bound) byte
 
   pub begun_if : (at : ℕ) (trail : Trail) (table : Table) → AreBefore image reached at trail → lxi_of trail.load ≡ Some table.lxi →
-      IfSome table.comparison (λ cpi. cpi_of trail.bound ≡ Some cpi) → (r : Option EntryRun) → IfSome r (IsRunOf image table) →
-      IfSome r (λ (run : EntryRun). IsBegun image reached at run.first run.limit)
-  begun_if at trail table before lxi comparison None is = tt
-  begun_if at trail table before lxi comparison (Some run) is = begun_by at trail table run before lxi comparison is
+      IfSome table.comparison (λ cpi. cpi_of trail.bound ≡ Some cpi) → IsPlain table.kind → (r : Option EntryRun) → IfSome r (IsRunOf image table) →
+      IfSome r (λ (run : EntryRun). IsBegun image reached at run.kind run.first run.limit)
+  begun_if at trail table before lxi comparison plain None is = tt
+  begun_if at trail table before lxi comparison plain (Some run) is = begun_by at trail table run before lxi comparison plain is

@@ -23,7 +23,7 @@ pub record IsRest (image : Located) (reached : List Bool) (rest : EntryRun) : Ty
   pub at : ℕ
   pub table : ℕ
   pub limit : ℕ
-  pub by : GoesByTable image reached at table limit
+  pub by : GoesByTable image reached at rest.kind table limit
   pub number : ℕ
   pub first : rest.first ≡ table + stride rest.kind * number
   pub left : rest.limit + number ≡ limit

@@ -5,6 +5,7 @@ ghost use Rattle.verify80_cases.specs.Suggested.{IsBegun};
 ghost use Rattle.verify80_cases.specs.Trails.{AreBefore};
 
 use crate::chain::{first_before, passed_at};
+use crate::keys::run_of_keys;
 use crate::table::{EntryRun, run_of};
 use crate::trail::Trail;
 use verify80::ImageCode;
@@ -13,12 +14,14 @@ use verify80::ImageCode;
 /// it one after another show one; else `None`. `reached` has a mark for each address that is
 /// reached.
 pub(crate) fn run_before(code: &ImageCode<'_>, reached: &[bool], at: u16) -> Option<EntryRun>
-    ensures begun { IfSome result (λ run. IsBegun code.now reached.now at run.first run.limit) }
+    ensures begun { IfSome result (λ run. IsBegun code.now reached.now at run.kind run.first run.limit) }
     ensures small { IfSome result (λ run. run.limit ≤ 65536) }
 {
     let trail = trail_to(code, reached, at);
-    let table = trail.table()?;
-    run_of(code, table)
+    match trail.table() {
+        Some(table) => run_of(code, table),
+        None => run_of_keys(code, reached, at),
+    }
 }
 
 /// What the instructions that lead to an address one after another show of a table.

@@ -39,9 +39,15 @@ pub(crate) fn passed_at(code: &ImageCode<'_>, reached: &[bool], at: u16) -> Opti
 /// and may go on to the next one, and no other reached instruction does. `at` itself if there are
 /// none.
 pub(crate) fn first_before(code: &ImageCode<'_>, reached: &[bool], at: u16) -> u16 {
-    let mut first = at;
     // Behind a given number of instructions the addresses come again.
-    for _ in 0..65_536_u32 {
+    first_within(code, reached, at, 65_536)
+}
+
+/// The address where the instructions begin that lead to `at` one after another, as [`first_before`]
+/// has them, but `most` of them at most.
+pub(crate) fn first_within(code: &ImageCode<'_>, reached: &[bool], at: u16, most: u32) -> u16 {
+    let mut first = at;
+    for _ in 0..most {
         match the_one_before(code, reached, first) {
             Some(before) => first = before,
             None => break,

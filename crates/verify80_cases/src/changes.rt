@@ -21,7 +21,7 @@ pub(crate) fn may_change_a(instr: Instr) -> bool
 }
 
 /// Whether register A is written.
-fn writes_a(writes: Writes) -> bool
+pub(crate) fn writes_a(writes: Writes) -> bool
     ensures { result ≡ writes_a writes }
 {
     matches!(writes, Writes::One(Register::A))

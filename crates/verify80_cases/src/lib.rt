@@ -8,7 +8,7 @@
 //! | [`Suggestions`] | these cases, and the PCHLs for which no table is seen |
 //! | [`Search`], [`SuggestedCase`] | an image that was gone through, and the case of one PCHL |
 //! | [`Note`] | why the case of a PCHL is uncertain, or why it has none |
-//! | [`TableKind`] | what a table consists of |
+//! | [`TableKind`], [`KeyOrder`] | what a table consists of |
 //! | [`regions_with_cases`] | the text of regions to which cases are added |
 //! | [`find_reachable`] | the addresses that a program may reach, along the cases of its regions |
 //! | [`find_covered`] | the bytes of the instructions there |
@@ -21,8 +21,12 @@ mod bound;
 mod chain;
 mod changes;
 mod covered;
+mod key_trail;
+mod keys;
 pub mod laws;
+mod leading;
 mod leads;
+mod lookup;
 mod marks;
 mod reach;
 mod reading;
@@ -37,4 +41,4 @@ pub use covered::find_covered;
 pub use reach::find_reachable;
 pub use search::{Note, Search, SuggestedCase};
 pub use suggesting::{Suggestions, suggest_cases};
-pub use table::TableKind;
+pub use table::{KeyOrder, TableKind};

@@ -9,7 +9,7 @@ use crate::marks::is_marked;
 use crate::reach::Visited;
 use crate::reading::Reader;
 use crate::returning::{find_heights, has_return_address};
-use crate::table::{EntryRun, address_of, goals_of, is_free, is_undeclared};
+use crate::table::{EntryRun, address_of, goals_of, is_ended, is_free, is_undeclared};
 use frames80::Code;
 use image80::{Case, Image};
 use std::alloc::{AllocError, Global};
@@ -25,8 +25,8 @@ pub struct SuggestedCase {
     pub table: u16,
     /// The address after the table's last entry, up to 65536.
     pub end: u32,
-    /// Whether the table may be longer: no reached code comes after it, CODE goes on there, and no
-    /// comparison bounds the index.
+    /// Whether the table may be longer: no reached code comes after it, CODE goes on there, and
+    /// neither a number of entries nor a key ends it.
     pub may_go_on: bool,
 }
 
@@ -156,8 +156,8 @@ fn explore_with_tables(
 }
 
 /// The case of a PCHL that goes by these entries of a table; `None` if there is no entry. The PCHL
-/// at `at` must be reached and without declared targets, and `run` must begin at the word of an LXI
-/// that stands before it, with its limit, at most 65,536. `code` must be that of `image`.
+/// at `at` must be reached and without declared targets, and `run` must be a table that is begun
+/// before it, with its limit, at most 65,536. `code` must be that of `image`.
 /// `AllocError` if memory runs out.
 fn case_of_run(
     alloc: Global,
@@ -170,7 +170,7 @@ fn case_of_run(
 ) -> Result<Option<SuggestedCase>, AllocError>
     requires seen { code.now ≡ image.now }
     requires reached { is_open image.now reached.now at ≡ true }
-    requires begun { IsBegun image.now reached.now at run.first run.limit }
+    requires begun { IsBegun image.now reached.now at run.kind run.first run.limit }
     requires small { run.limit ≤ 65536 }
     ensures { IfOk result (λ found. IfSome found (λ found.
         IsSuggestedCase image.now reached.now taken.now found × (found.case.at ≡ at))) }
@@ -187,7 +187,9 @@ fn case_of_run(
         case: Case { at, targets },
         table: run.first,
         end: end as u32,
-        may_go_on: count < run.limit && goes_on_behind(code, taken, end),
+        may_go_on: count < run.limit
+            && goes_on_behind(code, taken, end)
+            && !is_ended(code, run.kind, end as u16),
     }))
 }
 

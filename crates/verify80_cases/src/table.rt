@@ -2,7 +2,7 @@
 
 ghost use Rattle.std.specs.Prelude.{◌≡◌, ◌+◌, ◌*◌, ◌<◌, ◌≤◌, ◌&&◌, Some, None, All, IfOk, IfSome, length, if◌then◌else◌};
 ghost use Rattle.verify80_cases.specs.Reading.{IsLimitOf, IsRunOf};
-ghost use Rattle.verify80_cases.specs.Suggested.{AreEntries, compared_byte, goal_of, holds_pchl, is_entry, is_free, is_jump, is_target, is_undeclared, is_word, loaded_word, stride, word_in};
+ghost use Rattle.verify80_cases.specs.Suggested.{AreEntries, compared_byte, goal_of, holds_pchl, is_ended, is_entry, is_free, is_jump, is_keyed, is_last, is_target, is_undeclared, is_word, loaded_word, stride, word_in, word_place};
 ghost use Rattle.verify80.specs.LookLaws.{fetch_at};
 ghost use Rattle.image80.specs.Image.{memory_of};
 
@@ -17,7 +17,7 @@ const JMP: u8 = 0xC3;
 /// The opcode of PCHL.
 const PCHL: u8 = 0xE9;
 /// The limit of a table that no comparison bounds: more entries than it can have.
-const NO_LIMIT: usize = 65_536;
+pub(crate) const NO_LIMIT: usize = 65_536;
 
 /// What a table consists of.
 #[derive(Clone, Copy, Debug, PartialEq, Eq)]
@@ -26,6 +26,22 @@ pub enum TableKind {
     Words,
     /// JMPs that the PCHL goes to.
     Jumps,
+    /// Entries of three bytes: a key, and the address that the PCHL goes to if that key is looked up.
+    Keys {
+        /// Where the key of an entry is.
+        order: KeyOrder,
+        /// The key that ends the table, if one does.
+        last: Option<u8>,
+    },
+}
+
+/// Where the key of an entry is: before its address, or after it.
+#[derive(Clone, Copy, Debug, PartialEq, Eq)]
+pub enum KeyOrder {
+    /// The key, and then the address, low byte first.
+    KeyFirst,
+    /// The address, low byte first, and then the key.
+    KeyLast,
 }
 
 /// A table by which a PCHL goes, as the code before the PCHL shows it.
@@ -70,7 +86,7 @@ pub(crate) fn holds_pchl(code: &ImageCode<'_>, at: u16) -> bool
 }
 
 /// The word that the LXI at an address loads; `None` if there is no LXI.
-fn loaded_word(code: &ImageCode<'_>, at: u16) -> Option<u16>
+pub(crate) fn loaded_word(code: &ImageCode<'_>, at: u16) -> Option<u16>
     ensures { result ≡ loaded_word (fetch_at code.now.regions (memory_of code.now.chunks) at) }
 {
     match fetch(at, code) {
@@ -132,7 +148,7 @@ pub(crate) fn address_of(kind: TableKind, first: u16, number: usize) -> usize
 {
     match kind {
         TableKind::Words => usize::from(first) + 2 * number,
-        TableKind::Jumps => usize::from(first) + 3 * number,
+        TableKind::Jumps | TableKind::Keys { .. } => usize::from(first) + 3 * number,
     }
 }
 
@@ -142,7 +158,7 @@ pub(crate) fn stride(kind: TableKind) -> usize
 {
     match kind {
         TableKind::Words => 2,
-        TableKind::Jumps => 3,
+        TableKind::Jumps | TableKind::Keys { .. } => 3,
     }
 }
 
@@ -186,6 +202,9 @@ pub(crate) fn target_at(
     match kind {
         TableKind::Words if is_word(code, taken, at) => Some(word_at(code, at)),
         TableKind::Jumps if is_jump(code, reached, taken, at) => Some(at),
+        TableKind::Keys { order, last } if is_keyed(code, taken, order, last, at) => Some(
+            word_beside(code, order, at),
+        ),
         _ => None,
     }
 }
@@ -221,6 +240,62 @@ fn are_free(code: &ImageCode<'_>, taken: &[bool], address: u16) -> bool
     is_free(code, taken, address)
         && is_free(code, taken, address + 1)
         && is_free(code, taken, address + 2)
+}
+
+/// Whether a table may have a key and an address in the three bytes from `address` on: they are
+/// free, an instruction begins at the address that they have, and the key isn't the one that ends
+/// the table.
+fn is_keyed(
+    code: &ImageCode<'_>,
+    taken: &[bool],
+    order: KeyOrder,
+    last: Option<u8>,
+    address: u16,
+) -> bool
+    ensures { result ≡ is_keyed code.now taken.now order last address }
+{
+    address <= 65_533
+        && are_free(code, taken, address)
+        && is_target(code, word_beside(code, order, address))
+        && !is_last(code, order, last, address)
+}
+
+/// The address that the entry of three bytes at `address` has beside its key. `address` must be at
+/// most FFFD.
+fn word_beside(code: &ImageCode<'_>, order: KeyOrder, address: u16) -> u16
+    requires { address + 3 ≤ 65536 }
+    ensures { result ≡ word_in (memory_of code.now.chunks) (word_place order address) }
+{
+    match order {
+        KeyOrder::KeyFirst => word_at(code, address + 1),
+        KeyOrder::KeyLast => word_at(code, address),
+    }
+}
+
+/// Whether the key of the entry of three bytes at `address` is the one that ends the table.
+/// `address` must be at most FFFD.
+fn is_last(code: &ImageCode<'_>, order: KeyOrder, last: Option<u8>, address: u16) -> bool
+    requires { address + 3 ≤ 65536 }
+    ensures { result ≡ is_last order last (memory_of code.now.chunks) address }
+{
+    let key = match order {
+        KeyOrder::KeyFirst => code.byte(address),
+        KeyOrder::KeyLast => code.byte(address + 2),
+    };
+    match last {
+        Some(last) => key == last,
+        None => false,
+    }
+}
+
+/// Whether the key that ends a table of this kind is in the place of an entry at `address`.
+pub(crate) fn is_ended(code: &ImageCode<'_>, kind: TableKind, address: u16) -> bool
+    ensures { result ≡ is_ended kind (memory_of code.now.chunks) address }
+{
+    match kind {
+        TableKind::Keys { order, last } => address <= 65_533 && is_last(code, order, last, address),
+        TableKind::Words | TableKind::Jumps => false,
+    }
 }
 
 /// The addresses to which a PCHL goes by the entries of a table, in their order, up to the limit or

@@ -23,8 +23,9 @@
 //! if they leave the pair, or then HL, as it is. A PCHL right after the first two goes into a table of
 //! JMPs.
 
-ghost use Rattle.std.specs.Prelude.{◌≡◌, Contains, IfSome, List, Some, ℕ};
+ghost use Rattle.std.specs.Prelude.{◌≡◌, ◌⊎◌, Contains, IfSome, List, Some, ℕ};
 ghost use Rattle.verify80_cases.specs.Trails.{ArePassed, IsPassed, cpi_of, lxi_of};
+ghost use Rattle.verify80_cases.specs.declared.table.TableKind.TheVariants.{Words, Jumps};
 
 use crate::bound::Bound;
 use crate::changes::may_change;
@@ -91,6 +92,7 @@ impl Trail {
     pub(crate) fn table(self) -> Option<Table>
         ensures lxi { IfSome result (λ table. lxi_of self.load ≡ Some table.lxi) }
         ensures comparison { IfSome result (λ table. IfSome table.comparison (λ cpi. cpi_of self.bound ≡ Some cpi)) }
+        ensures kind { IfSome result (λ table. (table.kind ≡ Words) ⊎ (table.kind ≡ Jumps)) }
     {
         let (lxi, kind) = match self.load {
             Load::Exchanged(lxi) => (lxi, TableKind::Words),

@@ -22,7 +22,7 @@ use Rattle.verify80_suggest.specs.Names.{AreNamed, AreSetters}
 use Rattle.verify80_cases.specs.Marks.{AreMarks, marked}
 use Rattle.verify80_suggest.specs.Ranges.{Covers}
 use Rattle.verify80_suggest.specs.Stack.{IsStack}
-use Rattle.verify80_suggest.specs.Tables.{AreTableWords, is_code}
+use Rattle.verify80_suggest.specs.Tables.{AreTables, is_code}
 
 -- what is found of an image, address by address: whether it has a byte there, whether the program may reach it, whether it is to be
 -- code, and whether an instruction to which the program may come names it; and the first two of these that set SP
@@ -40,9 +40,9 @@ pub record IsFound (image : Located) (entries : List ℕ) (ram : List Range) (fo
   pub reached : AreReached image entries found.reached
   pub covered : List Bool
   pub are_covered : AreMarks (is_covered image found.reached) 65536 covered
-  pub words : List Bool
-  pub are_words : AreTableWords image found.reached covered words
-  pub code : AreMarks (is_code covered words ram) 65536 found.code
+  pub tables : List Bool
+  pub are_tables : AreTables image found.reached covered tables
+  pub code : AreMarks (is_code covered tables ram) 65536 found.code
   pub named : AreNamed image found.reached found.named
   pub setters : AreSetters image found.reached found.first found.second
 

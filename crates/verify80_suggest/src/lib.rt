@@ -13,6 +13,7 @@
 
 mod arranging;
 mod bytes;
+mod keyed;
 mod known;
 pub mod laws;
 mod names;

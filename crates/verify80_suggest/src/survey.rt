@@ -7,7 +7,7 @@ use crate::bytes::find_bytes;
 use crate::known::Known;
 use crate::names::find_named;
 use crate::setters::{Setter, find_setters};
-use crate::tables::{find_code, find_table_words};
+use crate::tables::{find_code, find_tables};
 use image80::Image;
 use std::alloc::{AllocError, Global};
 use std::marker::Model;
@@ -63,8 +63,8 @@ pub(crate) fn survey_of(
     let code = ImageCode::new(alloc, image)?;
     let reached = find_reachable(alloc, &code, known.entries)?;
     let covered = find_covered(alloc, &code, &reached)?;
-    let words = find_table_words(alloc, &code, &reached, &covered)?;
-    let is_code = find_code(alloc, &covered, &words, known.ram)?;
+    let tables = find_tables(alloc, &code, &reached, &covered)?;
+    let is_code = find_code(alloc, &covered, &tables, known.ram)?;
     let named = find_named(alloc, &code, &reached)?;
     let setters = find_setters(&code, &reached);
     Ok(Survey {

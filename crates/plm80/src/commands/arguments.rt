@@ -9,16 +9,16 @@ use super::program_syntax::{program, shown_error};
 use clap::error::ErrorKind;
 use clap::{ArgMatches, Error};
 use plm80_console::{Console, WHY};
-use plm80_names::NamedFiles;
 use plm80_objects::{
     ABSOLUTE, AbsoluteArguments, CompareArguments, EXTRACT, ExtractArguments, FindArguments, LIB,
     LINK, LOCATE, LibraryArguments, LinkArguments, LocateArguments, MapArguments, ModuleArguments,
 };
 use plm80_programs::{
-    CASES, CallsArguments, CasesArguments, CoverArguments, ExplainArguments, FollowArguments,
-    InputsArguments, ListArguments, RUN, RegionsArguments, RunArguments, StoresArguments,
-    SuggestArguments, TraceArguments,
+    CallsArguments, CheckArguments, ExplainArguments, FollowArguments, ListArguments, REPORT,
+    ReportArguments, StoresArguments,
 };
+use plm80_regions::{CASES, CasesArguments, RegionsArguments, SuggestArguments};
+use plm80_runs::{CoverArguments, InputsArguments, RUN, RunArguments, TraceArguments};
 use std::alloc::{AllocError, Global};
 
 /// A command with its arguments.
@@ -28,7 +28,7 @@ pub enum Request<'a> {
     Locate(LocateArguments<'a>),
     Run(RunArguments<'a>),
     List(ListArguments<'a>),
-    Check(NamedFiles<'a>),
+    Check(CheckArguments<'a>),
     Explain(ExplainArguments<'a>),
     Library(LibraryArguments<'a>),
     Regions(RegionsArguments<'a>),
@@ -46,6 +46,7 @@ pub enum Request<'a> {
     Module(ModuleArguments<'a>),
     Find(FindArguments<'a>),
     Suggest(SuggestArguments<'a>),
+    Report(ReportArguments<'a>),
 }
 
 /// Reads a command line, whose first argument is the program's own name: its command, and whether `--why` asks for words about faults. The
@@ -155,6 +156,7 @@ fn refuse_shared_paths<C: Console>(
         Request::Cases(_) => CASES.refuse_shared_paths(console, arguments),
         Request::Extract(_) => EXTRACT.refuse_shared_paths(console, arguments),
         Request::Absolute(_) => ABSOLUTE.refuse_shared_paths(console, arguments),
+        Request::Report(_) => REPORT.refuse_shared_paths(console, arguments),
         _ => Ok(()),
     }
 }
@@ -173,7 +175,7 @@ fn request_of<'a>(
         "locate" => Ok(Some(Request::Locate(LocateArguments::of(alloc, arguments)?))),
         "run" => Ok(Some(Request::Run(RunArguments::of(arguments)))),
         "list" => Ok(Some(Request::List(ListArguments::of(arguments)))),
-        "check" => Ok(Some(Request::Check(NamedFiles::of(arguments)))),
+        "check" => Ok(Some(Request::Check(CheckArguments::of(arguments)))),
         "explain" => Ok(Some(Request::Explain(ExplainArguments::of(arguments)))),
         "lib" => Ok(Some(Request::Library(LibraryArguments::of(alloc, arguments)?))),
         "regions" => Ok(Some(Request::Regions(RegionsArguments::of(arguments)))),
@@ -191,6 +193,7 @@ fn request_of<'a>(
         "module" => Ok(Some(Request::Module(ModuleArguments::of(arguments)))),
         "find" => Ok(Some(Request::Find(FindArguments::of(alloc, arguments)?))),
         "suggest" => Ok(Some(Request::Suggest(SuggestArguments::of(alloc, arguments)?))),
+        "report" => Ok(Some(Request::Report(ReportArguments::of(arguments)))),
         _ => Ok(None),
     }
 }

@@ -5,9 +5,9 @@ ghost use Rattle.std.specs.Prelude.{◌≡◌, ◌∷◌, [], codes, map};
 use clap::{Command, Error};
 use plm80_console::{OneLine, Syntax};
 use plm80_objects::{ABSOLUTE, COMPARE, EXTRACT, FIND, LIB, LINK, LOCATE, MAP, MODULE};
-use plm80_programs::{
-    CALLS, CASES, CHECK, COVER, EXPLAIN, FOLLOW, INPUTS, LIST, REGIONS, RUN, STORES, SUGGEST, TRACE,
-};
+use plm80_programs::{CALLS, CHECK, EXPLAIN, FOLLOW, LIST, REPORT, STORES};
+use plm80_regions::{CASES, REGIONS, SUGGEST};
+use plm80_runs::{COVER, INPUTS, RUN, TRACE};
 use std::alloc::{AllocError, Global};
 
 const AFTER_HELP: &str = "\
@@ -40,10 +40,11 @@ pub(crate) fn object_commands() -> [Syntax<'static>; 5]
 }
 
 /// The commands that verify a located program, in the order of the help text.
-pub(crate) fn verifier_commands() -> [Syntax<'static>; 5]
-    ensures { map (λ command. command.name.now) result ≡ codes "check" ∷ codes "explain" ∷ codes "calls" ∷ codes "stores" ∷ codes "follow" ∷ [] }
+pub(crate) fn verifier_commands() -> [Syntax<'static>; 6]
+    ensures { map (λ command. command.name.now) result ≡ codes "check" ∷ codes "explain" ∷ codes "calls" ∷ codes "stores" ∷ codes "follow"
+        ∷ codes "report" ∷ [] }
 {
-    [CHECK, EXPLAIN, CALLS, STORES, FOLLOW]
+    [CHECK, EXPLAIN, CALLS, STORES, FOLLOW, REPORT]
 }
 
 /// The commands that run a located program, in the order of the help text.

@@ -1,4 +1,4 @@
-//! The memory of a board, as the options of `locate` name it.
+//! The memory of a board, as the options of `locate` or its text name it.
 
 ghost use Rattle.std.specs.Prelude.{◌≡◌, IfOk};
 ghost use Rattle.plm80_objects.specs.Locate.{names_board, unmapped_of};
@@ -6,6 +6,7 @@ ghost use Rattle.plm80_objects.specs.Locate.{names_board, unmapped_of};
 use omf_module::Module;
 use place80::{Options, layout};
 use place80_text::{Board, Unmapped, first_unmapped};
+use plm80_boards::BOARD;
 use plm80_console::{Argument, Kind};
 use std::alloc::{AllocError, Global};
 
@@ -21,6 +22,13 @@ pub const RAM_RANGE: Argument<'static> = Argument {
     name: "ram-range",
     kind: Kind::PathsAt("FIRST:LENGTH"),
     help: "RAM of the board",
+};
+
+/// The option `--board` of `locate`: the text of the board.
+pub const BOARD_TEXT: Argument<'static> = Argument {
+    name: BOARD,
+    kind: Kind::PathInPlaceOf(&["rom-range", "ram-range"]),
+    help: "The board's text, in place of both",
 };
 
 /// The first address at which the board has no memory for `program`, which these options place. `None` if there is no such address, or if

@@ -4,6 +4,7 @@ ghost use Rattle.std.specs.Prelude.{◌≡◌, ◌≤◌, IfOk, IfSome, IfNone};
 ghost use Rattle.std.specs.List.{AllByRecursion};
 ghost use Rattle.omf_model.specs.Rules.{IsModule};
 ghost use Rattle.rom80_find.specs.Dump.{dump_of};
+ghost use Rattle.rom80_find.specs.Listed.{Lists};
 ghost use Rattle.rom80_pattern.specs.Modules.{code_bytes, code_length};
 ghost use Rattle.rom80_find.specs.Words.{AreAscending};
 ghost use Rattle.rom80_find.specs.Lies.{HasModule, AreModulePlaces, AreModuleWords, MayBeListed};
@@ -15,6 +16,7 @@ use crate::found::laws::{
 };
 use crate::indexed_dump::IndexedDump;
 use crate::listing::{count_of_values, places};
+use crate::places::Places;
 use crate::words::{Word, words_at};
 use omf_model::Module;
 use rom80_pattern::{CodeByte, code_bytes};
@@ -67,26 +69,23 @@ impl<'a> ModulePattern<'a> {
         &self.code
     }
 
-    /// Returns the addresses at which the module lies in a dump, in ascending order: those for which there are bases such that the dump
-    /// has, at each address that the module's contents in CODE cover, the byte of the last of them, relocated by the bases. CODE's own
-    /// base is the address. A module without a byte in CODE lies nowhere.
+    /// Returns the addresses at which the module lies in a dump: those for which there are bases such that the dump has, at each address
+    /// that the module's contents in CODE cover, the byte of the last of them, relocated by the bases. CODE's own base is the address. A
+    /// module without a byte in CODE lies nowhere.
     ///
     /// # Errors
     /// `AllocError` only if memory ran out.
-    pub(crate) fn places(
-        &self,
-        alloc: Global,
-        dump: &IndexedDump<'_>,
-    ) -> Result<Vec<u16>, AllocError>
-        ensures { IfOk result (λ places. AreModulePlaces dump.now self.now places.items) }
+    pub(crate) fn places(&self, alloc: Global, dump: &IndexedDump<'_>) -> Result<Places, AllocError>
+        ensures { IfOk result (λ places. Lists (AreModulePlaces dump.now self.now) places) }
     {
         patterns_lie_as_modules();
         pattern_places_are_module_places();
         let code = self.code();
         if code.is_empty() {
-            return Ok(Vec::new(alloc));
+            return Ok(Places::new(alloc));
         }
-        places(alloc, dump, code)
+        let found = places(alloc, dump, code)?;
+        Ok(found)
     }
 
     /// Returns the words of the module's targets if it lies at `address`, by ascending numbers: of a segment its base, of STACK its top,

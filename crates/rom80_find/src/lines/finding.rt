@@ -53,7 +53,7 @@ pub(crate) fn append_module_places(
         return Ok(Finding::Short);
     }
     let places = pattern.places(alloc, dump)?;
-    if places.is_empty() {
+    if places.count == 0 {
         return Ok(Finding::Missing);
     }
     append_places(alloc, dump.dump(), &pattern, &places, text)?;

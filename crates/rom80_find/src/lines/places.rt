@@ -1,44 +1,33 @@
 //! The lines of the places at which a module lies in a dump.
 
-ghost use Rattle.std.specs.Prelude.{◌≡◌, ◌++◌, OnOk, take};
+ghost use Rattle.std.specs.Prelude.{◌≡◌, ℕ, ◌++◌, List, OnOk};
 ghost use Rattle.std.specs.List.{AllByRecursion};
 ghost use Rattle.rom80_find.specs.Dump.{dump_of};
-ghost use Rattle.rom80_find.specs.Lies.{AreModulePlaces, HasModule};
+ghost use Rattle.rom80_find.specs.Lies.{HasModule};
 ghost use Rattle.rom80_find.specs.Lines.{more_line};
+ghost use Rattle.rom80_find.specs.Listed.{Shows};
 ghost use Rattle.rom80_find.specs.Prints.{PrintsEach, PrintsPlace, PrintsPlaces};
 
 use crate::dump::Dump;
 use crate::found::ModulePattern;
 use crate::lines::place::append_place_lines;
+use crate::places::{Places, SHOWN};
 use std::alloc::{AllocError, Global};
-
-/// The number of a module's places that are printed; the others are counted.
-const SHOWN: usize = 16;
 
 /// Appends the lines of a module at the first sixteen of its places in a dump, and how many places there are beyond these.
 pub(crate) fn append_places(
     alloc: Global,
     dump: Dump<'_>,
     pattern: &ModulePattern<'_>,
-    places: &[u16],
+    places: &Places,
     text: &mut Vec<u8>,
 ) -> Result<(), AllocError>
-    requires { AreModulePlaces (dump_of dump) pattern.now places.now }
-    ensures { OnOk result (PrintsPlaces (dump_of dump.entry) pattern.now places.now text.old.items text.new.items) }
+    requires { AllByRecursion (HasModule (dump_of dump) pattern.now) places.now.first.items }
+    ensures { OnOk result ((all : List ℕ) → Shows places.now all → PrintsPlaces (dump_of dump.entry) pattern.now all text.old.items text.new.items) }
 {
-    append_each_place(alloc, dump, pattern, shown_places(places), text)?;
-    append_more_count(alloc, text, places.len())
-}
-
-/// Returns the places that are printed: the first sixteen, or all if there are fewer.
-fn shown_places(places: &[u16]) -> &[u16]
-    ensures { result.now ≡ take 16 places.now }
-{
-    if places.len() <= SHOWN {
-        places
-    } else {
-        &places[..SHOWN]
-    }
+    append_each_place(alloc, dump, pattern, &places.first, text)?;
+    append_more_count(alloc, text, places.count)?;
+    Ok(())
 }
 
 /// Appends the lines of a module at each of these places in a dump.

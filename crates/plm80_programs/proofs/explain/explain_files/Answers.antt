@@ -1,14 +1,19 @@
-use Rattle.plm80_programs.proofs.{Names.PrintsExplanation, GivenLemmas.program_or_gives_up}
-use Rattle.plm80_programs.proofs.GivenLemmas.{err_from}
-use Rattle.plm80_console.specs.Answer.GivesUp.{before}
+use Rattle.plm80_programs.proofs.Names.{asks_names, program_paths, AnswersProgram, PrintsExplanation}
+use Rattle.plm80_console.specs.{Answer.GivesUp.before, AnswerLaws.err_from}
+use Rattle.plm80_boards.specs.BoardLaws.{gives_on_board, stops_at_board}
 use Rattle.plm80_programs.proofs.explain.explain_files.Goals as goal
 
 pub returns : goal.returns
 returns g c =
-    let both = program_or_gives_up c.in_ok-image.ensures.read (g.C.Console.journal c.give_if_made-given.new.self) (PrintsExplanation c.args.arguments.all)
-    c.explained-answer.result c.give_if_made-given.result c.explained-answer.ensures c.give_if_made-given.ensures.given c.give_if_made-given.ensures.fault in
+    let asked = c.args.arguments in
+    let both = gives_on_board asked.board (λ _. AnswersProgram (PrintsExplanation asked.all) (asks_names asked.files)) (program_paths asked.files)
+    (g.C.Console.journal c.args.console.now) (g.C.Console.journal c.read.new.console) (g.C.Console.journal c.explain_on_board.new.console)
+    c.in_ok-board.board.board c.in_ok-board.ensures.read c.explain_on_board.result c.explain_on_board.ensures.done c.explain_on_board.ensures.fault in
     record { done = both.0; fault = both.1 }
 
-pub returns-in_err-image-clause-fault : goal.returns-in_err-image-clause-fault
-returns-in_err-image-clause-fault g c =
-    err_from c.from_residual.result (before c.in_err-image.ensures.fault)
+pub returns-in_err-board-clause-fault : goal.returns-in_err-board-clause-fault
+returns-in_err-board-clause-fault g c =
+    let asked = c.args.arguments in
+    err_from c.from_residual.result
+    (before (stops_at_board asked.board (program_paths asked.files) (g.C.Console.journal c.args.console.now) (g.C.Console.journal c.read.new.console)
+    c.in_err-board.ensures.fault))

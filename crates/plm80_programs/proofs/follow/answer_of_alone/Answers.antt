@@ -1,6 +1,5 @@
 use Rattle.std.specs.Prelude.{[], IfOk, length}
-use Rattle.plm80_programs.proofs.Names.{◌≡◌, ◌∙◌, ap, subst, List, Located, ℕ}
-use Rattle.image80.specs.declared.range.Range.{Range}
+use Rattle.plm80_programs.proofs.Names.{◌∙◌, ap, subst, List, ℕ}
 use Rattle.verify80_follow.specs.FollowText.{bounds_lines}
 use Rattle.plm80_programs.specs.Following.{PrintsTable}
 use Rattle.plm80_programs.proofs.FollowLemmas.{room_is}

@@ -1,4 +1,4 @@
-use Rattle.plm80_programs.proofs.Names.{◌≡◌, ◌∙◌, ap, subst, codes, prints, List, Located, ℕ}
+use Rattle.plm80_programs.proofs.Names.{◌∙◌, ap, subst, codes, prints, List, Located, ℕ}
 use Rattle.image80.specs.declared.range.Range.{Range}
 use Rattle.image80_text.specs.NameText.{named_text}
 use Rattle.plm80_programs.specs.Following.{IsFollowedAllBy}

@@ -1,5 +1,5 @@
 use Rattle.std.specs.Prelude.{IfOk, length}
-use Rattle.plm80_programs.proofs.Names.{◌≡◌, ◌∙◌, ap, subst, codes, List, Located, ℕ}
+use Rattle.plm80_programs.proofs.Names.{◌∙◌, ap, subst, codes, List, Located, ℕ}
 use Rattle.image80.specs.declared.range.Range.{Range}
 use Rattle.image80_text.specs.NameText.{named_text}
 use Rattle.verify80_follow.specs.FollowText.{live_lines}

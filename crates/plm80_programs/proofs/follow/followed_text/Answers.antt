@@ -1,4 +1,4 @@
-use Rattle.plm80_programs.proofs.Names.{◌≡◌, ◌++◌, ◌∙◌, ap, codes, List, ℕ}
+use Rattle.plm80_programs.proofs.Names.{◌++◌, ◌∙◌, ap, codes, List, ℕ}
 use Rattle.image80_text.specs.NameText.{named_text}
 use Rattle.verify80_follow.specs.FollowText.{ways_lines}
 use Rattle.plm80_programs.proofs.follow.followed_text.Goals as goal

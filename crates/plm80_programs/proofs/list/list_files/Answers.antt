@@ -1,5 +1,6 @@
-use Rattle.plm80_programs.proofs.{Names.PrintsListing, GivenLemmas.program_or_gives_up}
-use Rattle.plm80_programs.proofs.GivenLemmas.{err_from}
+use Rattle.plm80_programs.proofs.Names.{PrintsListing}
+use Rattle.plm80_names.specs.VerdictLaws.{program_or_gives_up}
+use Rattle.plm80_console.specs.AnswerLaws.{err_from}
 use Rattle.plm80_console.specs.Answer.GivesUp.{before}
 use Rattle.plm80_programs.proofs.list.list_files.Goals as goal
 

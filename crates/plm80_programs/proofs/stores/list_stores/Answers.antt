@@ -1,29 +1,19 @@
-use Rattle.plm80_programs.proofs.Names.{asks_names, program_paths, AnswersProgram, AnswersStores, PrintsStores}
-use Rattle.plm80_programs.proofs.GivenLemmas.{more_or_gives_up, program_answered, program_given_up}
-use Rattle.plm80_programs.proofs.GivenLemmas.{err_from}
-use Rattle.plm80_console.specs.Answer.GivesUp.{before}
-use Rattle.plm80_programs.proofs.Names.{subst, Journal, OnlyReports}
+use Rattle.plm80_programs.proofs.Names.{program_paths, AnswersStores}
+use Rattle.plm80_console.specs.{Answer.GivesUp.before, AnswerLaws.err_from}
+use Rattle.plm80_boards.specs.BoardLaws.{gives_on_board, stops_at_board}
 use Rattle.plm80_programs.proofs.stores.list_stores.Goals as goal
 
 pub returns : goal.returns
 returns g c =
     let asked = c.args.arguments.now in
-    let quiet = c.in_ok-quiet.quiet.items in
-    let new = g.C.Console.journal c.print_stores-given.new.console in
-    let both = more_or_gives_up (AnswersProgram (PrintsStores quiet) (asks_names asked.files)) (AnswersStores asked) (program_paths asked.files)
-    (g.C.Console.journal c.args.console.now) (g.C.Console.journal c.ranges_of.new.console) new
-    (λ files given is. record { quiet = quiet; written = simp (c.deref.ensures.value) at c.in_ok-quiet.ensures.ranges; is = is })
-    c.in_ok-quiet.ensures.unchanged c.print_stores-given.result (
-      program_answered c.in_ok-image.ensures.read new (PrintsStores quiet) c.print_stores-given.result
-          (simp (c.deref-3.ensures.value) at c.print_stores-given.ensures.done),
-      program_given_up c.in_ok-image.ensures.read new (PrintsStores quiet) c.print_stores-given.result
-          (simp (c.deref-3.ensures.value) at c.print_stores-given.ensures.fault),
-    ) in
+    let both = gives_on_board asked.board (AnswersStores asked) (program_paths asked.files)
+    (g.C.Console.journal c.args.console.now) (g.C.Console.journal c.read.new.console) (g.C.Console.journal c.list_on_board.new.console)
+    c.in_ok-board.board.board c.in_ok-board.ensures.read c.list_on_board.result c.list_on_board.ensures.done c.list_on_board.ensures.fault in
     record { done = both.0; fault = both.1 }
 
-pub returns-in_err-image-clause-fault : goal.returns-in_err-image-clause-fault
-returns-in_err-image-clause-fault g c =
-    err_from c.from_residual-in_err-image.result
-    (before
-    (subst (λ (j : Journal). OnlyReports (program_paths c.args.arguments.now.files) j (g.C.Console.journal c.read.new.console))
-    c.in_ok-quiet.ensures.unchanged c.in_err-image.ensures.fault))
+pub returns-in_err-board-clause-fault : goal.returns-in_err-board-clause-fault
+returns-in_err-board-clause-fault g c =
+    let asked = c.args.arguments.now in
+    err_from c.from_residual.result
+    (before (stops_at_board asked.board (program_paths asked.files) (g.C.Console.journal c.args.console.now) (g.C.Console.journal c.read.new.console)
+    c.in_err-board.ensures.fault))

@@ -1,7 +1,7 @@
 use Rattle.plm80_programs.proofs.Names.{◌≡◌, All, List, Located, Range, subst, GaveUp, Journal, IsGiven}
 use Rattle.plm80_programs.specs.Printed.{IsAllData}
 use Rattle.plm80_console.specs.Answer.IsGivenUp.{within}
-use Rattle.plm80_programs.proofs.GivenLemmas.{err_from}
+use Rattle.plm80_console.specs.AnswerLaws.{err_from}
 use Rattle.plm80_programs.proofs.stores.print_stores.Goals as goal
 
 -- the same image, seen as a value

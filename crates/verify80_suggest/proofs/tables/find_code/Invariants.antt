@@ -4,5 +4,5 @@ use Rattle.verify80_suggest.proofs.tables.find_code.Given as goal
 
 abbrev pub invariant-loop-address : goal.invariant-loop-address
 invariant-loop-address l = record {
-  marks : AreMarks (is_code l.covered l.words l.ram) l.address l.marks.items;
+  marks : AreMarks (is_code l.covered l.tables l.ram) l.address l.marks.items;
 }

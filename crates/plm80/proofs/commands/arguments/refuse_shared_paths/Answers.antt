@@ -16,7 +16,13 @@ returns-in-Locate-clause-apart g c = rw c.in-Locate.is (unless_refused c.refuse_
   (λ path is. apart 1 _ path refl is 0 _ refl (λ e. let bad : 0 ≡ 1 = e in absurd (omega arith)) refl),
   (
     (λ path is. apart 1 _ path refl is 2 _ refl (λ e. let bad : 2 ≡ 1 = e in absurd (omega arith)) refl),
-    (λ path is. apart 2 _ path refl is 0 _ refl (λ e. let bad : 0 ≡ 2 = e in absurd (omega arith)) refl),
+    (
+      (λ path is. apart 2 _ path refl is 0 _ refl (λ e. let bad : 0 ≡ 2 = e in absurd (omega arith)) refl),
+      (
+        (λ path is. apart 1 _ path refl is 12 _ refl (λ e. let bad : 12 ≡ 1 = e in absurd (omega arith)) refl),
+        (λ path is. apart 2 _ path refl is 12 _ refl (λ e. let bad : 12 ≡ 2 = e in absurd (omega arith)) refl),
+      ),
+    ),
   ),
 )))
 
@@ -41,4 +47,10 @@ pub returns-in-Absolute-clause-apart : goal.returns-in-Absolute-clause-apart
 returns-in-Absolute-clause-apart g c = rw c.in-Absolute.is (unless_refused c.refuse_shared_paths-in-Absolute.result c.refuse_shared_paths-in-Absolute.ensures.apart (λ apart. (
   (λ path is. apart 1 _ path refl is 0 _ refl (λ e. let bad : 0 ≡ 1 = e in absurd (omega arith)) refl),
   (λ path is. apart 1 _ path refl is 5 _ refl (λ e. let bad : 5 ≡ 1 = e in absurd (omega arith)) refl),
+)))
+
+pub returns-in-Report-clause-apart : goal.returns-in-Report-clause-apart
+returns-in-Report-clause-apart g c = rw c.in-Report.is (unless_refused c.refuse_shared_paths-in-Report.result c.refuse_shared_paths-in-Report.ensures.apart (λ apart. (
+  (λ path is. apart 2 _ path refl is 0 _ refl (λ e. let bad : 0 ≡ 2 = e in absurd (omega arith)) refl),
+  (λ path is. apart 2 _ path refl is 1 _ refl (λ e. let bad : 1 ≡ 2 = e in absurd (omega arith)) refl),
 )))

@@ -1,0 +1,2 @@
+mod OnBoardLemmas
+mod SendLemmas

@@ -1,0 +1,3 @@
+pub mod BoardTranscript
+pub mod OnBoards
+pub mod BoardSays

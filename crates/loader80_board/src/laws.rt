@@ -1,0 +1,18 @@
+//! What holds of runs among devices. The function does nothing: its contract is the law.
+
+ghost use Rattle.loader80_board.specs.OnBoards.{RunsAreOnBoards};
+
+use image80::laws::code_data_and_stack_are_apart;
+use verify80::promise_is_kept_on_boards;
+use verify80_states::bytes_stay_bytes;
+
+/// A law: a run of a verified image among devices in its data is a run on a board as `specs/Boards.antt` of `verify80`
+/// defines it, so that each of its states keeps the promise of [`promise_is_kept_on_boards`]. That a device's byte is
+/// set just before the instruction that loads it is what a board may do at any time.
+pub fn runs_are_on_boards()
+    ensures { RunsAreOnBoards }
+{
+    code_data_and_stack_are_apart();
+    promise_is_kept_on_boards();
+    bytes_stay_bytes();
+}

@@ -1,0 +1,129 @@
+//! A vouched image runs on a board.
+
+ghost use Rattle.std.specs.Prelude.{◌≡◌, ◌+◌, ◌<◌, [], All, string_bytes};
+ghost use Rattle.loader80_board.specs.BoardSays.{AreKnown, BoardSays, BoardSends, write_failures_of};
+
+use crate::fault::BoardRunFault;
+use crate::laws::runs_are_on_boards;
+use crate::transcript::board_transcript_text;
+use board80::Board;
+use loader80::Vouched;
+use loader80_trace::Limits;
+use machine80_board::{BoardEnd, misplaced_device, run_on_board};
+use std::alloc::Global;
+use stream80::{Failed, Sink, write_all};
+
+/// The result of a run on a board.
+#[derive(Clone, Copy, Debug, PartialEq, Eq)]
+pub struct BoardOutcome {
+    /// The number of bytes of stack that the program needs at most.
+    pub stack_bytes: u64,
+    /// How the run ended; `None` if the steps were used up.
+    pub end: Option<BoardEnd>,
+    /// The steps that were made, the ending one counted.
+    pub steps: u64,
+    /// The program counter after the last step; at an end, before the ending step.
+    pub at: u16,
+}
+
+/// The answer to a run on a board, and the text to write.
+#[derive(Drop)]
+pub struct BoardReply {
+    /// The outcome of the run, or why there is none.
+    pub answer: Result<BoardOutcome, BoardRunFault>,
+    /// The transcript of the run, or nothing at a fault.
+    pub text: String,
+}
+
+/// Runs a vouched image on a board within these limits; the reply has the outcome and the transcript. Each state of the
+/// run is one on a board of which verify80's promise holds ([`runs_are_on_boards`]).
+///
+/// The fault is `DeviceOutsideData` if a device of the board doesn't lie in the image's data, or `Memory` if memory runs
+/// out, also for an output below the limit; then there is no text.
+pub fn answer_on_board(
+    alloc: Global,
+    vouched: &Vouched,
+    board: &Board,
+    limits: Limits,
+) -> BoardReply
+    ensures { BoardSays board.now vouched.now.image limits.outputs limits.steps result.answer (string_bytes result.text) }
+{
+    runs_of(vouched);
+    let image = vouched.image();
+    if let Some(number) = misplaced_device(board, &image.regions) {
+        return faulty(alloc, BoardRunFault::DeviceOutsideData(number));
+    }
+    let Ok(run) = run_on_board(alloc, image, board, limits.steps, limits.outputs) else {
+        return faulty(alloc, BoardRunFault::Memory);
+    };
+    let outcome = BoardOutcome {
+        stack_bytes: vouched.stack_bytes(),
+        end: run.end,
+        steps: run.steps,
+        at: run.cpu.pc(),
+    };
+    match board_transcript_text(
+        alloc,
+        outcome.stack_bytes,
+        &run.outputs,
+        outcome.end,
+        outcome.at,
+        outcome.steps,
+    ) {
+        Ok(text) => BoardReply {
+            answer: Ok(outcome),
+            text,
+        },
+        Err(_) => faulty(alloc, BoardRunFault::Memory),
+    }
+}
+
+/// A reply with this fault and no text.
+fn faulty(alloc: Global, fault: BoardRunFault) -> BoardReply
+    ensures answer { result.answer ≡ Err fault }
+    ensures text { string_bytes result.text ≡ [] }
+{
+    BoardReply {
+        answer: Err(fault),
+        text: String::new(alloc),
+    }
+}
+
+/// What is known of a vouched image's runs on boards. (It carries laws, and does nothing.)
+fn runs_of(vouched: &Vouched)
+    ensures { AreKnown vouched.now.image vouched.now.stack_bytes }
+{
+    runs_are_on_boards();
+    are_bytes(vouched.memory());
+    vouched.image().regions.stack();
+}
+
+/// Bytes are below 256. (It carries this fact alone.)
+fn are_bytes(memory: &[u8])
+    ensures { All (λ byte. byte < 256) memory.now }
+{}
+
+/// Runs a vouched image on a board within these limits, and writes the transcript. The sink's count of failures must be
+/// below the greatest `u64`.
+///
+/// # Errors
+/// `DeviceOutsideData` with the number of the board's line if a device doesn't lie in the image's data; `Memory` if memory
+/// runs out, also for an output below the limit; `Write` if a write fails or takes no byte, after which a proper prefix of
+/// the transcript was written. After the other faults nothing was written.
+pub fn write_on_board<K: Sink>(
+    alloc: Global,
+    vouched: &Vouched,
+    board: &Board,
+    limits: Limits,
+    out: &mut K,
+) -> Result<BoardOutcome, BoardRunFault>
+    requires { K.failed out.old < u64.MAX }
+    ensures sends { BoardSends board.now vouched.now.image limits.outputs limits.steps result (K.written out.old) (K.written out.new) }
+    ensures failures { K.failed out.new ≡ K.failed out.old + write_failures_of result }
+{
+    let reply = answer_on_board(alloc, vouched, board, limits);
+    match write_all(out, reply.text.as_bytes()) {
+        Ok(()) => reply.answer,
+        Err(Failed) => Err(BoardRunFault::Write),
+    }
+}

@@ -1,0 +1,73 @@
+//! What is printed of a run on a board.
+
+ghost use Rattle.std.specs.Prelude.{◌≡◌, ◌++◌, IfOk, OnOk, string_bytes};
+ghost use Rattle.std.specs.List.{flat_map};
+ghost use Rattle.loader80_board.specs.BoardTranscript.{board_end_line, board_transcript, output_line};
+
+use board80::Place;
+use loader80::digits::{ByteDigits, WordDigits};
+use loader80::{ending_text, front_text};
+use machine80_board::{BoardEnd, Output};
+use std::alloc::{AllocError, Global};
+use std::fmt::Write;
+
+/// The transcript of a run: `STACK n` with the bytes of stack, a line `OUT pp bb` for each output at a port and `OUT aaaa bb`
+/// for each at a cell of a device, and a last line that says how the run ended, as that of [`loader80::ending_text`];
+/// `INPUT aaaa` and `OUTPUT aaaa` name cells.
+///
+/// # Errors
+/// `AllocError` only if memory runs out.
+pub fn board_transcript_text(
+    alloc: Global,
+    stack_bytes: u64,
+    outputs: &[Output],
+    end: Option<BoardEnd>,
+    at: u16,
+    steps: u64,
+) -> Result<String, AllocError>
+    ensures { IfOk result (λ text. string_bytes text ≡ board_transcript stack_bytes outputs.now «end» at steps) }
+{
+    let mut text = front_text(alloc, stack_bytes, &[])?;
+    for output in outputs {
+        append_output(&mut text, *output)?;
+    }
+    append_end(alloc, &mut text, end, at, steps)?;
+    Ok(text)
+}
+
+/// Appends the line of an output.
+fn append_output(text: &mut String, output: Output) -> Result<(), AllocError>
+    ensures { OnOk result (string_bytes text.new ≡ string_bytes text.old ++ output_line output) }
+{
+    let byte = ByteDigits(output.byte);
+    match output.place {
+        Place::Port(port) => writeln!(text, "OUT {} {byte}", ByteDigits(port)),
+        Place::Cell(address) => writeln!(text, "OUT {} {byte}", WordDigits(address)),
+    }
+}
+
+/// Appends the last line of a transcript.
+fn append_end(
+    alloc: Global,
+    text: &mut String,
+    end: Option<BoardEnd>,
+    at: u16,
+    steps: u64,
+) -> Result<(), AllocError>
+    ensures { OnOk result (string_bytes text.new ≡ string_bytes text.old ++ board_end_line «end» at steps) }
+{
+    match end {
+        None => text.push_str(&ending_text(alloc, None, at, steps)?),
+        Some(BoardEnd::OfMachine(end)) => text.push_str(&ending_text(alloc, Some(end), at, steps)?),
+        Some(BoardEnd::CellEmpty(address)) => writeln!(
+            text,
+            "INPUT {} AFTER {steps}",
+            WordDigits(address)
+        ),
+        Some(BoardEnd::CellRefused(address)) => writeln!(
+            text,
+            "OUTPUT {} AFTER {steps}",
+            WordDigits(address)
+        ),
+    }
+}

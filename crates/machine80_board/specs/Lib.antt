@@ -1,0 +1,5 @@
+pub mod Exchanges
+pub mod BoardRun
+-- what the crate's own functions promise one another: no public contract cites these
+pub mod Cursor
+pub mod Keeping

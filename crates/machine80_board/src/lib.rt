@@ -1,0 +1,27 @@
+//! Runs among the devices of a board.
+//!
+//! Proved: the run is the one that the board's lines give, step by step: its outputs, its end and its steps.
+//!
+//! | Item | What it is |
+//! |---|---|
+//! | [`run_on_board`], [`BoardRun`] | an image runs, its ports and the cells of its devices answered by a board's lines |
+//! | [`BoardEnd`], [`Output`] | how such a run ends; a byte that was put out at a port, or stored at a cell |
+//! | [`misplaced_device`] | the first line of a board whose device doesn't lie in the program's data |
+#![tactic(auto)]
+
+mod answering;
+mod cells;
+mod closed_ports;
+mod cursor;
+mod end;
+mod output;
+mod placing;
+mod rules;
+mod running;
+mod slots;
+mod stepping;
+
+pub use end::BoardEnd;
+pub use output::Output;
+pub use placing::misplaced_device;
+pub use running::{BoardRun, run_on_board};

@@ -1,0 +1,15 @@
+use Rattle.plm80_programs.proofs.Names.{PrintsExplanation}
+use Rattle.plm80_names.specs.VerdictLaws.{program_or_gives_up}
+use Rattle.plm80_console.specs.AnswerLaws.{err_from}
+use Rattle.plm80_console.specs.Answer.GivesUp.{before}
+use Rattle.plm80_programs.proofs.explain.explain_on_board.Goals as goal
+
+pub returns : goal.returns
+returns g c =
+    let both = program_or_gives_up c.in_ok-image.ensures.read (g.C.Console.journal c.give_if_made-given.new.self) (PrintsExplanation c.args.all)
+    c.explained-answer.result c.give_if_made-given.result c.explained-answer.ensures c.give_if_made-given.ensures.given c.give_if_made-given.ensures.fault in
+    record { done = both.0; fault = both.1 }
+
+pub returns-in_err-image-clause-fault : goal.returns-in_err-image-clause-fault
+returns-in_err-image-clause-fault g c =
+    err_from c.from_residual.result (before c.in_err-image.ensures.fault)

@@ -1,0 +1,25 @@
+use Rattle.std.proofs.Common.{List, subst, sym}
+use Rattle.image80.specs.declared.range.Range.{Range}
+use Rattle.plm80_boards.specs.Quiet.{IsQuietIn}
+use Rattle.plm80_programs.proofs.{Names.PrintsStores, RamLemmas.same_quiet}
+use Rattle.plm80_console.specs.AnswerLaws.{answered_of}
+use Rattle.plm80_programs.specs.Printed.{PrintsStoresOn}
+use Rattle.plm80_programs.proofs.stores.print_on_board.Goals as goal
+
+pub returns-in-Ok : goal.returns-in-Ok
+returns-in-Ok g c =
+    let board = c.args.board.now.board in
+    let named = c.args.named.items in
+    let image = c.args.image in
+    let names = c.args.names.now in
+    let quiet = c.deref.result.now in
+    let both = answered_of (PrintsStores quiet image names) (PrintsStoresOn board named image names)
+    (λ answer is. record {
+      quiet = quiet;
+      is_quiet = subst (λ (ranges : List Range). IsQuietIn board image.regions named ranges) (sym c.deref.ensures.value)
+          (same_quiet board named c.in-Ok.quiet.items _ _ c.image.view_is c.in-Ok.ensures);
+      prints_stores = is;
+    })
+    (g.C.Console.journal c.args.console.now) (g.C.Console.journal c.print_stores.new.console) c.print_stores.result
+    (c.print_stores.ensures.done, c.print_stores.ensures.fault) in
+    record { done = both.0; fault = both.1 }

@@ -1,0 +1,3 @@
+pub mod CaseLemmas
+mod CaseTextLemmas
+mod Names

@@ -1,0 +1,38 @@
+use Rattle.std.proofs.Common.{◌≡◌, ◌<◌, ◌∷◌, ◌++◌, All, rules, subst, sym}
+use Rattle.std.proofs.lemmas.List.Elements.{All-nil, All-push}
+use Rattle.plm80_regions.specs.CaseTexts.{AreTargetTexts}
+use Rattle.plm80_regions.proofs.CaseTextLemmas.{left_last, left_more}
+use Rattle.plm80_regions.proofs.case_texts.targets_of.Goals as goal
+
+pub loop-first-init : goal.loop-first-init
+loop-first-init c = record {
+  is_text = search rules;
+  left = λ others are. subst (λ ts. AreTargetTexts c.args.text.now (ts ++ others)) (sym c.new-targets.ensures.items) are;
+  words = subst (All (λ target. target < 65536)) (sym c.new-targets.ensures.items) (All-nil (λ target. target < 65536));
+}
+
+pub loop-first-preserved : goal.loop-first-preserved
+loop-first-preserved c =
+    let first = c.in-Some.first.now in
+    let behind = c.in-Some.behind.now in
+    let target = c.in-Some-word_of_digits.target in
+    let targets = c.loop-first.targets.items in
+    let cut : c.loop-first.rest.now ≡ first ++ 44 ∷ behind = search rules in
+    rw c.in_ok-push.ensures.items
+    (record {
+      is_text = search rules;
+      left = left_more c.args.text.now first behind c.loop-first.rest.now targets target cut c.in-Some-word_of_digits.ensures.word.0
+          c.in-Some-word_of_digits.ensures.word.1 c.loop-first.invariant.left;
+      words = All-push (λ target. target < 65536) targets target c.loop-first.invariant.words (search rules);
+    })
+
+pub returns-clause-texts : goal.returns-clause-texts
+returns-clause-texts c =
+    subst (AreTargetTexts c.args.text.now) (sym c.in_ok-push-2.ensures.items)
+    (left_last c.args.text.now c.loop-first.rest.now c.loop-first.targets.items c.in-Some-word_of_digits-2.target c.in-Some-word_of_digits-2.ensures.word.0
+    c.in-Some-word_of_digits-2.ensures.word.1 c.loop-first.invariant.left)
+
+pub returns-clause-words : goal.returns-clause-words
+returns-clause-words c =
+    subst (All (λ target. target < 65536)) (sym c.in_ok-push-2.ensures.items)
+    (All-push (λ target. target < 65536) c.loop-first.targets.items c.in-Some-word_of_digits-2.target c.loop-first.invariant.words (search rules))

@@ -1,0 +1,4 @@
+mod ReadLemmas
+mod RunLemmas
+mod SessionLemmas
+mod Names

@@ -1,0 +1,4 @@
+pub mod Arguments
+pub mod Status
+pub mod Running
+pub mod InputWords

@@ -1,0 +1,42 @@
+//! How runs end: the last line of a run, and the exit status.
+
+ghost use Rattle.std.specs.Prelude.{◌≡◌, IfOk};
+ghost use Rattle.plm80_runs.specs.Running.{ending, trace_ending};
+
+use crate::status::status_of;
+use loader80::{Ended, Vouched, ending_text};
+use plm80_console::Answer;
+use plm80_names::Names;
+use std::alloc::{AllocError, Global};
+
+/// What is printed of how a run ended: its last line, with a name for the address in it, and the exit status.
+pub fn ending_of(
+    alloc: Global,
+    vouched: &Vouched,
+    ended: &Ended,
+    names: &Names,
+) -> Result<Answer<'static>, AllocError>
+    ensures { IfOk result (λ answer. answer ≡ ending vouched.now names.now ended.now) }
+{
+    let code = vouched.image().regions.code();
+    let text = ending_text(alloc, ended.end, ended.cpu.pc(), ended.steps)?.into_bytes();
+    let text = names.name(alloc, code, b"HALT ", text)?;
+    let text = names.name(alloc, code, b"STORE ", text)?;
+    let text = names.name(alloc, code, b"JUMP ", text)?;
+    Ok(Answer::prints(text, status_of(ended.end)))
+}
+
+/// What `trace` prints behind the lines of a run: how the run ended; if the lines didn't reach that, nothing with status 0.
+pub fn trace_ending_of(
+    alloc: Global,
+    vouched: &Vouched,
+    ended: &Option<Ended>,
+    names: &Names,
+) -> Result<Answer<'static>, AllocError>
+    ensures { IfOk result (λ answer. answer ≡ trace_ending vouched.now names.now ended.now) }
+{
+    match ended {
+        Some(ended) => ending_of(alloc, vouched, ended, names),
+        None => Ok(Answer::prints(Vec::new(alloc), 0)),
+    }
+}

@@ -1,0 +1,28 @@
+//! The commands of a located program's runs.
+//!
+//! Proved: what each prints and writes of an image, its regions, the inputs of its run and its options, and the status.
+//!
+//! | Item | What it is |
+//! |---|---|
+//! | [`run_files`] | `run`: the transcript of a run, its last instructions, the memory that it leaves |
+//! | [`trace_files`] | `trace`: the instructions of a run, a line each |
+//! | [`cover_files`] | `cover`: the code, with how often a run began each instruction |
+//! | [`write_inputs_file`] | `inputs`: the text of a run's inputs, from words |
+//! | [`status_of`], [`EndWords`] | the exit status of a run; words on how it ended |
+#![tactic(auto)]
+
+mod cover;
+mod endings;
+mod inputs;
+mod run;
+mod run_arguments;
+mod session_files;
+mod status;
+mod trace;
+mod watching;
+
+pub use cover::{COVER, CoverArguments, cover_files};
+pub use inputs::{INPUTS, InputsArguments, write_inputs_file};
+pub use run::{RUN, RunArguments, run_files};
+pub use status::{EndWords, status_of};
+pub use trace::{TRACE, TraceArguments, trace_files};
