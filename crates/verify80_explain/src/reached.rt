@@ -120,7 +120,7 @@ fn leads_on<C: Code>(
 }
 
 /// Whether a move leads to address `to` with this frame, other than by a call that returns.
-/// `targets` are the declared targets of a PCHL, and `next` is the address after the instruction.
+/// `targets` are the declared targets of a PCHL, ascending, and `next` is the address after the instruction.
 fn leads_to(moves: &Moves, targets: &[u16], next: u16, to: u16, frame: &Frame) -> bool
     ensures { result ≡ true → LeadsTo moves.now targets.now next to frame.now }
 {
@@ -128,7 +128,7 @@ fn leads_to(moves: &Moves, targets: &[u16], next: u16, to: u16, frame: &Frame) -
         Moves::On(after) => to == next && is_same(frame, after),
         Moves::Jump(after, address) => to == *address && is_same(frame, after),
         Moves::Either(after, address) => (to == next || to == *address) && is_same(frame, after),
-        Moves::Case(after) => targets.contains(&to) && is_same(frame, after),
+        Moves::Case(after) => targets.binary_search(&to).is_ok() && is_same(frame, after),
         Moves::MaybeCall(after, _target) => to == next && is_same(frame, after),
         Moves::MaybeReturn(after, _taken) => to == next && is_same(frame, after),
         Moves::End => false,
