@@ -8,7 +8,7 @@ use machine80::{Cpu, PagedBus};
 
 /// What a run goes by.
 #[derive(Drop)]
-pub(crate) struct Rules<'a> {
+pub struct Rules<'a> {
     /// The lines of the board.
     pub lines: &'a [Line],
     /// The regions of the image.
@@ -19,7 +19,7 @@ pub(crate) struct Rules<'a> {
 
 /// How far a run has come.
 #[derive(Drop)]
-pub(crate) struct Running {
+pub struct Running {
     /// The processor.
     pub cpu: Cpu,
     /// The memory.

@@ -75,7 +75,7 @@ pub fn run_on_board(
 ///
 /// # Errors
 /// `AllocError` only if memory runs out.
-fn start(alloc: Global, image: &Image) -> Result<Running, AllocError>
+pub fn start(alloc: Global, image: &Image) -> Result<Running, AllocError>
     ensures starts { IfOk result (λ running. StartsAt image.now running) }
     ensures whole { IfOk result AreWhole }
 {

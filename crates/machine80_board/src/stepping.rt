@@ -19,11 +19,13 @@ use image80::laws::code_data_and_stack_are_apart;
 use machine80::{Bus, End, PagedBus, fetch, step};
 use std::alloc::{AllocError, Global};
 
-/// Makes one step; returns how the run ends if it ends there, and `None` if it goes on.
+/// Makes one step of a run; returns how the run ends if it ends there, and `None` if it goes on. At an end the processor
+/// and the outputs are those before the step. The board's devices must lie in data, and `running` must come from [`start`]
+/// and have all its slots.
 ///
 /// # Errors
 /// `AllocError` if memory runs out for an output.
-pub(crate) fn step_on_board(
+pub fn step_on_board(
     alloc: Global,
     rules: &Rules<'_>,
     running: &mut Running,
