@@ -1,2 +1,6 @@
 mod OnBoardLemmas
 mod SendLemmas
+mod DecideLemmas
+mod StatesLemmas
+mod LineLemmas
+mod TraceLemmas
