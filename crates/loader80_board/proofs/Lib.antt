@@ -4,3 +4,4 @@ mod DecideLemmas
 mod StatesLemmas
 mod LineLemmas
 mod TraceLemmas
+mod CountLemmas

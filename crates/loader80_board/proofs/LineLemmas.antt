@@ -1,15 +1,14 @@
 -- The line of a state, and the byte of its port.
-use Rattle.std.proofs.Common.{◌≡◌, ℕ, zero, suc, ◌<◌, Bool, true, false, List, [], ◌∷◌, ◌++◌, cond, not, length, refl, ap, sym, subst, ◌∙◌, arith}
-use Rattle.std.specs.Prelude.{find, map, replicate, slice_set, is_none, is_some, Option, Some, None}
+use Rattle.std.proofs.Common.{◌≡◌, ℕ, zero, suc, ◌<◌, Bool, true, false, List, [], ◌∷◌, cond, not, length, refl, ap, sym, ◌∙◌, arith}
+use Rattle.std.specs.Prelude.{find, map, slice_set, is_none, is_some, Option, Some, None}
 use Rattle.std.proofs.lemmas.List.{length-replicate}
 use Rattle.decode80.specs.declared.fetching.Fetched.{Fetched}
 use Rattle.decode80.specs.declared.instr.Instr.{Instr}
 use Rattle.decode80.specs.declared.instr.Instr.TheVariants.{In, Out}
 use Rattle.image80.specs.Regions.{Areas}
 use Rattle.machine80.specs.declared.cpu.Cpu.{Cpu}
-use Rattle.machine80.specs.declared.end.End.{End}
 use Rattle.machine80.specs.Ports.{next_input}
-use Rattle.machine80.specs.Step.{Machine, Turn, Next, Stop, fetch, guard, guarded, step_of, step_on, with_input}
+use Rattle.machine80.specs.Step.{Machine, Next, fetch, guard, guarded, step_of, step_on, with_input}
 use Rattle.board80.specs.declared.line.Line.{Line}
 use Rattle.board80.specs.declared.place.Place.{Place}
 use Rattle.board80.specs.declared.place.Place.TheVariants.{Port}
@@ -18,12 +17,11 @@ use Rattle.machine80_board.specs.declared.output.Output.{Output}
 use Rattle.machine80_board.specs.declared.rules.Running.{Running}
 use Rattle.machine80_board.specs.BoardRun.{BoardState, EndsBy, IsAnswered, answered, is_empty_place, machine_by, no_inputs, outputs_by, refused_output, unfetched, unanswered, stopped, refused}
 use Rattle.machine80_board.specs.Exchanges.{answer_at, outputs_of, places_read}
-use Rattle.machine80_board.specs.Keeping.{IsNow, LeadsOn, StopsAt, Turned}
+use Rattle.machine80_board.specs.Keeping.{IsNow, LeadsOn, Turned}
 use Rattle.loader80_trace.specs.Lines.{instruction_line}
 use Rattle.loader80_board.specs.BoardLines.{fetched_line, port_byte, state_line}
 use Rattle.loader80_board.specs.Keeping.{ReadsPort, byte_seen}
 use Rattle.loader80_board.proofs.DecideLemmas.{never, next_is, some_is}
-use Rattle.loader80_board.proofs.StatesLemmas.{Steps}
 
 -- what waits at a port that one byte was put to
 waits_one : (inputs : List (List ℕ)) (port byte other : ℕ) → next_input (slice_set inputs port (byte ∷ [])) port ≡ Some other → byte ≡ other

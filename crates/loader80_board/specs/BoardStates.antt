@@ -1,5 +1,5 @@
 -- The states of a run on a board, one after another, and how the run ended. (This project's own.)
-use Rattle.std.specs.Prelude.{◌≡◌, ℕ, ◌+◌, ◌-◌, ◌<◌, ◌≤◌, List, [], ◌∷◌, Option, None, Some}
+use Rattle.std.specs.Prelude.{◌≡◌, ℕ, ◌+◌, ◌-◌, ◌<◌, List, [], ◌∷◌, Option, None, Some}
 use Rattle.image80.specs.Regions.{Areas}
 use Rattle.board80.specs.declared.line.Line.{Line}
 use Rattle.machine80_board.specs.declared.end.BoardEnd.{BoardEnd}

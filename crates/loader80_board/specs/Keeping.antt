@@ -7,7 +7,6 @@ use Rattle.board80.specs.declared.line.Line.{Line}
 use Rattle.machine80_board.specs.declared.rules.Running.{Running}
 use Rattle.machine80_board.specs.BoardRun.{BoardState}
 use Rattle.machine80_board.specs.Keeping.{HasCome}
-use Rattle.loader80_trace.specs.declared.limits.Limits.{Limits}
 use Rattle.loader80_trace.specs.declared.fault.TraceFault.{TraceFault}
 use Rattle.loader80_trace.specs.declared.fault.TraceFault.TheVariants.{Write as WriteFailed, Memory as OutOfMemory}
 use Rattle.loader80_board.specs.declared.ended.BoardEnded.{BoardEnded}

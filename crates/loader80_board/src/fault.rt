@@ -1,4 +1,4 @@
-//! Why a run on a board has no outcome.
+//! Why a run on a board has no outcome, no lines or no counts.
 
 ghost use Rattle.std.specs.Prelude.{◌≡◌};
 
@@ -6,7 +6,7 @@ use loader80_trace::TraceFault;
 use std::alloc::AllocError;
 use thiserror::Error;
 
-/// Why a run on a board has no outcome.
+/// Why a run on a board has no outcome, no lines or no counts.
 #[derive(Clone, Copy, Debug, PartialEq, Eq, Error)]
 pub enum BoardRunFault {
     /// The number of the first line of the board, counted from 1, whose DEVICE range has an address that is no data.

@@ -10,9 +10,11 @@ loop-made-init c = record {
 
 pub returns-then-is_some-clause-comes : goal.returns-then-is_some-clause-comes
 returns-then-is_some-clause-comes c = λ start now.
-    let some = sym c.is_some.ensures ∙ c.if-is_some.true in
-    (ended c.args.rules.now.lines.now c.args.rules.now.regions.now c.args.rules.now.outputs c.args.steps start c.loop-made.made c.loop-made.running c.step_on_board.new.running c.in_ok-end.end
-    some c.loop-made-test.true (c.loop-made.invariant.come start now) c.in_ok-end.ensures.turned, some)
+    let some = sym c.is_some.ensures ∙ c.if-is_some.true in (
+      ended c.args.rules.now.lines.now c.args.rules.now.regions.now c.args.rules.now.outputs c.args.steps start c.loop-made.made c.loop-made.running c.step_on_board.new.running c.in_ok-end.end
+          some c.loop-made-test.true (c.loop-made.invariant.come start now) c.in_ok-end.ensures.turned,
+      some,
+    )
 
 pub loop-made-preserved : goal.loop-made-preserved
 loop-made-preserved c = record {
