@@ -1,7 +1,7 @@
 -- What each request is, and what is done for it. (The commands and their statuses are this project's own.)
-use Rattle.std.specs.Prelude.{◌≡◌, ◌⊎◌, ℕ, Bool, true, false, List, [], ◌∷◌, ◌++◌, Some, String, map, option_map, codes, string_bytes}
+use Rattle.std.specs.Prelude.{◌≡◌, ◌⊎◌, ℕ, Bool, true, false, List, [], ◌∷◌, ◌++◌, None, Some, String, map, option_map, codes, string_bytes}
 use Rattle.std.specs.Str.{bytes_eq}
-use Rattle.clap.specs.Matches.{found_of, subcommand_name_of}
+use Rattle.clap.specs.Matches.{first_value, found_of, subcommand_name_of}
 use Rattle.clap.specs.{declared.parser.matches.ArgMatches.ArgMatches, Simple.subcommand_rows_of, Walk.rows_of}
 use Rattle.plm80_console.specs.Journal.{Journal, and_reported}
 use Rattle.plm80_console.specs.{Answer.Gives, Answer.GivesUp, Arguments.argument_text}
@@ -13,11 +13,11 @@ use Rattle.plm80_objects.specs.Modules.{AnswersModules, DescribesModules, GivesU
 use Rattle.plm80_objects.specs.{Compare.ComparesFiles, Find.FindsModules, Link.LinksFiles}
 use Rattle.plm80_programs.specs.Arguments.{AreCallsArguments, AreCheckArguments, AreExplainArguments, AreFollowArguments, AreListArguments, AreReportArguments, AreStoresArguments}
 use Rattle.plm80_regions.specs.Arguments.{AreCasesArguments, AreRegionsArguments, cases_path}
-use Rattle.plm80_runs.specs.Arguments.{AreCoverArguments, AreRunArguments, AreTraceArguments, run_paths}
+use Rattle.plm80_runs.specs.Arguments.{AreBoardRunArguments, AreCoverArguments, AreRunArguments, AreTraceArguments, run_paths}
 use Rattle.plm80_programs.specs.Following.{AnswersFollowing}
 use Rattle.plm80_programs.specs.Pages.{AnswersPage}
 use Rattle.plm80_programs.specs.Printed.{AnswersStores, PrintsCalls, PrintsListing, PrintsReport}
-use Rattle.plm80_runs.specs.Running.{CoversFiles, RunsFiles, TracesFiles, TracesFilesInPart}
+use Rattle.plm80_runs.specs.{BoardRuns.RunsOnBoard, Running.CoversFiles, Running.RunsFiles, Running.TracesFiles, Running.TracesFilesInPart}
 use Rattle.plm80_regions.specs.Cases.{AnswersCases, AnswersCasesInPart}
 use Rattle.plm80_runs.specs.InputWords.{AnswersWords, AreInputsArguments}
 use Rattle.plm80_programs.specs.Explanations.{PrintsExplanation}
@@ -31,6 +31,7 @@ abbrev pub command_name : Request → List ℕ
 command_name (request.Link arguments) = codes "link"
 command_name (request.Locate arguments) = codes "locate"
 command_name (request.Run arguments) = codes "run"
+command_name (request.RunOnBoard arguments) = codes "run"
 command_name (request.List arguments) = codes "list"
 command_name (request.Check arguments) = codes "check"
 command_name (request.Explain arguments) = codes "explain"
@@ -56,7 +57,8 @@ command_name (request.Report arguments) = codes "report"
 abbrev pub AreArgumentsOf : ArgMatches → Request → Type 0
 AreArgumentsOf matches (request.Link arguments) = AreLinkArguments matches arguments
 AreArgumentsOf matches (request.Locate arguments) = AreLocateArguments matches arguments
-AreArgumentsOf matches (request.Run arguments) = AreRunArguments matches arguments
+AreArgumentsOf matches (request.Run arguments) = AreRunArguments matches arguments × (first_value (found_of matches) (codes "board") ≡ None)
+AreArgumentsOf matches (request.RunOnBoard arguments) = AreBoardRunArguments matches arguments
 AreArgumentsOf matches (request.List arguments) = AreListArguments matches arguments
 AreArgumentsOf matches (request.Check arguments) = AreCheckArguments matches arguments
 AreArgumentsOf matches (request.Explain arguments) = AreExplainArguments matches arguments
@@ -91,6 +93,7 @@ abbrev pub IsPerformed : Request → (old new : Journal) → (status : ℕ) → 
 IsPerformed (request.Link arguments) old new status = Gives (LinksFiles arguments) (map (λ path. path.now) arguments.files.items) old new status
 IsPerformed (request.Locate arguments) old new status = Gives (WithBoard arguments.board (LocatesFile arguments)) (board_paths arguments.board ++ arguments.object.now ∷ []) old new status
 IsPerformed (request.Run arguments) old new status = Gives (RunsFiles arguments) (run_paths arguments.files) old new status
+IsPerformed (request.RunOnBoard arguments) old new status = Gives (RunsOnBoard arguments) (board_paths (Some arguments.board) ++ program_paths arguments.files) old new status
 IsPerformed (request.List arguments) old new status = Gives (AnswersProgram (PrintsListing arguments.reached arguments.source) (asks_names arguments.files)) (program_paths arguments.files) old new status
 IsPerformed (request.Check arguments) old new status = Gives (WithBoard arguments.board (λ _. AnswersProgram PrintsReport (asks_names arguments.files))) (board_paths arguments.board ++ program_paths arguments.files) old new status
 IsPerformed (request.Explain arguments) old new status = Gives (WithBoard arguments.board (λ _. AnswersProgram (PrintsExplanation arguments.all) (asks_names arguments.files))) (board_paths arguments.board ++ program_paths arguments.files) old new status
@@ -117,6 +120,7 @@ abbrev pub IsFailed : Request → (old new : Journal) → Type 0
 IsFailed (request.Link arguments) old new = GivesUp (LinksFiles arguments) (map (λ path. path.now) arguments.files.items) old new
 IsFailed (request.Locate arguments) old new = GivesUp (WithBoard arguments.board (LocatesFile arguments)) (board_paths arguments.board ++ arguments.object.now ∷ []) old new
 IsFailed (request.Run arguments) old new = GivesUp (RunsFiles arguments) (run_paths arguments.files) old new
+IsFailed (request.RunOnBoard arguments) old new = GivesUp (RunsOnBoard arguments) (board_paths (Some arguments.board) ++ program_paths arguments.files) old new
 IsFailed (request.List arguments) old new = GivesUp (AnswersProgram (PrintsListing arguments.reached arguments.source) (asks_names arguments.files)) (program_paths arguments.files) old new
 IsFailed (request.Check arguments) old new = GivesUp (WithBoard arguments.board (λ _. AnswersProgram PrintsReport (asks_names arguments.files))) (board_paths arguments.board ++ program_paths arguments.files) old new
 IsFailed (request.Explain arguments) old new = GivesUp (WithBoard arguments.board (λ _. AnswersProgram (PrintsExplanation arguments.all) (asks_names arguments.files))) (board_paths arguments.board ++ program_paths arguments.files) old new

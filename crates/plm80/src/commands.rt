@@ -18,7 +18,7 @@ use plm80_programs::{
     check_files, explain_files, follow_files, list_files, list_stores, report_files, show_calls,
 };
 use plm80_regions::{advise_file, migrate_file, suggest_for_files};
-use plm80_runs::{cover_files, run_files, trace_files, write_inputs_file};
+use plm80_runs::{cover_files, run_among_devices, run_files, trace_files, write_inputs_file};
 use std::process::ExitCode;
 
 /// Does the command, and gives the exit status: 1 if an image is refused, 2 at a fault, 3 or 4 as a run ends, and else 0. A fault is
@@ -68,6 +68,7 @@ fn perform<C: Console>(console: &mut C, request: Request<'_>) -> Result<u8, Repo
         Request::Link(arguments) => link_files(console, &arguments),
         Request::Locate(arguments) => locate_file(console, &arguments),
         Request::Run(arguments) => run_files(console, arguments),
+        Request::RunOnBoard(arguments) => run_among_devices(console, arguments),
         Request::List(arguments) => list_files(console, arguments),
         Request::Check(arguments) => check_files(console, arguments),
         Request::Explain(arguments) => explain_files(console, arguments),

@@ -1,9 +1,11 @@
 -- Which argument of the command line each path and each flag of a command is.
-use Rattle.std.specs.Prelude.{◌≡◌, ℕ, List, [], ◌∷◌, Option, codes, option_map}
+use Rattle.std.specs.Prelude.{◌≡◌, ℕ, List, [], ◌∷◌, Option, Some, codes, option_map}
 use Rattle.std.specs.Borrow.{Bor}
 use Rattle.clap.specs.{declared.parser.matches.ArgMatches.ArgMatches, Matches.first_value, Matches.found_of}
+use Rattle.plm80_boards.specs.Boards.{IsBoardPath}
 use Rattle.plm80_console.specs.Arguments.{argument_text}
 use Rattle.plm80_names.specs.Arguments.{AreNamedFiles}
+use Rattle.plm80_runs.specs.declared.board_run.BoardRunArguments.{BoardRunArguments}
 use Rattle.plm80_runs.specs.{declared.cover.CoverArguments.CoverArguments, declared.run.RunArguments.RunArguments}
 use Rattle.plm80_runs.specs.{declared.run_arguments.LimitTexts.LimitTexts, declared.run_arguments.RunFiles.RunFiles}
 use Rattle.plm80_runs.specs.{declared.trace.TraceArguments.TraceArguments}
@@ -44,3 +46,9 @@ pub record AreRunArguments (matches : ArgMatches) (arguments : RunArguments) : T
   pub limits : AreLimitTexts matches arguments.limits
   pub last : arguments.last.text.now ≡ argument_text matches (codes "last")
   pub dump : dump_of arguments ≡ first_value (found_of matches) (codes "dump")
+
+-- those of a run on a board
+pub record AreBoardRunArguments (matches : ArgMatches) (arguments : BoardRunArguments) : Type 0 where
+  pub files : AreNamedFiles matches arguments.files
+  pub board : IsBoardPath matches (Some arguments.board)
+  pub limits : AreLimitTexts matches arguments.limits

@@ -1,7 +1,7 @@
-//! How runs end: the last line of a run, and the exit status.
+//! How runs end: the last line of a run, with names, and the exit status.
 
 ghost use Rattle.std.specs.Prelude.{◌≡◌, IfOk};
-ghost use Rattle.plm80_runs.specs.Running.{ending, trace_ending};
+ghost use Rattle.plm80_runs.specs.Running.{ending, named_ending, trace_ending};
 
 use crate::status::status_of;
 use loader80::{Ended, Vouched, ending_text};
@@ -18,12 +18,24 @@ pub fn ending_of(
 ) -> Result<Answer<'static>, AllocError>
     ensures { IfOk result (λ answer. answer ≡ ending vouched.now names.now ended.now) }
 {
-    let code = vouched.image().regions.code();
     let text = ending_text(alloc, ended.end, ended.cpu.pc(), ended.steps)?.into_bytes();
+    let text = name_ending(alloc, vouched, text, names)?;
+    Ok(Answer::prints(text, status_of(ended.end)))
+}
+
+/// A text whose last line may say how a run of a program ended, with a name for the address in that line.
+pub fn name_ending(
+    alloc: Global,
+    vouched: &Vouched,
+    text: Vec<u8>,
+    names: &Names,
+) -> Result<Vec<u8>, AllocError>
+    ensures { IfOk result (λ named. named.items ≡ named_ending vouched.now.image.regions.code names.now text.items) }
+{
+    let code = vouched.image().regions.code();
     let text = names.name(alloc, code, b"HALT ", text)?;
     let text = names.name(alloc, code, b"STORE ", text)?;
-    let text = names.name(alloc, code, b"JUMP ", text)?;
-    Ok(Answer::prints(text, status_of(ended.end)))
+    names.name(alloc, code, b"JUMP ", text)
 }
 
 /// What `trace` prints behind the lines of a run: how the run ended; if the lines didn't reach that, nothing with status 0.

@@ -5,12 +5,14 @@
 //! | Item | What it is |
 //! |---|---|
 //! | [`run_files`] | `run`: the transcript of a run, its last instructions, the memory that it leaves |
+//! | [`run_among_devices`] | `run --board`: the transcript of a run among the devices of a board |
 //! | [`trace_files`] | `trace`: the instructions of a run, a line each |
 //! | [`cover_files`] | `cover`: the code, with how often a run began each instruction |
 //! | [`write_inputs_file`] | `inputs`: the text of a run's inputs, from words |
 //! | [`status_of`], [`EndWords`] | the exit status of a run; words on how it ended |
 #![tactic(auto)]
 
+mod board_run;
 mod cover;
 mod endings;
 mod inputs;
@@ -21,6 +23,7 @@ mod status;
 mod trace;
 mod watching;
 
+pub use board_run::{BoardRunArguments, run_among_devices};
 pub use cover::{COVER, CoverArguments, cover_files};
 pub use inputs::{INPUTS, InputsArguments, write_inputs_file};
 pub use run::{RUN, RunArguments, run_files};

@@ -1,6 +1,6 @@
 //! The command line, read by clap.
 
-ghost use Rattle.std.specs.Prelude.{◌≡◌, ◌⊎◌, false, None, IfOk, IfErr, IfSome, OnOk};
+ghost use Rattle.std.specs.Prelude.{◌≡◌, ◌⊎◌, false, None, IfOk, IfErr, IfSome, OnOk, codes};
 ghost use Rattle.clap.specs.{Matches.has_subcommand, Values.kind_of, declared.parser.matches.ArgMatches.ArgMatches};
 ghost use Rattle.plm80_console.specs.Refusals.{IsConflict};
 ghost use Rattle.plm80.specs.{Apart.AreApartIn, Requests.AreArgumentsOf, Requests.IsRequestOf, Requests.command_name};
@@ -18,7 +18,9 @@ use plm80_programs::{
     ReportArguments, StoresArguments,
 };
 use plm80_regions::{CASES, CasesArguments, RegionsArguments, SuggestArguments};
-use plm80_runs::{CoverArguments, InputsArguments, RUN, RunArguments, TraceArguments};
+use plm80_runs::{
+    BoardRunArguments, CoverArguments, InputsArguments, RUN, RunArguments, TraceArguments,
+};
 use std::alloc::{AllocError, Global};
 
 /// A command with its arguments.
@@ -27,6 +29,7 @@ pub enum Request<'a> {
     Link(LinkArguments<'a>),
     Locate(LocateArguments<'a>),
     Run(RunArguments<'a>),
+    RunOnBoard(BoardRunArguments<'a>),
     List(ListArguments<'a>),
     Check(CheckArguments<'a>),
     Explain(ExplainArguments<'a>),
@@ -173,7 +176,7 @@ fn request_of<'a>(
     match name {
         "link" => Ok(Some(Request::Link(LinkArguments::of(alloc, arguments)?))),
         "locate" => Ok(Some(Request::Locate(LocateArguments::of(alloc, arguments)?))),
-        "run" => Ok(Some(Request::Run(RunArguments::of(arguments)))),
+        "run" => Ok(Some(run_request(arguments))),
         "list" => Ok(Some(Request::List(ListArguments::of(arguments)))),
         "check" => Ok(Some(Request::Check(CheckArguments::of(arguments)))),
         "explain" => Ok(Some(Request::Explain(ExplainArguments::of(arguments)))),
@@ -195,5 +198,16 @@ fn request_of<'a>(
         "suggest" => Ok(Some(Request::Suggest(SuggestArguments::of(alloc, arguments)?))),
         "report" => Ok(Some(Request::Report(ReportArguments::of(arguments)))),
         _ => Ok(None),
+    }
+}
+
+/// The request of the command `run`: a run among the devices of a board if one is given, else one on inputs.
+fn run_request<'a>(arguments: &ArgMatches<'a>) -> Request<'a>
+    ensures name { command_name result ≡ codes "run" }
+    ensures arguments { AreArgumentsOf arguments.now result }
+{
+    match BoardRunArguments::of(arguments) {
+        Some(asked) => Request::RunOnBoard(asked),
+        None => Request::Run(RunArguments::of(arguments)),
     }
 }
