@@ -14,6 +14,7 @@ mod cells;
 mod closed_ports;
 mod cursor;
 mod end;
+mod indexed_lines;
 mod output;
 mod placing;
 mod rules;
