@@ -15,7 +15,7 @@ use std::marker::Model;
 /// The lines of a board, with tables by which a look-up takes the same time for any number of lines. A contract sees the
 /// lines.
 #[derive(Drop)]
-pub(crate) struct IndexedLines<'a> {
+pub struct IndexedLines<'a> {
     /// The lines.
     lines: &'a [Line],
     /// The index of the first line with answers of a place, by slots.
@@ -41,7 +41,7 @@ impl<'a> IndexedLines<'a> {
     ///
     /// # Errors
     /// `AllocError` only if memory runs out.
-    pub(crate) fn of(alloc: Global, board: &'a Board) -> Result<IndexedLines<'a>, AllocError>
+    pub fn of(alloc: Global, board: &'a Board) -> Result<IndexedLines<'a>, AllocError>
         ensures { IfOk result (λ indexed. indexed ≡ board.now) }
     {
         let lines = board.lines();
@@ -55,7 +55,7 @@ impl<'a> IndexedLines<'a> {
     }
 
     /// The answers of a place: those of the first line that says them.
-    pub(crate) fn answers(&self, place: Place) -> Option<&Answers>
+    pub fn answers(&self, place: Place) -> Option<&Answers>
         ensures found { IfSome result (λ answers. answers_at self.now place ≡ Some answers.now) }
         ensures none { IfNone result (answers_at self.now place ≡ None) }
     {
@@ -67,7 +67,7 @@ impl<'a> IndexedLines<'a> {
     }
 
     /// Whether an address is a device's.
-    pub(crate) fn in_device(&self, address: u16) -> bool
+    pub fn in_device(&self, address: u16) -> bool
         ensures { result ≡ in_device self.now address }
     {
         self.devices[usize::from(address)]

@@ -6,6 +6,7 @@
 //! |---|---|
 //! | [`run_on_board`], [`BoardRun`] | an image runs, its ports and the cells of its devices answered by a board's lines |
 //! | [`BoardEnd`], [`Output`] | how such a run ends; a byte that was put out at a port, or stored at a cell |
+//! | [`IndexedLines`] | the lines of a board, with tables by which a look-up takes the same time for any number of lines |
 //! | [`misplaced_device`] | the first line of a board whose device doesn't lie in the program's data |
 #![tactic(auto)]
 
@@ -23,6 +24,7 @@ mod slots;
 mod stepping;
 
 pub use end::BoardEnd;
+pub use indexed_lines::IndexedLines;
 pub use output::Output;
 pub use placing::misplaced_device;
 pub use running::{BoardRun, run_on_board};
