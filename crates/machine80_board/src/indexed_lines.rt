@@ -55,7 +55,7 @@ impl<'a> IndexedLines<'a> {
     }
 
     /// The answers of a place: those of the first line that says them.
-    pub fn answers(&self, place: Place) -> Option<&Answers>
+    pub(crate) fn answers(&self, place: Place) -> Option<&Answers>
         ensures found { IfSome result (λ answers. answers_at self.now place ≡ Some answers.now) }
         ensures none { IfNone result (answers_at self.now place ≡ None) }
     {
@@ -67,7 +67,7 @@ impl<'a> IndexedLines<'a> {
     }
 
     /// Whether an address is a device's.
-    pub fn in_device(&self, address: u16) -> bool
+    pub(crate) fn in_device(&self, address: u16) -> bool
         ensures { result ≡ in_device self.now address }
     {
         self.devices[usize::from(address)]
