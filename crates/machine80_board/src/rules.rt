@@ -1,8 +1,8 @@
 //! What a run on a board goes by, and how far it has come.
 
 use crate::cursor::Cursor;
+use crate::indexed_lines::IndexedLines;
 use crate::output::Output;
-use board80::Line;
 use image80::Regions;
 use machine80::{Cpu, PagedBus};
 
@@ -10,7 +10,7 @@ use machine80::{Cpu, PagedBus};
 #[derive(Drop)]
 pub struct Rules<'a> {
     /// The lines of the board.
-    pub lines: &'a [Line],
+    pub lines: &'a IndexedLines<'a>,
     /// The regions of the image.
     pub regions: &'a Regions,
     /// The greatest number of outputs.
