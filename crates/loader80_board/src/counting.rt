@@ -12,7 +12,7 @@ use crate::fault::BoardRunFault;
 use board80::Board;
 use loader80::Vouched;
 use loader80_trace::{Limits, count_at};
-use machine80_board::{Rules, Running, misplaced_device, start, step_on_board};
+use machine80_board::{IndexedLines, Rules, Running, misplaced_device, start, step_on_board};
 use std::alloc::{AllocError, Global};
 
 /// How a run on a board ended, and how often it began the instruction at each address.
@@ -42,8 +42,9 @@ pub fn count_board_steps(
     if let Some(number) = misplaced_device(board, &image.regions) {
         return Err(BoardRunFault::DeviceOutsideData(number));
     }
+    let lines = IndexedLines::of(alloc, board)?;
     let rules = Rules {
-        lines: board.lines(),
+        lines: &lines,
         regions: &image.regions,
         outputs: limits.outputs,
     };

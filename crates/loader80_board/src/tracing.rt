@@ -15,7 +15,7 @@ use crate::skipping::skip_steps;
 use board80::Board;
 use loader80::Vouched;
 use loader80_trace::{Limits, LineForm, Span, TraceFault, append_front};
-use machine80_board::{Rules, Running, misplaced_device, start};
+use machine80_board::{IndexedLines, Rules, Running, misplaced_device, start};
 use std::alloc::Global;
 use stream80::{Sink, write_all};
 
@@ -49,18 +49,19 @@ pub fn write_board_lines<K: Sink>(
     if let Some(number) = misplaced_device(board, &image.regions) {
         return Err(BoardRunFault::DeviceOutsideData(number));
     }
+    let lines = IndexedLines::of(alloc, board)?;
     let rules = Rules {
-        lines: board.lines(),
+        lines: &lines,
         regions: &image.regions,
         outputs: limits.outputs,
     };
     let mut running = start(alloc, image)?;
-    let lines = Lines {
+    let asked = Lines {
         span,
         steps: limits.steps,
         form,
     };
-    Ok(write_span(alloc, &rules, lines, &mut running, out)?)
+    Ok(write_span(alloc, &rules, asked, &mut running, out)?)
 }
 
 /// Which lines are written, and how.

@@ -10,7 +10,7 @@ use Rattle.loader80_board.proofs.counting.count_board_steps.Goals as goal
 
 pub count_each-requires-clause-rules : goal.count_each-requires-clause-rules
 count_each-requires-clause-rules c = record {
-  in_data = subst (λ (l : List Line). DevicesAreData l c.image.inside.regions) (sym c.lines.ensures.lines) c.in_default.ensures.none;
+  in_data = subst (λ (l : List Line). DevicesAreData l c.image.inside.regions) (sym c.in_ok-lines.ensures) c.in_default.ensures.none;
   regions = c.stack.ensures.rules;
 }
 
@@ -21,7 +21,7 @@ pub returns : goal.returns
 returns c =
     let image : Located = c.args.vouched.now.image in
     let regions : c.image.inside.regions ≡ image.regions = ap (λ (v : Located). v.regions) (c.image.view_is ∙ c.image-image.ensures.image) in
-    let now : IsNow c.lines.result.now (board_start image) c.in_ok-running.running = subst (λ (i : Located). IsNow c.lines.result.now (board_start i) c.in_ok-running.running) c.image-image.ensures.image (c.in_ok-running.ensures.starts c.lines.result.now) in
-    subst (λ (l : List Line). EndsSo l image.regions (board_start image) c.args.limits c.in_ok-ended.ended × CountsSteps l image.regions c.args.limits.outputs (board_start image) c.in_ok-ended.ended.steps c.count_each.new.counts.items) c.lines.ensures.lines
-    (subst (λ (r : Areas). EndsSo c.lines.result.now r (board_start image) c.args.limits c.in_ok-ended.ended × CountsSteps c.lines.result.now r c.args.limits.outputs (board_start image) c.in_ok-ended.ended.steps c.count_each.new.counts.items) regions
+    let now : IsNow c.in_ok-lines.lines (board_start image) c.in_ok-running.running = subst (λ (i : Located). IsNow c.in_ok-lines.lines (board_start i) c.in_ok-running.running) c.image-image.ensures.image (c.in_ok-running.ensures.starts c.in_ok-lines.lines) in
+    subst (λ (l : List Line). EndsSo l image.regions (board_start image) c.args.limits c.in_ok-ended.ended × CountsSteps l image.regions c.args.limits.outputs (board_start image) c.in_ok-ended.ended.steps c.count_each.new.counts.items) c.in_ok-lines.ensures
+    (subst (λ (r : Areas). EndsSo c.in_ok-lines.lines r (board_start image) c.args.limits c.in_ok-ended.ended × CountsSteps c.in_ok-lines.lines r c.args.limits.outputs (board_start image) c.in_ok-ended.ended.steps c.count_each.new.counts.items) regions
     (c.in_ok-ended.ensures.counted (board_start image) now))
