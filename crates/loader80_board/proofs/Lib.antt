@@ -5,3 +5,4 @@ mod StatesLemmas
 mod LineLemmas
 mod TraceLemmas
 mod CountLemmas
+mod FinishLemmas

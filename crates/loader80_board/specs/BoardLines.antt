@@ -15,7 +15,6 @@ use Rattle.machine80_board.specs.BoardRun.{BoardState, IsMisplaced, IsReached, b
 use Rattle.machine80_board.specs.Exchanges.{answer_at}
 use Rattle.loader80_trace.specs.declared.limits.Limits.{Limits}
 use Rattle.loader80_trace.specs.declared.limits.Span.{Span}
-use Rattle.loader80_trace.specs.declared.line.LineForm.{LineForm}
 use Rattle.loader80_trace.specs.Lines.{front_text, instruction_line}
 use Rattle.loader80_trace.specs.Traces.{AppendsFront, count_within}
 use Rattle.loader80_board.specs.declared.ended.BoardEnded.{BoardEnded}
@@ -48,15 +47,20 @@ states_lines lines regions publics numbered from [] = []
 states_lines lines regions publics numbered from (s ∷ states) =
     step_line lines regions publics numbered from s ++ states_lines lines regions publics numbered (from + 1) states
 
--- the lines of a span of a run are those of its states: of all that come within the span and the greatest number of steps
-pub record AreLinesOf (lines : List Line) (regions : Areas) (start : BoardState) (limits : Limits) (span : Span) (form : LineForm)
-    (text : List ℕ) : Type 0 where
+-- the lines of a span's first states, as many as come within the span and the greatest number of steps, or fewer
+pub record AreFirstLinesOf (lines : List Line) (regions : Areas) (start : BoardState) (limits : Limits) (span : Span) (publics : List Public)
+    (numbered : Bool) (text : List ℕ) : Type 0 where
   pub states : List BoardState
   pub are_states : AreStates lines regions limits.outputs start span.from states
   pub within : length states ≤ count_within limits.steps span.from span.count
+  pub spells : text ≡ states_lines lines regions publics numbered span.from states
+
+-- the lines of a span: those of all states of the run that come within the span and the greatest number of steps
+pub record AreLinesOf (lines : List Line) (regions : Areas) (start : BoardState) (limits : Limits) (span : Span) (publics : List Public)
+    (numbered : Bool) (text : List ℕ) : Type 0 where
+  pub first : AreFirstLinesOf lines regions start limits span publics numbered text
   pub all : (number : ℕ) (s : BoardState) → IsReached lines regions limits.outputs start number s → span.from ≤ number →
-      number < span.from + span.count → number ≤ limits.steps → number < span.from + length states
-  pub spells : text ≡ states_lines lines regions form.publics.now form.numbered span.from states
+      number < span.from + span.count → number ≤ limits.steps → number < span.from + length first.states
 
 -- the lines reached the end of the run, which is this
 pub record CameToEnd (lines : List Line) (regions : Areas) (start : BoardState) (limits : Limits) (span : Span) (ended : BoardEnded) : Type 0 where
@@ -74,26 +78,25 @@ IsTraced lines regions start limits span (Some ended) = CameToEnd lines regions 
 IsTraced lines regions start limits span None = RanOut lines regions start limits span
 
 -- the lines were written, and reached the end of the run or ran out first
-pub record WritesLines (lines : List Line) (regions : Areas) (start : BoardState) (limits : Limits) (span : Span) (form : LineForm)
-    (ended : Option BoardEnded) (old new : Option (List ℕ)) : Type 0 where
+pub record WritesLines (lines : List Line) (regions : Areas) (start : BoardState) (limits : Limits) (span : Span) (publics : List Public)
+    (numbered : Bool) (ended : Option BoardEnded) (old new : Option (List ℕ)) : Type 0 where
   pub text : List ℕ
-  pub are_lines : AreLinesOf lines regions start limits span form text
+  pub are_lines : AreLinesOf lines regions start limits span publics numbered text
   pub traced : IsTraced lines regions start limits span ended
   pub written : Appends old new text
 
--- the lines of some first states of the span were written, or a front part of these lines
-pub record WritesFront (lines : List Line) (regions : Areas) (start : BoardState) (limits : Limits) (span : Span) (form : LineForm)
-    (old new : Option (List ℕ)) : Type 0 where
-  pub states : List BoardState
-  pub are_states : AreStates lines regions limits.outputs start span.from states
-  pub within : length states ≤ count_within limits.steps span.from span.count
-  pub written : AppendsFront old new (states_lines lines regions form.publics.now form.numbered span.from states)
+-- a front part of the lines of a span's first states was written
+pub record WritesFront (lines : List Line) (regions : Areas) (start : BoardState) (limits : Limits) (span : Span) (publics : List Public)
+    (numbered : Bool) (old new : Option (List ℕ)) : Type 0 where
+  pub text : List ℕ
+  pub are_lines : AreFirstLinesOf lines regions start limits span publics numbered text
+  pub written : AppendsFront old new text
 
 -- what is answered of the lines of a span, and what is written
-abbrev pub TracesBoard : List Line → Located → Limits → Span → LineForm → Result (Option BoardEnded) BoardRunFault → (old new : Option (List ℕ)) → Type 0
-TracesBoard lines image limits span form (Ok ended) old new =
-    WritesLines lines image.regions (board_start image) limits span form ended old new
-TracesBoard lines image limits span form (Err (DeviceOutsideData number)) old new =
+abbrev pub TracesBoard : List Line → Located → Limits → Span → List Public → (numbered : Bool) → Result (Option BoardEnded) BoardRunFault → (old new : Option (List ℕ)) → Type 0
+TracesBoard lines image limits span publics numbered (Ok ended) old new =
+    WritesLines lines image.regions (board_start image) limits span publics numbered ended old new
+TracesBoard lines image limits span publics numbered (Err (DeviceOutsideData number)) old new =
     IsMisplaced lines image.regions number × Appends old new []
-TracesBoard lines image limits span form (Err Write) old new = WritesFront lines image.regions (board_start image) limits span form old new
-TracesBoard lines image limits span form (Err Memory) old new = WritesFront lines image.regions (board_start image) limits span form old new
+TracesBoard lines image limits span publics numbered (Err Write) old new = WritesFront lines image.regions (board_start image) limits span publics numbered old new
+TracesBoard lines image limits span publics numbered (Err Memory) old new = WritesFront lines image.regions (board_start image) limits span publics numbered old new

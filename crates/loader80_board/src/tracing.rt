@@ -41,7 +41,7 @@ pub fn write_board_lines<K: Sink>(
     out: &mut K,
 ) -> Result<Option<BoardEnded>, BoardRunFault>
     requires { K.failed out.old < u64.MAX }
-    ensures traces { TracesBoard board.now vouched.now.image limits span form.entry result (K.written out.old) (K.written out.new) }
+    ensures traces { TracesBoard board.now vouched.now.image limits span form.entry.publics.now form.entry.numbered result (K.written out.old) (K.written out.new) }
     ensures failures { K.failed out.new ≡ K.failed out.old + write_failures_of result }
 {
     let image = vouched.image();
@@ -90,10 +90,10 @@ fn write_span<K: Sink>(
     requires whole { AreWhole running.old }
     ensures lines { IfOk result (λ ended. (start : BoardState) → IsNow rules.now.lines.now start running.old →
         WritesLines rules.now.lines.now rules.now.regions.now start (record { steps = lines.entry.steps; outputs = rules.now.outputs })
-        lines.entry.span lines.entry.form ended (K.written out.old) (K.written out.new)) }
+        lines.entry.span lines.entry.form.publics.now lines.entry.form.numbered ended (K.written out.old) (K.written out.new)) }
     ensures front { OnErr result ((start : BoardState) → IsNow rules.now.lines.now start running.old →
         WritesFront rules.now.lines.now rules.now.regions.now start (record { steps = lines.entry.steps; outputs = rules.now.outputs })
-        lines.entry.span lines.entry.form (K.written out.old) (K.written out.new)) }
+        lines.entry.span lines.entry.form.publics.now lines.entry.form.numbered (K.written out.old) (K.written out.new)) }
     ensures failures { K.failed out.new ≡ K.failed out.old + trace_failures result }
 {
     let before = lines.span.from.min(lines.steps);
@@ -128,11 +128,11 @@ fn write_each<K: Sink>(
     ensures lines { IfOk result (λ ended. (start : BoardState) →
         HasCome rules.now.lines.now rules.now.regions.now rules.now.outputs start lines.entry.span.from running.old →
         WritesLines rules.now.lines.now rules.now.regions.now start (record { steps = lines.entry.steps; outputs = rules.now.outputs })
-        lines.entry.span lines.entry.form ended (K.written out.old) (K.written out.new)) }
+        lines.entry.span lines.entry.form.publics.now lines.entry.form.numbered ended (K.written out.old) (K.written out.new)) }
     ensures front { OnErr result ((start : BoardState) →
         HasCome rules.now.lines.now rules.now.regions.now rules.now.outputs start lines.entry.span.from running.old →
         WritesFront rules.now.lines.now rules.now.regions.now start (record { steps = lines.entry.steps; outputs = rules.now.outputs })
-        lines.entry.span lines.entry.form (K.written out.old) (K.written out.new)) }
+        lines.entry.span lines.entry.form.publics.now lines.entry.form.numbered (K.written out.old) (K.written out.new)) }
     ensures failures { K.failed out.new ≡ K.failed out.old + trace_failures result }
 {
     let mut line = Vec::new(alloc);

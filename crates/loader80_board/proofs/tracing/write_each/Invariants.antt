@@ -10,5 +10,5 @@ invariant-loop-made g l = record {
   within : l.lines.span.from + l.made ≤ l.lines.steps;
   unfailed : g.K.Sink.failed l.out ≡ g.K.Sink.failed l.fn.out;
   shown : (start : BoardState) → HasCome l.rules.lines.now l.rules.regions.now l.rules.outputs start l.lines.span.from l.fn.running →
-      Shown l.rules.lines.now l.rules.regions.now start (record { steps = l.lines.steps; outputs = l.rules.outputs }) l.lines.span l.lines.form l.made l.running (g.K.Sink.written l.fn.out) (g.K.Sink.written l.out);
+      Shown l.rules.lines.now l.rules.regions.now start (record { steps = l.lines.steps; outputs = l.rules.outputs }) l.lines.span l.lines.form.publics.now l.lines.form.numbered l.made l.running (g.K.Sink.written l.fn.out) (g.K.Sink.written l.out);
 }
