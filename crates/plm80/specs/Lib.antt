@@ -1,3 +1,4 @@
 pub mod Apart
 pub mod Requests
 pub mod Bundles
+pub mod CommandLine

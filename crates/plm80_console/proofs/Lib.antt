@@ -1,3 +1,4 @@
+mod CommandLemmas
 mod JournalLemmas
 mod NumberLemmas
 mod PieceLemmas

@@ -1,18 +1,8 @@
--- What the kinds of arguments are: which are required, which name a file, and which name one that is written.
+-- What the kinds of arguments are: which name a file, and which name one that is written.
 use Rattle.std.specs.Prelude.{ℕ, Bool, true, false, List, ◌++◌, codes}
 use Rattle.std.specs.Str.{bytes_eq}
 use Rattle.plm80_console.specs.declared.syntax.Kind.{Kind}
 use Rattle.plm80_console.specs.declared.syntax.Kind.TheVariants.{Path, Paths, Words, Written, WrittenOption, WrittenIfGiven, Replaced, Required, Number, Count, Flag, PathsAt, PathInPlaceOf}
-
--- no command line is taken without it
-abbrev pub is_required : Kind → Bool
-is_required Path = true
-is_required Paths = true
-is_required Words = true
-is_required Written = true
-is_required (WrittenOption word) = true
-is_required (Required word) = true
-is_required _ = false
 
 -- its value is the path of a file that is written
 abbrev pub is_written : Kind → Bool

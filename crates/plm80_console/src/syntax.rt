@@ -1,8 +1,8 @@
 //! A command for clap: its name, its help text and its arguments, as a table.
 
-ghost use Rattle.std.specs.Prelude.{◌≡◌, ◌++◌, ◌∷◌, [], Some, true, false, codes, IfOk};
-ghost use Rattle.clap.specs.{declared.builder.texts.Texts.TheVariants.One, Simple.app_of};
-ghost use Rattle.plm80_console.specs.{Kinds.is_required, SyntaxTable.arguments_in, SyntaxTable.arguments_of};
+ghost use Rattle.std.specs.Prelude.{◌≡◌, [], Some, true, false, IfOk};
+ghost use Rattle.clap.specs.{declared.builder.texts.Texts.TheVariants.One, Simple.app_of, Walk.rule_of};
+ghost use Rattle.plm80_console.specs.SyntaxTable.{app_of_syntax, rule_of_argument};
 
 use clap::{Arg, ArgAction, Command};
 use std::alloc::{AllocError, Global};
@@ -63,8 +63,7 @@ pub enum Kind<'a> {
 impl<'a> Syntax<'a> {
     /// The command with its arguments and `--why`, for clap. `AllocError` only if memory runs out.
     pub fn command(&self, alloc: Global) -> Result<Command<'a>, AllocError>
-        ensures name { IfOk result (λ command. (app_of command).top.name ≡ self.now.name.now) }
-        ensures arguments { IfOk result (λ command. arguments_in command ≡ arguments_of self.now.arguments.now ++ (codes "why", false) ∷ []) }
+        ensures { IfOk result (λ command. app_of command ≡ app_of_syntax self.now) }
     {
         let mut command = Command::new(alloc, self.name)
             .about(self.about)
@@ -86,8 +85,8 @@ pub const WHY: Argument<'static> = Argument {
 impl<'a> Argument<'a> {
     /// This argument as clap takes it. `AllocError` only if memory runs out.
     fn arg(&self, alloc: Global) -> Result<Arg<'a>, AllocError>
-        ensures name { IfOk result (λ arg. arg.id ≡ self.now.name) }
-        ensures required { IfOk result (λ arg. arg.required ≡ is_required self.now.kind) }
+        ensures rule { IfOk result (λ arg. rule_of arg ≡ rule_of_argument self.now) }
+        ensures local { IfOk result (λ arg. arg.global ≡ false) }
     {
         let arg = self.arg_beside_all(alloc);
         match self.kind {
@@ -98,8 +97,9 @@ impl<'a> Argument<'a> {
 
     /// This argument as clap takes it if it may stand beside all others.
     fn arg_beside_all(&self, alloc: Global) -> Arg<'a>
-        ensures name { result.id ≡ self.now.name }
-        ensures required { result.required ≡ is_required self.now.kind }
+        ensures rule { rule_of result ≡ record (rule_of_argument self.now) { is_free = true } }
+        ensures local { result.global ≡ false }
+        ensures free { result.conflicts.items ≡ [] }
     {
         let arg = Arg::new(alloc, self.name).help(self.help);
         match self.kind {
@@ -119,9 +119,9 @@ impl<'a> Argument<'a> {
     }
 }
 
-/// Makes an argument of clap an option of this name. The help text calls its value by this word; the value may begin with a hyphen.
+/// Makes an argument of clap an option of this name. The help text calls its value by this word.
 fn option<'a>(arg: Arg<'a>, name: &'a str, value: &'a str) -> Arg<'a>
-    ensures { result ≡ record arg.entry { long = Some name.entry; val_names = One value.entry; allow_hyphen_values = true } }
+    ensures { result ≡ record arg.entry { long = Some name.entry; val_names = One value.entry } }
 {
-    arg.long(name).value_name(value).allow_hyphen_values(true)
+    arg.long(name).value_name(value)
 }

@@ -1,11 +1,10 @@
-use Rattle.std.specs.Prelude.{◌≡◌, take}
+use Rattle.std.specs.Prelude.{◌≡◌, map, take}
 use Rattle.clap.specs.Simple.{app_of}
-use Rattle.plm80_console.specs.SyntaxTable.{arguments_in, arguments_of}
+use Rattle.plm80_console.specs.SyntaxTable.{rule_of_argument}
+use Rattle.plm80_console.proofs.CommandLemmas.{app_with}
 use Rattle.plm80_console.proofs.syntax.Syntax.command.Given as goal
 
 -- the arguments so far
 abbrev pub invariant-loop-argument : goal.invariant-loop-argument
-invariant-loop-argument l = record {
-  name : (app_of l.command).top.name ≡ l.self.name.now;
-  arguments : arguments_in l.command ≡ arguments_of (take l.argument-index l.self.arguments.now);
-}
+invariant-loop-argument l =
+    app_of l.command ≡ app_with l.self.name.now (map rule_of_argument (take l.argument-index l.self.arguments.now))
