@@ -1,5 +1,6 @@
 mod CommandLemmas
 mod JournalLemmas
+mod JoinedLemmas
 mod NumberLemmas
 mod PieceLemmas
 mod SharedLemmas

@@ -5,6 +5,7 @@ pub mod Replaced
 pub mod ApartPaths
 pub mod Arguments
 pub mod FailureWords
+pub mod JoinedValues
 pub mod Kinds
 pub mod Pieces
 pub mod NumberText

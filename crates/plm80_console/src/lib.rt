@@ -22,6 +22,7 @@ mod argument_texts;
 mod comparison;
 mod console;
 mod failure_words;
+mod joined_values;
 pub mod laws;
 mod new_file;
 mod number_text;
@@ -38,6 +39,7 @@ pub use answer::{Answer, WrittenFile, WrittenFiles};
 pub use argument_texts::{argument_text, argument_values};
 pub use console::Console;
 pub use failure_words::FailureWords;
+pub use joined_values::push_copies;
 pub use new_file::NewFile;
 pub use number_text::{
     are_digits, byte_of_digits, count_of_digits, length_of_digits, word_of_digits,

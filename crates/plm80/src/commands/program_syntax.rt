@@ -1,6 +1,8 @@
 //! The program for clap: its commands in groups, and its help text.
 
-ghost use Rattle.std.specs.Prelude.{◌≡◌, ◌∷◌, [], codes, map};
+ghost use Rattle.std.specs.Prelude.{◌≡◌, map};
+ghost use Rattle.plm80.specs.CommandLine.{object_commands, prom_commands, run_commands, verifier_commands};
+ghost use Rattle.plm80_console.specs.SyntaxTable.{shape_of_syntax};
 
 use clap::{Command, Error};
 use plm80_console::{OneLine, Syntax};
@@ -34,30 +36,28 @@ Faults and what to do: docs/FAULTS.md (installed: share/doc/plm80), man plm80.";
 /// The commands of object files, in the order of the help text. (Several functions make the commands, since one proof of all their
 /// texts is more than the prover takes.)
 pub(crate) fn object_commands() -> [Syntax<'static>; 5]
-    ensures { map (λ command. command.name.now) result ≡ codes "lib" ∷ codes "link" ∷ codes "locate" ∷ codes "map" ∷ codes "module" ∷ [] }
+    ensures { map shape_of_syntax result ≡ object_commands }
 {
     [LIB, LINK, LOCATE, MAP, MODULE]
 }
 
 /// The commands that verify a located program, in the order of the help text.
 pub(crate) fn verifier_commands() -> [Syntax<'static>; 6]
-    ensures { map (λ command. command.name.now) result ≡ codes "check" ∷ codes "explain" ∷ codes "calls" ∷ codes "stores" ∷ codes "follow"
-        ∷ codes "report" ∷ [] }
+    ensures { map shape_of_syntax result ≡ verifier_commands }
 {
     [CHECK, EXPLAIN, CALLS, STORES, FOLLOW, REPORT]
 }
 
 /// The commands that run a located program, in the order of the help text.
 pub(crate) fn run_commands() -> [Syntax<'static>; 4]
-    ensures { map (λ command. command.name.now) result ≡ codes "run" ∷ codes "trace" ∷ codes "cover" ∷ codes "inputs" ∷ [] }
+    ensures { map shape_of_syntax result ≡ run_commands }
 {
     [RUN, TRACE, COVER, INPUTS]
 }
 
 /// The commands of PROMs, and of programs of which there are no object files, in the order of the help text.
 pub(crate) fn prom_commands() -> [Syntax<'static>; 8]
-    ensures { map (λ command. command.name.now) result ≡ codes "absolute" ∷ codes "extract" ∷ codes "compare" ∷ codes "find"
-        ∷ codes "suggest" ∷ codes "cases" ∷ codes "list" ∷ codes "regions" ∷ [] }
+    ensures { map shape_of_syntax result ≡ prom_commands }
 {
     [
         ABSOLUTE, EXTRACT, COMPARE, FIND, SUGGEST, CASES, LIST, REGIONS,
