@@ -1,2 +1,3 @@
 mod ApartLemmas
 mod BundleLemmas
+mod ProgramLemmas

@@ -1,9 +1,9 @@
--- The command line, as clap reads it: each command with its arguments, and where a value belongs to an option though it begins with a hyphen.
+-- The command line: each command with its arguments, as clap reads them, and the words that clap is given.
 -- (The commands and their options are this project's own.)
-use Rattle.std.specs.Prelude.{ℕ, ◌==◌, ◌&&◌, Bool, true, false, not, List, [], ◌∷◌, ◌++◌, Some, codes, find, if◌then◌else◌}
-use Rattle.std.specs.{List.list_any, Option.option_map_or, Str.bytes_eq}
-use Rattle.clap.specs.{Lexer.strip_byte, Simple.App, Simple.Shape, Simple.new_shape, Walk.Rule}
-use Rattle.std.specs.Prelude.{is_some}
+use Rattle.std.specs.Prelude.{ℕ, true, false, List, [], ◌∷◌, ◌++◌, Option, codes, find}
+use Rattle.std.specs.{Option.option_map_or, Str.bytes_eq}
+use Rattle.clap.specs.{Simple.App, Simple.Shape, Simple.new_shape, Walk.Rule}
+use Rattle.plm80_console.specs.JoinedValues.{joined_values}
 use Rattle.plm80_console.specs.SyntaxTable.{command_with, flag, option, option_beside, option_or, position, positions, repeated_option, required_option}
 
 -- the options of `locate` and `map`
@@ -70,27 +70,20 @@ prom_commands =
     ∷ command_with (codes "regions") (position (codes "OLD") ∷ position (codes "NEW") ∷ [])
     ∷ []
 
+abbrev pub commands : List Shape
+commands = object_commands ++ verifier_commands ++ run_commands ++ prom_commands
+
+-- the program: its version is printed by `--version`, and no command line is taken without a command
 abbrev pub plm80_app : App
 plm80_app = record {
   top = record (new_shape (codes "plm80")) { is_leaf = false; has_version = true; subcommand_required = true };
-  subs = object_commands ++ verifier_commands ++ run_commands ++ prom_commands;
+  subs = commands;
 }
 
--- the word is an option that takes a value
-abbrev pub takes_value : List Rule → (word : List ℕ) → Bool
-takes_value rules word = list_any (λ rule. not (rule.value_names == 0) && bytes_eq word (codes "--" ++ rule.id)) rules
+abbrev pub command_named : (name : List ℕ) → Option Shape
+command_named name = find (λ command. bytes_eq command.name name) commands
 
--- a value that begins with a hyphen is joined to its option by an equals sign; nothing is behind `--`
-abbrev pub joined : List Rule → (words : List (List ℕ)) → List (List ℕ)
-joined rules [] = []
-joined rules (word ∷ []) = word ∷ []
-joined rules (word ∷ value ∷ rest) =
-    if bytes_eq word (codes "--") then word ∷ value ∷ rest
-    else (if takes_value rules word && is_some (strip_byte 45 value) then (word ++ codes "=" ++ value) ∷ joined rules rest
-    else word ∷ joined rules (value ∷ rest))
-
--- the words of a command line, behind the name of its command
+-- the words, each value that begins with a hyphen joined to its option: so clap reads them
 abbrev pub joined_words : (words : List (List ℕ)) → List (List ℕ)
-joined_words (own ∷ name ∷ words) =
-    own ∷ name ∷ joined (option_map_or (λ command. command.rules) (find (λ command. bytes_eq command.name name) plm80_app.subs) []) words
+joined_words (own ∷ name ∷ words) = own ∷ name ∷ option_map_or (λ command. joined_values command.rules words) (command_named name) words
 joined_words words = words

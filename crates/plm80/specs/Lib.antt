@@ -1,4 +1,4 @@
 pub mod Apart
+pub mod CommandLine
 pub mod Requests
 pub mod Bundles
-pub mod CommandLine
