@@ -25,10 +25,10 @@ abbrev pub object_commands : List Shape
 object_commands =
     command_with (codes "lib") (position (codes "OUT") ∷ positions (codes "FILE") ∷ [])
     ∷ command_with (codes "link") (required_option (codes "name") ∷ required_option (codes "out") ∷ flag (codes "map")
-        ∷ flag (codes "reasons") ∷ positions (codes "FILE") ∷ [])
+    ∷ flag (codes "reasons") ∷ positions (codes "FILE") ∷ [])
     ∷ command_with (codes "locate") (position (codes "IN") ∷ position (codes "IMAGE") ∷ position (codes "REGIONS") ∷ places
-        ++ repeated_option (codes "rom-range") ∷ repeated_option (codes "ram-range") ∷ option_beside (codes "board") false
-        ∷ flag (codes "restart") ∷ flag (codes "publics") ∷ [])
+    ++ repeated_option (codes "rom-range") ∷ repeated_option (codes "ram-range") ∷ option_beside (codes "board") false
+    ∷ flag (codes "restart") ∷ flag (codes "publics") ∷ [])
     ∷ command_with (codes "map") (position (codes "IN") ∷ places)
     ∷ command_with (codes "module") (position (codes "FILE") ∷ [])
     ∷ []
@@ -39,9 +39,9 @@ verifier_commands =
     ∷ command_with (codes "explain") (program ++ flag (codes "all") ∷ flag (codes "names") ∷ option (codes "board") ∷ [])
     ∷ command_with (codes "calls") (program ++ flag (codes "dot") ∷ flag (codes "names") ∷ option (codes "board") ∷ [])
     ∷ command_with (codes "stores") (program ++ flag (codes "names") ∷ repeated_option (codes "quiet-ram")
-        ∷ option_beside (codes "board") false ∷ [])
+    ∷ option_beside (codes "board") false ∷ [])
     ∷ command_with (codes "follow") (program ++ flag (codes "names") ∷ repeated_option (codes "quiet-ram") ∷ flag (codes "list")
-        ∷ flag (codes "interrupted") ∷ repeated_option (codes "handler") ∷ option_beside (codes "board") false ∷ [])
+    ∷ flag (codes "interrupted") ∷ repeated_option (codes "handler") ∷ option_beside (codes "board") false ∷ [])
     ∷ command_with (codes "report") (program ++ position (codes "OUT") ∷ [])
     ∷ []
 
@@ -49,7 +49,7 @@ abbrev pub run_commands : List Shape
 run_commands =
     command_with (codes "run") (running ++ limits ++ option_or (codes "last") (codes "0") ∷ option (codes "dump") ∷ flag (codes "names") ∷ [])
     ∷ command_with (codes "trace") (running ++ option_or (codes "from") (codes "0") ∷ option_or (codes "count") (codes "100") ∷ limits
-        ++ flag (codes "names") ∷ [])
+    ++ flag (codes "names") ∷ [])
     ∷ command_with (codes "cover") (running ++ limits ++ flag (codes "names") ∷ [])
     ∷ command_with (codes "inputs") (position (codes "OUT") ∷ positions (codes "WORD") ∷ [])
     ∷ []
@@ -57,14 +57,14 @@ run_commands =
 abbrev pub prom_commands : List Shape
 prom_commands =
     command_with (codes "absolute") (position (codes "BIN") ∷ position (codes "IMAGE") ∷ required_option (codes "first")
-        ∷ required_option (codes "start") ∷ required_option (codes "name") ∷ repeated_option (codes "rom") ∷ [])
+    ∷ required_option (codes "start") ∷ required_option (codes "name") ∷ repeated_option (codes "rom") ∷ [])
     ∷ command_with (codes "extract") (position (codes "IMAGE") ∷ position (codes "OUT") ∷ required_option (codes "first")
-        ∷ required_option (codes "length") ∷ option (codes "fill") ∷ flag (codes "sum") ∷ [])
+    ∷ required_option (codes "length") ∷ option (codes "fill") ∷ flag (codes "sum") ∷ [])
     ∷ command_with (codes "compare") (position (codes "IMAGE") ∷ position (codes "DUMP") ∷ required_option (codes "first")
-        ∷ option (codes "fill") ∷ flag (codes "names") ∷ [])
+    ∷ option (codes "fill") ∷ flag (codes "names") ∷ [])
     ∷ command_with (codes "find") (position (codes "DUMP") ∷ positions (codes "FILE") ∷ required_option (codes "first") ∷ [])
     ∷ command_with (codes "suggest") (position (codes "IMAGE") ∷ repeated_option (codes "rom-range") ∷ repeated_option (codes "ram-range")
-        ∷ option_beside (codes "board") false ∷ repeated_option (codes "entry") ∷ repeated_option (codes "case") ∷ [])
+    ∷ option_beside (codes "board") false ∷ repeated_option (codes "entry") ∷ repeated_option (codes "case") ∷ [])
     ∷ command_with (codes "cases") (program ++ option (codes "out") ∷ [])
     ∷ command_with (codes "list") (program ++ flag (codes "reached") ∷ flag (codes "asm") ∷ flag (codes "names") ∷ [])
     ∷ command_with (codes "regions") (position (codes "OLD") ∷ position (codes "NEW") ∷ [])

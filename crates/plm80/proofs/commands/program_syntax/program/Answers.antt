@@ -1,4 +1,4 @@
-use Rattle.std.proofs.Common.{◌≡◌, ◌∙◌, ap, arith, map, refl}
+use Rattle.std.proofs.Common.{◌∙◌, ap, arith, map}
 use Rattle.std.proofs.lemmas.List.{take_all}
 use Rattle.plm80_console.specs.SyntaxTable.{shape_of_syntax}
 use Rattle.plm80.proofs.ProgramLemmas.{next, program_with}
