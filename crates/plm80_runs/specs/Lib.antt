@@ -3,3 +3,4 @@ pub mod Status
 pub mod Running
 pub mod BoardRuns
 pub mod InputWords
+pub mod OnBoards

@@ -134,7 +134,7 @@ fn print_transcript<C: Console>(
 }
 
 /// Reports why there is no run on the board whose text has this path.
-fn report_run<C: Console>(console: &mut C, path: &str, fault: BoardRunFault) -> Reported
+pub(crate) fn report_run<C: Console>(console: &mut C, path: &str, fault: BoardRunFault) -> Reported
     ensures { C.journal console.new ≡ and_reported (C.journal console.old) }
 {
     match fault {

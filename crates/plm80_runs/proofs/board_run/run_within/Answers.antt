@@ -4,7 +4,7 @@ use Rattle.std.specs.Prelude.{[], ◌∷◌, Some}
 use Rattle.plm80_names.specs.Arguments.{asks_names, program_paths}
 use Rattle.plm80_names.specs.Verdict.{AnswersProgram}
 use Rattle.plm80_runs.specs.BoardRuns.{RunsIfGiven}
-use Rattle.plm80_boards.specs.BoardLaws.{gives_on_board, stops_at_board}
+use Rattle.plm80_boards.specs.BoardLaws.{gives_on_board}
 use Rattle.plm80_boards.specs.Boards.{IsBoardRead}
 use Rattle.plm80_boards.specs.Boards.IsBoardOf.{one}
 use Rattle.plm80_console.specs.Journal.{file_value}
