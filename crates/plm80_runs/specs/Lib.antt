@@ -1,5 +1,5 @@
 pub mod Arguments
 pub mod Status
 pub mod Running
-pub mod BoardRuns
 pub mod InputWords
+pub mod OnBoards

@@ -1,13 +1,13 @@
 //! `plm80 run --board`: the transcript of a located program's run among the devices of a board.
 
-ghost use Rattle.std.specs.Prelude.{◌≡◌, ◌++◌, None, Some, IfErr, IfNone, IfOk, IfSome, codes};
+ghost use Rattle.std.specs.Prelude.{◌≡◌, None, IfErr, IfNone, IfOk, IfSome, codes};
 ghost use Rattle.clap.specs.Matches.{first_value, found_of};
-ghost use Rattle.plm80_boards.specs.Boards.{WithBoard, board_paths};
 ghost use Rattle.plm80_console.specs.{Answer.Gives, Answer.GivesUp, Answer.IsAnswered, Answer.IsGivenUp, Journal.and_reported};
-ghost use Rattle.plm80_names.specs.{Arguments.asks_names, Arguments.program_paths, Verdict.AnswersProgram, Verdict.AnswersVerdict};
+ghost use Rattle.plm80_names.specs.Verdict.{AnswersVerdict};
 ghost use Rattle.plm80_runs.specs.Arguments.{AreBoardRunArguments};
-ghost use Rattle.plm80_runs.specs.BoardRuns.{RunsIfGiven, RunsOnBoard, TranscribesRun};
+ghost use Rattle.plm80_runs.specs.OnBoards.{AnswersOnBoard, RunsOnBoard, TranscribesRun, board_program_paths};
 
+use crate::board_files::{BoardFiles, BoardProgram};
 use crate::endings::name_ending;
 use crate::run_arguments::LimitTexts;
 use crate::status::{BoardEndWords, board_status_of};
@@ -17,18 +17,14 @@ use image80::Image;
 use loader80::Vouched;
 use loader80_board::{BoardReply, BoardRunFault, answer_on_board};
 use loader80_trace::Limits;
-use plm80_boards::{board_of, board_path};
-use plm80_console::laws::faults_follow_reading;
 use plm80_console::{Answer, Console, Reported};
-use plm80_names::{NamedFiles, Names, Verdict, judge};
+use plm80_names::{Names, Verdict, judge};
 use std::alloc::Global;
 
 /// The arguments of the command `run` with a board in place of inputs.
 #[derive(Clone, Copy)]
 pub struct BoardRunArguments<'a> {
-    files: NamedFiles<'a>,
-    /// The path of the board's text.
-    board: &'a str,
+    files: BoardFiles<'a>,
     limits: LimitTexts<'a>,
 }
 
@@ -38,10 +34,9 @@ impl<'a> BoardRunArguments<'a> {
         ensures given { IfSome result (AreBoardRunArguments matches.now) }
         ensures none { IfNone result (first_value (found_of matches.now) (codes "board") ≡ None) }
     {
-        let board = board_path(matches)?;
+        let files = BoardFiles::of(matches)?;
         Some(BoardRunArguments {
-            files: NamedFiles::of(matches),
-            board,
+            files,
             limits: LimitTexts::of(matches),
         })
     }
@@ -53,51 +48,35 @@ pub fn run_among_devices<C: Console>(
     console: &mut C,
     arguments: BoardRunArguments<'_>,
 ) -> Result<u8, Reported>
-    ensures done { let asked = arguments.entry in IfOk result (Gives (RunsOnBoard asked) (board_paths (Some asked.board) ++ program_paths asked.files)
+    ensures done { let asked = arguments.entry in IfOk result (Gives (RunsOnBoard asked) (board_program_paths asked.files)
         (C.journal console.old) (C.journal console.new)) }
-    ensures fault { let asked = arguments.entry in IfErr result (λ _. GivesUp (RunsOnBoard asked) (board_paths (Some asked.board) ++ program_paths asked.files)
+    ensures fault { let asked = arguments.entry in IfErr result (λ _. GivesUp (RunsOnBoard asked) (board_program_paths asked.files)
         (C.journal console.old) (C.journal console.new)) }
 {
     let limits = arguments.limits.numbers(console)?;
-    let given = run_within(console, arguments.files, arguments.board, limits);
-    arguments.files.explain(console, &given);
+    let given = run_within(console, arguments.files, limits);
+    arguments.files.program.explain(console, &given);
     given
 }
 
-/// Reads a board and a program, runs the program on the board within these limits, and prints the transcript, or the program's refusal.
-/// Returns the exit status.
+/// Reads a board and a program, runs the program on the board within these limits, prints the transcript, or the program's refusal, and
+/// returns the exit status.
 fn run_within<C: Console>(
     console: &mut C,
-    files: NamedFiles<'_>,
-    path: &str,
+    files: BoardFiles<'_>,
     limits: Limits,
 ) -> Result<u8, Reported>
-    ensures done { IfOk result (Gives (WithBoard (Some path.entry) (λ board. AnswersProgram (RunsIfGiven limits board) (asks_names files.entry)))
-        (board_paths (Some path.entry) ++ program_paths files.entry) (C.journal console.old) (C.journal console.new)) }
-    ensures fault { IfErr result (λ _. GivesUp (WithBoard (Some path.entry) (λ board. AnswersProgram (RunsIfGiven limits board) (asks_names files.entry)))
-        (board_paths (Some path.entry) ++ program_paths files.entry) (C.journal console.old) (C.journal console.new)) }
-{
-    let text = console.read(path)?;
-    let board = board_of(console, path, &text)?;
-    run_files_on(console, files, path, &board, limits)
-}
-
-/// Reads a program, runs it on a board within these limits, and prints the transcript, or the program's refusal. Returns the exit status.
-fn run_files_on<C: Console>(
-    console: &mut C,
-    files: NamedFiles<'_>,
-    path: &str,
-    board: &Board,
-    limits: Limits,
-) -> Result<u8, Reported>
-    ensures done { IfOk result (Gives (AnswersProgram (RunsIfGiven limits (Some board.now)) (asks_names files.entry)) (program_paths files.entry)
+    ensures done { IfOk result (Gives (AnswersOnBoard (λ lines. TranscribesRun lines limits) files.entry) (board_program_paths files.entry)
         (C.journal console.old) (C.journal console.new)) }
-    ensures fault { IfErr result (λ _. GivesUp (AnswersProgram (RunsIfGiven limits (Some board.now)) (asks_names files.entry)) (program_paths files.entry)
-        (C.journal console.old) (C.journal console.new)) }
+    ensures fault { IfErr result (λ _. GivesUp (AnswersOnBoard (λ lines. TranscribesRun lines limits) files.entry)
+        (board_program_paths files.entry) (C.journal console.old) (C.journal console.new)) }
 {
-    faults_follow_reading();
-    let (image, names) = files.read(console)?;
-    print_transcript(console, image, &names, path, board, limits)
+    let BoardProgram {
+        board,
+        image,
+        names,
+    } = files.read(console)?;
+    print_transcript(console, image, &names, files.board, &board, limits)
 }
 
 /// What `run --board` answers, and words on how the run ended.
@@ -134,7 +113,7 @@ fn print_transcript<C: Console>(
 }
 
 /// Reports why there is no run on the board whose text has this path.
-fn report_run<C: Console>(console: &mut C, path: &str, fault: BoardRunFault) -> Reported
+pub(crate) fn report_run<C: Console>(console: &mut C, path: &str, fault: BoardRunFault) -> Reported
     ensures { C.journal console.new ≡ and_reported (C.journal console.old) }
 {
     match fault {

@@ -19,7 +19,8 @@ use plm80_programs::{
 };
 use plm80_regions::{CASES, CasesArguments, RegionsArguments, SuggestArguments};
 use plm80_runs::{
-    BoardRunArguments, CoverArguments, InputsArguments, RUN, RunArguments, TraceArguments,
+    BoardCoverArguments, BoardRunArguments, BoardTraceArguments, CoverArguments, InputsArguments,
+    RUN, RunArguments, TraceArguments,
 };
 use std::alloc::{AllocError, Global};
 
@@ -45,7 +46,9 @@ pub enum Request<'a> {
     Inputs(InputsArguments<'a>),
     Calls(CallsArguments<'a>),
     Trace(TraceArguments<'a>),
+    TraceOnBoard(BoardTraceArguments<'a>),
     Cover(CoverArguments<'a>),
+    CoverOnBoard(BoardCoverArguments<'a>),
     Module(ModuleArguments<'a>),
     Find(FindArguments<'a>),
     Suggest(SuggestArguments<'a>),
@@ -191,8 +194,8 @@ fn request_of<'a>(
         "compare" => Ok(Some(Request::Compare(CompareArguments::of(arguments)))),
         "inputs" => Ok(Some(Request::Inputs(InputsArguments::of(alloc, arguments)?))),
         "calls" => Ok(Some(Request::Calls(CallsArguments::of(arguments)))),
-        "trace" => Ok(Some(Request::Trace(TraceArguments::of(arguments)))),
-        "cover" => Ok(Some(Request::Cover(CoverArguments::of(arguments)))),
+        "trace" => Ok(Some(trace_request(arguments))),
+        "cover" => Ok(Some(cover_request(arguments))),
         "module" => Ok(Some(Request::Module(ModuleArguments::of(arguments)))),
         "find" => Ok(Some(Request::Find(FindArguments::of(alloc, arguments)?))),
         "suggest" => Ok(Some(Request::Suggest(SuggestArguments::of(alloc, arguments)?))),
@@ -209,5 +212,27 @@ fn run_request<'a>(arguments: &ArgMatches<'a>) -> Request<'a>
     match BoardRunArguments::of(arguments) {
         Some(asked) => Request::RunOnBoard(asked),
         None => Request::Run(RunArguments::of(arguments)),
+    }
+}
+
+/// The request of the command `trace`: of a run among the devices of a board if one is given, else of one on inputs.
+fn trace_request<'a>(arguments: &ArgMatches<'a>) -> Request<'a>
+    ensures name { command_name result ≡ codes "trace" }
+    ensures arguments { AreArgumentsOf arguments.now result }
+{
+    match BoardTraceArguments::of(arguments) {
+        Some(asked) => Request::TraceOnBoard(asked),
+        None => Request::Trace(TraceArguments::of(arguments)),
+    }
+}
+
+/// The request of the command `cover`: of a run among the devices of a board if one is given, else of one on inputs.
+fn cover_request<'a>(arguments: &ArgMatches<'a>) -> Request<'a>
+    ensures name { command_name result ≡ codes "cover" }
+    ensures arguments { AreArgumentsOf arguments.now result }
+{
+    match BoardCoverArguments::of(arguments) {
+        Some(asked) => Request::CoverOnBoard(asked),
+        None => Request::Cover(CoverArguments::of(arguments)),
     }
 }

@@ -1,6 +1,6 @@
 use Rattle.plm80_runs.proofs.Names.{subst, AnswersVerdict, IfOk-weaker, IsVerdict}
 use Rattle.plm80_names.specs.Verdict.AnswersVerdict.{accepted, refused}
-use Rattle.plm80_runs.specs.BoardRuns.{TranscribesRun}
+use Rattle.plm80_runs.specs.OnBoards.{TranscribesRun}
 use Rattle.plm80_runs.specs.declared.board_run.Transcribed.{Transcribed}
 use Rattle.plm80_runs.proofs.board_run.judged.Goals as goal
 

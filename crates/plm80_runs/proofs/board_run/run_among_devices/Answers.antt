@@ -1,17 +1,12 @@
-use Rattle.std.specs.Prelude.{Some, ◌++◌}
-use Rattle.plm80_boards.specs.Boards.{WithBoard, board_paths}
 use Rattle.plm80_console.specs.AnswerLaws.{more_or_gives_up}
-use Rattle.plm80_names.specs.Arguments.{asks_names, program_paths}
-use Rattle.plm80_names.specs.Verdict.{AnswersProgram}
-use Rattle.plm80_runs.specs.BoardRuns.{RunsIfGiven, RunsOnBoard}
+use Rattle.plm80_runs.specs.OnBoards.{AnswersOnBoard, RunsOnBoard, TranscribesRun, board_program_paths}
 use Rattle.plm80_runs.proofs.board_run.run_among_devices.Goals as goal
 
 pub returns : goal.returns
 returns g c =
     let asked = c.args.arguments in
     let limits = c.in_ok-limits.limits in
-    let both = more_or_gives_up (WithBoard (Some asked.board) (λ board. AnswersProgram (RunsIfGiven limits board) (asks_names asked.files)))
-    (RunsOnBoard asked) (board_paths (Some asked.board) ++ program_paths asked.files)
+    let both = more_or_gives_up (AnswersOnBoard (λ lines. TranscribesRun lines limits) asked.files) (RunsOnBoard asked) (board_program_paths asked.files)
     (g.C.Console.journal c.args.console.now) (g.C.Console.journal c.numbers.new.console) (g.C.Console.journal c.run_within-given.new.console)
     (λ files answer answers. record { limits = limits; are_limits = c.in_ok-limits.ensures.limits; answers = answers })
     c.in_ok-limits.ensures.unchanged c.run_within-given.result
