@@ -23,7 +23,8 @@ use Rattle.loader80_board.specs.declared.fault.BoardRunFault.{BoardRunFault}
 use Rattle.loader80_board.specs.declared.fault.BoardRunFault.TheVariants.{DeviceOutsideData, Write, Memory}
 use Rattle.loader80_board.specs.BoardLines.{AreLinesOf, TracesBoard, WritesFront, WritesLines, state_line, states_lines, step_line}
 use Rattle.loader80_board.specs.BoardStates.{AreStates, last_number}
-use Rattle.loader80_board.specs.Keeping.{ComesTo, fault_of}
+use Rattle.loader80_board.specs.Faults.{fault_of}
+use Rattle.loader80_board.specs.Keeping.{ComesTo}
 use Rattle.loader80_board.proofs.DecideLemmas.{none_after}
 use Rattle.loader80_board.proofs.StatesLemmas.{Steps, come_at, ended, lines_more, states_more, stopped, went}
 

@@ -7,11 +7,7 @@ use Rattle.board80.specs.declared.line.Line.{Line}
 use Rattle.machine80_board.specs.declared.rules.Running.{Running}
 use Rattle.machine80_board.specs.BoardRun.{BoardState}
 use Rattle.machine80_board.specs.Keeping.{HasCome}
-use Rattle.loader80_trace.specs.declared.fault.TraceFault.{TraceFault}
-use Rattle.loader80_trace.specs.declared.fault.TraceFault.TheVariants.{Write as WriteFailed, Memory as OutOfMemory}
 use Rattle.loader80_board.specs.declared.ended.BoardEnded.{BoardEnded}
-use Rattle.loader80_board.specs.declared.fault.BoardRunFault.{BoardRunFault}
-use Rattle.loader80_board.specs.declared.fault.BoardRunFault.TheVariants.{Write, Memory}
 use Rattle.loader80_board.specs.BoardStates.{EndsSo}
 
 -- the byte that an instruction took from a port or gave to one, seen by the accumulator before and after it, and by whether the run
@@ -32,8 +28,3 @@ abbrev pub ComesTo : List Line → Areas → (most : ℕ) → (start : BoardStat
 ComesTo lines regions most start steps r None = HasCome lines regions most start steps r
 ComesTo lines regions most start steps r (Some ended) =
     EndsSo lines regions start (record { steps = steps; outputs = most }) ended × (is_some ended.end ≡ true)
-
--- a fault of a trace, as one of a run on a board
-abbrev pub fault_of : TraceFault → BoardRunFault
-fault_of WriteFailed = Write
-fault_of OutOfMemory = Memory

@@ -5,5 +5,6 @@ pub mod BoardStates
 pub mod BoardLines
 pub mod BoardCounts
 pub mod BoardFinish
--- what the functions of traces and counts promise one another: no public contract cites these
+pub mod Faults
+-- what the crate's own functions promise one another: no public contract cites these
 pub mod Keeping

@@ -32,7 +32,7 @@ impl From<AllocError> for BoardRunFault {
 }
 
 impl From<TraceFault> for BoardRunFault {
-    ghost use Rattle.loader80_board.specs.Keeping.{fault_of};
+    ghost use Rattle.loader80_board.specs.Faults.{fault_of};
 
     ghost from_gives = { λ given fault. fault ≡ fault_of given };
 
