@@ -71,7 +71,7 @@ pub enum BoardEndWords {
     NoByte { at: u16, address: u16 },
     #[error("the store at {at:04X} to {address:04X} is one more than --outputs allows")]
     StoreRefused { at: u16, address: u16 },
-    #[error("the store at {at:04X} isn't to DATA: its pointer is wrong, or a DATA line is missing")]
+    #[error("the store at {at:04X} isn't to DATA: its pointer is wrong (trace --board shows the way), or a DATA line is missing")]
     StoreOutside { at: u16 },
     #[error("its steps are used up: --steps allows more")]
     StepsUsed,
