@@ -1,2 +1,4 @@
 mod ApartLemmas
 mod BundleLemmas
+mod ProgramLemmas
+mod SpelledLemmas

@@ -1,3 +1,4 @@
 pub mod Apart
+pub mod CommandLine
 pub mod Requests
 pub mod Bundles

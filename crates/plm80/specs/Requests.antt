@@ -1,8 +1,7 @@
 -- What each request is, and what is done for it. (The commands and their statuses are this project's own.)
-use Rattle.std.specs.Prelude.{◌≡◌, ◌⊎◌, ℕ, Bool, true, false, List, [], ◌∷◌, ◌++◌, None, Some, String, map, option_map, codes, string_bytes}
+use Rattle.std.specs.Prelude.{◌≡◌, ◌⊎◌, ℕ, Bool, true, false, List, [], ◌∷◌, ◌++◌, None, Some, Option, String, map, codes, string_bytes}
 use Rattle.std.specs.Str.{bytes_eq}
-use Rattle.clap.specs.Matches.{first_value, found_of, subcommand_name_of}
-use Rattle.clap.specs.{declared.parser.matches.ArgMatches.ArgMatches, Simple.subcommand_rows_of, Walk.rows_of}
+use Rattle.clap.specs.{declared.parser.matches.ArgMatches.ArgMatches, Matches.first_value, Matches.found_of, Simple.subcommand_of, Walk.Row, Walk.rows_of}
 use Rattle.plm80_console.specs.Journal.{Journal, and_reported}
 use Rattle.plm80_console.specs.{Answer.Gives, Answer.GivesUp, Arguments.argument_text}
 use Rattle.plm80_boards.specs.Boards.{WithBoard, board_paths}
@@ -24,7 +23,7 @@ use Rattle.plm80_runs.specs.InputWords.{AnswersWords, AreInputsArguments}
 use Rattle.plm80_programs.specs.Explanations.{PrintsExplanation}
 use Rattle.plm80_regions.specs.Suggest.{AnswersAdvice, AreSuggestArguments}
 use Rattle.plm80_regions.specs.Written.{AnswersRegions}
-use Rattle.plm80.specs.{Apart.AreApartIn, declared.commands.arguments.Request.Request}
+use Rattle.plm80.specs.{Apart.AreApartIn, CommandLine.joined_words, CommandLine.plm80_app, declared.commands.arguments.Request.Request}
 use Rattle.plm80.specs.declared.commands.arguments.Request.TheVariants as request
 
 -- its name on the command line
@@ -85,11 +84,11 @@ AreArgumentsOf matches (request.Find arguments) = AreFindArguments matches argum
 AreArgumentsOf matches (request.Suggest arguments) = AreSuggestArguments matches arguments
 AreArgumentsOf matches (request.Report arguments) = AreReportArguments matches arguments
 
--- it is the one that clap has read; letter for letter no written path is another one's, but regions may replace regions
-pub record IsRequestOf (matches : ArgMatches) (request : Request) : Type 0 where
+-- it is that of a command with the values of its arguments, as clap has read both; letter for letter no written path is another one's,
+-- but regions may replace regions
+pub record IsRequestOf (read : Option (List ℕ × List Row)) (request : Request) : Type 0 where
   pub arguments : ArgMatches
-  pub name : subcommand_name_of matches ≡ Some (command_name request)
-  pub rows : Some (rows_of (found_of arguments)) ≡ option_map (λ p. p.1) (subcommand_rows_of matches)
+  pub is_read : read ≡ Some (command_name request, rows_of (found_of arguments))
   pub are : AreArgumentsOf arguments request
   pub apart : AreApartIn arguments request
 
@@ -155,10 +154,10 @@ IsFailed (request.Report arguments) old new = GivesUp (AnswersProgram (AnswersPa
 abbrev pub IsDone : Request → (old new : Journal) → (status : ℕ) → Type 0
 IsDone request old new status = IsPerformed request old new status ⊎ ((status ≡ 2) × IsFailed request old new)
 
--- what comes of a command line: help or what is wrong with it was printed; or the request that clap has read is done
-abbrev pub IsCommandDone : (old new : Journal) → (status : ℕ) → Type 0
-IsCommandDone old new status = ((status ≡ 2) × (new ≡ and_reported old))
-    ⊎ ((matches : ArgMatches) × (request : Request) × IsRequestOf matches request × IsDone request old new status)
+-- what comes of a command line of these words: help or what is wrong with it was printed; or the request that they spell is done
+abbrev pub IsCommandDone : (words : List (List ℕ)) → (old new : Journal) → (status : ℕ) → Type 0
+IsCommandDone words old new status = ((status ≡ 2) × (new ≡ and_reported old))
+    ⊎ ((request : Request) × IsRequestOf (subcommand_of plm80_app (joined_words words)) request × IsDone request old new status)
 
 -- the program's name alone, or `--why` alone behind it, asks for a bundle; every other command line for a command
 abbrev pub asks_bundle : {Z : Type 0} → List (String Z) → Bool

@@ -1,14 +1,16 @@
 //! The commands of the program, done with files. Tests show what they print.
 
-ghost use Rattle.std.specs.Prelude.{◌≡◌, IfErr, IfOk};
+ghost use Rattle.std.specs.Prelude.{◌≡◌, map, string_bytes, IfErr, IfOk};
 ghost use Rattle.std.specs.Process.{exit_status};
 ghost use Rattle.plm80_console.specs.Journal.{and_reported};
 ghost use Rattle.plm80.specs.Requests.{IsCommandDone, IsDone, IsFailed, IsPerformed};
 
 mod arguments;
+mod joined_words;
 mod program_syntax;
 
 use arguments::{Request, read_arguments};
+use joined_words::joined_words;
 use plm80_console::{Console, Reported, exit_code};
 use plm80_objects::{
     compare_files, describe_file, extract_file, find_modules, link_files, locate_file, map_file,
@@ -22,14 +24,19 @@ use plm80_runs::{
     cover_among_devices, cover_files, run_among_devices, run_files, trace_among_devices,
     trace_files, write_inputs_file,
 };
+use std::alloc::AllocError;
 use std::process::ExitCode;
 
 /// Does the command, and gives the exit status: 1 if an image is refused, 2 at a fault, 3 or 4 as a run ends, and else 0. A fault is
 /// one line on standard error, with words below it if the command asks for them; clap's errors and help are printed there too.
 pub fn run_command<C: Console>(console: &mut C, arguments: &[String]) -> ExitCode
-    ensures { IsCommandDone (C.journal console.old) (C.journal console.new) (exit_status result) }
+    ensures { IsCommandDone (map string_bytes arguments.now) (C.journal console.old) (C.journal console.new) (exit_status result) }
 {
-    let (request, why) = match read_arguments(console, arguments) {
+    let words = match joined_words(console.alloc(), arguments) {
+        Ok(words) => words,
+        Err(AllocError) => return console.report_memory().status(),
+    };
+    let (request, why) = match read_arguments(console, &words) {
         Ok(asked) => asked,
         Err(error) => return console.report_usage(&error).status(),
     };

@@ -1,6 +1,6 @@
 //! `plm80`: the program, from its arguments, files and standard input to the calls of the layers below.
 //!
-//! Proved: a request is of the command of its name; the exit status is that of its command, of a bundle's run, or 2.
+//! Proved: a request is the one that the words spell; the exit status is that of its command, of a bundle's run, or 2.
 //!
 //! | Item | What it is |
 //! |---|---|
@@ -8,7 +8,7 @@
 //! | `commands` | the commands of the command line, with their arguments |
 #![tactic(auto)]
 
-ghost use Rattle.std.specs.Prelude.{◌≡◌, ◌<◌, ◌≤◌, true, false, length, IfErr, IfOk};
+ghost use Rattle.std.specs.Prelude.{◌≡◌, ◌<◌, ◌≤◌, true, false, length, map, string_bytes, IfErr, IfOk};
 ghost use Rattle.std.specs.Process.{exit_status};
 ghost use Rattle.loader80_text.specs.{Bundle.BundleSends, Bundle.bundle_limit, BundleText.bundle_texts};
 ghost use Rattle.plm80.specs.Bundles.{GivesBundle, GivesUpBundle, IsBundleDone, bundle_status};
@@ -66,7 +66,8 @@ fn is_explained(rt: &HostRuntime) -> bool {
 /// Does what the arguments ask for, the first of which is the program's own name: the program, over whatever console.
 pub fn run<C: Console>(console: &mut C, arguments: &[String]) -> ExitCode
     ensures bundle { asks_bundle arguments.now ≡ true → IsBundleDone (C.journal console.old) (C.journal console.new) (exit_status result) }
-    ensures command { asks_bundle arguments.now ≡ false → IsCommandDone (C.journal console.old) (C.journal console.new) (exit_status result) }
+    ensures command { asks_bundle arguments.now ≡ false
+        → IsCommandDone (map string_bytes arguments.now) (C.journal console.old) (C.journal console.new) (exit_status result) }
 {
     if asks_bundle(arguments) {
         return run_bundle(console, arguments.len() > 1);

@@ -1,9 +1,9 @@
 //! The command line, read by clap.
 
-ghost use Rattle.std.specs.Prelude.{◌≡◌, ◌⊎◌, false, None, IfOk, IfErr, IfSome, OnOk, codes};
-ghost use Rattle.clap.specs.{Matches.has_subcommand, Values.kind_of, declared.parser.matches.ArgMatches.ArgMatches};
+ghost use Rattle.std.specs.Prelude.{◌≡◌, ◌⊎◌, false, None, codes, map, string_bytes, IfOk, IfErr, IfSome, OnOk};
+ghost use Rattle.clap.specs.{Matches.has_subcommand, Simple.subcommand_of, Simple.subcommand_rows_of, Values.kind_of};
 ghost use Rattle.plm80_console.specs.Refusals.{IsConflict};
-ghost use Rattle.plm80.specs.{Apart.AreApartIn, Requests.AreArgumentsOf, Requests.IsRequestOf, Requests.command_name};
+ghost use Rattle.plm80.specs.{Apart.AreApartIn, CommandLine.plm80_app, Requests.AreArgumentsOf, Requests.IsRequestOf, Requests.command_name};
 
 use super::program_syntax::{program, shown_error};
 use clap::error::ErrorKind;
@@ -55,18 +55,18 @@ pub enum Request<'a> {
     Report(ReportArguments<'a>),
 }
 
-/// Reads a command line, whose first argument is the program's own name: its command, and whether `--why` asks for words about faults. The
-/// error is one of clap, or the help text if that is asked for.
+/// Reads the words of a command line, as `joined_words` gives them, of which the first is the program's own name: its command, and whether
+/// `--why` asks for words about faults. The error is one of clap, or the help text if that is asked for.
 pub fn read_arguments<'a, C: Console>(
     console: &C,
-    arguments: &'a [String],
+    words: &'a [String],
 ) -> Result<(Request<'a>, bool), Error>
-    ensures { IfOk result (λ asked. (matches : ArgMatches) × IsRequestOf matches asked.0) }
+    ensures { IfOk result (λ asked. IsRequestOf (subcommand_of plm80_app (map string_bytes words.now)) asked.0) }
 {
     let alloc = console.alloc();
-    let matches = match program(alloc, "")?.try_get_matches_from(arguments) {
+    let matches = match program(alloc, "")?.try_get_matches_from(words) {
         Ok(matches) => matches,
-        Err(error) => return Err(shown_error(alloc, arguments, error)),
+        Err(error) => return Err(shown_error(alloc, words, error)),
     };
     match asked_for(console, &matches)? {
         Some(request) => Ok((request, is_explained(&matches))),
@@ -119,7 +119,7 @@ fn asked_for<'a, C: Console>(
     matches: &ArgMatches<'a>,
 ) -> Result<Option<Request<'a>>, Error>
     ensures none { IfOk result (λ asked. has_subcommand matches.now ≡ false → asked ≡ None) }
-    ensures request { IfOk result (λ asked. IfSome asked (IsRequestOf matches.now)) }
+    ensures request { IfOk result (λ asked. IfSome asked (IsRequestOf (subcommand_rows_of matches.now))) }
     ensures conflict { IfErr result IsConflict }
 {
     let Some((name, arguments)) = matches.subcommand() else {

@@ -1,6 +1,10 @@
 //! The program for clap: its commands in groups, and its help text.
 
-ghost use Rattle.std.specs.Prelude.{◌≡◌, ◌∷◌, [], codes, map};
+ghost use Rattle.std.specs.Prelude.{◌≡◌, find, map, option_map, IfOk};
+ghost use Rattle.std.specs.Str.{bytes_eq};
+ghost use Rattle.clap.specs.Simple.{app_of};
+ghost use Rattle.plm80.specs.CommandLine.{command_named, commands, object_commands, plm80_app, prom_commands, run_commands, verifier_commands};
+ghost use Rattle.plm80_console.specs.SyntaxTable.{shape_of_syntax};
 
 use clap::{Command, Error};
 use plm80_console::{OneLine, Syntax};
@@ -34,41 +38,76 @@ Faults and what to do: docs/FAULTS.md (installed: share/doc/plm80), man plm80.";
 /// The commands of object files, in the order of the help text. (Several functions make the commands, since one proof of all their
 /// texts is more than the prover takes.)
 pub(crate) fn object_commands() -> [Syntax<'static>; 5]
-    ensures { map (λ command. command.name.now) result ≡ codes "lib" ∷ codes "link" ∷ codes "locate" ∷ codes "map" ∷ codes "module" ∷ [] }
+    ensures { map shape_of_syntax result ≡ object_commands }
 {
     [LIB, LINK, LOCATE, MAP, MODULE]
 }
 
 /// The commands that verify a located program, in the order of the help text.
 pub(crate) fn verifier_commands() -> [Syntax<'static>; 6]
-    ensures { map (λ command. command.name.now) result ≡ codes "check" ∷ codes "explain" ∷ codes "calls" ∷ codes "stores" ∷ codes "follow"
-        ∷ codes "report" ∷ [] }
+    ensures { map shape_of_syntax result ≡ verifier_commands }
 {
     [CHECK, EXPLAIN, CALLS, STORES, FOLLOW, REPORT]
 }
 
 /// The commands that run a located program, in the order of the help text.
 pub(crate) fn run_commands() -> [Syntax<'static>; 4]
-    ensures { map (λ command. command.name.now) result ≡ codes "run" ∷ codes "trace" ∷ codes "cover" ∷ codes "inputs" ∷ [] }
+    ensures { map shape_of_syntax result ≡ run_commands }
 {
     [RUN, TRACE, COVER, INPUTS]
 }
 
 /// The commands of PROMs, and of programs of which there are no object files, in the order of the help text.
 pub(crate) fn prom_commands() -> [Syntax<'static>; 8]
-    ensures { map (λ command. command.name.now) result ≡ codes "absolute" ∷ codes "extract" ∷ codes "compare" ∷ codes "find"
-        ∷ codes "suggest" ∷ codes "cases" ∷ codes "list" ∷ codes "regions" ∷ [] }
+    ensures { map shape_of_syntax result ≡ prom_commands }
 {
     [
         ABSOLUTE, EXTRACT, COMPARE, FIND, SUGGEST, CASES, LIST, REGIONS,
     ]
 }
 
+/// All commands, in the order of the help text. `AllocError` only if memory runs out.
+fn commands(alloc: Global) -> Result<Vec<Syntax<'static>>, AllocError>
+    ensures { IfOk result (λ all. map shape_of_syntax all.items ≡ commands) }
+{
+    let mut all = Vec::new(alloc);
+    all.extend_from_slice(&object_commands())?;
+    all.extend_from_slice(&verifier_commands())?;
+    all.extend_from_slice(&run_commands())?;
+    all.extend_from_slice(&prom_commands())?;
+    Ok(all)
+}
+
+/// The command of this name; `None` if there is none. `AllocError` only if memory runs out.
+pub(crate) fn command_named(
+    alloc: Global,
+    name: &str,
+) -> Result<Option<Syntax<'static>>, AllocError>
+    ensures { IfOk result (λ found. option_map shape_of_syntax found ≡ command_named name.now) }
+{
+    let all = commands(alloc)?;
+    Ok(first_named(&all, name))
+}
+
+/// The first of these commands that has this name; `None` if there is none.
+fn first_named<'a>(commands: &[Syntax<'a>], name: &str) -> Option<Syntax<'a>>
+    ensures { option_map shape_of_syntax result ≡ find (λ command. bytes_eq command.name name.now) (map shape_of_syntax commands.now) }
+{
+    for command in commands {
+        if command.name == name {
+            return Some(*command);
+        }
+    }
+    None
+}
+
 /// What `--version` prints.
 const VERSION: &str = "1.2";
 
 /// The program with its commands, for clap; the text `after` follows the list of its options. `AllocError` only if memory runs out.
-pub(crate) fn program<'a>(alloc: Global, after: &'a str) -> Result<Command<'a>, AllocError> {
+pub(crate) fn program<'a>(alloc: Global, after: &'a str) -> Result<Command<'a>, AllocError>
+    ensures { IfOk result (λ program. app_of program ≡ plm80_app) }
+{
     let mut program = Command::new(alloc, "plm80")
         .version(VERSION)
         .about("Links, locates, verifies and runs 8080 programs from OMF-80 object files")
@@ -76,31 +115,28 @@ pub(crate) fn program<'a>(alloc: Global, after: &'a str) -> Result<Command<'a>, 
         .after_help(after)
         .subcommand_required(true)
         .bin_name("plm80")?;
-    let (objects, verifier) = (object_commands(), verifier_commands());
-    let (runs, proms) = (run_commands(), prom_commands());
-    for group in [&objects[..], &verifier, &runs, &proms] {
-        for command in group {
-            program = program.subcommand(command.command(alloc)?.hide(true))?;
-        }
+    let all = commands(alloc)?;
+    for command in &all {
+        program = program.subcommand(command.command(alloc)?.hide(true))?;
     }
     Ok(program)
 }
 
-/// What clap prints for a command line that it doesn't take, with this error, or that asks for help: with the commands in groups, and
-/// with control characters of the arguments shown.
-pub(crate) fn shown_error(alloc: Global, arguments: &[String], error: Error) -> Error {
-    match refused_again(alloc, arguments) {
+/// What clap prints for the words of a command line that it doesn't take, with this error, or that asks for help: with the commands in
+/// groups, and with control characters of the words shown.
+pub(crate) fn shown_error(alloc: Global, words: &[String], error: Error) -> Error {
+    match refused_again(alloc, words) {
         Ok(Some(shown)) => shown,
         Ok(None) => error,
         Err(AllocError) => Error::from(AllocError),
     }
 }
 
-/// The error of these arguments, read again with their control characters shown; `None` if there is none then.
-fn refused_again(alloc: Global, arguments: &[String]) -> Result<Option<Error>, AllocError> {
+/// The error of these words, read again with their control characters shown; `None` if there is none then.
+fn refused_again(alloc: Global, words: &[String]) -> Result<Option<Error>, AllocError> {
     let mut shown = Vec::new(alloc);
-    for argument in arguments {
-        shown.push(format!(in alloc; "{}", OneLine(argument.as_str()))?)?;
+    for word in words {
+        shown.push(format!(in alloc; "{}", OneLine(word.as_str()))?)?;
     }
     let after = help_text(alloc)?;
     Ok(program(alloc, &after)?.try_get_matches_from(&shown).err())
