@@ -5,4 +5,3 @@ mod StatesLemmas
 mod LineLemmas
 mod TraceLemmas
 mod CountLemmas
-mod FinishLemmas

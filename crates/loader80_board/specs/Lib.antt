@@ -4,7 +4,6 @@ pub mod BoardSays
 pub mod BoardStates
 pub mod BoardLines
 pub mod BoardCounts
-pub mod BoardFinish
 pub mod Faults
 -- what the crate's own functions promise one another: no public contract cites these
 pub mod Keeping

@@ -11,7 +11,6 @@
 //! | [`count_board_steps`], [`BoardCounts`] | how often a run begins the instruction at each address |
 //! | [`BoardEnded`] | how a run ended, or was stopped |
 //! | [`BoardRunFault`] | why a run on a board has no outcome, no lines or no counts |
-//! | [`finish_on_board`], [`BoardFinished`] | a run to its end, with what it leaves |
 //! | [`board_transcript_text`], [`board_front_text`], [`board_ending_text`] | what is printed of a run on a board; its parts |
 //! | [`laws`] | a run among devices is one on a board; nothing else decides it: as contracts |
 #![tactic(auto)]
@@ -19,7 +18,6 @@
 mod counting;
 mod ended;
 mod fault;
-mod finishing;
 pub mod laws;
 mod line;
 mod running;
@@ -30,7 +28,6 @@ mod transcript;
 pub use counting::{BoardCounts, count_board_steps};
 pub use ended::BoardEnded;
 pub use fault::BoardRunFault;
-pub use finishing::{BoardFinished, finish_on_board};
 pub use running::{BoardOutcome, BoardReply, answer_on_board, write_on_board};
 pub use tracing::write_board_lines;
 pub use transcript::{board_ending_text, board_front_text, board_transcript_text};
