@@ -25,9 +25,9 @@ _plm80() {
         link) options='--name --out --map --reasons --why -h --help' ;;
         locate) options='--code --stack --common --data --memory --stack-size --memory-size --rom-range --ram-range --board --restart --publics --why -h --help' ;;
         map) options='--code --stack --common --data --memory --stack-size --memory-size --why -h --help' ;;
-        run) options='--steps --outputs --last --dump --names --why -h --help' ;;
-        trace) options='--from --count --steps --outputs --names --why -h --help' ;;
-        cover) options='--steps --outputs --names --why -h --help' ;;
+        run) options='--steps --outputs --last --dump --names --board --why -h --help' ;;
+        trace) options='--from --count --steps --outputs --names --board --why -h --help' ;;
+        cover) options='--steps --outputs --names --board --why -h --help' ;;
         extract) options='--first --length --fill --sum --why -h --help' ;;
         absolute) options='--first --start --name --rom --why -h --help' ;;
         compare) options='--first --fill --names --why -h --help' ;;

@@ -1,11 +1,12 @@
-//! Why a run on a board has no outcome.
+//! Why a run on a board has no outcome, no lines or no counts.
 
 ghost use Rattle.std.specs.Prelude.{◌≡◌};
 
+use loader80_trace::TraceFault;
 use std::alloc::AllocError;
 use thiserror::Error;
 
-/// Why a run on a board has no outcome.
+/// Why a run on a board has no outcome, no lines or no counts.
 #[derive(Clone, Copy, Debug, PartialEq, Eq, Error)]
 pub enum BoardRunFault {
     /// The number of the first line of the board, counted from 1, whose DEVICE range has an address that is no data.
@@ -27,5 +28,19 @@ impl From<AllocError> for BoardRunFault {
     /// The fault `Memory`.
     fn from(_: AllocError) -> BoardRunFault {
         BoardRunFault::Memory
+    }
+}
+
+impl From<TraceFault> for BoardRunFault {
+    ghost use Rattle.loader80_board.specs.Faults.{fault_of};
+
+    ghost from_gives = { λ given fault. fault ≡ fault_of given };
+
+    /// The fault of the same name.
+    fn from(fault: TraceFault) -> BoardRunFault {
+        match fault {
+            TraceFault::Write => BoardRunFault::Write,
+            TraceFault::Memory => BoardRunFault::Memory,
+        }
     }
 }

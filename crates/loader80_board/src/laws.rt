@@ -1,5 +1,6 @@
-//! What holds of runs among devices. The function does nothing: its contract is the law.
+//! What holds of runs among devices. The functions do nothing: their contracts are the laws.
 
+ghost use Rattle.loader80_board.specs.BoardStates.{BoardsDecideRuns};
 ghost use Rattle.loader80_board.specs.OnBoards.{RunsAreOnBoards};
 
 use image80::laws::code_data_and_stack_are_apart;
@@ -16,3 +17,9 @@ pub fn runs_are_on_boards()
     promise_is_kept_on_boards();
     bytes_stay_bytes();
 }
+
+/// A law: a run on a board has one state after each number of steps, and none after the step that ends it. Nothing but the
+/// image, the board and the limit of outputs decides it.
+pub fn boards_decide_runs()
+    ensures { BoardsDecideRuns }
+{}

@@ -1,21 +1,36 @@
 //! Runs of vouched images among the devices of a board.
 //!
-//! Proved: the transcript of the run; each of its states is one on a board, of which the promise holds.
+//! Proved: the transcript of the run; each of its states is one on a board, of which the promise holds; the lines of its
+//! instructions are those of its states; its counts.
 //!
 //! | Item | What it is |
 //! |---|---|
 //! | [`answer_on_board`], [`BoardReply`], [`BoardOutcome`] | a vouched image runs on a board; the transcript |
 //! | [`write_on_board`] | the same, and the transcript is written |
-//! | [`BoardRunFault`] | why a run on a board has no outcome |
-//! | [`board_transcript_text`] | what is printed of a run on a board |
-//! | [`laws`] | a run among devices is one on a board, as a contract |
+//! | [`write_board_lines`] | the lines of some of a run's instructions, written as they come |
+//! | [`count_board_steps`], [`BoardCounts`] | how often a run begins the instruction at each address |
+//! | [`BoardEnded`] | how a run ended, or was stopped |
+//! | [`BoardRunFault`] | why a run on a board has no outcome, no lines or no counts |
+//! | [`finish_on_board`], [`BoardFinished`] | a run to its end, with what it leaves |
+//! | [`board_transcript_text`], [`board_front_text`], [`board_ending_text`] | what is printed of a run on a board; its parts |
+//! | [`laws`] | a run among devices is one on a board; nothing else decides it: as contracts |
 #![tactic(auto)]
 
+mod counting;
+mod ended;
 mod fault;
+mod finishing;
 pub mod laws;
+mod line;
 mod running;
+mod skipping;
+mod tracing;
 mod transcript;
 
+pub use counting::{BoardCounts, count_board_steps};
+pub use ended::BoardEnded;
 pub use fault::BoardRunFault;
+pub use finishing::{BoardFinished, finish_on_board};
 pub use running::{BoardOutcome, BoardReply, answer_on_board, write_on_board};
-pub use transcript::board_transcript_text;
+pub use tracing::write_board_lines;
+pub use transcript::{board_ending_text, board_front_text, board_transcript_text};

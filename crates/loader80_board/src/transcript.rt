@@ -2,6 +2,7 @@
 
 ghost use Rattle.std.specs.Prelude.{◌≡◌, ◌++◌, IfOk, OnOk, string_bytes};
 ghost use Rattle.std.specs.List.{flat_map};
+ghost use Rattle.loader80.specs.TranscriptText.{stack_line};
 ghost use Rattle.loader80_board.specs.BoardTranscript.{board_end_line, board_transcript, output_line};
 
 use board80::Place;
@@ -11,9 +12,7 @@ use machine80_board::{BoardEnd, Output};
 use std::alloc::{AllocError, Global};
 use std::fmt::Write;
 
-/// The transcript of a run: `STACK n` with the bytes of stack, a line `OUT pp bb` for each output at a port and `OUT aaaa bb`
-/// for each at a cell of a device, and a last line that says how the run ended, as that of [`loader80::ending_text`];
-/// `INPUT aaaa` and `OUTPUT aaaa` name cells.
+/// The transcript of a run: the text of [`board_front_text`], and a last line as of [`board_ending_text`].
 ///
 /// # Errors
 /// `AllocError` only if memory runs out.
@@ -27,10 +26,44 @@ pub fn board_transcript_text(
 ) -> Result<String, AllocError>
     ensures { IfOk result (λ text. string_bytes text ≡ board_transcript stack_bytes outputs.now «end» at steps) }
 {
+    let mut text = board_front_text(alloc, stack_bytes, outputs)?;
+    append_end(alloc, &mut text, end, at, steps)?;
+    Ok(text)
+}
+
+/// The transcript of a run but for its last line: `STACK n` with the bytes of stack, and a line `OUT pp bb` for each output
+/// at a port and `OUT aaaa bb` for each at a cell of a device.
+///
+/// # Errors
+/// `AllocError` only if memory runs out.
+pub fn board_front_text(
+    alloc: Global,
+    stack_bytes: u64,
+    outputs: &[Output],
+) -> Result<String, AllocError>
+    ensures { IfOk result (λ text. string_bytes text ≡ stack_line stack_bytes ++ flat_map output_line outputs.now) }
+{
     let mut text = front_text(alloc, stack_bytes, &[])?;
     for output in outputs {
         append_output(&mut text, *output)?;
     }
+    Ok(text)
+}
+
+/// The last line of a transcript, which says how the run ended, as that of [`loader80::ending_text`]; `INPUT aaaa` and
+/// `OUTPUT aaaa` name cells.
+///
+/// # Errors
+/// `AllocError` only if memory runs out.
+pub fn board_ending_text(
+    alloc: Global,
+    end: Option<BoardEnd>,
+    at: u16,
+    steps: u64,
+) -> Result<String, AllocError>
+    ensures { IfOk result (λ text. string_bytes text ≡ board_end_line «end» at steps) }
+{
+    let mut text = String::new(alloc);
     append_end(alloc, &mut text, end, at, steps)?;
     Ok(text)
 }

@@ -111,7 +111,7 @@ fn count_each(
 
 /// Adds 1 to the count of an address, in a table that must have 65536 counts. That of the address must be below the
 /// greatest `u64`.
-fn count_at(counts: &mut Vec<u64>, address: u16)
+pub fn count_at(counts: &mut Vec<u64>, address: u16)
     requires whole { length counts.old.items ≡ 65536 }
     requires countable { slice_index counts.old.items address < 2 ^ 64 - 1 }
     ensures counted { counts.new.items ≡ slice_set counts.old.items address (slice_index counts.old.items address + 1) }

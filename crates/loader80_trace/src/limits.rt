@@ -35,6 +35,16 @@ impl Span {
             None => ended.steps,
             Some(_) => ended.steps.saturating_sub(1),
         };
+        Span::last_to(last, count)
+    }
+
+    /// The last instructions up to the one before which `last` steps were made, `count` of them at most. `count` must be at
+    /// least 1.
+    pub fn last_to(last: u64, count: u64) -> Span
+        requires { 0 < count }
+        ensures count { result.count ≡ min count (last + 1) }
+        ensures last { result.from + result.count ≡ last + 1 }
+    {
         if count > last {
             return Span {
                 from: 0,

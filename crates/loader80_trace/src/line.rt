@@ -16,7 +16,10 @@ use text80::{byte_digits, word_digits};
 
 /// Appends the line of an instruction: its address, bytes and text, the byte that it takes from a port or gives to
 /// one, if it does, and the registers before it.
-pub(crate) fn append_line(
+///
+/// # Errors
+/// `AllocError` only if memory runs out.
+pub fn append_line(
     alloc: Global,
     instr: Instr,
     byte: Option<u8>,
@@ -117,7 +120,10 @@ pub struct LineForm<'a> {
 
 /// Appends what comes before an instruction's line: the line of the name of its address, if it has one, and its
 /// number, if lines are numbered.
-pub(crate) fn append_front(
+///
+/// # Errors
+/// `AllocError` only if memory runs out.
+pub fn append_front(
     alloc: Global,
     publics: &PublicTable,
     numbered: bool,

@@ -15,7 +15,8 @@ use Rattle.machine80_board.specs.Cursor.{IsAt}
 use Rattle.board80.specs.Table.{TableRows}
 use Rattle.machine80_board.specs.declared.output.Output.{Output}
 use Rattle.machine80_board.specs.Exchanges.{answers_at, bytes_put, is_same, last_put, times_read}
-use Rattle.machine80_board.specs.Keeping.{HaveGiven, HaveSeen, HaveSlots, slot_count, slot_of}
+use Rattle.machine80_board.specs.Keeping.{HaveGiven, HaveSeen}
+use Rattle.machine80_board.specs.Slots.{HaveSlots, slot_count, slot_of}
 
 pub is_one : (one other : Place) → is_same one other ≡ true → one ≡ other
 is_one (Port a) (Port b) h = ap (λ n. Port n) (eqb-true a b h)

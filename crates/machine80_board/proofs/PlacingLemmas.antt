@@ -29,7 +29,7 @@ either : (a b : Bool) → (a || b) ≡ true → (a ≡ false → b ≡ true)
 either true b h = λ no. absurd (cc)
 either false b h = λ no. h
 
-more_devices : (lines : List Line) (i : ℕ) (line : Line) (address : ℕ) → i < length lines → line ≡ get_or lines i line →
+pub more_devices : (lines : List Line) (i : ℕ) (line : Line) (address : ℕ) → i < length lines → line ≡ get_or lines i line →
     in_device (take (i + 1) lines) address ≡ (in_device (take i lines) address || gives_device line address)
 more_devices [] i line address inside is = absurd (omega arith)
 more_devices (x ∷ xs) zero line address inside is = ap (λ (y : Line). gives_device y address || false) (sym is) ∙ no_more (gives_device line address)

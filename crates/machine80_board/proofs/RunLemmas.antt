@@ -13,7 +13,8 @@ use Rattle.machine80_board.specs.declared.output.Output.{Output}
 use Rattle.machine80_board.specs.declared.rules.Running.{Running}
 use Rattle.machine80_board.specs.BoardRun.{BoardState, IsReached, begins, goes_on}
 use Rattle.machine80_board.specs.Cursor.{IsAt}
-use Rattle.machine80_board.specs.Keeping.{EndsFrom, HasCome, HaveGiven, HaveSeen, IsNow, Turned, slot_of}
+use Rattle.machine80_board.specs.Keeping.{EndsFrom, HasCome, HaveGiven, HaveSeen, IsNow, Turned}
+use Rattle.machine80_board.specs.Slots.{slot_of}
 use Rattle.machine80_board.proofs.PlaceLemmas.{slot_within}
 
 pub ok_then : {A E : Type 0} {P Q : A → Type 0} (r : Result A E) → ((a : A) → P a → Q a) → IfOk r P → IfOk r Q
@@ -42,7 +43,7 @@ seen_first last same = record {
   seen = λ place proper. ap (λ (l : List (Option ℕ)). get_or l (slot_of place) None) same ∙ get_or-replicate 65792 (slot_of place) None None (slot_within place proper);
 }
 
-none_only : (C : Option ℕ → Type 0) → ((b : ℕ) → C (Some b) → ⊥) → (y : Option ℕ) → C y → y ≡ None
+pub none_only : (C : Option ℕ → Type 0) → ((b : ℕ) → C (Some b) → ⊥) → (y : Option ℕ) → C y → y ≡ None
 none_only C f None h = refl
 none_only C f (Some b) h = absurd (f b h)
 

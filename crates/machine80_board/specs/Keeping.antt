@@ -1,5 +1,5 @@
 -- What the functions of a run keep of the board's devices. (This project's own.)
-use Rattle.std.specs.Prelude.{◌≡◌, ℕ, ◌+◌, ◌<◌, Bool, true, false, List, [], ◌∷◌, ◌++◌, All, filter, find, length, map, slice_index, slice_index_or, Option, None, Some, Result, Ok, Err}
+use Rattle.std.specs.Prelude.{◌≡◌, ℕ, ◌<◌, Bool, true, false, List, [], ◌∷◌, ◌++◌, All, filter, find, map, slice_index, slice_index_or, Option, None, Some, Result, Ok, Err}
 use Rattle.decode80.specs.declared.instr.Instr.{Instr}
 use Rattle.decode80.specs.declared.instr.Instr.TheVariants.{In, Out}
 use Rattle.decode80.specs.Fetch.{ahead}
@@ -10,7 +10,7 @@ use Rattle.board80.specs.declared.answers.Answers.TheVariants.{Listed}
 use Rattle.machine80_board.specs.declared.cursor.Cursor.{Cursor}
 use Rattle.board80.specs.declared.line.Line.{Line}
 use Rattle.board80.specs.declared.place.Place.{Place}
-use Rattle.board80.specs.declared.place.Place.TheVariants.{Port, Cell}
+use Rattle.board80.specs.declared.place.Place.TheVariants.{Cell}
 use Rattle.board80.specs.Board.{IsPlace, in_device}
 use Rattle.board80.specs.ByteList.{ListedBytes}
 use Rattle.machine80_board.specs.Cursor.{IsAt}
@@ -24,19 +24,8 @@ use Rattle.machine80_board.specs.declared.rules.Rules.{Rules}
 use Rattle.machine80_board.specs.declared.rules.Running.{Running}
 use Rattle.machine80_board.specs.declared.running.Stopped.{Stopped}
 use Rattle.machine80_board.specs.BoardRun.{BoardState, DevicesAreData, EndsBy, IsBoardRun, IsReached, Steps, answered, board_start, is_empty_place, no_inputs}
+use Rattle.machine80_board.specs.Slots.{HaveSlots, slot_of}
 use Rattle.machine80_board.specs.Exchanges.{answer_at, answers_at, is_answered, last_put, times_read}
-
--- each place has a slot: the ports first, then the cells
-abbrev pub slot_of : Place → ℕ
-slot_of (Port port) = port
-slot_of (Cell address) = 256 + address
-
-abbrev pub slot_count : ℕ
-slot_count = 65792
-
--- there is one of each slot
-abbrev pub HaveSlots : {A : Type 0} → List A → Type 0
-HaveSlots slots = length slots ≡ slot_count
 
 -- the cursors of slots have given as many bytes of lists as their places were read
 pub record HaveGiven (lines : List Line) (cursors : List Cursor) (reads : List Place) : Type 0 where

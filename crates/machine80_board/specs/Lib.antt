@@ -1,5 +1,7 @@
 pub mod Exchanges
 pub mod BoardRun
--- what the crate's own functions promise one another: no public contract cites these
 pub mod Cursor
+pub mod Slots
 pub mod Keeping
+-- what the crate's own functions promise one another: no public contract cites these
+pub mod Index

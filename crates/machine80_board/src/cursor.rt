@@ -9,7 +9,7 @@ use board80::{ByteList, Bytes, Item};
 
 /// How far a list of answers was given.
 #[derive(Clone, Copy, Debug, PartialEq, Eq)]
-pub(crate) struct Cursor {
+pub struct Cursor {
     /// The index of the next item, or the number of items behind the last.
     item: usize,
     /// How many times all bytes of that item came.

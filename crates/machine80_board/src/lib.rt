@@ -5,7 +5,9 @@
 //! | Item | What it is |
 //! |---|---|
 //! | [`run_on_board`], [`BoardRun`] | an image runs, its ports and the cells of its devices answered by a board's lines |
+//! | [`start`], [`step_on_board`], [`Rules`], [`Running`], [`Cursor`] | the same run, step by step |
 //! | [`BoardEnd`], [`Output`] | how such a run ends; a byte that was put out at a port, or stored at a cell |
+//! | [`IndexedLines`] | the lines of a board, with tables by which a look-up takes the same time for any number of lines |
 //! | [`misplaced_device`] | the first line of a board whose device doesn't lie in the program's data |
 #![tactic(auto)]
 
@@ -14,6 +16,7 @@ mod cells;
 mod closed_ports;
 mod cursor;
 mod end;
+mod indexed_lines;
 mod output;
 mod placing;
 mod rules;
@@ -21,7 +24,11 @@ mod running;
 mod slots;
 mod stepping;
 
+pub use cursor::Cursor;
 pub use end::BoardEnd;
+pub use indexed_lines::IndexedLines;
 pub use output::Output;
 pub use placing::misplaced_device;
-pub use running::{BoardRun, run_on_board};
+pub use rules::{Rules, Running};
+pub use running::{BoardRun, run_on_board, start};
+pub use stepping::step_on_board;

@@ -1,16 +1,16 @@
 //! What a run on a board goes by, and how far it has come.
 
 use crate::cursor::Cursor;
+use crate::indexed_lines::IndexedLines;
 use crate::output::Output;
-use board80::Line;
 use image80::Regions;
 use machine80::{Cpu, PagedBus};
 
 /// What a run goes by.
 #[derive(Drop)]
-pub(crate) struct Rules<'a> {
+pub struct Rules<'a> {
     /// The lines of the board.
-    pub lines: &'a [Line],
+    pub lines: &'a IndexedLines<'a>,
     /// The regions of the image.
     pub regions: &'a Regions,
     /// The greatest number of outputs.
@@ -19,7 +19,7 @@ pub(crate) struct Rules<'a> {
 
 /// How far a run has come.
 #[derive(Drop)]
-pub(crate) struct Running {
+pub struct Running {
     /// The processor.
     pub cpu: Cpu,
     /// The memory.

@@ -6,6 +6,7 @@ ghost use Rattle.machine80_board.specs.Keeping.{AreRight, AreWhole, EndsFrom, Is
 
 use crate::cursor::Cursor;
 use crate::end::BoardEnd;
+use crate::indexed_lines::IndexedLines;
 use crate::output::Output;
 use crate::rules::{Rules, Running};
 use crate::slots::SLOTS;
@@ -56,8 +57,9 @@ pub fn run_on_board(
     ensures { IfOk result (λ run. IsRunOf board.now image.now outputs steps run) }
 {
     image.regions.stack();
+    let lines = IndexedLines::of(alloc, board)?;
     let rules = Rules {
-        lines: board.lines(),
+        lines: &lines,
         regions: &image.regions,
         outputs,
     };
@@ -75,7 +77,7 @@ pub fn run_on_board(
 ///
 /// # Errors
 /// `AllocError` only if memory runs out.
-fn start(alloc: Global, image: &Image) -> Result<Running, AllocError>
+pub fn start(alloc: Global, image: &Image) -> Result<Running, AllocError>
     ensures starts { IfOk result (λ running. StartsAt image.now running) }
     ensures whole { IfOk result AreWhole }
 {

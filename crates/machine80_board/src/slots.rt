@@ -2,8 +2,7 @@
 
 ghost use Rattle.std.specs.Prelude.{◌≡◌, ◌<◌};
 ghost use Rattle.board80.specs.Board.{IsPlace};
-ghost use Rattle.machine80_board.specs.Exchanges.{is_same};
-ghost use Rattle.machine80_board.specs.Keeping.{slot_count, slot_of};
+ghost use Rattle.machine80_board.specs.Slots.{slot_count, slot_of};
 
 use board80::Place;
 
@@ -19,16 +18,5 @@ pub(crate) fn slot(place: Place) -> usize
     match place {
         Place::Port(port) => usize::from(port),
         Place::Cell(address) => 256 + usize::from(address),
-    }
-}
-
-/// Whether two places are the same one.
-pub(crate) fn is_same(one: Place, other: Place) -> bool
-    ensures { result ≡ is_same one other }
-{
-    match (one, other) {
-        (Place::Port(one), Place::Port(other)) => one == other,
-        (Place::Cell(one), Place::Cell(other)) => one == other,
-        _ => false,
     }
 }

@@ -7,7 +7,7 @@ ghost use Rattle.machine80.specs.Step.{fetch};
 ghost use Rattle.machine80_board.specs.BoardRun.{BoardState, refused_end};
 ghost use Rattle.machine80_board.specs.Keeping.{AreRight, AreWhole, HaveAnswered, HaveSeen, is_apart, IsNow, IsSame, Turned, addresses_of, answering_cells, outputs_among, IsSameMachine};
 
-use crate::answering::{CellAnswer, answer_cell, in_device, note_output, take_answer};
+use crate::answering::{CellAnswer, answer_cell, note_output, take_answer};
 use crate::cells::{Cells, loaded_cells, stored_cells};
 use crate::closed_ports::ClosedPorts;
 use crate::end::BoardEnd;
@@ -19,11 +19,13 @@ use image80::laws::code_data_and_stack_are_apart;
 use machine80::{Bus, End, PagedBus, fetch, step};
 use std::alloc::{AllocError, Global};
 
-/// Makes one step; returns how the run ends if it ends there, and `None` if it goes on.
+/// Makes one step of a run; returns how the run ends if it ends there, and `None` if it goes on. At an end the processor
+/// and the outputs are those before the step. The board's devices must lie in data, and `running` must come from [`start`]
+/// and have all its slots.
 ///
 /// # Errors
 /// `AllocError` if memory runs out for an output.
-pub(crate) fn step_on_board(
+pub fn step_on_board(
     alloc: Global,
     rules: &Rules<'_>,
     running: &mut Running,
@@ -229,7 +231,7 @@ fn push_output(
 ) -> Result<(), AllocError>
     ensures { OnOk result (outputs.new.items ≡ outputs.old.items ++ outputs_among rules.now.lines.now (address ∷ []) bus.now) }
 {
-    if in_device(rules.lines, address) {
+    if rules.lines.in_device(address) {
         outputs.push(Output {
             place: Place::Cell(address),
             byte: bus.load(address),

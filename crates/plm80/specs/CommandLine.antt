@@ -47,10 +47,11 @@ verifier_commands =
 
 abbrev pub run_commands : List Shape
 run_commands =
-    command_with (codes "run") (running ++ limits ++ option_or (codes "last") (codes "0") ∷ option (codes "dump") ∷ flag (codes "names") ∷ [])
+    command_with (codes "run") (running ++ limits ++ option_or (codes "last") (codes "0") ∷ option (codes "dump") ∷ flag (codes "names")
+    ∷ option_beside (codes "board") false ∷ [])
     ∷ command_with (codes "trace") (running ++ option_or (codes "from") (codes "0") ∷ option_or (codes "count") (codes "100") ∷ limits
-    ++ flag (codes "names") ∷ [])
-    ∷ command_with (codes "cover") (running ++ limits ++ flag (codes "names") ∷ [])
+    ++ flag (codes "names") ∷ option_beside (codes "board") false ∷ [])
+    ∷ command_with (codes "cover") (running ++ limits ++ flag (codes "names") ∷ option_beside (codes "board") false ∷ [])
     ∷ command_with (codes "inputs") (position (codes "OUT") ∷ positions (codes "WORD") ∷ [])
     ∷ []
 

@@ -1,7 +1,7 @@
 -- What each request is, and what is done for it. (The commands and their statuses are this project's own.)
-use Rattle.std.specs.Prelude.{◌≡◌, ◌⊎◌, ℕ, Bool, true, false, List, [], ◌∷◌, ◌++◌, Some, Option, String, map, codes, string_bytes}
+use Rattle.std.specs.Prelude.{◌≡◌, ◌⊎◌, ℕ, Bool, true, false, List, [], ◌∷◌, ◌++◌, None, Some, Option, String, map, codes, string_bytes}
 use Rattle.std.specs.Str.{bytes_eq}
-use Rattle.clap.specs.{declared.parser.matches.ArgMatches.ArgMatches, Matches.found_of, Simple.subcommand_of, Walk.Row, Walk.rows_of}
+use Rattle.clap.specs.{declared.parser.matches.ArgMatches.ArgMatches, Matches.first_value, Matches.found_of, Simple.subcommand_of, Walk.Row, Walk.rows_of}
 use Rattle.plm80_console.specs.Journal.{Journal, and_reported}
 use Rattle.plm80_console.specs.{Answer.Gives, Answer.GivesUp, Arguments.argument_text}
 use Rattle.plm80_boards.specs.Boards.{WithBoard, board_paths}
@@ -12,11 +12,12 @@ use Rattle.plm80_objects.specs.Modules.{AnswersModules, DescribesModules, GivesU
 use Rattle.plm80_objects.specs.{Compare.ComparesFiles, Find.FindsModules, Link.LinksFiles}
 use Rattle.plm80_programs.specs.Arguments.{AreCallsArguments, AreCheckArguments, AreExplainArguments, AreFollowArguments, AreListArguments, AreReportArguments, AreStoresArguments}
 use Rattle.plm80_regions.specs.Arguments.{AreCasesArguments, AreRegionsArguments, cases_path}
-use Rattle.plm80_runs.specs.Arguments.{AreCoverArguments, AreRunArguments, AreTraceArguments, run_paths}
+use Rattle.plm80_runs.specs.Arguments.{AreBoardCoverArguments, AreBoardRunArguments, AreBoardTraceArguments, AreCoverArguments, AreRunArguments, AreTraceArguments, run_paths}
 use Rattle.plm80_programs.specs.Following.{AnswersFollowing}
 use Rattle.plm80_programs.specs.Pages.{AnswersPage}
 use Rattle.plm80_programs.specs.Printed.{AnswersStores, PrintsCalls, PrintsListing, PrintsReport}
-use Rattle.plm80_runs.specs.Running.{CoversFiles, RunsFiles, TracesFiles, TracesFilesInPart}
+use Rattle.plm80_runs.specs.{Running.CoversFiles, Running.RunsFiles, Running.TracesFiles, Running.TracesFilesInPart}
+use Rattle.plm80_runs.specs.OnBoards.{CoversBoardFiles, RunsOnBoard, TracesBoardFiles, TracesBoardFilesInPart, board_program_paths}
 use Rattle.plm80_regions.specs.Cases.{AnswersCases, AnswersCasesInPart}
 use Rattle.plm80_runs.specs.InputWords.{AnswersWords, AreInputsArguments}
 use Rattle.plm80_programs.specs.Explanations.{PrintsExplanation}
@@ -30,6 +31,7 @@ abbrev pub command_name : Request → List ℕ
 command_name (request.Link arguments) = codes "link"
 command_name (request.Locate arguments) = codes "locate"
 command_name (request.Run arguments) = codes "run"
+command_name (request.RunOnBoard arguments) = codes "run"
 command_name (request.List arguments) = codes "list"
 command_name (request.Check arguments) = codes "check"
 command_name (request.Explain arguments) = codes "explain"
@@ -45,7 +47,9 @@ command_name (request.Compare arguments) = codes "compare"
 command_name (request.Inputs arguments) = codes "inputs"
 command_name (request.Calls arguments) = codes "calls"
 command_name (request.Trace arguments) = codes "trace"
+command_name (request.TraceOnBoard arguments) = codes "trace"
 command_name (request.Cover arguments) = codes "cover"
+command_name (request.CoverOnBoard arguments) = codes "cover"
 command_name (request.Module arguments) = codes "module"
 command_name (request.Find arguments) = codes "find"
 command_name (request.Suggest arguments) = codes "suggest"
@@ -55,7 +59,8 @@ command_name (request.Report arguments) = codes "report"
 abbrev pub AreArgumentsOf : ArgMatches → Request → Type 0
 AreArgumentsOf matches (request.Link arguments) = AreLinkArguments matches arguments
 AreArgumentsOf matches (request.Locate arguments) = AreLocateArguments matches arguments
-AreArgumentsOf matches (request.Run arguments) = AreRunArguments matches arguments
+AreArgumentsOf matches (request.Run arguments) = AreRunArguments matches arguments × (first_value (found_of matches) (codes "board") ≡ None)
+AreArgumentsOf matches (request.RunOnBoard arguments) = AreBoardRunArguments matches arguments
 AreArgumentsOf matches (request.List arguments) = AreListArguments matches arguments
 AreArgumentsOf matches (request.Check arguments) = AreCheckArguments matches arguments
 AreArgumentsOf matches (request.Explain arguments) = AreExplainArguments matches arguments
@@ -70,8 +75,10 @@ AreArgumentsOf matches (request.Follow arguments) = AreFollowArguments matches a
 AreArgumentsOf matches (request.Compare arguments) = AreCompareArguments matches arguments
 AreArgumentsOf matches (request.Inputs arguments) = AreInputsArguments matches arguments
 AreArgumentsOf matches (request.Calls arguments) = AreCallsArguments matches arguments
-AreArgumentsOf matches (request.Trace arguments) = AreTraceArguments matches arguments
-AreArgumentsOf matches (request.Cover arguments) = AreCoverArguments matches arguments
+AreArgumentsOf matches (request.Trace arguments) = AreTraceArguments matches arguments × (first_value (found_of matches) (codes "board") ≡ None)
+AreArgumentsOf matches (request.TraceOnBoard arguments) = AreBoardTraceArguments matches arguments
+AreArgumentsOf matches (request.Cover arguments) = AreCoverArguments matches arguments × (first_value (found_of matches) (codes "board") ≡ None)
+AreArgumentsOf matches (request.CoverOnBoard arguments) = AreBoardCoverArguments matches arguments
 AreArgumentsOf matches (request.Module arguments) = arguments.object.now ≡ argument_text matches (codes "FILE")
 AreArgumentsOf matches (request.Find arguments) = AreFindArguments matches arguments
 AreArgumentsOf matches (request.Suggest arguments) = AreSuggestArguments matches arguments
@@ -90,6 +97,7 @@ abbrev pub IsPerformed : Request → (old new : Journal) → (status : ℕ) → 
 IsPerformed (request.Link arguments) old new status = Gives (LinksFiles arguments) (map (λ path. path.now) arguments.files.items) old new status
 IsPerformed (request.Locate arguments) old new status = Gives (WithBoard arguments.board (LocatesFile arguments)) (board_paths arguments.board ++ arguments.object.now ∷ []) old new status
 IsPerformed (request.Run arguments) old new status = Gives (RunsFiles arguments) (run_paths arguments.files) old new status
+IsPerformed (request.RunOnBoard arguments) old new status = Gives (RunsOnBoard arguments) (board_program_paths arguments.files) old new status
 IsPerformed (request.List arguments) old new status = Gives (AnswersProgram (PrintsListing arguments.reached arguments.source) (asks_names arguments.files)) (program_paths arguments.files) old new status
 IsPerformed (request.Check arguments) old new status = Gives (WithBoard arguments.board (λ _. AnswersProgram PrintsReport (asks_names arguments.files))) (board_paths arguments.board ++ program_paths arguments.files) old new status
 IsPerformed (request.Explain arguments) old new status = Gives (WithBoard arguments.board (λ _. AnswersProgram (PrintsExplanation arguments.all) (asks_names arguments.files))) (board_paths arguments.board ++ program_paths arguments.files) old new status
@@ -105,7 +113,9 @@ IsPerformed (request.Compare arguments) old new status = Gives (ComparesFiles ar
 IsPerformed (request.Inputs arguments) old new status = Gives (AnswersWords arguments) ([]) old new status
 IsPerformed (request.Calls arguments) old new status = Gives (WithBoard arguments.board (λ _. AnswersProgram (PrintsCalls arguments.dot) (asks_names arguments.files))) (board_paths arguments.board ++ program_paths arguments.files) old new status
 IsPerformed (request.Trace arguments) old new status = Gives (TracesFiles arguments) (run_paths arguments.files) old new status
+IsPerformed (request.TraceOnBoard arguments) old new status = Gives (TracesBoardFiles arguments) (board_program_paths arguments.files) old new status
 IsPerformed (request.Cover arguments) old new status = Gives (CoversFiles arguments) (run_paths arguments.files) old new status
+IsPerformed (request.CoverOnBoard arguments) old new status = Gives (CoversBoardFiles arguments) (board_program_paths arguments.files) old new status
 IsPerformed (request.Module arguments) old new status = Gives (AnswersModules DescribesModules) (arguments.object.now ∷ []) old new status
 IsPerformed (request.Find arguments) old new status = Gives (FindsModules arguments) (arguments.dump.now ∷ map (λ path. path.now) arguments.files.items) old new status
 IsPerformed (request.Suggest arguments) old new status = Gives (WithBoard arguments.board (AnswersAdvice arguments)) (board_paths arguments.board ++ arguments.image.now ∷ []) old new status
@@ -116,6 +126,7 @@ abbrev pub IsFailed : Request → (old new : Journal) → Type 0
 IsFailed (request.Link arguments) old new = GivesUp (LinksFiles arguments) (map (λ path. path.now) arguments.files.items) old new
 IsFailed (request.Locate arguments) old new = GivesUp (WithBoard arguments.board (LocatesFile arguments)) (board_paths arguments.board ++ arguments.object.now ∷ []) old new
 IsFailed (request.Run arguments) old new = GivesUp (RunsFiles arguments) (run_paths arguments.files) old new
+IsFailed (request.RunOnBoard arguments) old new = GivesUp (RunsOnBoard arguments) (board_program_paths arguments.files) old new
 IsFailed (request.List arguments) old new = GivesUp (AnswersProgram (PrintsListing arguments.reached arguments.source) (asks_names arguments.files)) (program_paths arguments.files) old new
 IsFailed (request.Check arguments) old new = GivesUp (WithBoard arguments.board (λ _. AnswersProgram PrintsReport (asks_names arguments.files))) (board_paths arguments.board ++ program_paths arguments.files) old new
 IsFailed (request.Explain arguments) old new = GivesUp (WithBoard arguments.board (λ _. AnswersProgram (PrintsExplanation arguments.all) (asks_names arguments.files))) (board_paths arguments.board ++ program_paths arguments.files) old new
@@ -131,7 +142,9 @@ IsFailed (request.Compare arguments) old new = GivesUp (ComparesFiles arguments)
 IsFailed (request.Inputs arguments) old new = GivesUp (AnswersWords arguments) ([]) old new
 IsFailed (request.Calls arguments) old new = GivesUp (WithBoard arguments.board (λ _. AnswersProgram (PrintsCalls arguments.dot) (asks_names arguments.files))) (board_paths arguments.board ++ program_paths arguments.files) old new
 IsFailed (request.Trace arguments) old new = GivesUp (TracesFilesInPart arguments) (run_paths arguments.files) old new
+IsFailed (request.TraceOnBoard arguments) old new = GivesUp (TracesBoardFilesInPart arguments) (board_program_paths arguments.files) old new
 IsFailed (request.Cover arguments) old new = GivesUp (CoversFiles arguments) (run_paths arguments.files) old new
+IsFailed (request.CoverOnBoard arguments) old new = GivesUp (CoversBoardFiles arguments) (board_program_paths arguments.files) old new
 IsFailed (request.Module arguments) old new = GivesUp (AnswersModules DescribesModules) (arguments.object.now ∷ []) old new
 IsFailed (request.Find arguments) old new = GivesUp (FindsModules arguments) (arguments.dump.now ∷ map (λ path. path.now) arguments.files.items) old new
 IsFailed (request.Suggest arguments) old new = GivesUp (WithBoard arguments.board (AnswersAdvice arguments)) (board_paths arguments.board ++ arguments.image.now ∷ []) old new

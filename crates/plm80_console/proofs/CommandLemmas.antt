@@ -1,7 +1,7 @@
 -- Commands of clap with arguments of a table.
-use Rattle.std.specs.Prelude.{◌≡◌, ℕ, ◌+◌, ◌<◌, List, [], ◌∷◌, ◌++◌, false, length, map, take}
+use Rattle.std.specs.Prelude.{◌≡◌, ℕ, ◌+◌, ◌<◌, ◌≤◌, List, [], ◌∷◌, ◌++◌, false, length, map, take}
 use Rattle.std.proofs.Common.{◌∙◌, ap, ap₂, sym, get_or}
-use Rattle.std.proofs.lemmas.List.{map_more}
+use Rattle.std.proofs.lemmas.List.{map_more, take_all}
 use Rattle.clap.specs.{Built.AddsArg, Simple.App, Simple.app_of, Simple.new_shape, Simple.with_rule, Walk.Rule, Walk.rule_of}
 use Rattle.clap.specs.declared.{builder.arg.Arg.Arg, builder.command.Command.Command}
 use Rattle.plm80_console.specs.{SyntaxTable.rule_of_argument, declared.syntax.Argument.Argument}

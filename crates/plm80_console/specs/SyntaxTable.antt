@@ -1,5 +1,5 @@
 -- What clap reads of a command: a rule for each argument of its table, and one for `--why`. (A rule without a long name is a position.)
-use Rattle.std.specs.Prelude.{ℕ, Bool, true, List, [], ◌∷◌, ◌++◌, Some, map, codes}
+use Rattle.std.specs.Prelude.{ℕ, Bool, true, false, List, [], ◌∷◌, ◌++◌, Some, map, codes}
 use Rattle.clap.specs.{Lexer.usize_max, Simple.App, Simple.Shape, Simple.new_rule, Simple.new_shape, Walk.Rule, Walk.is_empty}
 use Rattle.clap.specs.declared.builder.action.ArgAction.TheVariants.{Append, SetTrue}
 use Rattle.plm80_console.specs.declared.syntax.{Argument.Argument, Kind.Kind, Syntax.Syntax}

@@ -6,8 +6,7 @@
 //! |---|---|
 //! | [`Console`], [`Reported`] | what a command runs on: reports faults, reads and writes files, prints; a fault that was reported |
 //! | [`exit_code`] | the exit status of an answer, or of a fault that was reported |
-//! | [`Syntax`], [`Argument`], [`Kind`] | a command and its arguments, as tables for clap, which joins values to options |
-//! | [`push_copies`] | appends copies of words |
+//! | [`Syntax`], [`Argument`], [`Kind`] | a command and its arguments, as tables for clap |
 //! | [`OptionText`], [`words_of`], [`ranges_of`] | an option with its value; a [`Console`] reads it as a number, a name, addresses, or ranges of them |
 //! | [`explain_board`], [`RangeTexts`] | ranges that may have been meant otherwise, in words |
 //! | [`Answer`], [`WrittenFile`] | what a command answers: files, lines and a status; a [`Console`] does it |

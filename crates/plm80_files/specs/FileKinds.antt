@@ -1,6 +1,6 @@
 -- What a file seems to be, by how it begins, and of which files it is said.
 -- (8080 Object Module Formats: the types of a module's and a library's header; Intel's hexadecimal object file format: a colon
--- before each record; Motorola's: an S; ELF: its first four bytes. Texts of regions and of inputs are this project's.)
+-- before each record; Motorola's: an S; ELF: its first four bytes. Texts of regions, inputs and boards are this project's.)
 use Rattle.std.specs.Prelude.{ℕ, ◌==◌, nat_le, nat_lt, Bool, true, false, ◌&&◌, ◌||◌, not, if◌then◌else◌, List, ◌∷◌, length, take, drop, codes, slice_index}
 use Rattle.std.specs.{List.list_all, List.list_any, List.starts_with, Char.is_ascii_hexdigit}
 use Rattle.plm80_files.specs.declared.file_kinds.{FileKind.FileKind, FileRole.FileRole}
@@ -42,6 +42,7 @@ kind_of_text bytes =
     else if is_intel_hex_start bytes then kind.IntelHex
     else if is_s_records_start bytes then kind.SRecords
     else if starts (codes "REGIONS") bytes then kind.Regions
+    else if starts (codes "BOARD") bytes then kind.Board
     else if is_inputs_start bytes then kind.Inputs
     else if is_text bytes then kind.Text
     else kind.Unknown
@@ -66,7 +67,9 @@ is_explained role.Regions kind.Unknown = false
 is_explained role.Regions other = true
 is_explained role.Inputs kind.Regions = true
 is_explained role.Inputs kind.ObjectFile = true
+is_explained role.Inputs kind.Board = true
 is_explained role.Inputs other = false
+is_explained role.Board kind.Board = false
 is_explained role.Board kind.Text = false
 is_explained role.Board kind.Unknown = false
 is_explained role.Board other = true
@@ -77,6 +80,7 @@ abbrev pub is_misplaced : FileRole → FileKind → Bool
 is_misplaced role.ObjectFile other = false
 is_misplaced role.Image kind.Regions = true
 is_misplaced role.Image kind.Inputs = true
+is_misplaced role.Image kind.Board = true
 is_misplaced role.Image kind.Text = true
 is_misplaced role.Image kind.Unknown = true
 is_misplaced role.Image other = false

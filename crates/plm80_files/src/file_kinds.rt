@@ -40,6 +40,7 @@ pub(crate) enum FileKind {
     Library,
     Regions,
     Inputs,
+    Board,
     IntelHex,
     SRecords,
     Elf,
@@ -85,6 +86,8 @@ impl FileKind {
             FileKind::SRecords
         } else if bytes.starts_with(b"REGIONS") {
             FileKind::Regions
+        } else if bytes.starts_with(b"BOARD") {
+            FileKind::Board
         } else if is_inputs(bytes) {
             FileKind::Inputs
         } else if is_text(bytes) {
@@ -106,6 +109,7 @@ impl FileKind {
             ),
             FileKind::Regions => Some("this is a regions text, not an object file"),
             FileKind::Inputs => Some("this is an inputs text, not an object file"),
+            FileKind::Board => Some("this is the text of a board, not an object file"),
             FileKind::IntelHex => Some(
                 "this is Intel HEX, not an object file: objcopy -I ihex -O binary makes bytes of it, and absolute an image of these",
             ),
@@ -131,6 +135,7 @@ impl FileKind {
             FileKind::ObjectFile => Some("this is an object file, not a regions text"),
             FileKind::Library => Some("this is a library, not a regions text"),
             FileKind::Inputs => Some("this is an inputs text, not a regions text"),
+            FileKind::Board => Some("this is the text of a board, not a regions text"),
             FileKind::IntelHex => Some("this is Intel HEX, not a regions text"),
             FileKind::SRecords => Some("these are S-records, not a regions text"),
             FileKind::Elf => Some("this is an ELF file, not a regions text"),
@@ -145,6 +150,9 @@ impl FileKind {
         match self {
             FileKind::Regions => Some("this is a regions text, not an inputs text"),
             FileKind::ObjectFile => Some("this is an object file, not an inputs text"),
+            FileKind::Board => Some(
+                "this is the text of a board: run takes it with --board, and no INPUTS",
+            ),
             _ => None,
         }
     }
@@ -162,7 +170,7 @@ impl FileKind {
             FileKind::IntelHex => Some("this is Intel HEX, not the text of a board"),
             FileKind::SRecords => Some("these are S-records, not the text of a board"),
             FileKind::Elf => Some("this is an ELF file, not the text of a board"),
-            FileKind::Text | FileKind::Unknown => None,
+            FileKind::Board | FileKind::Text | FileKind::Unknown => None,
         }
     }
 
@@ -171,9 +179,11 @@ impl FileKind {
         ensures { is_some result ≡ is_misplaced FileRole.Image self }
     {
         match self {
-            FileKind::Regions | FileKind::Inputs | FileKind::Text | FileKind::Unknown => {
-                Some("IMAGE is the first path")
-            }
+            FileKind::Regions
+            | FileKind::Inputs
+            | FileKind::Board
+            | FileKind::Text
+            | FileKind::Unknown => Some("IMAGE is the first path"),
             _ => None,
         }
     }

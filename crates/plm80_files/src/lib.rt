@@ -26,7 +26,7 @@ pub use file_fault::FileFault;
 pub use file_kinds::{
     FileRole, INPUTS_LINE, explain_file, explain_inputs, is_text, place_of_regions,
 };
-pub use line_words::{FLAWS, LineFlaw, VERSION_FLAWS, explain_flaws};
+pub use line_words::{FLAWS, LineFlaw, VERSION_FLAWS, explain_flaws, line_bytes};
 pub use link_feed::{LinkFeed, LinkFile, read_link_file};
 pub use object_files::{append_modules, explain_unread, read_modules};
 pub use program_files::{

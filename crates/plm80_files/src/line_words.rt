@@ -1,6 +1,6 @@
 //! What is wrong with a line of a text, in words.
 
-ghost use Rattle.std.specs.Prelude.{◌≡◌, option_copied, option_map};
+ghost use Rattle.std.specs.Prelude.{◌≡◌, [], option_copied, option_map, unwrap_or};
 ghost use Rattle.std.specs.List.{list_any};
 ghost use Rattle.plm80_files.specs.Lines.{ends_in_blank, has_blanks, has_comment, has_empty_word, has_flaw, has_lower_case, has_odd_number, has_other_bytes, is_flawed, is_odd_number, line_at, part_at, without_return};
 
@@ -137,6 +137,16 @@ pub(crate) fn line_of(text: &[u8], number: usize) -> Option<Line<'_>>
         return None;
     }
     Some(Line { bytes, is_ended })
+}
+
+/// The bytes of the line of this number, counted from 1, without its line feed; none if the text has no such line.
+pub fn line_bytes(text: &[u8], number: usize) -> &[u8]
+    ensures { result.now ≡ unwrap_or (option_map (λ line. line.0) (line_at text.now number)) [] }
+{
+    match line_of(text, number) {
+        Some(line) => line.bytes,
+        None => &[],
+    }
 }
 
 /// The part of the text with this index, of those between its line feeds; `None` if there is none.

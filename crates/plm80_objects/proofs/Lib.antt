@@ -1,3 +1,2 @@
-pub mod GivenLemmas
 pub mod ReadLemmas
 mod Names

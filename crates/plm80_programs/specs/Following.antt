@@ -14,11 +14,11 @@ use Rattle.board80.specs.declared.line.Line.{Line}
 use Rattle.plm80_boards.specs.{Boards.interrupts_in, Quiet.AreInRam}
 use Rattle.plm80_console.specs.{Answer.AnswerValue, Answer.prints, Journal.FileValue, Ranges.AreRangesOf}
 use Rattle.plm80_names.specs.{Verdict.AnswersProgram, Arguments.asks_names}
-use Rattle.plm80_programs.specs.declared.follow.Followed.{Followed}
-use Rattle.plm80_programs.specs.declared.follow.Followed.TheVariants.{By, Stopped}
-use Rattle.plm80_programs.specs.declared.follow.FollowedAll.{FollowedAll}
-use Rattle.plm80_programs.specs.declared.follow.FollowedAll.TheVariants.{Alone, Live, Stopped as StoppedAll}
-use Rattle.plm80_programs.specs.declared.follow.LiveTables.{LiveTables}
+use Rattle.plm80_programs.specs.declared.finding.Followed.{Followed}
+use Rattle.plm80_programs.specs.declared.finding.Followed.TheVariants.{By, Stopped}
+use Rattle.plm80_programs.specs.declared.finding.FollowedAll.{FollowedAll}
+use Rattle.plm80_programs.specs.declared.finding.FollowedAll.TheVariants.{Alone, Live, Stopped as StoppedAll}
+use Rattle.plm80_programs.specs.declared.finding.LiveTables.{LiveTables}
 use Rattle.plm80_programs.specs.declared.follow.FollowArguments.{FollowArguments}
 use Rattle.plm80_programs.specs.{Followed.code_lines, Printed.IsAllData, Printed.stores_lines}
 

@@ -1,15 +1,17 @@
 //! `plm80 follow`: a program followed by what is known of each byte of its stack.
 
-ghost use Rattle.std.specs.Prelude.{◌≡◌, ◌++◌, IfErr, IfOk, [], codes, length, map, true};
+ghost use Rattle.std.specs.Prelude.{◌≡◌, ◌++◌, IfErr, IfOk, [], codes, length};
 ghost use Rattle.plm80_boards.specs.Boards.{WithBoard, board_paths};
-ghost use Rattle.plm80_console.specs.{Journal.and_reported, Answer.Gives, Answer.GivesUp, Answer.IsAnswered, Answer.IsGivenUp};
+ghost use Rattle.plm80_console.specs.{Answer.Gives, Answer.GivesUp, Answer.IsAnswered, Answer.IsGivenUp};
 ghost use Rattle.image80_text.specs.NameText.{named_text};
 ghost use Rattle.plm80_names.specs.Arguments.{program_paths};
 ghost use Rattle.verify80_follow.specs.FollowText.{bounds_lines, live_lines, ways_lines};
 ghost use Rattle.plm80_programs.specs.Arguments.{AreFollowArguments};
 ghost use Rattle.plm80_programs.specs.Printed.{stores_lines};
-ghost use Rattle.plm80_programs.specs.Following.{AnswersFollowing, IsFollowedAllBy, IsFollowedBy, KeepsLivePromise, PrintsFollowed, PrintsFollowedOn, PrintsTable, PrintsWithRam, SaysFollowed, followed_lines, listing_lines, reason_words, stopped_line};
+ghost use Rattle.plm80_programs.specs.Following.{AnswersFollowing, PrintsFollowed, PrintsFollowedOn, PrintsTable, PrintsWithRam, SaysFollowed, followed_lines, listing_lines};
 
+use crate::finding::{FollowedAll, LiveTables, find_all};
+use crate::stops::{explain_stop, stopped_text};
 use crate::stores::{require_data, stores_lines};
 use board80::Board;
 use clap::ArgMatches;
@@ -24,15 +26,11 @@ use plm80_console::{
 use plm80_files::{IMAGE, REGIONS};
 use plm80_names::{NAMES, NamedFiles, Names, explain_given};
 use std::alloc::{AllocError, Global};
-use text80::word_digits;
 use verify80_follow::{
-    Handler, LiveRun, RunKind, Table, bounds_text, followed_instructions, followed_stores, follows,
-    follows_live, live_text, places_of, ways_text,
+    Handler, Table, bounds_text, followed_instructions, followed_stores, live_text, places_of,
+    ways_text,
 };
-use verify80_follow_search::{
-    Budget, SearchResult, Stop, StopReason, list_together, places_anew, search, search_handler,
-    written_ranges,
-};
+use verify80_follow_search::Stop;
 use verify80_stores::Stores;
 
 const AFTER_HELP: &str = "\
@@ -203,15 +201,15 @@ fn follow_on_board<C: Console>(
 
 /// What is asked of a program that is followed.
 #[derive(Clone, Copy)]
-struct Asked<'a> {
+pub(crate) struct Asked<'a> {
     /// Ranges that only the program writes.
-    quiet: &'a [Range],
+    pub quiet: &'a [Range],
     /// Whether the code is listed to which the program may come.
-    lists: bool,
+    pub lists: bool,
     /// Whether the program is interrupted.
-    interrupted: bool,
+    pub interrupted: bool,
     /// The addresses of handlers that are followed, too.
-    handlers: &'a [u16],
+    pub handlers: &'a [u16],
 }
 
 impl<'a> Asked<'a> {
@@ -464,255 +462,6 @@ fn listing_of(
     names.label(alloc, false, text)
 }
 
-/// What comes of following a program.
-#[derive(Drop)]
-pub(crate) enum Followed {
-    /// A table follows it; and whether SP must be at the stack's top when it begins.
-    By(Table, bool),
-    Stopped(Stop),
-}
-
-/// What comes of following a program with its handlers.
-#[derive(Drop)]
-enum FollowedAll {
-    /// A table follows it, and no handlers were given; and whether SP must be at the stack's top when it begins.
-    Alone(Table, bool),
-    /// Tables follow it and its handlers.
-    Live(LiveTables),
-    Stopped(Stop),
-}
-
-/// Tables that follow a program and its handlers.
-#[derive(Drop)]
-struct LiveTables {
-    table: Table,
-    handlers: Vec<Handler>,
-    /// The data that handlers write.
-    writes: Vec<Range>,
-    /// Whether SP must be at the stack's top when the program begins.
-    is_set: bool,
-    /// How many bytes a handler has on the stack, at most.
-    most: u16,
-}
-
-/// Searches for a table that follows the program of `image`, and if handlers are given, for one of each.
-fn find_all(alloc: Global, image: &Image, asked: Asked<'_>) -> Result<FollowedAll, AllocError>
-    ensures { IfOk result (IsFollowedAllBy asked.entry.interrupted asked.entry.handlers.now asked.entry.quiet.now image.now) }
-{
-    if asked.handlers.is_empty() {
-        return find_alone(alloc, image, asked);
-    }
-    let mut budget = Budget::ALL;
-    match find_table(alloc, image, asked.quiet, true, &[], &mut budget)? {
-        Followed::By(table, is_set) => {
-            with_handlers(alloc, image, asked, table, is_set, budget.with_all_ways())
-        }
-        Followed::Stopped(stop) => Ok(FollowedAll::Stopped(stop)),
-    }
-}
-
-/// Searches for a table that follows the program of `image`, of which no handlers are given.
-fn find_alone(alloc: Global, image: &Image, asked: Asked<'_>) -> Result<FollowedAll, AllocError>
-    requires alone { asked.handlers.now ≡ [] }
-    ensures { IfOk result (IsFollowedAllBy asked.entry.interrupted asked.entry.handlers.now asked.entry.quiet.now image.now) }
-{
-    let mut budget = Budget::ALL;
-    match find_table(
-        alloc,
-        image,
-        asked.quiet,
-        asked.interrupted,
-        &[],
-        &mut budget,
-    )? {
-        Followed::By(table, is_set) => Ok(FollowedAll::Alone(table, is_set)),
-        Followed::Stopped(stop) => Ok(FollowedAll::Stopped(stop)),
-    }
-}
-
-/// Searches for tables of the handlers of the program of `image`, which its own table follows.
-fn with_handlers(
-    alloc: Global,
-    image: &Image,
-    asked: Asked<'_>,
-    table: Table,
-    is_set: bool,
-    budget: Budget,
-) -> Result<FollowedAll, AllocError>
-    ensures { IfOk result (IsFollowedAllBy asked.entry.interrupted asked.entry.handlers.now asked.entry.quiet.now image.now) }
-{
-    let mut budget = budget;
-    match find_handlers(alloc, image, asked.quiet, asked.handlers, &mut budget)? {
-        Ok(handlers) => with_places(alloc, image, asked, table, is_set, handlers, budget),
-        Err(stop) => Ok(FollowedAll::Stopped(stop)),
-    }
-}
-
-/// Searches for another table of the program of `image` if its handlers begin it anew: one that follows it from there, too.
-fn with_places(
-    alloc: Global,
-    image: &Image,
-    asked: Asked<'_>,
-    table: Table,
-    is_set: bool,
-    handlers: Vec<Handler>,
-    budget: Budget,
-) -> Result<FollowedAll, AllocError>
-    requires { map (λ handler. handler.at) handlers.items ≡ asked.handlers.now }
-    ensures { IfOk result (IsFollowedAllBy asked.entry.interrupted asked.entry.handlers.now asked.entry.quiet.now image.now) }
-{
-    let places = places_anew(alloc, image, &handlers)?;
-    if places.is_empty() {
-        return with_tables(alloc, image, asked, table, is_set, handlers);
-    }
-    let mut budget = budget.with_states(table.states.len());
-    drop(table);
-    match find_table(alloc, image, asked.quiet, true, &places, &mut budget)? {
-        Followed::By(table, is_set) => with_tables(alloc, image, asked, table, is_set, handlers),
-        Followed::Stopped(stop) => Ok(FollowedAll::Stopped(stop)),
-    }
-}
-
-/// Tables of the handlers at these addresses, or where the search for one of them stopped.
-fn find_handlers(
-    alloc: Global,
-    image: &Image,
-    quiet: &[Range],
-    addresses: &[u16],
-    budget: &mut Budget,
-) -> Result<Result<Vec<Handler>, Stop>, AllocError>
-    ensures { IfOk result (λ found. IfOk found (λ handlers. map (λ handler. handler.at) handlers.items ≡ addresses.now)) }
-{
-    let mut handlers = Vec::new(alloc);
-    for at in addresses {
-        match search_handler(alloc, image, quiet, *at, budget)? {
-            SearchResult::Found(table) => handlers.push(Handler { at: *at, table })?,
-            SearchResult::Stopped(stop) => return Ok(Err(stop)),
-        }
-    }
-    Ok(Ok(handlers))
-}
-
-/// Checks the table of the program of `image` with those of its handlers, and whether there is room for both.
-fn with_tables(
-    alloc: Global,
-    image: &Image,
-    asked: Asked<'_>,
-    table: Table,
-    is_set: bool,
-    handlers: Vec<Handler>,
-) -> Result<FollowedAll, AllocError>
-    requires { map (λ handler. handler.at) handlers.items ≡ asked.handlers.now }
-    ensures { IfOk result (IsFollowedAllBy asked.entry.interrupted asked.entry.handlers.now asked.entry.quiet.now image.now) }
-{
-    let most = handlers
-        .iter()
-        .map(|handler| handler.table.bytes)
-        .max()
-        .unwrap_or(0);
-    if u32::from(table.bytes) + u32::from(most) > u32::from(image.regions.stack().length) {
-        return Ok(FollowedAll::Stopped(stop_at(alloc, image, StopReason::NoRoom)));
-    }
-    let mut table = table;
-    table.listed = list_together(alloc, image, &table, &handlers)?;
-    let found = LiveTables {
-        writes: written_ranges(alloc, image, &handlers)?,
-        table,
-        handlers,
-        is_set,
-        most,
-    };
-    if keep_promise(alloc, image, &found, asked.quiet)? {
-        Ok(FollowedAll::Live(found))
-    } else {
-        Ok(FollowedAll::Stopped(stop_at(alloc, image, StopReason::Unfit)))
-    }
-}
-
-/// Whether tables follow the program of `image` with its handlers.
-fn keep_promise(
-    alloc: Global,
-    image: &Image,
-    found: &LiveTables,
-    quiet: &[Range],
-) -> Result<bool, AllocError>
-    ensures { IfOk result (λ follows. follows ≡ true → KeepsLivePromise quiet.now image.now found.now) }
-{
-    let run = LiveRun {
-        quiet,
-        writes: &found.writes,
-        is_set: found.is_set,
-        most: found.most,
-    };
-    follows_live(alloc, image, &found.table, &found.handlers, run)
-}
-
-/// A stop at the image's start, to which no way is shown.
-fn stop_at(alloc: Global, image: &Image, reason: StopReason) -> Stop {
-    Stop {
-        at: image.start,
-        reason,
-        way: Vec::new(alloc),
-    }
-}
-
-/// Searches for a table that follows the program of `image` from its start, and from the places at which handlers begin it anew: with SP anywhere at
-/// its start, or else with SP at the stack's top.
-pub(crate) fn find_table(
-    alloc: Global,
-    image: &Image,
-    quiet: &[Range],
-    interrupted: bool,
-    anew: &[u16],
-    budget: &mut Budget,
-) -> Result<Followed, AllocError>
-    ensures { IfOk result (IsFollowedBy interrupted quiet.now image.now) }
-{
-    let run = RunKind {
-        is_set: false,
-        interrupted,
-    };
-    match table_from(alloc, image, quiet, run, anew, budget)? {
-        Followed::Stopped(
-            Stop {
-                reason: StopReason::StackNotSet,
-                ..
-            },
-        ) => {
-            *budget = budget.with_all_ways();
-            let run = RunKind {
-                is_set: true,
-                ..run
-            };
-            table_from(alloc, image, quiet, run, anew, budget)
-        }
-        found => Ok(found),
-    }
-}
-
-/// Searches for a table that follows the program of `image` in runs of this kind.
-fn table_from(
-    alloc: Global,
-    image: &Image,
-    quiet: &[Range],
-    run: RunKind,
-    anew: &[u16],
-    budget: &mut Budget,
-) -> Result<Followed, AllocError>
-    ensures { IfOk result (IsFollowedBy run.interrupted quiet.now image.now) }
-{
-    match search(alloc, image, quiet, run, anew, budget)? {
-        SearchResult::Found(table) => {
-            if follows(alloc, image, &table, quiet, run)? {
-                Ok(Followed::By(table, run.is_set))
-            } else {
-                Ok(Followed::Stopped(stop_at(alloc, image, StopReason::Unfit)))
-            }
-        }
-        SearchResult::Stopped(stop) => Ok(Followed::Stopped(stop)),
-    }
-}
-
 /// The first lines of a table that follows the program of `image`, and behind them those of its stores and jumps, and its ways, with names.
 fn followed_text(
     alloc: Global,
@@ -744,51 +493,4 @@ fn named_ways(
 {
     let text = ways_text(alloc, &tables.table.ways, tables.handlers)?;
     names.name(alloc, image.regions.code(), b"WAY ", text)
-}
-
-/// The line of where a search stopped, and why.
-fn stopped_text(alloc: Global, stop: &Stop) -> Result<Vec<u8>, AllocError>
-    ensures { IfOk result (λ text. text.items ≡ stopped_line stop.now.at stop.now.reason) }
-{
-    let mut text = Vec::new(alloc);
-    text.extend_from_slice(b"STOPPED ".as_slice())?;
-    text.extend_from_slice(&word_digits(stop.at))?;
-    text.push(b' ')?;
-    text.extend_from_slice(reason_words(stop.reason))?;
-    text.push(b'\n')?;
-    Ok(text)
-}
-
-/// Why a search stopped, as its line says it.
-fn reason_words(reason: StopReason) -> &'static [u8]
-    ensures { result.now ≡ reason_words reason }
-{
-    match reason {
-        StopReason::FetchOutside => b"FETCH OUTSIDE",
-        StopReason::UnusedOpcode => b"UNUSED OPCODE",
-        StopReason::EnablesInterrupts => b"INTERRUPTS ENABLED",
-        StopReason::DirectStore => b"STORE OUTSIDE",
-        StopReason::StackNotSet => b"SP NOT SET",
-        StopReason::LeavesStack => b"STACK LEFT",
-        StopReason::UnknownReturn => b"RETURN UNKNOWN",
-        StopReason::UnknownJump => b"JUMP UNKNOWN",
-        StopReason::UnknownPointer => b"SP UNKNOWN",
-        StopReason::NotGivenBack => b"NOT GIVEN BACK",
-        StopReason::EnablesEarly => b"ENABLED EARLY",
-        StopReason::UsesPointer => b"SP USED",
-        StopReason::StoresQuiet => b"QUIET STORED",
-        StopReason::NoRoom => b"NO ROOM",
-        StopReason::TooManyStates => b"TOO MANY STATES",
-        StopReason::Unfit => b"UNFIT",
-    }
-}
-
-/// Says of where a search stopped what that means, and names a way there, if it did and words are asked for.
-fn explain_stop<C: Console>(console: &C, stop: &Option<Stop>) {
-    if let Some(stop) = stop {
-        console.explain(format_args!("{stop}"));
-        console.explain(format_args!(
-            "that is advice: it doesn't say that the program goes wrong there"
-        ));
-    }
 }

@@ -6,7 +6,7 @@ ghost use Rattle.omf_model.specs.declared.symbols.Public.{Public};
 ghost use Rattle.plm80_programs.specs.Followed.{AnswersFollowed, IsFollowedCode, SaysRefused, followed_words};
 ghost use Rattle.plm80_programs.specs.Printed.{PrintsText};
 
-use crate::follow::{Followed, find_table};
+use crate::finding::{Followed, find_table};
 use crate::printing::Printing;
 use crate::reached::{Reaching, answer_of_reach};
 use decode80::Fetched;

@@ -17,12 +17,14 @@ mod all_refusals;
 mod calls;
 mod check;
 mod explain;
+mod finding;
 mod follow;
 mod followed;
 mod list;
 mod printing;
 mod reached;
 mod report;
+mod stops;
 mod stores;
 
 pub use calls::{CALLS, CallsArguments, show_calls};

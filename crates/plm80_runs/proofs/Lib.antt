@@ -2,3 +2,4 @@ mod ReadLemmas
 mod RunLemmas
 mod SessionLemmas
 mod Names
+mod BoardLemmas

@@ -2,3 +2,4 @@ pub mod Arguments
 pub mod Status
 pub mod Running
 pub mod InputWords
+pub mod OnBoards

@@ -25,6 +25,7 @@ use Rattle.plm80_runs.specs.declared.run_arguments.RunFiles.{RunFiles}
 use Rattle.plm80_runs.specs.declared.run.RunArguments.{RunArguments}
 use Rattle.plm80_runs.specs.declared.trace.TraceArguments.{TraceArguments}
 use Rattle.plm80_runs.specs.declared.run_arguments.RunTexts.{RunTexts}
+use Rattle.plm80_runs.specs.declared.run_arguments.SpanTexts.{SpanTexts}
 use Rattle.plm80_runs.specs.Arguments.{dump_of}
 use Rattle.plm80_runs.specs.Status.{end_status}
 
@@ -179,9 +180,9 @@ pub record AreLimitsOf (texts : LimitTexts) (limits : Limits) : Type 0 where
   pub outputs : WritesCount texts.outputs limits.outputs
 
 -- which of its instructions are shown
-pub record IsSpanOf (arguments : TraceArguments) (span : Span) : Type 0 where
-  pub from : WritesCount arguments.from span.from
-  pub count : WritesCount arguments.count span.count
+pub record IsSpanOf (texts : SpanTexts) (span : Span) : Type 0 where
+  pub from : WritesCount texts.from span.from
+  pub count : WritesCount texts.count span.count
 
 -- ---- commands, by their arguments
 
@@ -205,7 +206,7 @@ pub record TracesBy (Traces : List (ℕ × ℕ) → Limits → Span → List Pub
   pub limits : Limits
   pub are_limits : AreLimitsOf arguments.limits limits
   pub span : Span
-  pub is_span : IsSpanOf arguments span
+  pub is_span : IsSpanOf arguments.span span
   pub answers : AnswersRun (λ inputs. Traces inputs limits span) arguments.files.program.names files answer
 
 abbrev pub TracesFiles : TraceArguments → List FileValue → AnswerValue → Type 0

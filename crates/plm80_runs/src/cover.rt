@@ -6,6 +6,7 @@ ghost use Rattle.plm80_names.specs.Verdict.{AnswersVerdict};
 ghost use Rattle.plm80_runs.specs.Arguments.{AreCoverArguments, run_paths};
 ghost use Rattle.plm80_runs.specs.Running.{CountsRun, CoversFiles};
 
+use crate::board_files::BOARD_FOR_INPUTS;
 use crate::run_arguments::{INPUTS, LimitTexts, OUTPUTS, RunFiles, STEPS};
 use crate::status::{EndWords, status_of};
 use clap::ArgMatches;
@@ -32,7 +33,8 @@ the number of times that the run began it, or - if it never did. Its other code
 is data, eight bytes a line. The last line counts the instructions that the run
 began, of all. The exit status is that of run: 0 if the run halted, 1 if the
 image is refused, 3 or 4 if the run ended otherwise. --names prints names as
-list does.
+list does. With --board the program runs among the devices of a board's text, as
+with run, and INPUTS is left out.
 
 Example: plm80 cover readings.img readings.regions readings.inputs
 
@@ -43,7 +45,15 @@ pub const COVER: Syntax<'static> = Syntax {
     name: "cover",
     about: "Verifies an image and runs it: prints how often it began each instruction",
     after_help: AFTER_HELP,
-    arguments: &[IMAGE, REGIONS, INPUTS, STEPS, OUTPUTS, NAMES],
+    arguments: &[
+        IMAGE,
+        REGIONS,
+        INPUTS,
+        STEPS,
+        OUTPUTS,
+        NAMES,
+        BOARD_FOR_INPUTS,
+    ],
 };
 
 impl<'a> CoverArguments<'a> {

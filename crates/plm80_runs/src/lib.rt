@@ -5,12 +5,19 @@
 //! | Item | What it is |
 //! |---|---|
 //! | [`run_files`] | `run`: the transcript of a run, its last instructions, the memory that it leaves |
+//! | [`run_among_devices`] | `run --board`: the transcript of a run among the devices of a board |
 //! | [`trace_files`] | `trace`: the instructions of a run, a line each |
+//! | [`trace_among_devices`] | `trace --board`: the same of a run among the devices of a board |
 //! | [`cover_files`] | `cover`: the code, with how often a run began each instruction |
+//! | [`cover_among_devices`] | `cover --board`: the same of a run among the devices of a board |
 //! | [`write_inputs_file`] | `inputs`: the text of a run's inputs, from words |
 //! | [`status_of`], [`EndWords`] | the exit status of a run; words on how it ended |
 #![tactic(auto)]
 
+mod board_cover;
+mod board_files;
+mod board_run;
+mod board_trace;
 mod cover;
 mod endings;
 mod inputs;
@@ -21,6 +28,9 @@ mod status;
 mod trace;
 mod watching;
 
+pub use board_cover::{BoardCoverArguments, cover_among_devices};
+pub use board_run::{BoardRunArguments, run_among_devices};
+pub use board_trace::{BoardTraceArguments, trace_among_devices};
 pub use cover::{COVER, CoverArguments, cover_files};
 pub use inputs::{INPUTS, InputsArguments, write_inputs_file};
 pub use run::{RUN, RunArguments, run_files};

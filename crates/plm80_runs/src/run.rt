@@ -9,6 +9,7 @@ use crate::run_arguments::{INPUTS, LimitTexts, OUTPUTS, RunFiles, STEPS};
 use crate::session_files::run_session;
 use crate::watching::{Watch, watch_run};
 use clap::ArgMatches;
+use plm80_boards::BOARD;
 use plm80_console::{Argument, Console, Kind, OptionText, Reported, Syntax};
 use plm80_files::{IMAGE, REGIONS};
 use plm80_names::NAMES;
@@ -34,6 +35,11 @@ does, without numbers: the last one ended the run, or comes next if the steps
 were used up. --dump writes the memory that the run leaves, 65536 bytes. --names
 prints names as check and list do: before an instruction the one at its address,
 behind the last line that of its address.
+
+With --board the program runs among the devices of a board's text
+(docs/FORMATS.md, 'Boards'), and INPUTS is left out: a port or a cell of a DEVICE
+answers as the text says, and a store to such a cell is an output, as in
+OUT F000 41. --last and --dump aren't for such runs.
 
 Example: plm80 run readings.img readings.regions readings.inputs --steps 5000
 
@@ -61,6 +67,11 @@ pub const RUN: Syntax<'static> = Syntax {
             help: "The file to write the memory at the end to",
         },
         NAMES,
+        Argument {
+            name: BOARD,
+            kind: Kind::PathInPlaceOf(&["INPUTS", "last", "dump"]),
+            help: "The board's text, whose devices answer in place of INPUTS",
+        },
     ],
 };
 

@@ -3,13 +3,13 @@
 ghost use Rattle.std.specs.Prelude.{◌≡◌, None, IfErr, IfOk, OnOk};
 ghost use Rattle.loader80.specs.InputsText.{bad_line, inputs_of};
 ghost use Rattle.plm80_console.specs.Journal.{OnlyReports, and_read_files, and_reported};
-ghost use Rattle.plm80_runs.specs.Running.{AreLimitsOf, IsRunRead, run_files};
-ghost use Rattle.plm80_runs.specs.Arguments.{AreLimitTexts, AreRunFiles, run_paths};
+ghost use Rattle.plm80_runs.specs.Running.{AreLimitsOf, IsRunRead, IsSpanOf, run_files};
+ghost use Rattle.plm80_runs.specs.Arguments.{AreLimitTexts, AreRunFiles, AreSpanTexts, run_paths};
 
 use clap::ArgMatches;
 use image80::Image;
 use loader80::{InputsFault, SessionFault, read_inputs};
-use loader80_trace::Limits;
+use loader80_trace::{Limits, Span};
 use machine80::Inputs;
 use plm80_console::{Argument, Console, Kind, OptionText, ReadFile, Reported, argument_text};
 use plm80_files::explain_inputs;
@@ -41,6 +41,20 @@ pub const OUTPUTS: Argument<'static> = Argument {
     name: "outputs",
     kind: Kind::Count("65536"),
     help: "Outputs at most; the next one is refused",
+};
+
+/// The option `--from`: how many steps come before the first line of a trace.
+pub const FROM: Argument<'static> = Argument {
+    name: "from",
+    kind: Kind::Count("0"),
+    help: "Steps before the first line",
+};
+
+/// The option `--count`: how many lines a trace has at most.
+pub const COUNT: Argument<'static> = Argument {
+    name: "count",
+    kind: Kind::Count("100"),
+    help: "Lines at most",
 };
 
 /// The bytes of an image's file, the text of its regions and the text of the inputs of its run, each with its path.
@@ -145,5 +159,35 @@ impl<'a> LimitTexts<'a> {
         let steps = self.steps.count(console)?;
         let outputs = self.outputs.count(console)? as usize;
         Ok(Limits { steps, outputs })
+    }
+}
+
+/// The texts of the options that say which instructions of a run are shown.
+#[derive(Clone, Copy)]
+pub struct SpanTexts<'a> {
+    from: OptionText<'a>,
+    count: OptionText<'a>,
+}
+
+impl<'a> SpanTexts<'a> {
+    /// Takes the options that say which instructions are shown from what clap has matched.
+    pub fn of(matches: &ArgMatches<'a>) -> SpanTexts<'a>
+        ensures { AreSpanTexts matches.now result }
+    {
+        SpanTexts {
+            from: OptionText::of(matches, "from"),
+            count: OptionText::of(matches, "count"),
+        }
+    }
+
+    /// The instructions of a run that `--from` and `--count` ask for. Reports the first text that is no number.
+    pub fn numbers<C: Console>(self, console: &mut C) -> Result<Span, Reported>
+        ensures span { IfOk result (IsSpanOf self.entry) }
+        ensures unchanged { IfOk result (λ _. C.journal console.new ≡ C.journal console.old) }
+        ensures fault { IfErr result (λ _. C.journal console.new ≡ and_reported (C.journal console.old)) }
+    {
+        let from = self.from.count(console)?;
+        let count = self.count.count(console)?;
+        Ok(Span { from, count })
     }
 }

@@ -1,19 +1,20 @@
 //! `plm80 trace`: the instructions of a located program's run, a line each.
 
 ghost use Rattle.std.specs.Prelude.{◌≡◌, IfErr, IfOk};
-ghost use Rattle.plm80_console.specs.{Answer.Gives, Answer.GivesUp, Answer.IsAnswered, Answer.IsGiven, Answer.IsGivenUp, Journal.and_reported};
-ghost use Rattle.plm80_runs.specs.Running.{AnswersRun, IsSpanOf, TracesFiles, TracesFilesInPart, TracesPart, TracesRun, trace_ending};
+ghost use Rattle.plm80_console.specs.Answer.{Gives, GivesUp, IsAnswered, IsGiven, IsGivenUp};
+ghost use Rattle.plm80_runs.specs.Running.{AnswersRun, TracesFiles, TracesFilesInPart, TracesPart, TracesRun, trace_ending};
 ghost use Rattle.plm80_runs.specs.Arguments.{AreTraceArguments, run_paths};
 
+use crate::board_files::BOARD_FOR_INPUTS;
 use crate::endings::trace_ending_of;
-use crate::run_arguments::{INPUTS, LimitTexts, OUTPUTS, RunFiles, STEPS};
+use crate::run_arguments::{COUNT, FROM, INPUTS, LimitTexts, OUTPUTS, RunFiles, STEPS, SpanTexts};
 use crate::status::EndWords;
 use clap::ArgMatches;
 use loader80::{Ended, Vouched};
 use loader80_trace::{Limits, LineForm, Span, write_lines};
 use machine80::Inputs;
 use plm80_console::laws::faults_follow_reading;
-use plm80_console::{Answer, Argument, Console, Kind, OptionText, Reported, Syntax};
+use plm80_console::{Answer, Console, Reported, Syntax};
 use plm80_files::{IMAGE, REGIONS};
 use plm80_names::{NAMES, Names, Verdict, judge, report_lines};
 use std::alloc::AllocError;
@@ -23,8 +24,7 @@ use std::alloc::AllocError;
 pub struct TraceArguments<'a> {
     files: RunFiles<'a>,
     limits: LimitTexts<'a>,
-    from: OptionText<'a>,
-    count: OptionText<'a>,
+    span: SpanTexts<'a>,
 }
 
 const AFTER_HELP: &str = "\
@@ -35,7 +35,8 @@ begin after --from steps and are printed as they come. If the run ends within
 --count lines, run's last line follows, and the exit status is run's; otherwise
 it is 0.
 
---names prints names as run does.
+--names prints names as run does. With --board the program runs among the
+devices of a board's text, as with run, and INPUTS is left out.
 
 Example: plm80 trace readings.img readings.regions readings.inputs --count 20
 
@@ -50,19 +51,12 @@ pub const TRACE: Syntax<'static> = Syntax {
         IMAGE,
         REGIONS,
         INPUTS,
-        Argument {
-            name: "from",
-            kind: Kind::Count("0"),
-            help: "Steps before the first line",
-        },
-        Argument {
-            name: "count",
-            kind: Kind::Count("100"),
-            help: "Lines at most",
-        },
+        FROM,
+        COUNT,
         STEPS,
         OUTPUTS,
         NAMES,
+        BOARD_FOR_INPUTS,
     ],
 };
 
@@ -74,20 +68,8 @@ impl<'a> TraceArguments<'a> {
         TraceArguments {
             files: RunFiles::of(matches),
             limits: LimitTexts::of(matches),
-            from: OptionText::of(matches, "from"),
-            count: OptionText::of(matches, "count"),
+            span: SpanTexts::of(matches),
         }
-    }
-
-    /// The instructions of a run that `--from` and `--count` ask for. Reports the first text that is no number.
-    fn span<C: Console>(self, console: &mut C) -> Result<Span, Reported>
-        ensures span { IfOk result (IsSpanOf self.entry) }
-        ensures unchanged { IfOk result (λ _. C.journal console.new ≡ C.journal console.old) }
-        ensures fault { IfErr result (λ _. C.journal console.new ≡ and_reported (C.journal console.old)) }
-    {
-        let from = self.from.count(console)?;
-        let count = self.count.count(console)?;
-        Ok(Span { from, count })
     }
 }
 
@@ -102,7 +84,7 @@ pub fn trace_files<C: Console>(
         (C.journal console.old) (C.journal console.new)) }
 {
     let limits = arguments.limits.numbers(console)?;
-    let span = arguments.span(console)?;
+    let span = arguments.span.numbers(console)?;
     let given = trace_within(console, arguments.files, limits, span);
     arguments.files.program.explain(console, &given);
     given

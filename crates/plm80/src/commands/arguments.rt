@@ -1,6 +1,6 @@
 //! The command line, read by clap.
 
-ghost use Rattle.std.specs.Prelude.{◌≡◌, ◌⊎◌, false, None, map, string_bytes, IfOk, IfErr, IfSome, OnOk};
+ghost use Rattle.std.specs.Prelude.{◌≡◌, ◌⊎◌, false, None, codes, map, string_bytes, IfOk, IfErr, IfSome, OnOk};
 ghost use Rattle.clap.specs.{Matches.has_subcommand, Simple.subcommand_of, Simple.subcommand_rows_of, Values.kind_of};
 ghost use Rattle.plm80_console.specs.Refusals.{IsConflict};
 ghost use Rattle.plm80.specs.{Apart.AreApartIn, CommandLine.plm80_app, Requests.AreArgumentsOf, Requests.IsRequestOf, Requests.command_name};
@@ -18,7 +18,10 @@ use plm80_programs::{
     ReportArguments, StoresArguments,
 };
 use plm80_regions::{CASES, CasesArguments, RegionsArguments, SuggestArguments};
-use plm80_runs::{CoverArguments, InputsArguments, RUN, RunArguments, TraceArguments};
+use plm80_runs::{
+    BoardCoverArguments, BoardRunArguments, BoardTraceArguments, CoverArguments, InputsArguments,
+    RUN, RunArguments, TraceArguments,
+};
 use std::alloc::{AllocError, Global};
 
 /// A command with its arguments.
@@ -27,6 +30,7 @@ pub enum Request<'a> {
     Link(LinkArguments<'a>),
     Locate(LocateArguments<'a>),
     Run(RunArguments<'a>),
+    RunOnBoard(BoardRunArguments<'a>),
     List(ListArguments<'a>),
     Check(CheckArguments<'a>),
     Explain(ExplainArguments<'a>),
@@ -42,7 +46,9 @@ pub enum Request<'a> {
     Inputs(InputsArguments<'a>),
     Calls(CallsArguments<'a>),
     Trace(TraceArguments<'a>),
+    TraceOnBoard(BoardTraceArguments<'a>),
     Cover(CoverArguments<'a>),
+    CoverOnBoard(BoardCoverArguments<'a>),
     Module(ModuleArguments<'a>),
     Find(FindArguments<'a>),
     Suggest(SuggestArguments<'a>),
@@ -173,7 +179,7 @@ fn request_of<'a>(
     match name {
         "link" => Ok(Some(Request::Link(LinkArguments::of(alloc, arguments)?))),
         "locate" => Ok(Some(Request::Locate(LocateArguments::of(alloc, arguments)?))),
-        "run" => Ok(Some(Request::Run(RunArguments::of(arguments)))),
+        "run" => Ok(Some(run_request(arguments))),
         "list" => Ok(Some(Request::List(ListArguments::of(arguments)))),
         "check" => Ok(Some(Request::Check(CheckArguments::of(arguments)))),
         "explain" => Ok(Some(Request::Explain(ExplainArguments::of(arguments)))),
@@ -188,12 +194,45 @@ fn request_of<'a>(
         "compare" => Ok(Some(Request::Compare(CompareArguments::of(arguments)))),
         "inputs" => Ok(Some(Request::Inputs(InputsArguments::of(alloc, arguments)?))),
         "calls" => Ok(Some(Request::Calls(CallsArguments::of(arguments)))),
-        "trace" => Ok(Some(Request::Trace(TraceArguments::of(arguments)))),
-        "cover" => Ok(Some(Request::Cover(CoverArguments::of(arguments)))),
+        "trace" => Ok(Some(trace_request(arguments))),
+        "cover" => Ok(Some(cover_request(arguments))),
         "module" => Ok(Some(Request::Module(ModuleArguments::of(arguments)))),
         "find" => Ok(Some(Request::Find(FindArguments::of(alloc, arguments)?))),
         "suggest" => Ok(Some(Request::Suggest(SuggestArguments::of(alloc, arguments)?))),
         "report" => Ok(Some(Request::Report(ReportArguments::of(arguments)))),
         _ => Ok(None),
+    }
+}
+
+/// The request of the command `run`: a run among the devices of a board if one is given, else one on inputs.
+fn run_request<'a>(arguments: &ArgMatches<'a>) -> Request<'a>
+    ensures name { command_name result ≡ codes "run" }
+    ensures arguments { AreArgumentsOf arguments.now result }
+{
+    match BoardRunArguments::of(arguments) {
+        Some(asked) => Request::RunOnBoard(asked),
+        None => Request::Run(RunArguments::of(arguments)),
+    }
+}
+
+/// The request of the command `trace`: of a run among the devices of a board if one is given, else of one on inputs.
+fn trace_request<'a>(arguments: &ArgMatches<'a>) -> Request<'a>
+    ensures name { command_name result ≡ codes "trace" }
+    ensures arguments { AreArgumentsOf arguments.now result }
+{
+    match BoardTraceArguments::of(arguments) {
+        Some(asked) => Request::TraceOnBoard(asked),
+        None => Request::Trace(TraceArguments::of(arguments)),
+    }
+}
+
+/// The request of the command `cover`: of a run among the devices of a board if one is given, else of one on inputs.
+fn cover_request<'a>(arguments: &ArgMatches<'a>) -> Request<'a>
+    ensures name { command_name result ≡ codes "cover" }
+    ensures arguments { AreArgumentsOf arguments.now result }
+{
+    match BoardCoverArguments::of(arguments) {
+        Some(asked) => Request::CoverOnBoard(asked),
+        None => Request::Cover(CoverArguments::of(arguments)),
     }
 }

@@ -1,4 +1,4 @@
-use Rattle.plm80_objects.proofs.GivenLemmas.{err_from}
+use Rattle.plm80_console.specs.AnswerLaws.{err_from}
 use Rattle.plm80_objects.proofs.ReadLemmas.{dumps_more, faults_at, faults_before, read_then_reported, rom_path}
 use Rattle.plm80_objects.proofs.absolute.read_dumps.Goals as goal
 

@@ -1,6 +1,6 @@
+use Rattle.plm80_console.specs.AnswerLaws.{err_from, gives_up_if_made}
 use Rattle.plm80_objects.proofs.Names.{List, ◌∙◌, ap, subst, IfErr-weaker, IfOk-weaker, GivesUp, Journal, and_read_files, RomFile, AreDumpsRead}
 use Rattle.plm80_objects.proofs.Names.{GivesUpDumps, OnlyReports, WritesDumps, WritesImage, rom_paths}
-use Rattle.plm80_objects.proofs.GivenLemmas.{err_from, gives_up_if_made}
 use Rattle.plm80_console.specs.Answer.GivesUp.{before}
 use Rattle.plm80_objects.specs.Absolute.GivesUpDumps.{within}
 use Rattle.plm80_objects.proofs.absolute.write_dumps.Goals as goal

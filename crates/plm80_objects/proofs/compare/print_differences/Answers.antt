@@ -1,5 +1,6 @@
+use Rattle.plm80_console.specs.AnswerLaws.{err_from, gives_or_gives_up}
 use Rattle.plm80_objects.proofs.Names.{[], ◌∷◌, refl, ◌∙◌, ap, Journal, and_read, file_value, ComparesFiles}
-use Rattle.plm80_objects.proofs.{Names.and_reported, GivenLemmas.err_from, GivenLemmas.gives_or_gives_up}
+use Rattle.plm80_objects.proofs.Names.{and_reported}
 use Rattle.plm80_console.specs.{Answer.GivesUp.before, Journal.OnlyReports.read as read_it}
 use Rattle.plm80_objects.proofs.compare.print_differences.Goals as goal
 

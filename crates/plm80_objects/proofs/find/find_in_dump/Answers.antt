@@ -1,6 +1,7 @@
+use Rattle.plm80_console.specs.AnswerLaws.{both_if_made, err_from}
 use Rattle.plm80_objects.proofs.Names.{◌≡◌, Bor, ℕ, List, [], ◌∷◌, append-nil, refl, ◌∙◌, ap, subst, sym, IfOk, IfOk-weaker, DumpValue, LinkFile, dump_of, Journal, OnlyReports}
 use Rattle.plm80_objects.proofs.Names.{and_read, and_read_files, file_value, FindsModules, PrintsFound}
-use Rattle.plm80_objects.proofs.{GivenLemmas.both_if_made, GivenLemmas.err_from, ReadLemmas.read_then_reported, ReadLemmas.texts}
+use Rattle.plm80_objects.proofs.{ReadLemmas.read_then_reported, ReadLemmas.texts}
 use Rattle.plm80_console.specs.Answer.GivesUp.{before}
 use Rattle.plm80_objects.proofs.find.find_in_dump.Goals as goal
 

@@ -1,5 +1,6 @@
+use Rattle.plm80_console.specs.AnswerLaws.{err_from}
 use Rattle.plm80_objects.proofs.Names.{◌++◌, ◌∷◌, [], is_ok, not, ◌∙◌, ap, cond-true, AreLinkFiles}
-use Rattle.plm80_objects.proofs.{GivenLemmas.err_from, ReadLemmas.faults_at, ReadLemmas.none_read, ReadLemmas.one_read, ReadLemmas.read_then_reported, ReadLemmas.text_of}
+use Rattle.plm80_objects.proofs.{ReadLemmas.faults_at, ReadLemmas.none_read, ReadLemmas.one_read, ReadLemmas.read_then_reported, ReadLemmas.text_of}
 use Rattle.plm80_objects.specs.Find.AreLinkFiles.{none, more}
 use Rattle.plm80_objects.proofs.find.read_all.Goals as goal
 

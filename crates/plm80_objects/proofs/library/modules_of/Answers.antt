@@ -1,5 +1,6 @@
+use Rattle.plm80_console.specs.AnswerLaws.{err_from}
 use Rattle.plm80_objects.proofs.Names.{◌++◌, [], ◌∙◌, AreModulesOf}
-use Rattle.plm80_objects.proofs.{GivenLemmas.err_from, ReadLemmas.faults_at, ReadLemmas.none_read, ReadLemmas.one_read, ReadLemmas.read_then_reported, ReadLemmas.text_of}
+use Rattle.plm80_objects.proofs.{ReadLemmas.faults_at, ReadLemmas.none_read, ReadLemmas.one_read, ReadLemmas.read_then_reported, ReadLemmas.text_of}
 use Rattle.plm80_objects.specs.Modules.AreModulesOf.{none, more}
 use Rattle.plm80_objects.proofs.library.modules_of.Goals as goal
 

@@ -1,5 +1,6 @@
+use Rattle.plm80_console.specs.AnswerLaws.{err_from}
 use Rattle.plm80_objects.proofs.Names.{◌≡◌, Bor, ℕ, List, subst, AreAllRead, Journal, ModuleValue, OnlyReports}
-use Rattle.plm80_objects.proofs.{GivenLemmas.err_from, ReadLemmas.all_read, ReadLemmas.texts}
+use Rattle.plm80_objects.proofs.{ReadLemmas.all_read, ReadLemmas.texts}
 use Rattle.plm80_objects.specs.Modules.GivesUpLibrary.{before, within}
 use Rattle.plm80_objects.proofs.library.write_library_file.Goals as goal
 

@@ -1,5 +1,6 @@
+use Rattle.plm80_console.specs.AnswerLaws.{err_from, gives_or_gives_up}
 use Rattle.plm80_objects.proofs.Names.{Bor, ℕ, List, ◌∙◌, ap, subst, Journal, and_read_files, AreLinkFilesRead, LinksFiles, LinksInto}
-use Rattle.plm80_objects.proofs.{Names.OnlyReports, GivenLemmas.err_from, GivenLemmas.gives_or_gives_up, ReadLemmas.all_read, ReadLemmas.texts}
+use Rattle.plm80_objects.proofs.{Names.OnlyReports, ReadLemmas.all_read, ReadLemmas.texts}
 use Rattle.plm80_console.specs.Answer.GivesUp.{before}
 use Rattle.plm80_objects.proofs.link.link_files.Goals as goal
 

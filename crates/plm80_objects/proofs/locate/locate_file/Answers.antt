@@ -1,7 +1,8 @@
+use Rattle.plm80_console.specs.AnswerLaws.{err_from}
 use Rattle.std.proofs.Common.{[], ◌∷◌}
 use Rattle.plm80_console.specs.Answer.GivesUp.{before}
 use Rattle.plm80_boards.specs.BoardLaws.{gives_on_board, stops_at_board}
-use Rattle.plm80_objects.proofs.{GivenLemmas.err_from, Names.LocatesFile}
+use Rattle.plm80_objects.proofs.Names.{LocatesFile}
 use Rattle.plm80_objects.proofs.locate.locate_file.Goals as goal
 
 pub returns : goal.returns

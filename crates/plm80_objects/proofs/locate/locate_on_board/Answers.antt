@@ -1,6 +1,7 @@
+use Rattle.plm80_console.specs.AnswerLaws.{err_from, gives_or_gives_up}
 use Rattle.plm80_objects.proofs.Names.{Bor, ℕ, List, [], ◌∷◌, refl, ◌∙◌, ap, subst, Range, Journal, and_read, file_value}
 use Rattle.plm80_objects.proofs.Names.{LocatesFile, WritesLocated}
-use Rattle.plm80_objects.proofs.{Names.OnlyReports, Names.and_reported, GivenLemmas.err_from, GivenLemmas.gives_or_gives_up, ReadLemmas.of_program}
+use Rattle.plm80_objects.proofs.{Names.OnlyReports, Names.and_reported, ReadLemmas.of_program}
 use Rattle.plm80_objects.proofs.ReadLemmas.{texts}
 use Rattle.board80.specs.declared.line.Kind.TheVariants.{Ram, Rom}
 use Rattle.plm80_boards.specs.Boards.{AreRangesIn}

@@ -1,5 +1,6 @@
+use Rattle.plm80_console.specs.AnswerLaws.{err_from, gives_or_gives_up}
 use Rattle.plm80_objects.proofs.Names.{[], ◌∷◌, refl, ◌∙◌, ap, Journal, and_read, file_value, MapsFile, PrintsMap}
-use Rattle.plm80_objects.proofs.{Names.OnlyReports, Names.and_reported, Names.subst, GivenLemmas.err_from, GivenLemmas.gives_or_gives_up, ReadLemmas.of_program}
+use Rattle.plm80_objects.proofs.{Names.OnlyReports, Names.and_reported, Names.subst, ReadLemmas.of_program}
 use Rattle.plm80_console.specs.{Answer.GivesUp.before, Journal.OnlyReports.read as read_it}
 use Rattle.plm80_objects.proofs.map.map_file.Goals as goal
 

@@ -1,5 +1,5 @@
+use Rattle.plm80_console.specs.AnswerLaws.{both_if_made}
 use Rattle.plm80_objects.proofs.Names.{List, [], ◌∷◌, refl, subst, IfOk, IfOk-weaker, ModuleValue, file_value, AnswersModules, DescribesModules}
-use Rattle.plm80_objects.proofs.GivenLemmas.{both_if_made}
 use Rattle.plm80_console.specs.Answer.GivesUp.{before}
 use Rattle.plm80_objects.proofs.module.describe_file.Goals as goal
 

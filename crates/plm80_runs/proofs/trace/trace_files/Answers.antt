@@ -8,7 +8,7 @@ returns g c =
     let limits = c.in_ok-limits.limits in
     let span = c.in_ok-span.span in
     let old = g.C.Console.journal c.args.console.now in
-    let between = g.C.Console.journal c.span.new.console in
+    let between = g.C.Console.journal c.numbers-2.new.console in
     let new = g.C.Console.journal c.trace_within-given.new.console in
     let same = c.in_ok-span.ensures.unchanged ∙ c.in_ok-limits.ensures.unchanged in
     record {

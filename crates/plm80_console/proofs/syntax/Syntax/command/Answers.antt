@@ -1,4 +1,4 @@
-use Rattle.std.proofs.Common.{◌∙◌, ap, arith, map}
+use Rattle.std.proofs.Common.{◌≡◌, ◌∙◌, ap, arith, map, refl}
 use Rattle.std.proofs.lemmas.{List.take_all, Result.IfOk-weaker}
 use Rattle.plm80_console.proofs.CommandLemmas.{app_with, next, one_more}
 use Rattle.plm80_console.specs.SyntaxTable.{rule_of_argument}

@@ -1,4 +1,4 @@
-use Rattle.std.proofs.Common.{◌∙◌, ap, arith, sym}
+use Rattle.std.proofs.Common.{◌≡◌, ◌∙◌, ap, arith, sym}
 use Rattle.std.specs.List.{list_any}
 use Rattle.std.proofs.lemmas.{List.take_all, List.Folds.list_any_at}
 use Rattle.plm80_console.specs.{JoinedValues.is_option, SyntaxTable.rule_of_argument}

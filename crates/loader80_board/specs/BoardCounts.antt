@@ -1,0 +1,31 @@
+-- How often a run on a board begins an instruction at each address. (This project's own.)
+use Rattle.std.specs.Prelude.{◌≡◌, ℕ, ◌<◌, ◌==◌, Bool, List, Result, Ok, Err, length, filter, slice_index}
+use Rattle.image80.specs.Image.{Located}
+use Rattle.image80.specs.Regions.{Areas}
+use Rattle.board80.specs.declared.line.Line.{Line}
+use Rattle.machine80_board.specs.BoardRun.{BoardState, IsMisplaced, board_start}
+use Rattle.loader80_trace.specs.declared.limits.Limits.{Limits}
+use Rattle.loader80_board.specs.declared.counting.BoardCounts.{BoardCounts}
+use Rattle.loader80_board.specs.declared.fault.BoardRunFault.{BoardRunFault}
+use Rattle.loader80_board.specs.declared.fault.BoardRunFault.TheVariants.{DeviceOutsideData, Write, Memory}
+use Rattle.loader80_board.specs.BoardStates.{AreStates, EndsSo}
+
+-- whether the next step from a state begins at an address
+abbrev pub begins_at : ℕ → BoardState → Bool
+begins_at address s = s.machine.cpu.pc == address
+
+-- for each of the 65536 addresses, how many of a run's first steps begin there: those from each of its first states
+pub record CountsSteps (lines : List Line) (regions : Areas) (most : ℕ) (start : BoardState) (steps : ℕ) (counts : List ℕ) : Type 0 where
+  pub states : List BoardState
+  pub are_states : AreStates lines regions most start 0 states
+  pub all : length states ≡ steps
+  pub whole : length counts ≡ 65536
+  pub each : (address : ℕ) → address < 65536 → slice_index counts address ≡ length (filter (begins_at address) states)
+
+-- what is answered of the counts of a run
+abbrev pub CountsBoard : List Line → Located → Limits → Result BoardCounts BoardRunFault → Type 0
+CountsBoard lines image limits (Ok counts) = EndsSo lines image.regions (board_start image) limits counts.ended
+    × CountsSteps lines image.regions limits.outputs (board_start image) counts.ended.steps counts.steps.items
+CountsBoard lines image limits (Err (DeviceOutsideData number)) = IsMisplaced lines image.regions number
+CountsBoard lines image limits (Err Memory) = Unit {0}
+CountsBoard lines image limits (Err Write) = ⊥

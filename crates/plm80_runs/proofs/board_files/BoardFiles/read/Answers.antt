@@ -1,0 +1,18 @@
+use Rattle.std.specs.Prelude.{Option, Some, List}
+use Rattle.board80.specs.declared.line.Line.{Line}
+use Rattle.plm80_boards.specs.BoardLaws.{reports_on_board, stops_at_board}
+use Rattle.plm80_console.specs.Answer.{AnswerValue}
+use Rattle.plm80_console.specs.AnswerLaws.{err_from}
+use Rattle.plm80_console.specs.Journal.{FileValue}
+use Rattle.plm80_names.specs.Arguments.{program_paths}
+use Rattle.plm80_runs.proofs.board_files.BoardFiles.read.Goals as goal
+
+pub returns-in_err-board-clause-fault : goal.returns-in_err-board-clause-fault
+returns-in_err-board-clause-fault g c =
+    err_from c.from_residual.result (stops_at_board (Some c.args.self.board) (program_paths c.args.self.program) _ _ c.in_err-board.ensures.fault)
+
+pub returns-in_err-image-clause-fault : goal.returns-in_err-image-clause-fault
+returns-in_err-image-clause-fault g c =
+    err_from c.from_residual-in_err-image.result
+    (reports_on_board (Some c.args.self.board) (λ (board : Option (List Line)) (files : List FileValue) (answer : AnswerValue). ⊥) (program_paths c.args.self.program) _ _ _ (Some c.in_ok-board.board)
+    c.in_ok-board.ensures.read c.in_err-image.ensures.fault)
