@@ -1,8 +1,5 @@
 //! How a run on a board ended.
 
-ghost use Rattle.std.specs.Prelude.{◌≡◌};
-ghost use Rattle.loader80_board.specs.BoardStates.{last_number};
-
 use machine80_board::BoardEnd;
 
 /// How a run on a board ended, or was stopped.
@@ -14,17 +11,4 @@ pub struct BoardEnded {
     pub steps: u64,
     /// The program counter after the last step; at an end, before the ending step.
     pub at: u16,
-}
-
-impl BoardEnded {
-    /// How many steps were made before the last instruction: the one that ended the run, or comes next if the steps were
-    /// used up.
-    pub fn last(&self) -> u64
-        ensures { result ≡ last_number self.now.end self.now.steps }
-    {
-        match self.end {
-            None => self.steps,
-            Some(_) => self.steps.saturating_sub(1),
-        }
-    }
 }

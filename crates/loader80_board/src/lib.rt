@@ -11,7 +11,7 @@
 //! | [`count_board_steps`], [`BoardCounts`] | how often a run begins the instruction at each address |
 //! | [`BoardEnded`] | how a run ended, or was stopped |
 //! | [`BoardRunFault`] | why a run on a board has no outcome, no lines or no counts |
-//! | [`board_transcript_text`], [`board_front_text`], [`board_ending_text`] | what is printed of a run on a board; its parts |
+//! | [`board_transcript_text`], [`board_ending_text`] | what is printed of a run on a board; its last line |
 //! | [`laws`] | a run among devices is one on a board; nothing else decides it: as contracts |
 #![tactic(auto)]
 
@@ -30,4 +30,4 @@ pub use ended::BoardEnded;
 pub use fault::BoardRunFault;
 pub use running::{BoardOutcome, BoardReply, answer_on_board, write_on_board};
 pub use tracing::write_board_lines;
-pub use transcript::{board_ending_text, board_front_text, board_transcript_text};
+pub use transcript::{board_ending_text, board_transcript_text};

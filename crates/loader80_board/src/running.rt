@@ -1,6 +1,6 @@
 //! A vouched image runs on a board.
 
-ghost use Rattle.std.specs.Prelude.{◌≡◌, ◌+◌, ◌<◌, [], All, string_bytes};
+ghost use Rattle.std.specs.Prelude.{◌≡◌, ◌+◌, ◌<◌, [], All, IfOk, string_bytes};
 ghost use Rattle.loader80_board.specs.BoardSays.{AreKnown, BoardSays, BoardSends, write_failures_of};
 
 use crate::fault::BoardRunFault;
@@ -46,7 +46,8 @@ pub fn answer_on_board(
     board: &Board,
     limits: Limits,
 ) -> BoardReply
-    ensures { BoardSays board.now vouched.now.image limits.outputs limits.steps result.answer (string_bytes result.text) }
+    ensures says { BoardSays board.now vouched.now.image limits.outputs limits.steps result.answer (string_bytes result.text) }
+    ensures stack { IfOk result.answer (λ outcome. outcome.stack_bytes ≡ vouched.now.stack_bytes) }
 {
     runs_of(vouched);
     let image = vouched.image();

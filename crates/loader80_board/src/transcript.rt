@@ -12,7 +12,8 @@ use machine80_board::{BoardEnd, Output};
 use std::alloc::{AllocError, Global};
 use std::fmt::Write;
 
-/// The transcript of a run: the text of [`board_front_text`], and a last line as of [`board_ending_text`].
+/// The transcript of a run: `STACK n` with the bytes of stack, a line for each output, and a last line as of
+/// [`board_ending_text`].
 ///
 /// # Errors
 /// `AllocError` only if memory runs out.
@@ -36,7 +37,7 @@ pub fn board_transcript_text(
 ///
 /// # Errors
 /// `AllocError` only if memory runs out.
-pub fn board_front_text(
+fn board_front_text(
     alloc: Global,
     stack_bytes: u64,
     outputs: &[Output],

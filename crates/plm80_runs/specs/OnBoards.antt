@@ -48,11 +48,12 @@ AnswersOnBoard Answers files = WithBoard (Some files.board) (λ board. AnswersPr
 
 -- ---- run
 
--- The transcript of the program's run on the board is printed, with a name in its last line; the status is the run's. (That each state of
--- the run keeps the promise is part of `IsBoardTranscript`.)
+-- The transcript of the program's run on the board is printed, with a name in its last line; it has the program's bytes of stack, and the
+-- status is the run's. (That each state of the run keeps the promise is part of `IsBoardTranscript`.)
 pub record TranscribesRun (lines : List Line) (limits : Limits) (publics : List Public) (program : Voucher) (answer : AnswerValue) : Type 0 where
   pub outcome : BoardOutcome
   pub text : List ℕ
+  pub stack : outcome.stack_bytes ≡ program.stack_bytes
   pub transcript : IsBoardTranscript lines program.image limits.outputs limits.steps outcome text
   pub answer_is : answer ≡ prints (named_ending program.image.regions.code publics text) (board_end_status outcome.end)
 
