@@ -1,5 +1,6 @@
+mod FetchLemmas
 mod OnBoardLemmas
-mod SendLemmas
+mod SaysLemmas
 mod DecideLemmas
 mod StatesLemmas
 mod LineLemmas

@@ -20,9 +20,9 @@ use Rattle.machine80.specs.Ports.{next_input}
 use Rattle.machine80.specs.Run.{world_of}
 use Rattle.machine80.specs.Step.{Machine, Next, Stop, ends_at, execute, fetch, first_outside, guard, guarded, leads_outside, machine, proceeded, step_on, turn_of, with_input}
 use Rattle.machine80.specs.World.{World, places_after}
-use Rattle.verify80_flow.specs.Fitting.{IsFitted}
-use Rattle.verify80.specs.Looking.{code_of}
-use Rattle.verify80.specs.Boards.{Anywhere, Disturbs, Executes, KeepsPromise, OnBoard, PromiseIsKeptOnBoards, begins, disturbed, executed, unguarded, with_memory}
+use Rattle.verify80.specs.Boards.{Anywhere, Disturbs, Executes, PromiseIsKeptOnBoards, unguarded, with_memory}
+use Rattle.verify80_states.specs.QuietBoards.{OnQuietBoard, begins as begins_quiet, disturbed as disturbed_quiet, executed as executed_quiet}
+use Rattle.loader80_board.specs.QuietLaws.{is_on_board}
 use Rattle.verify80_states.specs.Bytes.{BytesStayBytes, HasBytes, HoldsBytes, IsByte}
 use Rattle.board80.specs.declared.line.Line.{Line}
 use Rattle.board80.specs.declared.place.Place.{Place}
@@ -30,7 +30,8 @@ use Rattle.board80.specs.declared.place.Place.TheVariants.{Port, Cell}
 use Rattle.board80.specs.Board.{in_device}
 use Rattle.machine80_board.specs.BoardRun.{BoardState, DevicesAreData, IsReached, Steps, answered, board_start, machine_by, no_inputs, reads_by, without_ports, begins as begun, goes_on}
 use Rattle.machine80_board.specs.Exchanges.{is_answered, loads, places_read}
-use Rattle.loader80_board.specs.OnBoards.{RunsAreOnBoards, StandsOnBoard}
+use Rattle.loader80_board.proofs.FetchLemmas.{anywhere_of}
+use Rattle.loader80_board.specs.OnBoards.{LeavesQuiet, RunsAreOnBoards, RunsAreOnQuietBoards, StartsHoldBytes}
 
 -- ---- what answers leave of a machine
 
@@ -198,20 +199,37 @@ none_waits = empty 256
     empty zero = All-nil HasBytes
     empty (suc n) = All-cons HasBytes [] (replicate n []) (All-nil IsByte) (empty n)
 
+-- the instruction that a step executes
+pub record Fetches (regions : Areas) (m there : Machine) : Type 0 where
+  pub found : Fetched
+  pub inside : fetch regions m.memory m.cpu.pc ≡ Some found
+  pub stepped : guarded regions (guard regions found.instr m.cpu) false found m ≡ Next there
+
+fetches : (regions : Areas) (m there : Machine) (o : Option Fetched) → fetch regions m.memory m.cpu.pc ≡ o → step_on regions false o m ≡ Next there → Fetches regions m there
+fetches regions m there None is h = absurd (never h)
+fetches regions m there (Some found) is h = record { found = found; inside = is; stepped = h }
+
+pub starts_hold_bytes : StartsHoldBytes
+starts_hold_bytes image are_bytes = record {
+  registers = record { a = omega arith; b = omega arith; c = omega arith; d = omega arith; e = omega arith; h = omega arith; l = omega arith };
+  memory = are_bytes;
+  inputs = none_waits;
+}
+
 module _ (code_or_data : (areas : Areas) (address : ℕ) → AreRegions areas → in_code areas address ≡ true → in_data areas address ≡ false)
     (data_or_stack : (areas : Areas) (address : ℕ) → AreRegions areas → in_data areas address ≡ true → in_range areas.stack address ≡ false)
-    (kept : PromiseIsKeptOnBoards) (stay : BytesStayBytes) (image : Located) (bytes : ℕ) (rules : AreRegions image.regions) (fitted : IsFitted (code_of image) bytes)
-    (enough : bytes ≤ image.regions.stack.length) (are_bytes : All (λ byte. byte < 256) (memory_of image.chunks)) (lines : List Line) (in_data_all : DevicesAreData lines image.regions) where
+    (stay : BytesStayBytes) (image : Located) (rules : AreRegions image.regions) (are_bytes : All (λ byte. byte < 256) (memory_of image.chunks))
+    (lines : List Line) (in_data_all : DevicesAreData lines image.regions) (quiet : ℕ → Bool) (apart : LeavesQuiet lines quiet) where
+  abbrev IsOn : World → Type 0
+  IsOn w = OnQuietBoard image.regions quiet Anywhere (board_start image).machine true true w
+
   -- a state with its world
   record Stands (s : BoardState) : Type 0 where
     world : World
     same : world.machine ≡ s.machine
-    on : OnBoard image.regions Anywhere (board_start image).machine true true world
+    on : IsOn world
     holds : HoldsBytes s.machine
     closed : s.machine ≡ without_ports s.machine
-
-  promise_of : (w : World) → OnBoard image.regions Anywhere (board_start image).machine true true w → KeepsPromise image Anywhere bytes w
-  promise_of w on = kept image bytes rules fitted enough (board_start image).machine true (record { pc = refl; sp = refl; whole = length-memory_of image.chunks; code = λ a here. refl }) w true on
 
   no_device : (address : ℕ) (is : Bool) → in_device lines address ≡ is → in_data image.regions address ≡ false → in_device lines address ≡ false
   no_device address false is lacks = is
@@ -220,6 +238,10 @@ module _ (code_or_data : (areas : Areas) (address : ℕ) → AreRegions areas �
   no_data : (address : ℕ) (is : Bool) → in_data image.regions address ≡ is → in_range image.regions.stack address ≡ true → in_data image.regions address ≡ false
   no_data address false is here = is
   no_data address true is here = absurd (let no : in_range image.regions.stack address ≡ false = data_or_stack image.regions address rules is in let bad : true ≡ false = sym here ∙ no in cc)
+
+  no_quiet : (address : ℕ) (is : Bool) → in_device lines address ≡ is → quiet address ≡ true → in_device lines address ≡ false
+  no_quiet address false is here = is
+  no_quiet address true is here = absurd (let no : quiet address ≡ false = apart address is in let bad : true ≡ false = sym here ∙ no in cc)
 
   goes : (most : ℕ) (s t : BoardState) → Stands s → Steps lines image.regions most s t → Stands t
   goes most s t at step =
@@ -233,7 +255,7 @@ module _ (code_or_data : (areas : Areas) (address : ℕ) → AreRegions areas �
       let shape : fed ≡ record m { inputs = fed.inputs } = ap (λ (c : Cpu). machine c fed.memory fed.inputs fed.outputs) cpu ∙ ap (λ o. machine s.machine.cpu fed.memory fed.inputs o) outs in
       let left : (address : ℕ) → in_device lines address ≡ false → slice_index fed.memory address ≡ slice_index s.machine.memory address = λ address free. places_left lines by.found.instr s.machine.cpu.registers by.bytes s.machine address free in
       let w : World = record { machine = s.machine; places = at.world.places } in
-      let on_w : OnBoard image.regions Anywhere (board_start image).machine true true w = subst (λ (x : Machine). OnBoard image.regions Anywhere (board_start image).machine true true (record { machine = x; places = at.world.places })) at.same at.on in
+      let on_w : IsOn w = subst (λ (x : Machine). IsOn (record { machine = x; places = at.world.places })) at.same at.on in
       let v : World = with_memory w fed.memory in
       let disturbs : Disturbs image.regions s.machine.cpu.sp w v = record {
         memory = fed.memory;
@@ -245,11 +267,10 @@ module _ (code_or_data : (areas : Areas) (address : ℕ) → AreRegions areas �
         };
         is = refl;
       } in
-      let on_v : OnBoard image.regions Anywhere (board_start image).machine true true v = disturbed true w v on_w disturbs in
-      let p = promise_of v on_v in
-      let fetched : fetch image.regions fed.memory fed.cpu.pc ≡ Some p.found = subst (λ (c : Cpu). fetch image.regions fed.memory c.pc ≡ Some p.found) (sym cpu) p.inside in
-      let stepped : guarded image.regions (guard image.regions p.found.instr fed.cpu) false p.found fed ≡ Next step.there = sym (ap (λ o. step_on image.regions false o fed) fetched) ∙ step.step in
-      let free = unstopped image.regions (guard image.regions p.found.instr fed.cpu) p.found fed step.there stepped in
+      let on_v : IsOn v = disturbed_quiet true w v on_w disturbs (λ address here. left address (no_quiet address (in_device lines address) refl here)) in
+      let p = fetches image.regions fed step.there (fetch image.regions fed.memory fed.cpu.pc) refl step.step in
+      let fetched : fetch image.regions fed.memory s.machine.cpu.pc ≡ Some p.found = subst (λ (c : Cpu). fetch image.regions fed.memory c.pc ≡ Some p.found) cpu p.inside in
+      let free = unstopped image.regions (guard image.regions p.found.instr fed.cpu) p.found fed step.there p.stepped in
       let executes : execute image.regions false p.found.instr p.found.next (record m { inputs = fed.inputs }) ≡ Next step.there = subst (λ (x : Machine). execute image.regions false p.found.instr p.found.next x ≡ Next step.there) shape free.1 in
       let o = opens image.regions p.found.instr p.found.next m step.there fed.inputs holds.inputs executes in
       let guard_here : guard image.regions p.found.instr m.cpu ≡ None = subst (λ (c : Cpu). guard image.regions p.found.instr c ≡ None) cpu free.0 in
@@ -262,7 +283,7 @@ module _ (code_or_data : (areas : Areas) (address : ℕ) → AreRegions areas �
         found = p.found;
         byte = o.byte;
         after = o.after;
-        fetched = p.anywhere;
+        fetched = anywhere_of image.regions fed.memory s.machine.cpu.pc p.found fetched;
         small = o.small;
         inside = λ here. record { stores = stores; jumps = o.jumps };
         goes = o.goes;
@@ -273,32 +294,35 @@ module _ (code_or_data : (areas : Areas) (address : ℕ) → AreRegions areas �
       record {
         world = next;
         same = there_is ∙ sym machine_is;
-        on = executed true true v next on_v by_board refl;
+        on = executed_quiet true true v next on_v by_board refl;
         holds = subst HoldsBytes (sym machine_is) (record { registers = after_holds.registers; memory = after_holds.memory; inputs = none_waits });
         closed = machine_is ∙ ap without_ports (sym machine_is);
       }
-
-  zero_bytes : HoldsBytes (board_start image).machine
-  zero_bytes = record {
-    registers = record { a = omega arith; b = omega arith; c = omega arith; d = omega arith; e = omega arith; h = omega arith; l = omega arith };
-    memory = are_bytes;
-    inputs = none_waits;
-  }
 
   stands : (most steps : ℕ) (s : BoardState) → IsReached lines image.regions most (board_start image) steps s → Stands s
   stands most steps s (begun _ is) = subst Stands (sym is) (record {
     world = world_of (board_start image).machine;
     same = refl;
-    on = begins true (world_of (board_start image).machine) refl refl;
-    holds = zero_bytes;
+    on = begins_quiet true (world_of (board_start image).machine) refl refl;
+    holds = starts_hold_bytes image are_bytes;
     closed = refl;
   })
   stands most steps s (goes_on n r _ reached step) = goes most r s (stands most n r reached) step
 
-  on_board : (most steps : ℕ) (s : BoardState) → IsReached lines image.regions most (board_start image) steps s → StandsOnBoard image bytes s
-  on_board most steps s reached = let at = stands most steps s reached in record { world = at.world; same = at.same; on = at.on; promise = promise_of at.world at.on }
+-- a run that leaves quiet addresses alone is one on a quiet board
+pub runs_on_quiet_boards : ((areas : Areas) (address : ℕ) → AreRegions areas → in_code areas address ≡ true → in_data areas address ≡ false) →
+    ((areas : Areas) (address : ℕ) → AreRegions areas → in_data areas address ≡ true → in_range areas.stack address ≡ false) → BytesStayBytes → RunsAreOnQuietBoards
+runs_on_quiet_boards code_or_data data_or_stack stay image rules are_bytes lines in_data_all quiet apart most steps s reached =
+    let at = stands code_or_data data_or_stack stay image rules are_bytes lines in_data_all quiet apart most steps s reached in record { world = at.world; same = at.same; on = at.on }
 
-pub runs_on_boards : ((areas : Areas) (address : ℕ) → AreRegions areas → in_code areas address ≡ true → in_data areas address ≡ false) →
-    ((areas : Areas) (address : ℕ) → AreRegions areas → in_data areas address ≡ true → in_range areas.stack address ≡ false) → PromiseIsKeptOnBoards → BytesStayBytes → RunsAreOnBoards
-runs_on_boards code_or_data data_or_stack kept stay image bytes rules fitted enough are_bytes lines in_data_all most steps s reached =
-    on_board code_or_data data_or_stack kept stay image bytes rules fitted enough are_bytes lines in_data_all most steps s reached
+-- and one on a board, if nothing is quiet
+pub runs_on_boards : RunsAreOnQuietBoards → PromiseIsKeptOnBoards → RunsAreOnBoards
+runs_on_boards on_quiet kept image bytes rules fitted enough are_bytes lines in_data_all most steps s reached =
+    let at = on_quiet image rules are_bytes lines in_data_all (λ (address : ℕ). false) (λ address is. refl) most steps s reached in
+    let on = is_on_board image.regions (λ (address : ℕ). false) Anywhere (board_start image).machine true true at.world at.on in
+    record {
+      world = at.world;
+      same = at.same;
+      on = on;
+      promise = kept image bytes rules fitted enough (board_start image).machine true (record { pc = refl; sp = refl; whole = length-memory_of image.chunks; code = λ a here. refl }) at.world true on;
+    }

@@ -1,6 +1,5 @@
 -- What is answered and written of a run on a board. (This project's own.)
-use Rattle.std.specs.Prelude.{◌≡◌, ℕ, ◌<◌, List, [], Option, Result, Ok, Err, length, take}
-use Rattle.std.specs.Io.KnownBytes.{Appends}
+use Rattle.std.specs.Prelude.{◌≡◌, ℕ, ◌<◌, List, [], Result, Ok, Err}
 use Rattle.image80.specs.Image.{Located}
 use Rattle.board80.specs.declared.line.Line.{Line}
 use Rattle.machine80_board.specs.BoardRun.{BoardState, DevicesAreData, IsBoardRun, IsMisplaced, IsReached, board_start}
@@ -15,41 +14,32 @@ abbrev pub AreKnown : Located → (bytes : ℕ) → Type 0
 AreKnown image bytes = (lines : List Line) → DevicesAreData lines image.regions → (most steps : ℕ) (s : BoardState) →
     IsReached lines image.regions most (board_start image) steps s → StandsOnBoard image bytes s
 
--- the text is the transcript of a run on a board, of at most a given number of steps and outputs; and each of its states keeps the
--- promise
-pub record IsBoardTranscript (lines : List Line) (image : Located) (most limit : ℕ) (o : BoardOutcome) (text : List ℕ) : Type 0 where
+-- the text is the transcript of a run on a board, of at most a given number of steps and outputs, among devices in data
+pub record IsRunTranscript (lines : List Line) (image : Located) (most limit : ℕ) (o : BoardOutcome) (text : List ℕ) : Type 0 where
+  pub devices : DevicesAreData lines image.regions
   pub last : BoardState
   pub run : IsBoardRun lines image.regions most (board_start image) limit o.steps last o.end
   pub at : o.at ≡ last.machine.cpu.pc
   pub spells : text ≡ board_transcript o.stack_bytes last.outputs o.end o.at o.steps
+
+-- and each of its states keeps the promise
+pub record IsBoardTranscript (lines : List Line) (image : Located) (most limit : ℕ) (o : BoardOutcome) (text : List ℕ) : Type 0 where
+  pub transcript : IsRunTranscript lines image most limit o text
   pub promise : (steps : ℕ) (s : BoardState) → IsReached lines image.regions most (board_start image) steps s →
       StandsOnBoard image o.stack_bytes s
 
 -- what is answered of a run, with its text
+abbrev pub SaysBy : (Transcribes : BoardOutcome → List ℕ → Type 0) → List Line → Located → Result BoardOutcome BoardRunFault → List ℕ → Type 0
+SaysBy Transcribes lines image (Ok o) text = Transcribes o text
+SaysBy Transcribes lines image (Err (DeviceOutsideData number)) text = IsMisplaced lines image.regions number × (text ≡ [])
+SaysBy Transcribes lines image (Err Memory) text = text ≡ []
+SaysBy Transcribes lines image (Err Write) text = ⊥
+
+abbrev pub BoardTells : List Line → Located → (most limit : ℕ) → Result BoardOutcome BoardRunFault → List ℕ → Type 0
+BoardTells lines image most limit = SaysBy (IsRunTranscript lines image most limit) lines image
+
 abbrev pub BoardSays : List Line → Located → (most limit : ℕ) → Result BoardOutcome BoardRunFault → List ℕ → Type 0
-BoardSays lines image most limit (Ok o) text = IsBoardTranscript lines image most limit o text
-BoardSays lines image most limit (Err (DeviceOutsideData number)) text = IsMisplaced lines image.regions number × (text ≡ [])
-BoardSays lines image most limit (Err Memory) text = text ≡ []
-BoardSays lines image most limit (Err Write) text = ⊥
-
--- the writer holds the whole text of the answer; after a failed write it holds a proper prefix of the text of some answer
-pub record SendsAll (lines : List Line) (image : Located) (most limit : ℕ) (answer : Result BoardOutcome BoardRunFault)
-    (old new : Option (List ℕ)) : Type 0 where
-  pub text : List ℕ
-  pub says : BoardSays lines image most limit answer text
-  pub appended : Appends old new text
-
-pub record SendsPrefix (lines : List Line) (image : Located) (most limit : ℕ) (old new : Option (List ℕ)) : Type 0 where
-  pub answer : Result BoardOutcome BoardRunFault
-  pub text : List ℕ
-  pub says : BoardSays lines image most limit answer text
-  pub count : ℕ
-  pub part : count < length text
-  pub appended : Appends old new (take count text)
-
-abbrev pub BoardSends : List Line → Located → (most limit : ℕ) → Result BoardOutcome BoardRunFault → (old new : Option (List ℕ)) → Type 0
-BoardSends lines image most limit (Err Write) old new = SendsPrefix lines image most limit old new
-BoardSends lines image most limit answer old new = SendsAll lines image most limit answer old new
+BoardSays lines image most limit = SaysBy (IsBoardTranscript lines image most limit) lines image
 
 -- the failures of the writer that an answer means
 abbrev pub write_failures_of : {A : Type 0} → Result A BoardRunFault → ℕ

@@ -7,3 +7,4 @@ pub mod BoardCounts
 pub mod Faults
 -- what the crate's own functions promise one another: no public contract cites these
 pub mod Keeping
+pub mod QuietLaws

@@ -1,7 +1,7 @@
 //! What holds of runs among devices. The functions do nothing: their contracts are the laws.
 
 ghost use Rattle.loader80_board.specs.BoardStates.{BoardsDecideRuns};
-ghost use Rattle.loader80_board.specs.OnBoards.{RunsAreOnBoards};
+ghost use Rattle.loader80_board.specs.OnBoards.{RunsAreOnBoards, RunsAreOnQuietBoards, StartsHoldBytes};
 
 use image80::laws::code_data_and_stack_are_apart;
 use verify80::promise_is_kept_on_boards;
@@ -13,8 +13,16 @@ use verify80_states::bytes_stay_bytes;
 pub fn runs_are_on_boards()
     ensures { RunsAreOnBoards }
 {
-    code_data_and_stack_are_apart();
+    runs_are_on_quiet_boards();
     promise_is_kept_on_boards();
+}
+
+/// A law: a run of any image among devices in its data is a run on a board whose devices leave alone what isn't theirs.
+pub fn runs_are_on_quiet_boards()
+    ensures runs { RunsAreOnQuietBoards }
+    ensures start { StartsHoldBytes }
+{
+    code_data_and_stack_are_apart();
     bytes_stay_bytes();
 }
 

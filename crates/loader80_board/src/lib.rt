@@ -6,7 +6,7 @@
 //! | Item | What it is |
 //! |---|---|
 //! | [`answer_on_board`], [`BoardReply`], [`BoardOutcome`] | a vouched image runs on a board; the transcript |
-//! | [`write_on_board`] | the same, and the transcript is written |
+//! | [`transcribe_on_board`] | any image runs on a board; the transcript |
 //! | [`write_board_lines`] | the lines of some of a run's instructions, written as they come |
 //! | [`count_board_steps`], [`BoardCounts`] | how often a run begins the instruction at each address |
 //! | [`BoardEnded`] | how a run ended, or was stopped |
@@ -28,6 +28,6 @@ mod transcript;
 pub use counting::{BoardCounts, count_board_steps};
 pub use ended::BoardEnded;
 pub use fault::BoardRunFault;
-pub use running::{BoardOutcome, BoardReply, answer_on_board, write_on_board};
+pub use running::{BoardOutcome, BoardReply, answer_on_board, transcribe_on_board};
 pub use tracing::write_board_lines;
 pub use transcript::{board_ending_text, board_transcript_text};

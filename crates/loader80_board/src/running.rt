@@ -1,17 +1,17 @@
-//! A vouched image runs on a board.
+//! Images run on a board.
 
-ghost use Rattle.std.specs.Prelude.{◌≡◌, ◌+◌, ◌<◌, [], All, IfOk, string_bytes};
-ghost use Rattle.loader80_board.specs.BoardSays.{AreKnown, BoardSays, BoardSends, write_failures_of};
+ghost use Rattle.std.specs.Prelude.{◌≡◌, ◌<◌, [], All, IfOk, string_bytes};
+ghost use Rattle.loader80_board.specs.BoardSays.{AreKnown, BoardSays, BoardTells};
 
 use crate::fault::BoardRunFault;
 use crate::laws::runs_are_on_boards;
 use crate::transcript::board_transcript_text;
 use board80::Board;
+use image80::Image;
 use loader80::Vouched;
 use loader80_trace::Limits;
 use machine80_board::{BoardEnd, misplaced_device, run_on_board};
 use std::alloc::Global;
-use stream80::{Failed, Sink, write_all};
 
 /// The result of a run on a board.
 #[derive(Clone, Copy, Debug, PartialEq, Eq)]
@@ -50,7 +50,24 @@ pub fn answer_on_board(
     ensures stack { IfOk result.answer (λ outcome. outcome.stack_bytes ≡ vouched.now.stack_bytes) }
 {
     runs_of(vouched);
-    let image = vouched.image();
+    transcribe_on_board(alloc, vouched.image(), vouched.stack_bytes(), board, limits)
+}
+
+/// Runs any image on a board within these limits; the reply has the outcome and the transcript, in which the program
+/// needs this many bytes of stack.
+///
+/// The fault is `DeviceOutsideData` if a device of the board doesn't lie in the image's data, or `Memory` if memory runs
+/// out, also for an output below the limit; then there is no text.
+pub fn transcribe_on_board(
+    alloc: Global,
+    image: &Image,
+    stack_bytes: u64,
+    board: &Board,
+    limits: Limits,
+) -> BoardReply
+    ensures tells { BoardTells board.now image.now limits.outputs limits.steps result.answer (string_bytes result.text) }
+    ensures stack { IfOk result.answer (λ outcome. outcome.stack_bytes ≡ stack_bytes) }
+{
     if let Some(number) = misplaced_device(board, &image.regions) {
         return faulty(alloc, BoardRunFault::DeviceOutsideData(number));
     }
@@ -58,7 +75,7 @@ pub fn answer_on_board(
         return faulty(alloc, BoardRunFault::Memory);
     };
     let outcome = BoardOutcome {
-        stack_bytes: vouched.stack_bytes(),
+        stack_bytes,
         end: run.end,
         steps: run.steps,
         at: run.cpu.pc(),
@@ -103,28 +120,3 @@ fn runs_of(vouched: &Vouched)
 fn are_bytes(memory: &[u8])
     ensures { All (λ byte. byte < 256) memory.now }
 {}
-
-/// Runs a vouched image on a board within these limits, and writes the transcript. The sink's count of failures must be
-/// below the greatest `u64`.
-///
-/// # Errors
-/// `DeviceOutsideData` with the number of the board's line if a device doesn't lie in the image's data; `Memory` if memory
-/// runs out, also for an output below the limit; `Write` if a write fails or takes no byte, after which a proper prefix of
-/// the transcript was written. After the other faults nothing was written.
-pub fn write_on_board<K: Sink>(
-    alloc: Global,
-    vouched: &Vouched,
-    board: &Board,
-    limits: Limits,
-    out: &mut K,
-) -> Result<BoardOutcome, BoardRunFault>
-    requires { K.failed out.old < u64.MAX }
-    ensures sends { BoardSends board.now vouched.now.image limits.outputs limits.steps result (K.written out.old) (K.written out.new) }
-    ensures failures { K.failed out.new ≡ K.failed out.old + write_failures_of result }
-{
-    let reply = answer_on_board(alloc, vouched, board, limits);
-    match write_all(out, reply.text.as_bytes()) {
-        Ok(()) => reply.answer,
-        Err(Failed) => Err(BoardRunFault::Write),
-    }
-}

@@ -24,10 +24,16 @@ pub data IsBoardOf : Option (Bor (List ℕ)) → List FileValue → Option (List
   one : (path : Bor (List ℕ)) (file : FileValue) (board : List Line) → file.path ≡ path.now → Spells file.bytes board
       → IsBoardOf (Some path) (file ∷ []) (Some board)
 
--- the file was read, if a path is given, and this is its board
+-- the first of these files spells no board
+abbrev pub HaveNoBoard : List FileValue → Type 0
+HaveNoBoard [] = ⊥
+HaveNoBoard (file ∷ files) = (board : List Line) → Spells file.bytes board → ⊥
+
+-- the file was read, if a path is given, and this is its board, which no other is
 pub record IsBoardRead (path : Option (Bor (List ℕ))) (old new : Journal) (board : Option (List Line)) : Type 0 where
   pub files : List FileValue
   pub is_board : IsBoardOf path files board
+  pub alone : (other : Option (List Line)) → IsBoardOf path files other → other ≡ board
   pub journal : new ≡ and_read_files old files
 
 -- an answer to the files of a command, the first of which is that of a board if its path is given

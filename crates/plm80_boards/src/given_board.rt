@@ -1,12 +1,13 @@
 //! The board of a command, if `--board` names its file.
 
-ghost use Rattle.std.specs.Prelude.{◌≡◌, map, IfErr, IfOk};
+ghost use Rattle.std.specs.Prelude.{◌≡◌, ◌≢◌, List, map, IfErr, IfOk};
 ghost use Rattle.board80.specs.Board.{Spells};
-ghost use Rattle.board80.specs.declared.line.Kind.TheVariants.{Ram, Rom};
-ghost use Rattle.plm80_console.specs.Journal.{OnlyReports, and_reported};
-ghost use Rattle.plm80_boards.specs.Boards.{AreDataRangesIn, AreRangesIn, IsBoardPath, IsBoardRead, board_paths, data_ranges_of, interrupts_in};
+ghost use Rattle.board80.specs.declared.line.{Kind.TheVariants.Ram, Kind.TheVariants.Rom, Line.Line};
+ghost use Rattle.plm80_console.specs.Journal.{Blames, OnlyBlames, and_reported};
+ghost use Rattle.plm80_boards.specs.Boards.{AreDataRangesIn, AreRangesIn, HaveNoBoard, IsBoardPath, IsBoardRead, board_paths, data_ranges_of, interrupts_in};
 
 use crate::board_words::explain_board_text;
+use board80::laws::text_of_board_is_read_as_itself;
 use board80::{Board, BoardFault, Kind, read_board};
 use clap::ArgMatches;
 use image80::Range;
@@ -33,7 +34,7 @@ impl GivenBoard {
     /// Reads the file of a board, if the path of one is given. A fault is reported.
     pub fn read<C: Console>(console: &mut C, path: Option<&str>) -> Result<GivenBoard, Reported>
         ensures read { IfOk result (λ given. IsBoardRead path.entry (C.journal console.old) (C.journal console.new) given.board) }
-        ensures fault { IfErr result (λ _. OnlyReports (board_paths path.entry) (C.journal console.old) (C.journal console.new)) }
+        ensures fault { IfErr result (λ _. OnlyBlames HaveNoBoard (board_paths path.entry) (C.journal console.old) (C.journal console.new)) }
     {
         match path {
             None => Ok(GivenBoard { board: None }),
@@ -138,18 +139,27 @@ impl GivenBoard {
 /// The board that the text of the file of this path spells. If it spells none, that is reported.
 pub fn board_of<C: Console>(console: &mut C, path: &str, text: &[u8]) -> Result<Board, Reported>
     ensures board { IfOk result (Spells text.now) }
+    ensures alone { IfOk result (λ board. (other : List Line) → Spells text.now other → other ≡ board) }
     ensures unchanged { IfOk result (λ _. C.journal console.new ≡ C.journal console.old) }
-    ensures fault { IfErr result (λ _. C.journal console.new ≡ and_reported (C.journal console.old)) }
+    ensures fault { IfErr result (λ _. Blames ((board : List Line) → Spells text.now board → ⊥) (C.journal console.old) (C.journal console.new)) }
 {
+    text_of_board_is_read_as_itself();
     match read_board(console.alloc(), text) {
         Ok(board) => Ok(board),
-        Err(BoardFault::Memory) => Err(console.report_memory()),
-        Err(fault) => {
-            let reported = console.report_file(path, fault);
-            explain_board_text(console, text, fault);
-            Err(reported)
-        }
+        Err(fault) => Err(report_board(console, path, text, fault)),
     }
+}
+
+/// Reports why the text of the file of this path spells no board, with words below it, or that memory ran out.
+fn report_board<C: Console>(console: &mut C, path: &str, text: &[u8], fault: BoardFault) -> Reported
+    ensures { Blames (fault ≢ BoardFault.Memory) (C.journal console.old) (C.journal console.new) }
+{
+    if let BoardFault::Memory = fault {
+        return console.report_memory();
+    }
+    let reported = console.blame_file(path, fault);
+    explain_board_text(console, text, fault);
+    reported
 }
 
 /// The ranges of a board that hold data: those of its RAM, and those of its devices.

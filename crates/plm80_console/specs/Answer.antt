@@ -1,7 +1,7 @@
 -- What a command does in the end, as a value: the files that it writes, the lines that it prints, and its exit status.
 -- (The order, files before lines but for those of a run, and the statuses are this project's own.)
 use Rattle.std.specs.Prelude.{◌≡◌, ◌⊎◌, ℕ, Bool, List, [], ◌∷◌, ◌++◌}
-use Rattle.plm80_console.specs.Journal.{FileValue, Journal, OnlyReports, StopsPrinting, and_printed, and_read_files, and_reported, and_unwritten, and_written, file_value, paths_of}
+use Rattle.plm80_console.specs.Journal.{FileValue, Journal, OnlyReports, StopsPrinting, and_blamed, and_printed, and_read_files, and_reported, and_unwritten, and_written, file_value, paths_of}
 use Rattle.plm80_console.specs.declared.answer.WrittenFiles.TheVariants.{Nothing, One, Both}
 use Rattle.plm80_console.specs.declared.answer.{WrittenFile.WrittenFile, WrittenFiles.WrittenFiles}
 
@@ -89,9 +89,15 @@ pub record Gives (Answers : List FileValue → AnswerValue → Type 0) (paths : 
   pub answers : Answers files answer
   pub given : IsGiven answer (and_read_files old files) new status
 
--- A command gave up, which was reported: as it read the files of its arguments, or before it had an answer to them; or they were read, in
--- their order, and it gave up as it gave its answer to them.
+-- With the bytes of these files there is no answer to the files of these paths, whatever bytes the others have.
+abbrev pub NoAnswer : (Answers : List FileValue → AnswerValue → Type 0) → (paths : List (List ℕ)) → List FileValue → Type 0
+NoAnswer Answers paths files = (others : List FileValue) (answer : AnswerValue) → paths_of (files ++ others) ≡ paths → Answers (files ++ others) answer → ⊥
+
+-- A command gave up, which was reported: as it read the files of its arguments, or before it had an answer to them, and arguments or files
+-- were blamed only if there is no answer to them; or they were read, in their order, and it gave up as it gave its answer to them.
 pub data GivesUp (Answers : List FileValue → AnswerValue → Type 0) (paths : List (List ℕ)) (old new : Journal) : Type 0 where
   before : OnlyReports paths old new → GivesUp Answers paths old new
+  unanswered : (files : List FileValue) (rest : List (List ℕ)) → paths ≡ paths_of files ++ rest → NoAnswer Answers paths files
+      → new ≡ and_blamed (and_read_files old files) → GivesUp Answers paths old new
   within : (files : List FileValue) (answer : AnswerValue) → paths_of files ≡ paths → Answers files answer
       → GaveUp answer (and_read_files old files) new → GivesUp Answers paths old new

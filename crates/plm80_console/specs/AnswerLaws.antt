@@ -2,10 +2,12 @@
 use Rattle.std.specs.Prelude.{◌≡◌, ℕ, List, [], ◌++◌, Result, Ok, Err, IfOk, IfErr, IsOkAnd}
 use Rattle.std.proofs.Common.{refl, subst, sym, ap, append-nil, append_assoc, ◌∙◌}
 use Rattle.std.proofs.lemmas.Result.{IfErr-weaker, IfOk-weaker}
-use Rattle.plm80_console.specs.Answer.{AnswerValue, GaveUp, Gives, GivesUp, IsAnswered, IsGiven, IsGivenUp}
+use Rattle.plm80_console.specs.Answer.{AnswerValue, GaveUp, Gives, GivesUp, IsAnswered, IsGiven, IsGivenUp, NoAnswer}
 use Rattle.plm80_console.specs.Answer.IsGivenUp.{before as before_it, within as within_it}
-use Rattle.plm80_console.specs.Answer.GivesUp.{before, within}
-use Rattle.plm80_console.specs.Journal.{FileValue, Journal, OnlyReports, and_read_files, and_reported, paths_of}
+use Rattle.plm80_console.specs.Answer.GivesUp.{before, unanswered, within}
+use Rattle.plm80_console.specs.Journal.{Blames, FileValue, Journal, OnlyBlames, OnlyReports, and_blamed, and_read_files, and_reported, paths_of}
+use Rattle.plm80_console.specs.Journal.Blames.{other as other_fault, wrong as what_is_wrong}
+use Rattle.plm80_console.specs.Journal.OnlyBlames.{other, wrong}
 use Rattle.plm80_console.specs.Journal.OnlyReports.{read as read_it, unread as nothing_read}
 
 pub err_from : {A E P : Type 0} (r : Result A E) → P → IfErr r (λ _. P)
@@ -31,6 +33,68 @@ pub reports_same : {A E : Type 0} {paths : List (List ℕ)} {old between new : J
     → OnlyReports paths between new → IfErr r (λ _. OnlyReports paths old new)
 reports_same {paths = paths} {new = new} (Ok x) same only = tt
 reports_same {paths = paths} {new = new} (Err e) same only = subst (λ (j : Journal). OnlyReports paths j new) same only
+
+-- ---- faults that blame arguments or files
+
+-- what is wrong by one word is wrong by another
+pub blames_so : {Wrong More : Type 0} {old new : Journal} → (Wrong → More) → Blames Wrong old new → Blames More old new
+blames_so more (other_fault is) = other_fault is
+blames_so more (what_is_wrong w is) = what_is_wrong (more w) is
+
+-- nothing at all came before
+pub blames_same : {Wrong : Type 0} {old between new : Journal} → between ≡ old → Blames Wrong between new → Blames Wrong old new
+blames_same {Wrong = Wrong} {new = new} same b = subst (λ (j : Journal). Blames Wrong j new) same b
+
+-- behind files that were read
+pub blamed_after : {Wrong : Type 0} (old between new : Journal) (files : List FileValue) (paths : List (List ℕ)) → paths_of files ≡ paths
+    → between ≡ and_read_files old files → (More : List FileValue → Type 0) → (Wrong → More files) → Blames Wrong between new
+    → OnlyBlames More paths old new
+blamed_after old between new files paths named were More more (other_fault is) = other (reported_after old between new files paths named were is)
+blamed_after old between new files paths named were More more (what_is_wrong w is) =
+    wrong files [] (sym (append-nil (paths_of files) ∙ named)) (more w) (is ∙ ap and_blamed were)
+
+-- further files, which weren't read
+pub more_blamed : {Wrong : List FileValue → Type 0} {paths : List (List ℕ)} {old new : Journal} (further : List (List ℕ))
+    → OnlyBlames Wrong paths old new → OnlyBlames Wrong (paths ++ further) old new
+more_blamed further (other only) = other (more_paths further only)
+more_blamed further (wrong files rest first w is) =
+    wrong files (rest ++ further)
+    (ap (λ (ps : List (List ℕ)). ps ++ further) first ∙ append_assoc (paths_of files) rest further) w is
+
+pub only_blames_so : {Wrong More : List FileValue → Type 0} {paths : List (List ℕ)} {old new : Journal}
+    → ((files : List FileValue) → Wrong files → More files) → OnlyBlames Wrong paths old new → OnlyBlames More paths old new
+only_blames_so more (other only) = other only
+only_blames_so more (wrong files rest first w is) = wrong files rest first (more files w) is
+
+pub only_blames_same : {Wrong : List FileValue → Type 0} {paths : List (List ℕ)} {old between new : Journal} → between ≡ old
+    → OnlyBlames Wrong paths between new → OnlyBlames Wrong paths old new
+only_blames_same {Wrong = Wrong} {paths = paths} {new = new} same b = subst (λ (j : Journal). OnlyBlames Wrong paths j new) same b
+
+-- what is wrong with files leaves no answer to them
+pub gives_up_unanswered : {Wrong : List FileValue → Type 0} {paths : List (List ℕ)} {old new : Journal}
+    (Answers : List FileValue → AnswerValue → Type 0) → ((files : List FileValue) → Wrong files → NoAnswer Answers paths files)
+    → OnlyBlames Wrong paths old new → GivesUp Answers paths old new
+gives_up_unanswered Answers none (other only) = before only
+gives_up_unanswered Answers none (wrong files rest first w is) = unanswered files rest first (none files w) is
+
+-- arguments to which there is no answer, whatever the files are
+pub wrong_arguments : {paths : List (List ℕ)} {old new : Journal} (Answers : List FileValue → AnswerValue → Type 0)
+    → ((files : List FileValue) (answer : AnswerValue) → Answers files answer → ⊥) → new ≡ and_blamed old → GivesUp Answers paths old new
+wrong_arguments {paths = paths} Answers none is = unanswered [] paths refl (λ others answer named answers. none others answer answers) is
+
+-- the first files were read, and there is no answer to them
+pub wrong_so_far : {Wrong : Type 0} (Answers : List FileValue → AnswerValue → Type 0) (paths : List (List ℕ)) (old between new : Journal) (files : List FileValue)
+    (rest : List (List ℕ)) → paths ≡ paths_of files ++ rest → between ≡ and_read_files old files → (Wrong → NoAnswer Answers paths files)
+    → Blames Wrong between new → GivesUp Answers paths old new
+wrong_so_far Answers paths old between new files rest are were lacks (other_fault is) = before (read_it files rest are (is ∙ ap and_reported were))
+wrong_so_far Answers paths old between new files rest are were lacks (what_is_wrong w is) = unanswered files rest are (lacks w) (is ∙ ap and_blamed were)
+
+-- all were
+pub wrong_files : {Wrong : Type 0} (Answers : List FileValue → AnswerValue → Type 0) (paths : List (List ℕ)) (old between new : Journal) (files : List FileValue)
+    → paths_of files ≡ paths → between ≡ and_read_files old files → (Wrong → NoAnswer Answers paths files) → Blames Wrong between new
+    → GivesUp Answers paths old new
+wrong_files Answers paths old between new files named were lacks b =
+    wrong_so_far Answers paths old between new files [] (sym (append-nil (paths_of files) ∙ named)) were lacks b
 
 -- what becomes of a part of a command whose answers are these
 abbrev pub IsAnsweredOrGivenUp : {E : Type 0} (Part : AnswerValue → Type 0) (old new : Journal) → Result ℕ E → Type 0
@@ -161,12 +225,17 @@ module _ (Answers More : List FileValue → AnswerValue → Type 0) (paths : Lis
       })
       gave
 
-  pub gives_up_more : {E : Type 0} (r : Result ℕ E) → IfErr r (λ _. GivesUp Answers paths between new) → IfErr r (λ _. GivesUp More paths old new)
-  gives_up_more r up = IfErr-weaker r _ _ (λ _ u. of_up (subst (λ (j : Journal). GivesUp Answers paths j new) same u)) up
-    where
-      of_up : GivesUp Answers paths old new → GivesUp More paths old new
-      of_up (before only) = before only
-      of_up (within files answer named answers gave) = within files answer named (more files answer answers) gave
+  -- where no others are of the other kind
+  module _ (fewer : (files : List FileValue) (answer : AnswerValue) → More files answer → Answers files answer) where
+    pub gives_up_more : {E : Type 0} (r : Result ℕ E) → IfErr r (λ _. GivesUp Answers paths between new)
+        → IfErr r (λ _. GivesUp More paths old new)
+    gives_up_more r up = IfErr-weaker r _ _ (λ _ u. of_up (subst (λ (j : Journal). GivesUp Answers paths j new) same u)) up
+      where
+        of_up : GivesUp Answers paths old new → GivesUp More paths old new
+        of_up (before only) = before only
+        of_up (unanswered files rest first none is) =
+            unanswered files rest first (λ others answer named answers. none others answer named (fewer (files ++ others) answer answers)) is
+        of_up (within files answer named answers gave) = within files answer named (more files answer answers) gave
 
-  pub more_or_gives_up : {E : Type 0} (r : Result ℕ E) → GivesOrGivesUp Answers paths between new r → GivesOrGivesUp More paths old new r
-  more_or_gives_up r is = (gives_more r is.0, gives_up_more r is.1)
+    pub more_or_gives_up : {E : Type 0} (r : Result ℕ E) → GivesOrGivesUp Answers paths between new r → GivesOrGivesUp More paths old new r
+    more_or_gives_up r is = (gives_more r is.0, gives_up_more r is.1)

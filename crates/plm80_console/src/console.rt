@@ -4,7 +4,7 @@ ghost use Rattle.std.specs.Prelude.{◌≡◌, ◌<◌, ◌≤◌, ◌∷◌, �
 ghost use Rattle.stream80.specs.WholeText.{text_limit};
 ghost use Rattle.plm80_console.specs.Answer.{GaveUp, IsGiven, IsGivenUp, StopsWriting, and_files, files_of};
 ghost use Rattle.plm80_console.specs.Replaced.{GaveUpKeeping, IsReplacedKeeping, NotSettled, new_file_value};
-ghost use Rattle.plm80_console.specs.Journal.{IsTakenBack, Journal, StopsPrinting, and_input, and_printed, and_read, and_reported, and_written};
+ghost use Rattle.plm80_console.specs.Journal.{IsTakenBack, Journal, StopsPrinting, and_blamed, and_input, and_printed, and_read, and_reported, and_written};
 
 use crate::answer::{Answer, WrittenFiles};
 use crate::failure_words::FailureWords;
@@ -87,6 +87,10 @@ pub trait Console {
     fn report<F: Display + Drop>(&mut self, fault: F) -> Reported
         ensures { journal self.new ≡ and_reported (journal self.old) };
 
+    /// Prints a fault of arguments or files on standard error, in a line of its own. The caller's contract says that it is there.
+    fn blame<F: Display + Drop>(&mut self, fault: F) -> Reported
+        ensures { journal self.new ≡ and_blamed (journal self.old) };
+
     /// Prints an error of clap, or the help text that was asked for, on standard error.
     fn report_usage(&mut self, error: &clap::Error) -> Reported
         ensures { journal self.new ≡ and_reported (journal self.old) };
@@ -114,6 +118,13 @@ pub trait Console {
         ensures { journal self.new ≡ and_reported (journal self.old) }
     {
         self.report(format_args!("{path} {fault}"))
+    }
+
+    /// Prints a fault of the file of this path on standard error, as `blame` does, with the path before it.
+    fn blame_file<F: Display + Drop>(&mut self, path: &str, fault: F) -> Reported
+        ensures { journal self.new ≡ and_blamed (journal self.old) }
+    {
+        self.blame(format_args!("{path} {fault}"))
     }
 
     /// Prints on standard error that memory ran out, as the fault `Memory`.

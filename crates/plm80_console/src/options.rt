@@ -3,7 +3,7 @@
 ghost use Rattle.std.specs.Prelude.{◌≡◌, map, unwrap_or, option_map, IfErr, IfOk, IfSome, IsSomeAnd, OnErr};
 ghost use Rattle.clap.specs.Matches.{first_value, found_of};
 ghost use Rattle.plm80_console.specs.NumberText.{IsByteText, IsCountText, IsLengthText, IsWordText, count_value, word_value};
-ghost use Rattle.plm80_console.specs.{Arguments.argument_text, Journal.and_reported};
+ghost use Rattle.plm80_console.specs.{Arguments.argument_text, Journal.and_blamed, Journal.and_reported};
 
 use crate::argument_texts::argument_text;
 use crate::console::Console;
@@ -11,6 +11,12 @@ use crate::number_text::{byte_of_digits, count_of_digits, length_of_digits, word
 use crate::reported::Reported;
 use clap::ArgMatches;
 use omf_core::{Name, NameFault};
+
+/// The fault of a value that writes no number.
+const BAD_NUMBER: &str = "BadNumber";
+
+/// The form of a word.
+const WORD_DIGITS: &str = "one to four hexadecimal digits";
 
 /// An option that has a value: its name, without the two hyphens, and the text of its value.
 #[derive(Clone, Copy)]
@@ -74,11 +80,11 @@ impl<'a> OptionText<'a> {
         ensures word { let text = self.entry.text.now in IfOk result (λ word. IsWordText text × (word ≡ word_value text)) }
         ensures fault { OnErr result (IsWordText self.entry.text.now → ⊥) }
         ensures unchanged { IfOk result (λ _. C.journal console.new ≡ C.journal console.old) }
-        ensures failed { IfErr result (λ _. C.journal console.new ≡ and_reported (C.journal console.old)) }
+        ensures failed { IfErr result (λ _. C.journal console.new ≡ and_blamed (C.journal console.old)) }
     {
         match word_of_digits(self.text) {
             Some(word) => Ok(word),
-            None => Err(self.report_number(console, "one to four hexadecimal digits")),
+            None => Err(self.blame_number(console, WORD_DIGITS)),
         }
     }
 
@@ -91,7 +97,7 @@ impl<'a> OptionText<'a> {
         ensures text { IfOk result (λ word. IfSome option.entry (λ given. IsWordText given.text.now)) }
         ensures fault { OnErr result (IsSomeAnd option.entry (λ given. IsWordText given.text.now → ⊥)) }
         ensures unchanged { IfOk result (λ _. C.journal console.new ≡ C.journal console.old) }
-        ensures failed { IfErr result (λ _. C.journal console.new ≡ and_reported (C.journal console.old)) }
+        ensures failed { IfErr result (λ _. C.journal console.new ≡ and_blamed (C.journal console.old)) }
     {
         match option {
             Some(option) => Ok(Some(option.word(console)?)),
@@ -104,11 +110,11 @@ impl<'a> OptionText<'a> {
         ensures length { let text = self.entry.text.now in IfOk result (λ length. IsLengthText text × (length ≡ word_value text)) }
         ensures fault { OnErr result (IsLengthText self.entry.text.now → ⊥) }
         ensures unchanged { IfOk result (λ _. C.journal console.new ≡ C.journal console.old) }
-        ensures failed { IfErr result (λ _. C.journal console.new ≡ and_reported (C.journal console.old)) }
+        ensures failed { IfErr result (λ _. C.journal console.new ≡ and_blamed (C.journal console.old)) }
     {
         match length_of_digits(self.text) {
             Some(length) => Ok(length),
-            None => Err(self.report_number(console, "one to five hexadecimal digits")),
+            None => Err(self.blame_number(console, "one to five hexadecimal digits")),
         }
     }
 
@@ -117,11 +123,11 @@ impl<'a> OptionText<'a> {
         ensures byte { let text = self.entry.text.now in IfOk result (λ byte. IsByteText text × (byte ≡ word_value text)) }
         ensures fault { OnErr result (IsByteText self.entry.text.now → ⊥) }
         ensures unchanged { IfOk result (λ _. C.journal console.new ≡ C.journal console.old) }
-        ensures failed { IfErr result (λ _. C.journal console.new ≡ and_reported (C.journal console.old)) }
+        ensures failed { IfErr result (λ _. C.journal console.new ≡ and_blamed (C.journal console.old)) }
     {
         match byte_of_digits(self.text) {
             Some(byte) => Ok(byte),
-            None => Err(self.report_number(console, "two hexadecimal digits")),
+            None => Err(self.blame_number(console, "two hexadecimal digits")),
         }
     }
 
@@ -130,13 +136,13 @@ impl<'a> OptionText<'a> {
         ensures count { let text = self.entry.text.now in IfOk result (λ count. IsCountText text × (count ≡ count_value text)) }
         ensures fault { OnErr result (IsCountText self.entry.text.now → ⊥) }
         ensures unchanged { IfOk result (λ _. C.journal console.new ≡ C.journal console.old) }
-        ensures failed { IfErr result (λ _. C.journal console.new ≡ and_reported (C.journal console.old)) }
+        ensures failed { IfErr result (λ _. C.journal console.new ≡ and_blamed (C.journal console.old)) }
     {
         match count_of_digits(self.text) {
             Some(count) => Ok(count),
             None => {
                 let wanted = "decimal digits, a number up to 18446744073709551615";
-                Err(self.report_number(console, wanted))
+                Err(self.blame_number(console, wanted))
             }
         }
     }
@@ -151,7 +157,9 @@ impl<'a> OptionText<'a> {
             Ok(name) => Ok(name),
             Err(NameFault::BadName) => {
                 let wanted = "1 to 255 characters, 21 to 7E, without a blank";
-                Err(self.report(console, "BadName", wanted))
+                let reported = console.report("BadName");
+                self.explain(console, wanted);
+                Err(reported)
             }
             Err(NameFault::Memory) => Err(console.report_memory()),
         }
@@ -161,17 +169,24 @@ impl<'a> OptionText<'a> {
     pub fn report_number<C: Console>(self, console: &mut C, wanted: &str) -> Reported
         ensures { C.journal console.new ≡ and_reported (C.journal console.old) }
     {
-        self.report(console, "BadNumber", wanted)
+        let reported = console.report(BAD_NUMBER);
+        self.explain(console, wanted);
+        reported
     }
 
-    /// Reports a fault of the option's value, and says below it which option has which value, and what is wanted.
-    fn report<C: Console>(self, console: &mut C, fault: &str, wanted: &str) -> Reported
-        ensures { C.journal console.new ≡ and_reported (C.journal console.old) }
+    /// Reports the fault `BadNumber` of the option's value, which writes no number of the form that is `wanted`.
+    fn blame_number<C: Console>(self, console: &mut C, wanted: &str) -> Reported
+        ensures { C.journal console.new ≡ and_blamed (C.journal console.old) }
     {
-        let reported = console.report(fault);
+        let reported = console.blame(BAD_NUMBER);
+        self.explain(console, wanted);
+        reported
+    }
+
+    /// Says which option has which value, and what is wanted.
+    fn explain<C: Console>(self, console: &C, wanted: &str) {
         let (name, text) = (self.name, self.text);
         console.explain(format_args!("--{name} {text}: {wanted}"));
-        reported
     }
 }
 
@@ -187,7 +202,9 @@ pub fn words_of<C: Console>(
 {
     let mut words = Vec::new(console.alloc());
     for value in values {
-        let word = OptionText::new(name, value).word(console)?;
+        let Some(word) = word_of_digits(value) else {
+            return Err(OptionText::new(name, value).report_number(console, WORD_DIGITS));
+        };
         if words.push(word).is_err() {
             return Err(console.report_memory());
         }

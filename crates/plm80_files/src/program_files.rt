@@ -1,16 +1,19 @@
 //! The image and its regions, which several commands read.
 
-ghost use Rattle.std.specs.Prelude.{◌≡◌, ◌↔◌, None, IfErr, IfOk};
+ghost use Rattle.std.specs.Prelude.{◌≡◌, ◌≢◌, ◌↔◌, None, IfErr, IfOk};
 ghost use Rattle.image80.specs.RegionsText.{Spells};
 ghost use Rattle.image80_file.specs.ImageFile.{SpellsImage, without_regions};
-ghost use Rattle.plm80_console.specs.Journal.{OnlyReports, and_reported};
+ghost use Rattle.plm80_console.specs.Journal.{Blames};
+ghost use Rattle.plm80_files.specs.Wrong.{SpellsNoImage, SpellsNoRegions};
 
 use crate::damage_words::damage_words;
 use crate::file_fault::OBJECT_WORDS;
 use crate::file_kinds::{FileRole, explain_file, place_of_regions};
 use crate::regions_words::explain_regions;
 use crate::unread_bytes::UnreadBytes;
+use image80::laws::text_of_regions_is_read_as_itself;
 use image80::{Image, Regions, RegionsFault, read_regions};
+use image80_file::laws::one_image_reading;
 use image80_file::{ImageFault, read_image};
 use plm80_console::{Argument, Console, Kind, Reported};
 
@@ -32,8 +35,9 @@ pub const REGIONS: Argument<'static> = Argument {
 pub fn regions_of<C: Console>(console: &mut C, path: &str, text: &[u8]) -> Result<Regions, Reported>
     ensures regions { IfOk result (Spells text.now) }
     ensures unchanged { IfOk result (λ _. C.journal console.new ≡ C.journal console.old) }
-    ensures fault { IfErr result (λ _. C.journal console.new ≡ and_reported (C.journal console.old)) }
+    ensures fault { IfErr result (λ _. Blames (SpellsNoRegions text.now) (C.journal console.old) (C.journal console.new)) }
 {
+    text_of_regions_is_read_as_itself();
     match read_regions(console.alloc(), text) {
         Ok(regions) => Ok(regions),
         Err(fault) => {
@@ -44,19 +48,19 @@ pub fn regions_of<C: Console>(console: &mut C, path: &str, text: &[u8]) -> Resul
     }
 }
 
-/// Reports why the text of the file of this path spells no regions, with words below it.
+/// Reports why the text of the file of this path spells no regions, with words below it, or that memory ran out.
 pub fn report_regions<C: Console>(
     console: &mut C,
     path: &str,
     text: &[u8],
     fault: RegionsFault,
 ) -> Reported
-    ensures { C.journal console.new ≡ and_reported (C.journal console.old) }
+    ensures { Blames (fault ≢ RegionsFault.Memory) (C.journal console.old) (C.journal console.new) }
 {
     if let RegionsFault::Memory = fault {
         return console.report_memory();
     }
-    let reported = console.report_file(path, fault);
+    let reported = console.blame_file(path, fault);
     explain_regions(console, text, fault);
     reported
 }
@@ -71,20 +75,33 @@ pub fn image_of<C: Console>(
     ensures image { IfOk result (λ image. SpellsImage bytes.now (without_regions image)) }
     ensures regions { IfOk result (λ image. image.regions ≡ regions) }
     ensures unchanged { IfOk result (λ _. C.journal console.new ≡ C.journal console.old) }
-    ensures fault { IfErr result (λ _. C.journal console.new ≡ and_reported (C.journal console.old)) }
+    ensures fault { IfErr result (λ _. Blames (SpellsNoImage bytes.now) (C.journal console.old) (C.journal console.new)) }
 {
+    one_image_reading();
     match read_image(console.alloc(), bytes, regions) {
         Ok(image) => {
             console.explain_any(UnreadBytes::of(path, bytes));
             Ok(image)
         }
-        Err((_, ImageFault::Memory)) => Err(console.report_memory()),
-        Err((_, fault)) => {
-            let reported = console.report_file(path, fault);
-            explain_image(console, bytes, fault);
-            Err(reported)
-        }
+        Err((_, fault)) => Err(report_image(console, path, bytes, fault)),
     }
+}
+
+/// Reports why the bytes of the file of this path spell no image, with words below it, or that memory ran out.
+fn report_image<C: Console>(
+    console: &mut C,
+    path: &str,
+    bytes: &[u8],
+    fault: ImageFault,
+) -> Reported
+    ensures { Blames (fault ≢ ImageFault.Memory) (C.journal console.old) (C.journal console.new) }
+{
+    if let ImageFault::Memory = fault {
+        return console.report_memory();
+    }
+    let reported = console.blame_file(path, fault);
+    explain_image(console, bytes, fault);
+    reported
 }
 
 /// Says why these bytes, which were to be those of an image, spell none: what they seem to be, or what is wrong with them.

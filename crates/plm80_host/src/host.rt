@@ -170,6 +170,12 @@ impl<'a> Console for HostConsole<'a> {
         reported
     }
 
+    fn blame<F: Display + Drop>(&mut self, fault: F) -> Reported {
+        let reported = Reported::print(self.rt, format_args!("plm80: {}\n", OneLine(fault)));
+        self.note(&Note::Blamed);
+        reported
+    }
+
     fn report_usage(&mut self, error: &clap::Error) -> Reported {
         if error.kind() == clap::error::ErrorKind::OutOfMemory {
             return self.report_memory();

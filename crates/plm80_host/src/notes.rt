@@ -35,6 +35,8 @@ pub enum Note<'a> {
     Printed(&'a Notes),
     /// A fault was reported.
     Reported,
+    /// A fault of arguments or files was reported.
+    Blamed,
     /// The file of a path was to be written and wasn't; whether it may have neither its old bytes nor its new ones, since writing it in
     /// its place failed.
     Unwritten(&'a str, bool),

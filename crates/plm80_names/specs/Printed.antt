@@ -16,6 +16,10 @@ abbrev pub AreNamesOf : (asked : Bool) (file : List ℕ) → List Public → Typ
 AreNamesOf true file publics = HasPublics file publics
 AreNamesOf false file publics = publics ≡ []
 
+-- there are none
+abbrev pub HasNoNames : (asked : Bool) (file : List ℕ) → Type 0
+HasNoNames asked file = (publics : List Public) → AreNamesOf asked file publics → ⊥
+
 -- the text ends with a line feed
 abbrev pub is_line : List ℕ → Bool
 is_line text = pointwise nat_eq (drop (length text - 1) text) (10 ∷ [])

@@ -16,6 +16,15 @@ pub record AreOfFiles (asked : Bool) (file text : List ℕ) (image : Located) (p
   pub regions : Spells text image.regions
   pub names : AreNamesOf asked file publics
 
+-- they are those of no image
+abbrev pub AreOfNone : (asked : Bool) → (file text : List ℕ) → Type 0
+AreOfNone asked file text = (image : Located) (publics : List Public) → AreOfFiles asked file text image publics → ⊥
+
+-- the first two of these files are those of no image
+abbrev pub HaveNoProgram : (asked : Bool) → List FileValue → Type 0
+HaveNoProgram asked (file ∷ text ∷ files) = AreOfNone asked file.bytes text.bytes
+HaveNoProgram asked files = ⊥
+
 -- the files of two paths were read, and these are the image, its regions and its names
 pub record IsProgramRead (image_path regions_path : List ℕ) (asked : Bool) (old new : Journal) (image : Located) (publics : List Public) : Type 0 where
   pub file : List ℕ

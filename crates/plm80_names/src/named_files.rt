@@ -3,8 +3,9 @@
 ghost use Rattle.std.specs.Prelude.{◌≡◌, ◌∷◌, [], IfErr, IfOk};
 ghost use Rattle.image80.specs.RegionsText.{Spells};
 ghost use Rattle.image80_file.specs.ImageFile.{SpellsImage, without_regions};
-ghost use Rattle.plm80_names.specs.{Printed.AreNamesOf, Arguments.AreNamedFiles, Arguments.program_paths, Verdict.IsProgramRead};
-ghost use Rattle.plm80_console.specs.Journal.{OnlyReports, and_read, and_reported};
+ghost use Rattle.plm80_names.specs.{Printed.AreNamesOf, Arguments.AreNamedFiles, Arguments.program_paths};
+ghost use Rattle.plm80_names.specs.Verdict.{AreOfNone, HaveNoProgram, IsProgramRead};
+ghost use Rattle.plm80_console.specs.Journal.{Blames, OnlyBlames, OnlyReports, and_read};
 
 use crate::names::Names;
 use crate::refusal_words::explain_given;
@@ -55,7 +56,8 @@ impl<'a> NamedFiles<'a> {
     pub fn read<C: Console>(self, console: &mut C) -> Result<(Image, Names), Reported>
         ensures read { IfOk result (λ read. IsProgramRead self.entry.image.now self.entry.regions.now self.entry.names
             (C.journal console.old) (C.journal console.new) read.0 read.1) }
-        ensures fault { IfErr result (λ _. OnlyReports (program_paths self.entry) (C.journal console.old) (C.journal console.new)) }
+        ensures fault { IfErr result (λ _. OnlyBlames (HaveNoProgram self.entry.names) (program_paths self.entry)
+            (C.journal console.old) (C.journal console.new)) }
     {
         let texts = ProgramTexts::read(console, self.image, self.regions)?;
         texts.program(console, self.names)
@@ -96,7 +98,8 @@ impl<'a> ProgramTexts<'a> {
         ensures regions { IfOk result (λ read. Spells self.now.regions.bytes.items read.0.regions) }
         ensures names { IfOk result (λ read. AreNamesOf asked self.now.image.bytes.items read.1) }
         ensures unchanged { IfOk result (λ _. C.journal console.new ≡ C.journal console.old) }
-        ensures fault { IfErr result (λ _. C.journal console.new ≡ and_reported (C.journal console.old)) }
+        ensures fault { IfErr result (λ _. Blames (AreOfNone asked self.now.image.bytes.items self.now.regions.bytes.items)
+            (C.journal console.old) (C.journal console.new)) }
     {
         let areas = regions_of(console, self.regions.path, &self.regions.bytes)?;
         let image = image_of(console, self.image.path, &self.image.bytes, areas)?;

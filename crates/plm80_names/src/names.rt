@@ -1,14 +1,15 @@
 //! The names of an image's addresses, as commands print them.
 
-ghost use Rattle.std.specs.Prelude.{◌≡◌, [], IfErr, IfOk};
+ghost use Rattle.std.specs.Prelude.{◌≡◌, ◌≢◌, [], IfErr, IfOk};
 ghost use Rattle.image80_text.specs.NameText.{labelled_text, named_text};
-ghost use Rattle.plm80_console.specs.Journal.{and_reported};
-ghost use Rattle.plm80_names.specs.Printed.{named_end, AreNamesOf};
+ghost use Rattle.plm80_console.specs.Journal.{Blames, and_reported};
+ghost use Rattle.plm80_names.specs.Printed.{named_end, AreNamesOf, HasNoNames};
 
 use image80::Range;
 use image80_text::laws::texts_without_names_are_as_before;
 use image80_text::{PublicTable, label_lines, name_line, name_lines};
-use omf_module::{Cause, Public};
+use omf_module::laws::one_file_reading;
+use omf_module::{Cause, ModuleFault, Public};
 use place80_text::read_publics;
 use plm80_console::{Console, Reported};
 use std::alloc::{AllocError, Global};
@@ -40,8 +41,9 @@ impl Names {
     ) -> Result<Names, Reported>
         ensures names { IfOk result (AreNamesOf asked bytes.now) }
         ensures unchanged { IfOk result (λ _. C.journal console.new ≡ C.journal console.old) }
-        ensures fault { IfErr result (λ _. C.journal console.new ≡ and_reported (C.journal console.old)) }
+        ensures fault { IfErr result (λ _. Blames (HasNoNames asked bytes.now) (C.journal console.old) (C.journal console.new)) }
     {
+        one_file_reading();
         if !asked {
             return Ok(Names {
                 publics: PublicTable::none(console.alloc()),
@@ -49,10 +51,7 @@ impl Names {
         }
         match read_publics(console.alloc(), bytes) {
             Ok(publics) => names_of(console, publics),
-            Err(fault) => match fault.cause {
-                Cause::Memory => Err(console.report_memory()),
-                _ => Err(console.report_file(path, fault)),
-            },
+            Err(fault) => Err(report_publics(console, path, fault)),
         }
     }
 
@@ -119,6 +118,16 @@ impl Names {
             None => Ok(text),
         }
     }
+}
+
+/// Reports why the bytes of the file of this path are no object file, or that memory ran out.
+fn report_publics<C: Console>(console: &mut C, path: &str, fault: ModuleFault) -> Reported
+    ensures { Blames (fault.cause ≢ Cause.Memory) (C.journal console.old) (C.journal console.new) }
+{
+    if let Cause::Memory = fault.cause {
+        return console.report_memory();
+    }
+    console.blame_file(path, fault)
 }
 
 /// Makes names of publics. `Memory` is reported if memory runs out.

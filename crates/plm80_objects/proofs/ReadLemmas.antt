@@ -5,6 +5,9 @@ use Rattle.plm80_objects.proofs.Names.{PlacedBytes, chunks_of, AnswerValue, path
 use Rattle.plm80_objects.proofs.Names.{file_value, FaultsFollowReading, OnlyReports, RomFile, AreDumpsRead, chunks_from, rom_paths}
 use Rattle.plm80_objects.proofs.Names.{AnswersModules, OfProgram, AreRead, and_reported, take-append-drop}
 use Rattle.plm80_console.specs.Journal.OnlyReports.{read as read_it}
+use Rattle.std.specs.Prelude.{◌≢◌}
+use Rattle.rom80.specs.declared.fault.RomFault.{RomFault, TheVariants.PastMemory, TheVariants.EmptyFile, TheVariants.DumpsOverlap, TheVariants.Memory}
+use Rattle.plm80_objects.specs.{Compare.IsDump, RomFaults.IsRefused}
 
 abbrev pub text_of : Bor (List ℕ) → List ℕ
 text_of text = text.now
@@ -105,6 +108,13 @@ dumps_more roms i d bytes old between new chunks all below read one are =
     are ∙ ap (λ (cs : List PlacedBytes). cs ++ chunks_of rom.first bytes) have
     ∙ sym (chunks_more (take i roms) files rom (file_value rom.path.now bytes) named)
     ∙ ap (λ (rs : List RomFile). chunks_from rs (files ++ file_value rom.path.now bytes ∷ [])) (sym (take_more roms i d below)))
+
+-- what is no dump alone
+pub refused_dump : (first : ℕ) (bytes : List ℕ) (fault : RomFault) → fault ≢ Memory → IsRefused first bytes fault → IsDump first bytes → ⊥
+refused_dump first bytes PastMemory no_memory past is = is.1 past
+refused_dump first bytes EmptyFile no_memory empty is = is.0 empty
+refused_dump first bytes DumpsOverlap no_memory overlap is = cc (overlap.1.1)
+refused_dump first bytes Memory no_memory memory is = no_memory refl
 
 -- ---- the one module of a file
 

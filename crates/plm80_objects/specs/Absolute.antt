@@ -6,7 +6,7 @@ use Rattle.image80.specs.Image.{Located, PlacedBytes}
 use Rattle.image80_file.specs.ImageFile.{SpellsImage, image_bytes, without_regions}
 use Rattle.rom80.specs.Rom.{bytes_over, chunks_of, sum_line}
 use Rattle.plm80_console.specs.Answer.{AnswerValue, Gives, GivesUp, writes}
-use Rattle.plm80_console.specs.{Journal.FileValue, Journal.Journal, Journal.and_reported, NumberText.IsWordText, NumberText.word_value}
+use Rattle.plm80_console.specs.{Journal.FileValue, Journal.Journal, Journal.and_blamed, Journal.and_reported, NumberText.IsWordText, NumberText.word_value}
 use Rattle.plm80_objects.specs.{declared.absolute.AbsoluteArguments.AbsoluteArguments, declared.absolute.RomFile.RomFile}
 use Rattle.plm80_objects.specs.{declared.extract.Extent.Extent, declared.extract.ExtractArguments.ExtractArguments, Arguments.IsExtentOf}
 use Rattle.plm80_objects.specs.{Read.AreRead}
@@ -59,9 +59,15 @@ pub record GivesDumps (arguments : AbsoluteArguments) (old new : Journal) (statu
   pub start : IsWordText arguments.start.text.now
   pub gives : Gives (WritesDumps arguments roms) (rom_paths roms) old new status
 
--- A command line without numbers was refused before a file was read; or the files were read, as far as they could be.
+-- the arguments write no dumps
+abbrev pub WriteNoDumps : AbsoluteArguments → Type 0
+WriteNoDumps arguments = (roms : List RomFile) → AreRomsOf arguments roms → ⊥
+
+-- A command line without numbers was refused before a file was read, or memory ran out; or the files were read, as far as they could be.
 pub data GivesUpDumps (arguments : AbsoluteArguments) (old new : Journal) : Type 0 where
   before : new ≡ and_reported old → GivesUpDumps arguments old new
+  no_start : (IsWordText arguments.start.text.now → ⊥) → new ≡ and_blamed old → GivesUpDumps arguments old new
+  no_dumps : WriteNoDumps arguments → new ≡ and_blamed old → GivesUpDumps arguments old new
   within : (roms : List RomFile) → AreRomsOf arguments roms → GivesUp (WritesDumps arguments roms) (rom_paths roms) old new
       → GivesUpDumps arguments old new
 

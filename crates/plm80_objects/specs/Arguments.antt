@@ -49,6 +49,10 @@ pub record AreNumbersOf (texts : LocateTexts) (options : Options) : Type 0 where
   pub stack_size : WritesWordIfGiven texts.stack_size options.stack_size
   pub memory_size : WritesWordIfGiven texts.memory_size options.memory_size
 
+-- they write none
+abbrev pub WriteNoNumbers : LocateTexts → Type 0
+WriteNoNumbers texts = (options : Options) → AreNumbersOf texts options → ⊥
+
 pub record AreLocateArguments (matches : ArgMatches) (arguments : LocateArguments) : Type 0 where
   pub object : arguments.object.now ≡ argument_text matches (codes "IN")
   pub image : arguments.image.now ≡ argument_text matches (codes "IMAGE")
@@ -112,3 +116,7 @@ pub record IsExtentOf (arguments : ExtractArguments) (extent : Extent) : Type 0 
   pub first : WritesWord arguments.first extent.first
   pub length : IsLengthText arguments.length.text.now × (extent.length ≡ word_value arguments.length.text.now)
   pub fill : WritesByte arguments.fill extent.fill
+
+-- they write none
+abbrev pub HasNoExtent : ExtractArguments → Type 0
+HasNoExtent arguments = (extent : Extent) → IsExtentOf arguments extent → ⊥

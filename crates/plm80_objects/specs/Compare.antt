@@ -38,6 +38,10 @@ pub record ComparesBytes (asked : Bool) (file : List ℕ) (first : ℕ) (dump : 
   pub names : AreNamesOf asked file publics
   pub answer_is : PrintsDifferences image.chunks (bytes_over fill image.chunks first (length dump)) dump first publics answer
 
+-- nothing is
+abbrev pub ComparesNone : (asked : Bool) (file : List ℕ) (first : ℕ) (dump : List ℕ) (fill : ℕ) → Type 0
+ComparesNone asked file first dump fill = (answer : AnswerValue) → ComparesBytes asked file first dump fill answer → ⊥
+
 -- the same of the files of the image and of the dump, by the options
 pub record ComparesFiles (arguments : CompareArguments) (files : List FileValue) (answer : AnswerValue) : Type 0 where
   pub file : FileValue

@@ -2,8 +2,8 @@
 
 ghost use Rattle.std.specs.Prelude.{◌≡◌, ◌||◌, ◌++◌, ◌∷◌, ℕ, [], length, IfOk, IfErr, OnOk};
 ghost use Rattle.rom80.specs.Rom.{chunks_of, is_among, is_covered};
-ghost use Rattle.plm80_console.specs.Journal.{OnlyReports, and_reported};
-ghost use Rattle.plm80_objects.specs.Absolute.{AreDumpsRead, AreRomFiles, GivesDumps, GivesUpDumps, IsRomFile, WritesImage, rom_paths};
+ghost use Rattle.plm80_console.specs.Journal.{Blames, OnlyReports, and_reported};
+ghost use Rattle.plm80_objects.specs.Absolute.{AreDumpsRead, AreRomFiles, GivesDumps, GivesUpDumps, IsRomFile, WriteNoDumps, WritesImage, rom_paths};
 ghost use Rattle.plm80_objects.specs.{Arguments.AreAbsoluteArguments, RomFaults.IsRefusedWith};
 
 use crate::extract::FIRST;
@@ -154,7 +154,7 @@ fn files_of<'a, C: Console>(
     ensures files { let asked = arguments.now in
         IfOk result (λ files. AreRomFiles asked.bytes.now asked.first.text.now asked.further.items files.items) }
     ensures unchanged { IfOk result (λ _. C.journal console.new ≡ C.journal console.old) }
-    ensures fault { IfErr result (λ _. C.journal console.new ≡ and_reported (C.journal console.old)) }
+    ensures fault { IfErr result (λ _. Blames (WriteNoDumps arguments.now) (C.journal console.old) (C.journal console.new)) }
 {
     let first = RomFile {
         first: arguments.first.word(console)?,

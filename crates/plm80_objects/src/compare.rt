@@ -3,14 +3,14 @@
 ghost use Rattle.std.specs.Prelude.{◌≡◌, ◌∷◌, [], codes, length, IfOk, IfErr, OnOk};
 ghost use Rattle.image80_text.specs.NameText.{named_text};
 ghost use Rattle.rom80.specs.{Ranges.byte_ranges, Rom.bytes_over};
-ghost use Rattle.plm80_console.specs.{Answer.Gives, Answer.GivesUp, Journal.and_reported};
-ghost use Rattle.plm80_objects.specs.Compare.{ComparesBytes, ComparesFiles, IsDump, PrintsDifferences};
+ghost use Rattle.plm80_console.specs.{Answer.Gives, Answer.GivesUp, Journal.Blames};
+ghost use Rattle.plm80_objects.specs.Compare.{ComparesBytes, ComparesFiles, ComparesNone, IsDump, PrintsDifferences};
 ghost use Rattle.plm80_objects.specs.{Arguments.AreCompareArguments, RomFaults.IsRefused};
 
 use crate::extract::{FILL, FIRST, fill_of};
 use crate::helpers::byte_words::explain_bytes;
 use crate::helpers::other_words::explain_dump;
-use crate::helpers::rom_faults::report_rom_fault;
+use crate::helpers::rom_faults::blame_rom_fault;
 use clap::ArgMatches;
 use image80::Image;
 use plm80_console::{
@@ -134,14 +134,15 @@ fn compare_read<C: Console>(
 ) -> Result<Answer<'static>, Reported>
     ensures compared { IfOk result (ComparesBytes asks_names file.now.bytes.items first dump.now.bytes.items fill) }
     ensures unchanged { IfOk result (λ _. C.journal console.new ≡ C.journal console.old) }
-    ensures fault { IfErr result (λ _. C.journal console.new ≡ and_reported (C.journal console.old)) }
+    ensures fault { IfErr result (λ _. Blames (ComparesNone asks_names file.now.bytes.items first dump.now.bytes.items fill)
+        (C.journal console.old) (C.journal console.new)) }
 {
     let none = no_regions(console.alloc());
     let image = image_of(console, file.path, &file.bytes, none)?;
     let names = Names::of(console, asks_names, file.path, &file.bytes)?;
     match compare_dump(console.alloc(), &image, &names, first, dump, fill) {
         Ok(answer) => Ok(answer),
-        Err(fault) => Err(report_rom_fault(console, fault)),
+        Err(fault) => Err(blame_rom_fault(console, fault)),
     }
 }
 

@@ -1,9 +1,9 @@
 //! `plm80 extract`: the bytes of an image's memory over a range, as they are.
 
-ghost use Rattle.std.specs.Prelude.{◌≡◌, ◌+◌, ◌<◌, ◌↔◌, ◌∷◌, [], if◌then◌else◌, IfErr, IfOk, IsErrOf, codes};
+ghost use Rattle.std.specs.Prelude.{◌≡◌, ◌+◌, ◌<◌, ◌↔◌, ◌∷◌, [], if◌then◌else◌, IfErr, IfOk, IsErrOf, OnErr, codes};
 ghost use Rattle.rom80.specs.Rom.{bytes_over, sum_line};
-ghost use Rattle.plm80_console.specs.{Answer.Gives, Answer.GivesUp, Answer.writes, Journal.and_reported};
-ghost use Rattle.plm80_objects.specs.{Arguments.AreExtractArguments, Arguments.IsExtentOf, Arguments.fill_text, Absolute.ExtractsFile};
+ghost use Rattle.plm80_console.specs.{Answer.Gives, Answer.GivesUp, Answer.writes, Journal.and_blamed, Journal.and_reported};
+ghost use Rattle.plm80_objects.specs.{Arguments.AreExtractArguments, Arguments.HasNoExtent, Arguments.IsExtentOf, Arguments.fill_text, Absolute.ExtractsFile};
 
 use crate::helpers::byte_words::explain_bytes;
 use crate::helpers::decimal_words::DecimalWords;
@@ -162,7 +162,8 @@ fn extent_of<C: Console>(
 ) -> Result<Extent, Reported>
     ensures extent { IfOk result (IsExtentOf arguments.entry) }
     ensures unchanged { IfOk result (λ _. C.journal console.new ≡ C.journal console.old) }
-    ensures fault { IfErr result (λ _. C.journal console.new ≡ and_reported (C.journal console.old)) }
+    ensures wrong { OnErr result (HasNoExtent arguments.entry) }
+    ensures failed { IfErr result (λ _. C.journal console.new ≡ and_blamed (C.journal console.old)) }
 {
     Ok(Extent {
         first: arguments.first.word(console)?,

@@ -10,7 +10,7 @@ use crate::extract::FIRST;
 use crate::helpers::dump_words::DumpWords;
 use crate::helpers::image_words::explain_images;
 use crate::helpers::other_words::explain_other;
-use crate::helpers::rom_faults::report_rom_fault;
+use crate::helpers::rom_faults::blame_rom_fault;
 use clap::ArgMatches;
 use omf_core::RecordKind;
 use plm80_console::laws::faults_follow_reading;
@@ -146,7 +146,7 @@ fn find_in_dump<C: Console>(console: &mut C, arguments: &FindArguments<'_>) -> R
     let file = console.read_file(arguments.dump)?;
     let dump = match dump_of(first, &file) {
         Ok(dump) => dump,
-        Err(fault) => return Err(report_rom_fault(console, fault)),
+        Err(fault) => return Err(blame_rom_fault(console, fault)),
     };
     let files = read_all(console, &arguments.files)?;
     let answer = find_all(console.alloc(), dump, &files);

@@ -1,6 +1,6 @@
 -- What is printed of what walks reach of an image that the verifier refuses. (That it is printed, that nothing of it is proved to be all,
 -- and the form of the lines, are this project's own.)
-use Rattle.std.specs.Prelude.{◌≡◌, ◌≢◌, ◌⊎◌, ◌==◌, ℕ, Bool, true, false, List, [], ◌∷◌, ◌++◌, Option, All, codes, length, map, slice_index_or}
+use Rattle.std.specs.Prelude.{◌≡◌, ◌≢◌, ◌==◌, if◌then◌else◌, ℕ, Bool, true, false, List, [], ◌∷◌, ◌++◌, Option, codes, length, map, slice_index_or}
 use Rattle.std.specs.{Fmt.decimal, List.filter_map, List.flat_map, List.list_any}
 use Rattle.omf_model.specs.declared.symbols.Public.{Public}
 use Rattle.decode80.specs.declared.fetching.Fetched.{Fetched}
@@ -10,7 +10,7 @@ use Rattle.image80_text.specs.NameText.{labelled_text}
 use Rattle.loader80_trace.specs.Cover.{marked_lines}
 use Rattle.verify80.specs.{Looking.code_of, Vouched.Voucher}
 use Rattle.verify80_flow.specs.{declared.refusal.Refusal.Refusal, declared.refusal.Refusal.TheVariants.Memory, Faults.Holds, Refusal.refusal_address}
-use Rattle.verify80_explain.specs.{declared.reaching.ReachedPoint.ReachedPoint, Reaching.AreReachedOn, Reaching.IsRefusalAmong}
+use Rattle.verify80_explain.specs.{declared.reaching.ReachedPoint.ReachedPoint, Reaching.AreReachedOn, Reaching.AreRefusalsOf}
 use Rattle.verify80_explain_text.specs.{Conditions.reach_conditions, Reaching.reach_text, ReachGraph.graph_text}
 use Rattle.verify80_follow.specs.Reaching.{AreFollowed}
 use Rattle.plm80_console.specs.{Answer.AnswerValue, Answer.prints}
@@ -18,15 +18,17 @@ use Rattle.plm80_names.specs.{Printed.named_refusal_line, Verdict.IsAccepted}
 use Rattle.plm80_programs.specs.declared.reached.Unproved.{Unproved}
 use Rattle.plm80_programs.specs.Explanations.{is_same_refusal, limit_line}
 
--- a refusal is the verifier's, or that of a point that walks reach
-abbrev pub IsListed : Refusal → List ReachedPoint → Refusal → Type 0
-IsListed own points refusal = (refusal ≡ own) ⊎ IsRefusalAmong points refusal
+-- refusals, and last the verifier's own, if none of them has its number and its address
+abbrev pub with_own : (own : Refusal) → List Refusal → List Refusal
+with_own own refusals = if list_any (is_same_refusal own) refusals then refusals else refusals ++ own ∷ []
 
--- what walks reach of an image that is refused, on the conditions that stand with it, and refusals of it, the verifier's own among them
+-- what walks reach of an image that is refused, on the conditions that stand with it; and the refusals of these points, each once, with
+-- the verifier's own
 pub record IsUnproved (image : Located) (refusal : Refusal) (unproved : Unproved) : Type 0 where
   pub reached : AreReachedOn (code_of image) unproved.reach
-  pub listed : All (IsListed refusal unproved.reach.points.items) unproved.refusals.items
-  pub own : list_any (is_same_refusal refusal) unproved.refusals.items ≡ true
+  pub of_points : List Refusal
+  pub are_of_points : AreRefusalsOf unproved.reach.points.items of_points
+  pub refusals : unproved.refusals.items ≡ with_own refusal of_points
 
 -- such a text is printed of what walks reach, and the status is 1
 pub record ShowsRefusals (Shows : Unproved → (text : List ℕ) → Type 0) (image : Located) (refusal : Refusal) (answer : AnswerValue) : Type 0 where

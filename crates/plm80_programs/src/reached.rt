@@ -1,17 +1,16 @@
 //! Commands that print what walks reach of an image that the verifier refuses.
 
-ghost use Rattle.std.specs.Prelude.{◌≡◌, ◌++◌, ◌∷◌, [], ℕ, List, All, IfOk, OnOk, length, replicate, true, false, slice_index_or};
+ghost use Rattle.std.specs.Prelude.{◌≡◌, ◌++◌, ℕ, List, IfOk, OnOk, length, replicate, true, false, slice_index_or};
 ghost use Rattle.std.specs.List.{filter_map, flat_map, list_any};
 ghost use Rattle.decode80.specs.declared.fetching.Fetched.{Fetched};
 ghost use Rattle.image80.specs.Image.{Located};
 ghost use Rattle.omf_model.specs.declared.symbols.Public.{Public};
 ghost use Rattle.verify80.specs.Looking.{code_of};
 ghost use Rattle.verify80_flow.specs.Refusal.{refusal_address};
-ghost use Rattle.verify80_explain.specs.Reaching.{IsRefusalAmong};
 ghost use Rattle.verify80_follow.specs.Reaching.{AreFollowed};
 ghost use Rattle.plm80_names.specs.Printed.{named_refusal_line};
 ghost use Rattle.plm80_programs.specs.{Explanations.is_same_refusal, Printed.PrintsText};
-ghost use Rattle.plm80_programs.specs.Reached.{AnswersReach, AreMarksOf, IsListed, IsUnproved, ShowsRefusals, count_words, head_lines, is_place, places_of as places_in};
+ghost use Rattle.plm80_programs.specs.Reached.{AnswersReach, AreMarksOf, IsUnproved, ShowsRefusals, count_words, head_lines, is_place, places_of as places_in, with_own};
 
 use crate::all_refusals::{append_limit, is_same};
 use crate::explain::LIMIT;
@@ -155,8 +154,7 @@ impl Unproved {
 
 /// Adds a refusal, unless one with its number and its address is there.
 fn add_unless_among(refusals: &mut Vec<Refusal>, refusal: Refusal) -> Result<(), AllocError>
-    ensures listed { (points : List ReachedPoint) → All (IsRefusalAmong points) refusals.old.items → All (IsListed refusal points) refusals.new.items }
-    ensures own { OnOk result (list_any (is_same_refusal refusal) refusals.new.items ≡ true) }
+    ensures { OnOk result (refusals.new.items ≡ with_own refusal refusals.old.items) }
 {
     if is_among(refusals, refusal) {
         return Ok(());

@@ -7,6 +7,7 @@ ghost use Rattle.plm80_regions.specs.Arguments.{AreRegionsArguments};
 ghost use Rattle.plm80_regions.specs.Written.{AnswersRegions, WritesMigrated};
 
 use clap::ArgMatches;
+use image80::laws::text_of_regions_is_read_as_itself;
 use image80::{RegionsFault, migrate_regions};
 use plm80_console::{Answer, Argument, Console, Kind, ReadFile, Reported, Syntax, argument_text};
 use plm80_files::report_regions;
@@ -71,6 +72,7 @@ pub fn migrate_file<C: Console>(
     ensures fault { let asked = arguments.entry in IfErr result (λ _. GivesUp (AnswersRegions asked.new.now) (asked.old.now ∷ [])
         (C.journal console.old) (C.journal console.new)) }
 {
+    text_of_regions_is_read_as_itself();
     let old = console.read_file(arguments.old)?;
     match migrated(console.alloc(), &old, arguments.new) {
         Ok(answer) => console.give(answer),

@@ -5,7 +5,8 @@ ghost use Rattle.image80.specs.Case.{AreByAddress, IsCase};
 ghost use Rattle.stream80.specs.WholeText.{text_limit};
 ghost use Rattle.image80.specs.RegionsText.{regions_text};
 ghost use Rattle.image80_file.specs.ImageFile.{SpellsImage, without_regions};
-ghost use Rattle.plm80_console.specs.{Answer.GaveUp, Answer.Gives, Answer.GivesUp, Answer.IsGiven, Answer.prints, Journal.OnlyReports, Journal.and_read, Journal.and_reported};
+ghost use Rattle.plm80_console.specs.{Answer.GaveUp, Answer.Gives, Answer.GivesUp, Answer.IsGiven, Answer.prints, Journal.OnlyBlames, Journal.and_read, Journal.and_reported};
+ghost use Rattle.plm80_files.specs.Wrong.{HaveNoImage};
 ghost use Rattle.plm80_boards.specs.Boards.{WithBoard, board_paths};
 ghost use Rattle.plm80_regions.specs.Suggest.{AdvisesRegions, AnswersAdvice, AreOptions, AreSuggestArguments, stack_words};
 ghost use Rattle.plm80_regions.specs.Cases.{notes_status};
@@ -21,7 +22,7 @@ use plm80_console::{
     Answer, Argument, Console, Kind, RangeTexts, Reported, Syntax, argument_text, argument_values,
     explain_board, words_of,
 };
-use plm80_files::{IMAGE, image_of, regions_of};
+use plm80_files::{IMAGE, image_of};
 use std::alloc::{AllocError, Global};
 use thiserror::Error;
 use verify80_cases::Note;
@@ -358,12 +359,21 @@ struct PrintedAdvice {
 fn bare_image<C: Console>(console: &mut C, path: &str) -> Result<Image, Reported>
     ensures image { IfOk result (λ image. (bytes : List ℕ) × SpellsImage bytes (without_regions image)
         × (C.journal console.new ≡ and_read (C.journal console.old) path.now bytes)) }
-    ensures fault { IfErr result (λ _. OnlyReports (path.now ∷ []) (C.journal console.old) (C.journal console.new)) }
+    ensures fault { IfErr result (λ _. OnlyBlames HaveNoImage (path.now ∷ []) (C.journal console.old) (C.journal console.new)) }
 {
     let file = console.read_file(path)?;
-    let none = regions_of(console, path, b"REGIONS 1\nSTACK 0000 0000\n")?;
+    let none = no_regions(console.alloc());
     let image = image_of(console, path, &file.bytes, none)?;
     Ok(image)
+}
+
+/// Regions without any address.
+fn no_regions(alloc: Global) -> Regions {
+    let stack = Range {
+        first: 0,
+        length: 0,
+    };
+    Regions::from_disjoint(alloc, Vec::new(alloc), stack, Vec::new(alloc))
 }
 
 /// Prints the suggested regions, says what is uncertain of them, and returns the exit status.

@@ -1,6 +1,6 @@
 -- Answers that are given to a board, an image and its regions that were read.
 use Rattle.plm80_runs.proofs.Names.{◌≡◌, ◌∙◌, ap, ℕ, true, List, [], ◌∷◌, Option, None, Some, Result, Ok, Err, IfOk, IfErr, refl, Public, Located, Voucher}
-use Rattle.plm80_runs.proofs.Names.{AnswerValue, GaveUp, Gives, GivesUp, IsAnswered, IsGiven, IsGivenUp, prints, Journal, OnlyReports, and_reported, file_value, Bor}
+use Rattle.plm80_runs.proofs.Names.{AnswerValue, GaveUp, Gives, GivesUp, IsAnswered, IsGiven, IsGivenUp, prints, Journal, file_value, FileValue, IfErr-weaker, Bor, ◌++◌, drop, subst, sym}
 use Rattle.plm80_runs.proofs.Names.{AnswersVerdict, IsAccepted, IsRefusal, Limits, Span}
 use Rattle.std.proofs.Common.{inl, inr}
 use Rattle.board80.specs.declared.line.Line.{Line}
@@ -11,37 +11,47 @@ use Rattle.loader80_board.specs.declared.fault.BoardRunFault.TheVariants.{Device
 use Rattle.machine80_board.specs.BoardRun.{board_start}
 use Rattle.board80.specs.Board.{Spells}
 use Rattle.plm80_boards.specs.BoardLaws.{gives_on_board}
-use Rattle.plm80_boards.specs.Boards.{IsBoardRead, board_paths}
+use Rattle.plm80_boards.specs.Boards.{HaveNoBoard, IsBoardOf, IsBoardRead, board_paths}
+use Rattle.std.specs.Prelude.{Bool, slice_index_or}
 use Rattle.plm80_boards.specs.Boards.IsBoardOf.{one}
-use Rattle.plm80_console.specs.Journal.{and_read}
-use Rattle.plm80_console.specs.Journal.OnlyReports.{read as was_read}
-use Rattle.plm80_console.specs.AnswerLaws.{answered_of, given_or_given_up}
-use Rattle.plm80_names.specs.{Arguments.asks_names, Arguments.program_paths, Fronts.LeavesFront, Verdict.AnswersProgram}
+use Rattle.plm80_console.specs.Journal.{Blames, OnlyBlames, and_read}
+use Rattle.plm80_console.specs.Journal.OnlyBlames.{other, wrong}
+use Rattle.plm80_console.specs.AnswerLaws.{answered_of, blamed_after, given_or_given_up, gives_up_unanswered, more_paths}
+use Rattle.plm80_names.specs.{Arguments.asks_names, Arguments.program_paths, Fronts.LeavesFront, Verdict.AnswersProgram, Verdict.HaveNoProgram}
 use Rattle.plm80_names.specs.Verdict.AnswersVerdict.{accepted, refused}
-use Rattle.plm80_names.specs.VerdictLaws.{program_answered, program_given_up}
+use Rattle.plm80_names.specs.VerdictLaws.{no_program, program_answered, program_given_up}
 use Rattle.plm80_runs.specs.declared.board_files.BoardFiles.{BoardFiles}
-use Rattle.plm80_runs.specs.OnBoards.{AnswersOnBoard, IfGiven, IsBoardProgramRead, board_program_paths, board_trace_ending}
+use Rattle.plm80_runs.specs.OnBoards.{AnswersBoard, AnswersOnBoard, HaveNoBoardProgram, IfGiven, IsBoardProgramRead, board_program_paths, board_trace_ending}
 
 module _ {paths : BoardFiles} {old between : Journal} {board : List Line} {image : Located} {publics : List Public}
-    (read : IsBoardProgramRead paths old between board image publics) (new : Journal)
-    (Done Part : List Line → List Public → Voucher → AnswerValue → Type 0) where
-  -- what is answered of them, or given up
-  pub board_answered : {E : Type 0} (r : Result ℕ E) → IfOk r (IsAnswered (AnswersVerdict (Done board publics) image publics) between new)
+    (read : IsBoardProgramRead paths old between board image publics) (new : Journal) where
+  module _ (Done Part : List Line → Located → List Public → AnswerValue → Type 0) where
+    -- what is answered of them, or given up
+    pub board_answers : {E : Type 0} (r : Result ℕ E) → IfOk r (IsAnswered (Done board image publics) between new)
+        → IfErr r (λ _. IsGivenUp (Part board image publics) between new)
+        → IfOk r (Gives (AnswersBoard Done paths) (board_program_paths paths) old new)
+        × IfErr r (λ _. GivesUp (AnswersBoard Part paths) (board_program_paths paths) old new)
+    board_answers {E = E} (Ok status) gave up = (
+      (gives_on_board (Some paths.board) (λ given. AnswersProgram (IfGiven Done given) (asks_names paths.program)) (program_paths paths.program)
+          old read.between new (Some board) read.is_board {E = E} (Ok status)
+          (program_answered read.program new (IfGiven Done (Some board)) {E = E} (Ok status) gave) tt).0,
+      tt,
+    )
+    board_answers {E = E} (Err e) gave up = (
+      tt,
+      (gives_on_board (Some paths.board) (λ given. AnswersProgram (IfGiven Part given) (asks_names paths.program)) (program_paths paths.program)
+          old read.between new (Some board) read.is_board {E = E} (Err e)
+          tt (program_given_up read.program new (IfGiven Part (Some board)) {E = E} (Err e) up)).1,
+    )
+
+  -- of a program that the verifier judges
+  pub board_answered : (Done Part : List Line → List Public → Voucher → AnswerValue → Type 0) {E : Type 0} (r : Result ℕ E)
+      → IfOk r (IsAnswered (AnswersVerdict (Done board publics) image publics) between new)
       → IfErr r (λ _. IsGivenUp (AnswersVerdict (Part board publics) image publics) between new)
       → IfOk r (Gives (AnswersOnBoard Done paths) (board_program_paths paths) old new)
       × IfErr r (λ _. GivesUp (AnswersOnBoard Part paths) (board_program_paths paths) old new)
-  board_answered {E = E} (Ok status) gave up = (
-    (gives_on_board (Some paths.board) (λ given. AnswersProgram (IfGiven Done given) (asks_names paths.program)) (program_paths paths.program)
-        old read.between new (Some board) read.is_board {E = E} (Ok status)
-        (program_answered read.program new (IfGiven Done (Some board)) {E = E} (Ok status) gave) tt).0,
-    tt,
-  )
-  board_answered {E = E} (Err e) gave up = (
-    tt,
-    (gives_on_board (Some paths.board) (λ given. AnswersProgram (IfGiven Part given) (asks_names paths.program)) (program_paths paths.program)
-        old read.between new (Some board) read.is_board {E = E} (Err e)
-        tt (program_given_up read.program new (IfGiven Part (Some board)) {E = E} (Err e) up)).1,
-  )
+  board_answered Done Part {E} r gave up =
+      board_answers (λ lines i ps. AnswersVerdict (Done lines ps) i ps) (λ lines i ps. AnswersVerdict (Part lines ps) i ps) {E = E} r gave up
 
 module _ (Done Part : Voucher → AnswerValue → Type 0) (image : Located) (publics : List Public) (old new : Journal) where
   -- of a program that is accepted, what is answered of its run
@@ -79,17 +89,69 @@ leaves_front lines image limits span publics (DeviceOutsideData number) old new 
 leaves_front lines image limits span publics Write old new is = inr (is.text, is.are_lines, is.written)
 leaves_front lines image limits span publics Memory old new is = inr (is.text, is.are_lines, is.written)
 
--- the board of a file that was read
-pub board_read : {E : Type 0} (path : Bor (List ℕ)) (bytes : List ℕ) (old between new : Journal) (r : Result (List Line) E) → between ≡ and_read old path.now bytes → IfOk r (Spells bytes) → IfOk r (λ _. new ≡ between) →
+-- the board of a file that was read, which no other is
+alone_in : (path : Bor (List ℕ)) (file : FileValue) (board : List Line) → ((other : List Line) → Spells file.bytes other → other ≡ board)
+    → (other : Option (List Line)) → IsBoardOf (Some path) (file ∷ []) other → other ≡ Some board
+alone_in _ _ board alone _ (one path file lines is spelled) = ap Some (alone lines spelled)
+
+pub board_read : {E : Type 0} (path : Bor (List ℕ)) (bytes : List ℕ) (old between new : Journal) (r : Result (List Line) E) → between ≡ and_read old path.now bytes → IfOk r (Spells bytes)
+    → IfOk r (λ board. (other : List Line) → Spells bytes other → other ≡ board) → IfOk r (λ _. new ≡ between) →
     IfOk r (λ board. IsBoardRead (Some path) old new (Some board))
-board_read path bytes old between new (Ok board) was spelled same = record {
+board_read path bytes old between new (Ok board) was spelled alone same = record {
   files = file_value path.now bytes ∷ [];
   is_board = one path (file_value path.now bytes) board refl spelled;
+  alone = alone_in path (file_value path.now bytes) board alone;
   journal = same ∙ was;
 }
-board_read path bytes old between new (Err e) was spelled same = tt
+board_read path bytes old between new (Err e) was spelled alone same = tt
 
-pub board_reported : {E : Type 0} (path : Bor (List ℕ)) (bytes : List ℕ) (old between new : Journal) (r : Result (List Line) E) → between ≡ and_read old path.now bytes → IfErr r (λ _. new ≡ and_reported between) →
-    IfErr r (λ _. OnlyReports (board_paths (Some path)) old new)
-board_reported path bytes old between new (Ok board) was is = tt
-board_reported path bytes old between new (Err e) was is = was_read (file_value path.now bytes ∷ []) [] refl (is ∙ ap and_reported was)
+pub board_blamed : {E : Type 0} (path : Bor (List ℕ)) (bytes : List ℕ) (old between new : Journal) (r : Result (List Line) E) → between ≡ and_read old path.now bytes
+    → IfErr r (λ _. Blames ((board : List Line) → Spells bytes board → ⊥) between new) → IfErr r (λ _. OnlyBlames HaveNoBoard (board_paths (Some path)) old new)
+board_blamed path bytes old between new r was blames =
+    IfErr-weaker r _ _
+    (λ _. blamed_after old between new (file_value path.now bytes ∷ []) (path.now ∷ []) refl was HaveNoBoard (λ lacks. lacks)) blames
+
+-- ---- no answer
+
+-- a board that isn't one, before other files
+pub board_before : {asked : Bool} {old new : Journal} (path : Bor (List ℕ)) (paths : List (List ℕ)) → OnlyBlames HaveNoBoard (path.now ∷ []) old new
+    → OnlyBlames (HaveNoBoardProgram asked) (path.now ∷ paths) old new
+board_before path paths (other only) = other (more_paths paths only)
+board_before path paths (wrong [] rest are lacks is) = absurd lacks
+board_before path paths (wrong (board ∷ []) rest are lacks is) =
+    wrong (board ∷ []) (rest ++ paths) (ap (λ (ps : List (List ℕ)). ps ++ paths) are) lacks is
+board_before path paths (wrong (board ∷ file ∷ files) rest are lacks is) = absurd cc
+
+-- no program behind a board
+behind_one : (asked : Bool) (file : FileValue) (others : List FileValue) → HaveNoProgram asked others → HaveNoBoardProgram asked (file ∷ others)
+behind_one asked file [] lacks = absurd lacks
+behind_one asked file (image ∷ others) lacks = lacks
+
+pub program_behind : (asked : Bool) (path : Bor (List ℕ)) (files : List FileValue) (board : Option (List Line)) → IsBoardOf (Some path) files board
+    → (others : List FileValue) → HaveNoProgram asked others → HaveNoBoardProgram asked (files ++ others)
+program_behind asked _ _ _ (one path file board is spelled) others lacks = behind_one asked file others lacks
+
+no_board_program : {asked : Bool} (path : Bor (List ℕ)) (files : List FileValue) (board : Option (List Line)) → IsBoardOf (Some path) files board
+    → (Answers : Located → List Public → AnswerValue → Type 0) (read others behind : List FileValue) (answer : AnswerValue)
+    → read ++ others ≡ files ++ behind → HaveNoBoardProgram asked read → AnswersProgram Answers asked behind answer → ⊥
+no_board_program _ _ _ (one path file board is spelled) Answers [] others behind answer same lacks answers = absurd lacks
+no_board_program _ _ _ (one path file board is spelled) Answers (first ∷ []) others behind answer same lacks answers =
+    lacks board (subst (λ (f : FileValue). Spells f.bytes board) (sym (ap (λ (fs : List FileValue). slice_index_or fs 0 first) same)) spelled)
+no_board_program {asked = asked} _ _ _ (one path file board is spelled) Answers (first ∷ image ∷ read) others behind answer same lacks answers =
+    no_program Answers (image ∷ read) lacks others answer refl
+    (subst (λ (fs : List FileValue). AnswersProgram Answers asked fs answer) (sym (ap (drop 1) same)) answers)
+
+pub gives_up_with_board : (Answers : List Line → Located → List Public → AnswerValue → Type 0) (paths : BoardFiles) {old new : Journal}
+    → OnlyBlames (HaveNoBoardProgram paths.program.names) (board_program_paths paths) old new
+    → GivesUp (AnswersBoard Answers paths) (board_program_paths paths) old new
+gives_up_with_board Answers paths blames =
+    gives_up_unanswered (AnswersBoard Answers paths)
+    (λ files lacks others answer named is. no_board_program paths.board is.board_files is.board is.is_board (IfGiven Answers is.board) files others is.others answer
+    is.files_are lacks is.answers)
+    blames
+
+pub gives_up_on_board : (Answers : List Line → List Public → Voucher → AnswerValue → Type 0) (paths : BoardFiles) {old new : Journal}
+    → OnlyBlames (HaveNoBoardProgram paths.program.names) (board_program_paths paths) old new
+    → GivesUp (AnswersOnBoard Answers paths) (board_program_paths paths) old new
+gives_up_on_board Answers paths {old} {new} blames =
+    gives_up_with_board (λ lines image publics. AnswersVerdict (Answers lines publics) image publics) paths {old = old} {new = new} blames

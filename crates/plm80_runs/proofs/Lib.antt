@@ -3,3 +3,4 @@ mod RunLemmas
 mod SessionLemmas
 mod Names
 mod BoardLemmas
+mod FollowedLemmas

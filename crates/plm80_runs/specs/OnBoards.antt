@@ -1,27 +1,31 @@
 -- What commands print of a program's run among the devices of a board. (This project's own.)
-use Rattle.std.specs.Prelude.{◌≡◌, ℕ, List, [], ◌++◌, Option, None, Some, true, false}
+use Rattle.std.specs.Prelude.{◌≡◌, ℕ, Bool, List, [], ◌∷◌, ◌++◌, Option, None, Some, true, false, codes, length}
+use Rattle.std.specs.Fmt.{decimal}
 use Rattle.board80.specs.declared.line.Line.{Line}
 use Rattle.image80.specs.Image.{Located}
 use Rattle.image80_text.specs.NameText.{labelled_text}
 use Rattle.loader80_board.specs.BoardCounts.{CountsSteps}
 use Rattle.loader80_board.specs.BoardLines.{AreFirstLinesOf, AreLinesOf, IsTraced}
-use Rattle.loader80_board.specs.{BoardSays.IsBoardTranscript, declared.running.BoardOutcome.BoardOutcome}
+use Rattle.loader80_board.specs.{BoardSays.IsBoardTranscript, BoardSays.IsRunTranscript, declared.running.BoardOutcome.BoardOutcome}
 use Rattle.loader80_board.specs.BoardStates.{EndsSo}
 use Rattle.loader80_board.specs.BoardTranscript.{board_end_line}
 use Rattle.loader80_board.specs.declared.ended.BoardEnded.{BoardEnded}
 use Rattle.loader80_trace.specs.{Cover.CoversReached, declared.limits.Limits.Limits, declared.limits.Span.Span}
-use Rattle.machine80_board.specs.BoardRun.{board_start}
+use Rattle.machine80.specs.World.{World}
+use Rattle.machine80_board.specs.BoardRun.{BoardState, IsReached, board_start}
 use Rattle.omf_model.specs.declared.symbols.Public.{Public}
-use Rattle.plm80_boards.specs.Boards.{IsBoardRead, WithBoard, board_paths}
+use Rattle.plm80_boards.specs.Boards.{HaveNoBoard, IsBoardRead, WithBoard, board_paths}
 use Rattle.plm80_console.specs.Answer.{AnswerValue, prints}
 use Rattle.plm80_console.specs.Journal.{FileValue, Journal}
-use Rattle.plm80_names.specs.{Arguments.asks_names, Arguments.program_paths, Verdict.AnswersProgram, Verdict.AnswersVerdict, Verdict.IsProgramRead}
+use Rattle.plm80_names.specs.{Arguments.asks_names, Arguments.program_paths, Verdict.AnswersProgram, Verdict.AnswersVerdict, Verdict.HaveNoProgram, Verdict.IsProgramRead}
 use Rattle.plm80_runs.specs.{Running.AreLimitsOf, Running.IsSpanOf, Running.named_ending, Status.board_end_status}
 use Rattle.plm80_runs.specs.declared.board_cover.BoardCoverArguments.{BoardCoverArguments}
 use Rattle.plm80_runs.specs.declared.board_files.BoardFiles.{BoardFiles}
 use Rattle.plm80_runs.specs.declared.board_run.BoardRunArguments.{BoardRunArguments}
 use Rattle.plm80_runs.specs.declared.board_trace.BoardTraceArguments.{BoardTraceArguments}
 use Rattle.verify80.specs.Vouched.{Voucher}
+use Rattle.verify80_follow.specs.{declared.fit.Table.Table, Promise.KeepsFollowed, Promise.PromiseOf}
+use Rattle.verify80_states.specs.QuietBoards.{is_quiet}
 
 -- ---- three files
 
@@ -35,16 +39,26 @@ pub record IsBoardProgramRead (paths : BoardFiles) (old new : Journal) (board : 
   pub is_board : IsBoardRead (Some paths.board) old between (Some board)
   pub program : IsProgramRead paths.program.image.now paths.program.regions.now (asks_names paths.program) between new image publics
 
--- such an answer of an image that is accepted, if there is a board
-abbrev pub IfGiven : (Answers : List Line → List Public → Voucher → AnswerValue → Type 0) → Option (List Line) → Located → List Public →
+-- the first of these files is no board, or no program is behind it
+abbrev pub HaveNoBoardProgram : (asked : Bool) → List FileValue → Type 0
+HaveNoBoardProgram asked (board ∷ file ∷ files) = HaveNoProgram asked (file ∷ files)
+HaveNoBoardProgram asked files = HaveNoBoard files
+
+-- such an answer to an image, if there is a board
+abbrev pub IfGiven : (Answers : List Line → Located → List Public → AnswerValue → Type 0) → Option (List Line) → Located → List Public →
     AnswerValue → Type 0
 IfGiven Answers None image publics answer = ⊥
-IfGiven Answers (Some lines) image publics answer = AnswersVerdict (Answers lines publics) image publics answer
+IfGiven Answers (Some lines) image publics answer = Answers lines image publics answer
 
 -- an answer to a board, an image and its regions, as three files have them
+abbrev pub AnswersBoard : (Answers : List Line → Located → List Public → AnswerValue → Type 0) → BoardFiles → List FileValue →
+    AnswerValue → Type 0
+AnswersBoard Answers files = WithBoard (Some files.board) (λ board. AnswersProgram (IfGiven Answers board) (asks_names files.program))
+
+-- such an answer of an image that is accepted
 abbrev pub AnswersOnBoard : (Answers : List Line → List Public → Voucher → AnswerValue → Type 0) → BoardFiles → List FileValue →
     AnswerValue → Type 0
-AnswersOnBoard Answers files = WithBoard (Some files.board) (λ board. AnswersProgram (IfGiven Answers board) (asks_names files.program))
+AnswersOnBoard Answers = AnswersBoard (λ lines image publics. AnswersVerdict (Answers lines publics) image publics)
 
 -- ---- run
 
@@ -57,10 +71,41 @@ pub record TranscribesRun (lines : List Line) (limits : Limits) (publics : List 
   pub transcript : IsBoardTranscript lines program.image limits.outputs limits.steps outcome text
   pub answer_is : answer ≡ prints (named_ending program.image.regions.code publics text) (board_end_status outcome.end)
 
+-- a table that follows a program from SP at the stack's top, on every board, keeps its promise
+abbrev pub KeepsTable : Located → Table → Type 0
+KeepsTable image table = PromiseOf false image (is_quiet image.regions []) true table.ways.items table.listed table.bytes
+
+-- a state's machine, with some open calls, is a world that keeps what is promised of a program that this table follows
+pub record StandsFollowed (image : Located) (table : Table) (s : BoardState) : Type 0 where
+  pub world : World
+  pub same : world.machine ≡ s.machine
+  pub keeps : KeepsFollowed image false table.bytes table.ways.items table.listed world
+
+-- how many states follow a program
+abbrev pub states_line : Table → List ℕ
+states_line table = codes "FOLLOWED " ++ (decimal (length table.states.items) ++ codes " STATES\n")
+
+-- The same of a program that a table follows: behind a line that says so, with the table's bytes of stack. Each state of the run keeps
+-- what is promised of it.
+pub record TranscribesFollowed (lines : List Line) (limits : Limits) (publics : List Public) (image : Located) (answer : AnswerValue) : Type 0 where
+  pub table : Table
+  pub outcome : BoardOutcome
+  pub text : List ℕ
+  pub stack : outcome.stack_bytes ≡ table.bytes
+  pub transcript : IsRunTranscript lines image limits.outputs limits.steps outcome text
+  pub promise : (steps : ℕ) (s : BoardState) → IsReached lines image.regions limits.outputs (board_start image) steps s →
+      StandsFollowed image table s
+  pub answer_is : answer ≡ prints (states_line table ++ named_ending image.regions.code publics text) (board_end_status outcome.end)
+
+-- a program that is accepted runs, and one that is refused runs if a table follows it; else its refusal is printed
+pub data AnswersBoardRun (lines : List Line) (limits : Limits) (image : Located) (publics : List Public) (answer : AnswerValue) : Type 0 where
+  verdict : AnswersVerdict (TranscribesRun lines limits publics) image publics answer → AnswersBoardRun lines limits image publics answer
+  followed : TranscribesFollowed lines limits publics image answer → AnswersBoardRun lines limits image publics answer
+
 pub record RunsOnBoard (arguments : BoardRunArguments) (files : List FileValue) (answer : AnswerValue) : Type 0 where
   pub limits : Limits
   pub are_limits : AreLimitsOf arguments.limits limits
-  pub answers : AnswersOnBoard (λ lines. TranscribesRun lines limits) arguments.files files answer
+  pub answers : AnswersBoard (λ lines. AnswersBoardRun lines limits) arguments.files files answer
 
 -- ---- trace
 

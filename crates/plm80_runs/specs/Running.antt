@@ -1,6 +1,6 @@
 -- What commands print of a run, and how it is left. (That a run's transcript goes on with its last instructions, and the exit statuses,
 -- are this project's own.)
-use Rattle.std.specs.Prelude.{◌≡◌, ℕ, ◌+◌, ◌-◌, ◌==◌, ◌&&◌, not, is_none, min, Bool, true, false, List, [], ◌∷◌, ◌++◌, Option, None, Some}
+use Rattle.std.specs.Prelude.{◌≡◌, ℕ, ◌+◌, ◌-◌, ◌==◌, ◌&&◌, not, is_none, min, Bool, true, false, List, [], ◌∷◌, ◌++◌, ◌≢◌, Option, None, Some}
 use Rattle.std.specs.Prelude.{Result, Ok, Err, codes}
 use Rattle.std.specs.Bool.{MatchBool}
 use Rattle.omf_model.specs.declared.symbols.Public.{Public}
@@ -120,6 +120,12 @@ pub record IsRunRead (paths : RunFiles) (old new : Journal) (image : Located) (p
   pub good : bad_line spelling ≡ None
   pub spelled : inputs ≡ inputs_of spelling
 
+-- the first three of these files are no image, no regions of it or no inputs of its run
+abbrev pub HaveNoRun : (asked : Bool) → List FileValue → Type 0
+HaveNoRun asked (file ∷ text ∷ inputs ∷ files) =
+    (image : Located) (publics : List Public) → AreOfFiles asked file.bytes text.bytes image publics → bad_line inputs.bytes ≢ None
+HaveNoRun asked files = ⊥
+
 -- an answer to an image, its regions and its names, and the inputs of its run, as three files have them
 pub record AnswersRun (Answers : List (ℕ × ℕ) → List Public → Voucher → AnswerValue → Type 0) (asked : Bool) (files : List FileValue)
     (answer : AnswerValue) : Type 0 where
@@ -179,10 +185,16 @@ pub record AreLimitsOf (texts : LimitTexts) (limits : Limits) : Type 0 where
   pub steps : WritesCount texts.steps limits.steps
   pub outputs : WritesCount texts.outputs limits.outputs
 
+abbrev pub HaveNoLimits : LimitTexts → Type 0
+HaveNoLimits texts = (limits : Limits) → AreLimitsOf texts limits → ⊥
+
 -- which of its instructions are shown
 pub record IsSpanOf (texts : SpanTexts) (span : Span) : Type 0 where
   pub from : WritesCount texts.from span.from
   pub count : WritesCount texts.count span.count
+
+abbrev pub HaveNoSpan : SpanTexts → Type 0
+HaveNoSpan texts = (span : Span) → IsSpanOf texts span → ⊥
 
 -- ---- commands, by their arguments
 

@@ -2,10 +2,10 @@
 
 ghost use Rattle.std.specs.Prelude.{◌≡◌, None, Some, IfErr, IfNone, IfOk, IfSome, codes};
 ghost use Rattle.clap.specs.Matches.{first_value, found_of};
-ghost use Rattle.plm80_boards.specs.Boards.{IsBoardRead, board_paths};
-ghost use Rattle.plm80_console.specs.Journal.{OnlyReports};
+ghost use Rattle.plm80_boards.specs.Boards.{HaveNoBoard, IsBoardRead, board_paths};
+ghost use Rattle.plm80_console.specs.Journal.{OnlyBlames};
 ghost use Rattle.plm80_runs.specs.Arguments.{AreBoardFiles};
-ghost use Rattle.plm80_runs.specs.OnBoards.{IsBoardProgramRead, board_program_paths};
+ghost use Rattle.plm80_runs.specs.OnBoards.{HaveNoBoardProgram, IsBoardProgramRead, board_program_paths};
 
 use board80::Board;
 use clap::ArgMatches;
@@ -55,7 +55,8 @@ impl<'a> BoardFiles<'a> {
     pub fn read<C: Console>(self, console: &mut C) -> Result<BoardProgram, Reported>
         ensures read { IfOk result (λ read. IsBoardProgramRead self.entry (C.journal console.old) (C.journal console.new)
             read.board read.image read.names) }
-        ensures fault { IfErr result (λ _. OnlyReports (board_program_paths self.entry) (C.journal console.old) (C.journal console.new)) }
+        ensures fault { IfErr result (λ _. OnlyBlames (HaveNoBoardProgram self.entry.program.names) (board_program_paths self.entry)
+            (C.journal console.old) (C.journal console.new)) }
     {
         let board = self.read_board(console)?;
         let (image, names) = self.program.read(console)?;
@@ -69,7 +70,7 @@ impl<'a> BoardFiles<'a> {
     /// Reads the file of the board. A fault is reported.
     fn read_board<C: Console>(self, console: &mut C) -> Result<Board, Reported>
         ensures read { IfOk result (λ board. IsBoardRead (Some self.entry.board) (C.journal console.old) (C.journal console.new) (Some board)) }
-        ensures fault { IfErr result (λ _. OnlyReports (board_paths (Some self.entry.board)) (C.journal console.old) (C.journal console.new)) }
+        ensures fault { IfErr result (λ _. OnlyBlames HaveNoBoard (board_paths (Some self.entry.board)) (C.journal console.old) (C.journal console.new)) }
     {
         let text = console.read(self.board)?;
         board_of(console, self.board, &text)

@@ -3,22 +3,22 @@
 ghost use Rattle.std.specs.Prelude.{◌≡◌, None, IfErr, IfNone, IfOk, IfSome, codes};
 ghost use Rattle.clap.specs.Matches.{first_value, found_of};
 ghost use Rattle.plm80_console.specs.{Answer.Gives, Answer.GivesUp, Answer.IsAnswered, Answer.IsGivenUp, Journal.and_reported};
-ghost use Rattle.plm80_names.specs.Verdict.{AnswersVerdict};
 ghost use Rattle.plm80_runs.specs.Arguments.{AreBoardRunArguments};
-ghost use Rattle.plm80_runs.specs.OnBoards.{AnswersOnBoard, RunsOnBoard, TranscribesRun, board_program_paths};
+ghost use Rattle.plm80_runs.specs.OnBoards.{AnswersBoard, AnswersBoardRun, RunsOnBoard, TranscribesRun, board_program_paths};
 
 use crate::board_files::{BoardFiles, BoardProgram};
 use crate::endings::name_ending;
+use crate::followed_run::{find_table, transcribe_followed};
 use crate::run_arguments::LimitTexts;
 use crate::status::{BoardEndWords, board_status_of};
 use board80::Board;
 use clap::ArgMatches;
 use image80::Image;
-use loader80::Vouched;
+use loader80::{Vouched, vouch};
 use loader80_board::{BoardReply, BoardRunFault, answer_on_board};
 use loader80_trace::Limits;
 use plm80_console::{Answer, Console, Reported};
-use plm80_names::{Names, Verdict, judge};
+use plm80_names::{Names, named_refusal};
 use std::alloc::Global;
 
 /// The arguments of the command `run` with a board in place of inputs.
@@ -42,8 +42,8 @@ impl<'a> BoardRunArguments<'a> {
     }
 }
 
-/// Does `run --board`: runs the image among the devices of the board, prints the transcript, or the refusal of the image, and returns the
-/// exit status.
+/// Does `run --board`: runs the image among the devices of the board if the verifier accepts it or a table follows it, prints the
+/// transcript, or the refusal of the image, and returns the exit status.
 pub fn run_among_devices<C: Console>(
     console: &mut C,
     arguments: BoardRunArguments<'_>,
@@ -66,9 +66,9 @@ fn run_within<C: Console>(
     files: BoardFiles<'_>,
     limits: Limits,
 ) -> Result<u8, Reported>
-    ensures done { IfOk result (Gives (AnswersOnBoard (λ lines. TranscribesRun lines limits) files.entry) (board_program_paths files.entry)
+    ensures done { IfOk result (Gives (AnswersBoard (λ lines. AnswersBoardRun lines limits) files.entry) (board_program_paths files.entry)
         (C.journal console.old) (C.journal console.new)) }
-    ensures fault { IfErr result (λ _. GivesUp (AnswersOnBoard (λ lines. TranscribesRun lines limits) files.entry)
+    ensures fault { IfErr result (λ _. GivesUp (AnswersBoard (λ lines. AnswersBoardRun lines limits) files.entry)
         (board_program_paths files.entry) (C.journal console.old) (C.journal console.new)) }
 {
     let BoardProgram {
@@ -81,10 +81,10 @@ fn run_within<C: Console>(
 
 /// What `run --board` answers, and words on how the run ended.
 #[derive(Drop)]
-struct Transcribed {
-    answer: Answer<'static>,
+pub(crate) struct Transcribed {
+    pub answer: Answer<'static>,
     /// Words on how the run ended; `None` if it halted, and of a refusal.
-    end: Option<BoardEndWords>,
+    pub end: Option<BoardEndWords>,
 }
 
 /// Prints the transcript of the run of `image` on a board, whose text has this path, or the image's refusal, says how the run ended, and
@@ -97,9 +97,9 @@ fn print_transcript<C: Console>(
     board: &Board,
     limits: Limits,
 ) -> Result<u8, Reported>
-    ensures done { IfOk result (IsAnswered (AnswersVerdict (TranscribesRun board.now limits names.now) image names.now)
+    ensures done { IfOk result (IsAnswered (AnswersBoardRun board.now limits image names.now)
         (C.journal console.old) (C.journal console.new)) }
-    ensures fault { IfErr result (λ _. IsGivenUp (AnswersVerdict (TranscribesRun board.now limits names.now) image names.now)
+    ensures fault { IfErr result (λ _. IsGivenUp (AnswersBoardRun board.now limits image names.now)
         (C.journal console.old) (C.journal console.new)) }
 {
     match judged(console.alloc(), image, names, board, limits) {
@@ -128,7 +128,8 @@ pub(crate) fn report_run<C: Console>(console: &mut C, path: &str, fault: BoardRu
     }
 }
 
-/// What `run --board` answers: the transcript of the run of `image`; the line of its refusal if the verifier refuses it.
+/// What `run --board` answers: the transcript of the run of `image`, if the verifier accepts it or a table follows it; else the line of its
+/// refusal.
 fn judged(
     alloc: Global,
     image: Image,
@@ -136,14 +137,20 @@ fn judged(
     board: &Board,
     limits: Limits,
 ) -> Result<Transcribed, BoardRunFault>
-    ensures { IfOk result (λ made. AnswersVerdict (TranscribesRun board.now limits names.now) image names.now made.answer) }
+    ensures { IfOk result (λ made. AnswersBoardRun board.now limits image names.now made.answer) }
 {
-    match judge(alloc, image, names)? {
-        Verdict::Accepted(vouched) => transcribe(alloc, &vouched, names, board, limits),
-        Verdict::Refused(line) => Ok(Transcribed {
-            answer: Answer::prints(line, 1),
-            end: None,
-        }),
+    match vouch(alloc, image) {
+        Ok(vouched) => transcribe(alloc, &vouched, names, board, limits),
+        Err((image, refusal)) => {
+            let line = named_refusal(alloc, &image, refusal, names)?;
+            match find_table(alloc, &image)? {
+                Some(table) => transcribe_followed(alloc, &image, &table, names, board, limits),
+                None => Ok(Transcribed {
+                    answer: Answer::prints(line, 1),
+                    end: None,
+                }),
+            }
+        }
     }
 }
 
@@ -159,7 +166,8 @@ fn transcribe(
 {
     let BoardReply { answer, text } = answer_on_board(alloc, vouched, board, limits);
     let outcome = answer?;
-    let named = name_ending(alloc, vouched, text.into_bytes(), names)?;
+    let code = vouched.image().regions.code();
+    let named = name_ending(alloc, code, text.into_bytes(), names)?;
     Ok(Transcribed {
         answer: Answer::prints(named, board_status_of(outcome.end)),
         end: BoardEndWords::of(outcome.end, outcome.at),

@@ -5,6 +5,7 @@ ghost use Rattle.plm80_runs.specs.OnBoards.{board_ending, board_trace_ending};
 ghost use Rattle.plm80_runs.specs.Running.{ending, named_ending, trace_ending};
 
 use crate::status::{board_status_of, status_of};
+use image80::Range;
 use loader80::{Ended, Vouched, ending_text};
 use loader80_board::{BoardEnded, board_ending_text};
 use plm80_console::Answer;
@@ -21,20 +22,19 @@ pub fn ending_of(
     ensures { IfOk result (λ answer. answer ≡ ending vouched.now names.now ended.now) }
 {
     let text = ending_text(alloc, ended.end, ended.cpu.pc(), ended.steps)?.into_bytes();
-    let text = name_ending(alloc, vouched, text, names)?;
+    let text = name_ending(alloc, vouched.image().regions.code(), text, names)?;
     Ok(Answer::prints(text, status_of(ended.end)))
 }
 
-/// A text whose last line may say how a run of a program ended, with a name for the address in that line.
+/// A text whose last line may say how a run of a program with this code ended, with a name for the address in that line.
 pub fn name_ending(
     alloc: Global,
-    vouched: &Vouched,
+    code: &[Range],
     text: Vec<u8>,
     names: &Names,
 ) -> Result<Vec<u8>, AllocError>
-    ensures { IfOk result (λ named. named.items ≡ named_ending vouched.now.image.regions.code names.now text.items) }
+    ensures { IfOk result (λ named. named.items ≡ named_ending code.now names.now text.items) }
 {
-    let code = vouched.image().regions.code();
     let text = names.name(alloc, code, b"HALT ", text)?;
     let text = names.name(alloc, code, b"STORE ", text)?;
     names.name(alloc, code, b"JUMP ", text)
@@ -65,7 +65,7 @@ pub fn board_ending_of(
     ensures { IfOk result (λ answer. answer ≡ board_ending vouched.now names.now ended.now) }
 {
     let text = board_ending_text(alloc, ended.end, ended.at, ended.steps)?.into_bytes();
-    let text = name_ending(alloc, vouched, text, names)?;
+    let text = name_ending(alloc, vouched.image().regions.code(), text, names)?;
     Ok(Answer::prints(text, board_status_of(ended.end)))
 }
 

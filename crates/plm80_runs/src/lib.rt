@@ -20,6 +20,7 @@ mod board_run;
 mod board_trace;
 mod cover;
 mod endings;
+mod followed_run;
 mod inputs;
 mod run;
 mod run_arguments;

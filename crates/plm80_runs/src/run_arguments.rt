@@ -1,9 +1,9 @@
 //! The image, its regions and the inputs of its run, and how far it runs: what several commands that run it take.
 
-ghost use Rattle.std.specs.Prelude.{◌≡◌, None, IfErr, IfOk, OnOk};
+ghost use Rattle.std.specs.Prelude.{◌≡◌, ◌≢◌, None, IfErr, IfOk, OnErr, OnOk};
 ghost use Rattle.loader80.specs.InputsText.{bad_line, inputs_of};
-ghost use Rattle.plm80_console.specs.Journal.{OnlyReports, and_read_files, and_reported};
-ghost use Rattle.plm80_runs.specs.Running.{AreLimitsOf, IsRunRead, IsSpanOf, run_files};
+ghost use Rattle.plm80_console.specs.Journal.{Blames, OnlyBlames, OnlyReports, and_blamed, and_read_files};
+ghost use Rattle.plm80_runs.specs.Running.{AreLimitsOf, HaveNoLimits, HaveNoRun, HaveNoSpan, IsRunRead, IsSpanOf, run_files};
 ghost use Rattle.plm80_runs.specs.Arguments.{AreLimitTexts, AreRunFiles, AreSpanTexts, run_paths};
 
 use clap::ArgMatches;
@@ -88,7 +88,8 @@ impl<'a> RunFiles<'a> {
     pub fn read<C: Console>(self, console: &mut C) -> Result<RunProgram, Reported>
         ensures read { IfOk result (λ read. IsRunRead self.entry (C.journal console.old) (C.journal console.new)
             read.image read.names read.inputs.pairs.items) }
-        ensures fault { IfErr result (λ _. OnlyReports (run_paths self.entry) (C.journal console.old) (C.journal console.new)) }
+        ensures fault { IfErr result (λ _. OnlyBlames (HaveNoRun self.entry.program.names) (run_paths self.entry)
+            (C.journal console.old) (C.journal console.new)) }
     {
         let texts = self.texts(console)?;
         let (image, names) = texts.program.program(console, self.program.names)?;
@@ -118,12 +119,12 @@ impl<'a> RunFiles<'a> {
         ensures good { OnOk result (bad_line text.now ≡ None) }
         ensures inputs { IfOk result (λ inputs. inputs.pairs.items ≡ inputs_of text.now) }
         ensures unchanged { IfOk result (λ _. C.journal console.new ≡ C.journal console.old) }
-        ensures fault { IfErr result (λ _. C.journal console.new ≡ and_reported (C.journal console.old)) }
+        ensures fault { IfErr result (λ _. Blames (bad_line text.now ≢ None) (C.journal console.old) (C.journal console.new)) }
     {
         match read_inputs(console.alloc(), text) {
             Ok(inputs) => Ok(inputs),
             Err(InputsFault::BadLine(number)) => {
-                let reported = console.report_file(self.inputs, SessionFault::Inputs(number));
+                let reported = console.blame_file(self.inputs, SessionFault::Inputs(number));
                 explain_inputs(console, text, number);
                 Err(reported)
             }
@@ -154,7 +155,8 @@ impl<'a> LimitTexts<'a> {
     pub fn numbers<C: Console>(self, console: &mut C) -> Result<Limits, Reported>
         ensures limits { IfOk result (AreLimitsOf self.entry) }
         ensures unchanged { IfOk result (λ _. C.journal console.new ≡ C.journal console.old) }
-        ensures fault { IfErr result (λ _. C.journal console.new ≡ and_reported (C.journal console.old)) }
+        ensures wrong { OnErr result (HaveNoLimits self.entry) }
+        ensures failed { IfErr result (λ _. C.journal console.new ≡ and_blamed (C.journal console.old)) }
     {
         let steps = self.steps.count(console)?;
         let outputs = self.outputs.count(console)? as usize;
@@ -184,7 +186,8 @@ impl<'a> SpanTexts<'a> {
     pub fn numbers<C: Console>(self, console: &mut C) -> Result<Span, Reported>
         ensures span { IfOk result (IsSpanOf self.entry) }
         ensures unchanged { IfOk result (λ _. C.journal console.new ≡ C.journal console.old) }
-        ensures fault { IfErr result (λ _. C.journal console.new ≡ and_reported (C.journal console.old)) }
+        ensures wrong { OnErr result (HaveNoSpan self.entry) }
+        ensures failed { IfErr result (λ _. C.journal console.new ≡ and_blamed (C.journal console.old)) }
     {
         let from = self.from.count(console)?;
         let count = self.count.count(console)?;

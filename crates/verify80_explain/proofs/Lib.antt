@@ -1,4 +1,4 @@
 pub mod ShownLemmas
 pub mod SoughtLemmas
-pub mod WayLemmas
 pub mod ChainLemmas
+pub mod OrderLemmas

@@ -5,13 +5,13 @@ use Rattle.frames80.specs.declared.procedure.Procedure.TheVariants.{Main, Entry}
 use Rattle.frames80.specs.Code.{Code}
 use Rattle.verify80_flow.specs.Walks.{Calls, Walk, begins, goes_on, enters, comes_back}
 use Rattle.verify80_flow.specs.Faults.{Recurs, CallsFrom, Leads, here, further}
-use Rattle.verify80_explain.specs.declared.point.Point.{Point}
-use Rattle.verify80_explain.specs.declared.route.Call.{Call}
-use Rattle.verify80_explain.specs.declared.route.Route.{Route}
+use Rattle.verify80_walks.specs.declared.point.Point.{Point}
+use Rattle.verify80_walks.specs.declared.route.Call.{Call}
+use Rattle.verify80_walks.specs.declared.route.Route.{Route}
 use Rattle.verify80_explain.specs.declared.explanation.Explanation.{Explanation}
 use Rattle.verify80_explain.specs.declared.explanation.Explanation.TheVariants.{Way as OneWay, Ways as TwoWays, Ring}
-use Rattle.verify80_explain.specs.Ways.{IsWalked, Follows, Way, Starts, IsCalled, Lead, IsRoute}
-use Rattle.verify80_explain.specs.Ways.{point_of}
+use Rattle.verify80_walks.specs.Ways.{IsWalked, Follows, Way, Starts, IsCalled, Lead, IsRoute}
+use Rattle.verify80_walks.specs.Ways.{point_of}
 use Rattle.verify80_explain.specs.Shows.{RingOf, ByRing}
 
 module _ (code : Code) where

@@ -15,7 +15,7 @@ use Rattle.verify80_explain.specs.declared.evidence.Clash.TheVariants.{Heights, 
 use Rattle.verify80_explain.specs.declared.sought.Kind.TheVariants.{Fault, Clash, Ring as OfRing}
 use Rattle.verify80_explain.specs.Evidence.{IsSoughtFor}
 use Rattle.verify80_explain.specs.Shows.{Shows, ToPoint}
-use Rattle.verify80_explain.specs.Ways.{point_of}
+use Rattle.verify80_walks.specs.Ways.{point_of}
 use Rattle.verify80_explain.proofs.ShownLemmas.{reached, recurs, to_point}
 
 module _ (refusal : Refusal) (at : ℕ) where

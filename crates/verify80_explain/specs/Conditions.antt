@@ -1,12 +1,12 @@
 -- A program as it is followed on conditions: what lies behind a refused instruction is reached if they hold. (This project's own.)
-use Rattle.std.specs.Prelude.{◌==◌, ℕ, Bool, false, List, Option, Result, Ok, Err, All, if◌then◌else◌}
+use Rattle.std.specs.Prelude.{◌==◌, ℕ, Bool, List, Option, Result, Ok, Err, All, if◌then◌else◌}
 use Rattle.std.specs.{List.list_any, Option.option_map_or}
 use Rattle.decode80.specs.declared.fetching.Fetched.{Fetched}
 use Rattle.decode80.specs.declared.instr.Instr.TheVariants.{Nop, CallIf as InstrCallIf}
 use Rattle.decode80.specs.declared.condition.Condition.TheVariants.{NonZero}
 use Rattle.decode80.specs.Fetch.{ahead}
 use Rattle.frames80.specs.declared.code.LookFault.{LookFault}
-use Rattle.frames80.specs.declared.code.LookFault.TheVariants.{Outside, Unused, EnablesInterrupts, Pchl as PchlUndeclared, DirectStore}
+use Rattle.frames80.specs.declared.code.LookFault.TheVariants.{EnablesInterrupts, DirectStore}
 use Rattle.frames80.specs.declared.effect.Effect.{Effect}
 use Rattle.frames80.specs.declared.effect.Effect.TheVariants.{Change, Halt, Jump, JumpIf, Case, Call, CallIf, Return, ReturnIf, Refuse}
 use Rattle.frames80.specs.Effects.{effect_of}

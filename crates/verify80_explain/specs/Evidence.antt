@@ -5,21 +5,21 @@ use Rattle.frames80.specs.Calls.{room, agree}
 use Rattle.frames80.specs.declared.procedure.Procedure.TheVariants.{Entry}
 use Rattle.verify80_flow.specs.Walks.{Calls, Returns as ReturnsWith}
 use Rattle.verify80_flow.specs.declared.refusal.Refusal.{Refusal}
-use Rattle.verify80_explain.specs.declared.point.Point.{Point}
-use Rattle.verify80_explain.specs.declared.route.Route.{Route}
+use Rattle.verify80_walks.specs.declared.point.Point.{Point}
+use Rattle.verify80_walks.specs.declared.route.Route.{Route}
 use Rattle.verify80_explain.specs.declared.explanation.Explanation.{Explanation}
 use Rattle.verify80_explain.specs.declared.explanation.Explanation.TheVariants.{Way as OneWay, Ways as TwoWays}
 use Rattle.verify80_explain.specs.declared.evidence.Fault.{Fault}
 use Rattle.verify80_explain.specs.declared.evidence.Fault.TheVariants.{Look, Frame}
 use Rattle.verify80_explain.specs.declared.evidence.Clash.{Clash}
 use Rattle.verify80_explain.specs.declared.evidence.Clash.TheVariants.{Heights, Returns, Shortage}
-use Rattle.verify80_explain.specs.declared.looked.Looked.TheVariants.{Wrong, Stuck}
+use Rattle.verify80_walks.specs.declared.looked.Looked.TheVariants.{Wrong, Stuck}
 use Rattle.verify80_explain.specs.declared.sought.Sought.{Sought}
 use Rattle.verify80_explain.specs.declared.sought.Kind.{Kind}
 use Rattle.verify80_explain.specs.declared.sought.Kind.TheVariants.{Fault as OfFault, Clash as OfClash, Ring as OfRing}
-use Rattle.verify80_explain.specs.Reached.{IsLooked}
+use Rattle.verify80_walks.specs.Reached.{IsLooked}
 use Rattle.verify80_explain.specs.Shows.{ByRing, Shows}
-use Rattle.verify80_explain.specs.Ways.{IsRoute}
+use Rattle.verify80_walks.specs.Ways.{IsRoute}
 
 -- a point is at an address, and the instruction there may not be executed at this point
 abbrev pub FaultAt : Code → ℕ → Fault → Point → Type 0

@@ -7,13 +7,14 @@ use Rattle.verify80_flow.specs.Refusal.{look_refusal, refusal_address}
 use Rattle.verify80_flow.specs.declared.refusal.Refusal.{Refusal}
 use Rattle.verify80_explain.specs.declared.conditions.Conditions.{Conditions}
 use Rattle.verify80_explain.specs.declared.evidence.Fault.{Fault}
-use Rattle.verify80_explain.specs.declared.point.Point.{Point}
+use Rattle.verify80_walks.specs.declared.point.Point.{Point}
 use Rattle.verify80_explain.specs.declared.reaching.Reach.{Reach}
 use Rattle.verify80_explain.specs.declared.reaching.ReachedPoint.{ReachedPoint}
 use Rattle.verify80_explain.specs.Chains.{StandsAt}
 use Rattle.verify80_explain.specs.Conditions.{code_from}
 use Rattle.verify80_explain.specs.Evidence.{FaultAt}
-use Rattle.verify80_explain.specs.Ways.{IsWalked}
+use Rattle.verify80_explain.specs.Order.{AreAscending, AreSame}
+use Rattle.verify80_walks.specs.Ways.{IsWalked}
 
 -- the instruction at an address may not be executed, whatever the frame is
 pub record IsNeverExecuted (code : Code) (at : ℕ) (refusal : Refusal) : Type 0 where
@@ -48,6 +49,16 @@ AreReachedOn code reach = All (IsReachedOn code reach.begins.items reach.conditi
 -- a refusal is that of one of these points
 abbrev pub IsRefusalAmong : List ReachedPoint → Refusal → Type 0
 IsRefusalAmong points refusal = Any (λ (point : ReachedPoint). point.refusal ≡ Some refusal) points
+
+-- the refusal of a point, if it has one, is among these, by its address and its number
+abbrev pub IsListedIn : List Refusal → ReachedPoint → Type 0
+IsListedIn refusals point = IfSome point.refusal (λ refusal. Any (AreSame refusal) refusals)
+
+-- a list is the refusals of points: those and no others, each once, in their order
+pub record AreRefusalsOf (points : List ReachedPoint) (refusals : List Refusal) : Type 0 where
+  pub among : All (IsRefusalAmong points) refusals
+  pub whole : All (IsListedIn refusals) points
+  pub ascending : AreAscending refusals
 
 -- a refusal is that of a fault at an address
 abbrev pub RefusesFor : Fault → ℕ → Refusal → Type 0

@@ -5,12 +5,12 @@ use Rattle.verify80_flow.specs.declared.refusal.Refusal.{Refusal}
 use Rattle.verify80_flow.specs.declared.refusal.Refusal.TheVariants.{FetchOutside, UnusedOpcode, EnablesInterrupts, Sphl, Pchl, StackByByte, SetsStack, DirectStore, PopsBelow, ReturnNotOwn, ReturnFromMain, HeightsDiffer, UnevenArguments, ShortArguments, Recursion, StackTooSmall, TooManyPoints, Memory}
 use Rattle.frames80.specs.Code.{Code}
 use Rattle.verify80_flow.specs.Faults.{Holds}
-use Rattle.verify80_explain.specs.declared.point.Point.{Point}
-use Rattle.verify80_explain.specs.declared.route.Call.{Call}
+use Rattle.verify80_walks.specs.declared.point.Point.{Point}
+use Rattle.verify80_walks.specs.declared.route.Call.{Call}
 use Rattle.verify80_explain.specs.declared.explanation.Explanation.{Explanation}
 use Rattle.verify80_explain.specs.declared.explanation.Explanation.TheVariants.{Way as OneWay, Ways as TwoWays, Ring}
 use Rattle.verify80_explain.specs.declared.explaining_all.ShownRefusal.{ShownRefusal}
-use Rattle.verify80_explain.specs.Ways.{IsRoute, Lead, point_of}
+use Rattle.verify80_walks.specs.Ways.{IsRoute, Lead, point_of}
 
 -- one way, that leads to a point; two, that lead to two
 abbrev pub ToPoint : Code → Point → Explanation → Type 0

@@ -6,20 +6,16 @@ ghost use Rattle.frames80.specs.Calls.{depth_of};
 ghost use Rattle.frames80.specs.Code.{role_of as role_in};
 ghost use Rattle.verify80.specs.Looking.{code_of};
 ghost use Rattle.verify80_explain.specs.Chains.{CallsAt, ChainsTo, StandsAt};
-ghost use Rattle.verify80_explain.specs.Reached.{AreWalked};
+ghost use Rattle.verify80_walks.specs.Reached.{AreWalked};
 
-use crate::fault::Unexplained;
 use crate::links::find_links;
-use crate::looked::{call_at, is_within};
-use crate::point::Point;
-use crate::reached::are_reached;
-use crate::search::Search;
 use frames80::{Code, depth, role_of};
 use image80::Image;
 use std::alloc::Global;
 use verify80::ImageCode;
 use verify80_bounds::CallSite;
 use verify80_flow::Procedure;
+use verify80_walks::{Point, Search, Unexplained, are_reached, call_at, is_within};
 
 /// A chain of calls from the main program, and where its last procedure stands.
 #[derive(Debug, Drop)]

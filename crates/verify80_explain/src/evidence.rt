@@ -1,15 +1,12 @@
 //! Whether points show a refusal.
 
 ghost use Rattle.std.specs.Prelude.{◌≡◌, ◌↔◌, true, IfOk};
-ghost use Rattle.frames80.specs.Calls.{room};
 ghost use Rattle.verify80_explain.specs.Evidence.{ClashAt, DifferAt, FaultAt, ShortAt, UnevenAt};
 
-use crate::fault::Unexplained;
-use crate::looked::{Looked, call_at, look_at, words_taken};
-use crate::point::Point;
-use frames80::{Code, Frame, FrameFault, LookFault, Role, role_of};
+use frames80::{Code, FrameFault, LookFault, role_of};
 use std::alloc::Global;
 use verify80_flow::Procedure;
+use verify80_walks::{Looked, Point, Unexplained, call_at, look_at, room, words_taken};
 
 /// Why an instruction may not be executed.
 #[derive(Clone, Copy)]
@@ -137,15 +134,4 @@ fn is_shortage<C: Code>(
         return Ok(false);
     };
     Ok(other.procedure == Procedure::Entry(call.target))
-}
-
-/// How many words of a caller's frame a callee may take: those above the bottom word, and in the
-/// main program all.
-pub(crate) fn room(frame: &Frame, role: Role) -> usize
-    ensures { result ≡ room role frame.now.words }
-{
-    match role {
-        Role::Main { .. } => frame.words.len(),
-        Role::Entry => frame.words.len().saturating_sub(1),
-    }
 }

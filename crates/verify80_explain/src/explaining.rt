@@ -6,14 +6,13 @@ ghost use Rattle.verify80_explain.specs.Evidence.{ShowsKind};
 ghost use Rattle.verify80_explain.specs.Shows.{Shows};
 
 use crate::explanation::Explanation;
-use crate::fault::Unexplained;
-use crate::search::Search;
 use crate::sought::Sought;
 use frames80::Code;
 use image80::Image;
 use std::alloc::Global;
 use verify80::ImageCode;
 use verify80_flow::Refusal;
+use verify80_walks::{Search, Unexplained};
 
 /// At which weight of its points a search stops first to see whether they show the refusal; the
 /// weight doubles each time.

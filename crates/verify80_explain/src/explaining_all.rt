@@ -4,25 +4,24 @@ ghost use Rattle.std.specs.Prelude.{◌≡◌, All, IfOk, IfSome, OnOk};
 ghost use Rattle.verify80.specs.Looking.{code_of};
 ghost use Rattle.verify80_flow.specs.Refusal.{look_refusal as refusal_by_look};
 ghost use Rattle.verify80_explain.specs.Conditions.{AreShownIf};
-ghost use Rattle.verify80_explain.specs.Reached.{AreReached, AreWalked};
+ghost use Rattle.verify80_walks.specs.Reached.{AreReached, AreWalked};
 ghost use Rattle.verify80_explain.specs.Reaching.{IsRefusedIfWalked, RefusesFor};
 ghost use Rattle.verify80_explain.specs.Shows.{IsShown, Shows};
 
 use crate::conditions::Conditions;
 use crate::evidence::Fault;
 use crate::explanation::Explanation;
-use crate::fault::Unexplained;
 use crate::further::show_further;
-use crate::looked::{Looked, look_at};
-use crate::point::Point;
-use crate::reached::are_reached;
-use crate::search::{Origin, Search, points_weight};
+use crate::place::Place;
 use crate::sought::{Kind, Sought, show_reached_fault};
 use frames80::{Code, FrameFault, LookFault};
 use image80::Image;
 use std::alloc::{AllocError, Global};
 use verify80::ImageCode;
 use verify80_flow::Refusal;
+use verify80_walks::{
+    Looked, Origin, Point, Search, Unexplained, are_reached, look_at, points_weight,
+};
 
 /// A refusal, and what shows it.
 #[derive(Debug, Drop)]
@@ -53,23 +52,6 @@ pub struct FurtherRefusals {
     pub conditions: Conditions,
     /// The refusals by address, those of one address by number, each once.
     pub shown: Vec<ShownRefusal>,
-}
-
-/// What tells a refusal from others: its address and its number.
-#[derive(Clone, Copy, PartialEq, Eq, PartialOrd, Ord, Hash)]
-pub(crate) struct Place {
-    at: Option<u16>,
-    code: u8,
-}
-
-impl Place {
-    /// The address and the number of a refusal.
-    pub(crate) fn of(refusal: Refusal) -> Place {
-        Place {
-            at: refusal.address(),
-            code: refusal.code(),
-        }
-    }
 }
 
 /// A point whose instruction may not be executed, by its number in a search.

@@ -1,6 +1,6 @@
 //! What shows a refusal.
 
-use crate::route::{Call, Route};
+use verify80_walks::{Call, Route};
 
 /// What shows a refusal.
 #[derive(Debug, Drop)]

@@ -1,13 +1,11 @@
 //! A search through the points for those that show a refusal. Nothing rests on what it finds.
 
 use crate::evidence::{Clash, Fault, is_clash, is_fault};
-use crate::fault::Unexplained;
-use crate::looked::{call_at, words_taken};
-use crate::point::Point;
 use frames80::{Code, slot};
 use indexmap::IndexMap;
 use std::alloc::{AllocError, Global};
 use verify80_flow::Procedure;
+use verify80_walks::{Point, Unexplained, call_at, words_taken};
 
 /// Two points of a search, by their numbers.
 #[derive(Clone, Copy)]

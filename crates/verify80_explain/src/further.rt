@@ -7,18 +7,14 @@ ghost use Rattle.verify80_explain.specs.Conditions.{AreShownIf, code_if};
 ghost use Rattle.verify80_explain.specs.Shows.{IsShown};
 
 use crate::conditions::{ConditionalCode, Conditions};
-use crate::explaining_all::{
-    FaultyPoint, FurtherRefusals, Place, ShownRefusal, find_faulty, show_each,
-};
-use crate::fault::Unexplained;
-use crate::looked::{Looked, look_at};
-use crate::reached::are_reached;
-use crate::search::{Origin, Search};
+use crate::explaining_all::{FaultyPoint, FurtherRefusals, ShownRefusal, find_faulty, show_each};
+use crate::place::Place;
 use frames80::{Change, Code, Effect, FrameFault, LookFault, effect_of};
 use indexmap::IndexSet;
 use std::alloc::{AllocError, Global};
 use verify80::ImageCode;
 use verify80_flow::Procedure;
+use verify80_walks::{Looked, Origin, Search, Unexplained, are_reached, look_at};
 
 /// How many conditions of each kind are tried at most.
 const MOST_CONDITIONS: usize = 256;

@@ -2,9 +2,8 @@
 //!
 //! Proved: what is shown is there.
 //!
-//! The walks are followed one by one, breadth first, and no frames are merged. Nothing rests on that search: before points show
-//! something it is checked that each comes from earlier ones, that the calls and the ways lead to them, and that the fault is there. That
-//! an explanation is found is tested, not proved.
+//! Nothing rests on the search of `verify80_walks`: before points show something it is checked that each comes from earlier ones, that the
+//! calls and the ways lead to them, and that the fault is there. That an explanation is found is tested, not proved.
 //!
 //! | Item | What it is |
 //! |---|---|
@@ -25,33 +24,24 @@ mod evidence;
 mod explaining;
 mod explaining_all;
 mod explanation;
-mod fault;
 mod finding;
 mod further;
-mod groups;
 mod laws;
 mod links;
-mod looked;
-mod point;
-mod reached;
+mod place;
 mod reaching;
 mod ring;
-mod route;
-mod search;
 mod sought;
-mod ways;
 
 pub use chain::{Chain, Standing, find_chain};
 pub use conditions::Conditions;
 pub use explaining::explain;
 pub use explaining_all::{FurtherRefusals, ShownRefusal, ShownRefusals, explain_all};
 pub use explanation::Explanation;
-pub use fault::Unexplained;
 pub use frames80::{Frame, Word};
 pub use laws::{chains_are_uses, what_is_shown_holds};
-pub use point::Point;
 pub use reaching::{Reach, ReachedPoint, reach_all, refusals_of};
-pub use route::{Call, Route};
 pub use verify80::measure;
 pub use verify80_bounds::CallSite;
 pub use verify80_flow::{ProcRow, Procedure, Refusal, Report};
+pub use verify80_walks::{Call, Point, Route, Unexplained};

@@ -4,14 +4,12 @@ ghost use Rattle.std.specs.Prelude.{All, IfOk};
 ghost use Rattle.verify80_bounds.specs.Chains.{IsModest};
 
 use crate::chain::{depth_at, is_sum};
-use crate::fault::Unexplained;
-use crate::point::Point;
-use crate::search::CallingPoint;
 use frames80::{Code, MOST_POINTS, slot};
 use indexmap::IndexMap;
 use std::alloc::Global;
 use verify80_bounds::{Bounds, BoundsFault, CallSite, Depth, find_bounds};
 use verify80_flow::Procedure;
+use verify80_walks::{CallingPoint, Point, Unexplained};
 
 /// The points of a chain, by their numbers.
 #[derive(Drop)]

@@ -1,26 +1,26 @@
 //! All that walks of an image's program reach, on conditions.
 
 ghost use Rattle.std.specs.Prelude.{◌≡◌, All, IfOk, IfSome, OnOk, Some};
+ghost use Rattle.std.specs.List.{filter_map};
 ghost use Rattle.verify80.specs.Looking.{code_of};
 ghost use Rattle.verify80_explain.specs.Conditions.{code_from};
-ghost use Rattle.verify80_explain.specs.Reached.{AreWalked};
-ghost use Rattle.verify80_explain.specs.Reaching.{AreReachedOn, IsReachedAt, IsReachedOn, IsRefusalAmong, IsRefusedAt};
-ghost use Rattle.verify80_explain.specs.Ways.{IsWalked};
+ghost use Rattle.verify80_walks.specs.Reached.{AreWalked};
+ghost use Rattle.verify80_explain.specs.Reaching.{AreReachedOn, AreRefusalsOf, IsReachedAt, IsReachedOn, IsRefusedAt};
+ghost use Rattle.verify80_walks.specs.Ways.{IsWalked};
 ghost use Rattle.verify80_flow.specs.Refusal.{refusal_address};
 
 use crate::chain::{Standing, depth_at};
 use crate::conditions::{ConditionalCode, Conditions};
-use crate::explaining_all::{Place, is_reached_within, look_refusal, refusal_at};
-use crate::fault::Unexplained;
+use crate::explaining_all::{is_reached_within, look_refusal, refusal_at};
 use crate::further::Conditioning;
-use crate::point::Point;
-use crate::reached::are_reached;
+use crate::place::Place;
 use frames80::{Code, slot};
 use image80::Image;
 use indexmap::IndexSet;
 use std::alloc::{AllocError, Global};
 use verify80::ImageCode;
 use verify80_flow::Refusal;
+use verify80_walks::{Point, Unexplained, are_reached};
 
 /// Where a walk stands, and whether it may go on.
 #[derive(Clone, Copy, Debug)]
@@ -112,26 +112,27 @@ fn place_of(point: &ReachedPoint) -> (usize, u16, i64) {
     (slot(standing.procedure), standing.at, standing.depth)
 }
 
-/// The refusals at points, by address, those of one address by number, each once.
+/// The refusals of points, each once, ascending by address, and those of one address by number; those without an address come first.
 ///
 /// # Errors
 /// `AllocError` only if memory runs out.
 pub fn refusals_of(alloc: Global, points: &[ReachedPoint]) -> Result<Vec<Refusal>, AllocError>
-    ensures { IfOk result (λ refusals. All (IsRefusalAmong points.now) refusals.items) }
+    ensures { IfOk result (λ refusals. AreRefusalsOf points.now refusals.items) }
 {
-    let mut seen = IndexSet::new(alloc);
-    let mut refusals = Vec::new(alloc);
-    for number in 0..points.len() {
-        let Some(refusal) = points[number].refusal else {
-            continue;
-        };
-        if !seen.insert(Place::of(refusal))? {
-            continue;
-        }
-        refusals.push(refusal)?;
-    }
+    let mut refusals = refusals_at(alloc, points)?;
     refusals.sort_by_key(|refusal| Place::of(*refusal))?;
+    refusals.dedup_by_key(|refusal| Place::of(*refusal));
     Ok(refusals)
+}
+
+/// The refusal of each point that has one. `AllocError` if memory runs out.
+fn refusals_at(alloc: Global, points: &[ReachedPoint]) -> Result<Vec<Refusal>, AllocError>
+    ensures { IfOk result (λ refusals. refusals.items ≡ filter_map (λ point. point.refusal) points.now) }
+{
+    points
+        .iter()
+        .filter_map(|point| point.refusal)
+        .collect(alloc)
 }
 
 /// Appends where walks stand that begin at any of these addresses, on the conditions. Answers whether none is left out.

@@ -4,16 +4,14 @@ ghost use Rattle.std.specs.Prelude.{IfOk, IfSome};
 ghost use Rattle.verify80_explain.specs.Shows.{ByRing};
 
 use crate::explanation::Explanation;
-use crate::fault::Unexplained;
-use crate::groups::Groups;
-use crate::point::Point;
-use crate::reached::are_reached;
-use crate::search::{CallingPoint, Origin, Search};
-use crate::ways::{callers_of, calls_between};
 use frames80::{Code, slot};
 use indexmap::IndexSet;
 use std::alloc::{AllocError, Global};
 use verify80_flow::Procedure;
+use verify80_walks::{
+    CallingPoint, Groups, Origin, Point, Search, Unexplained, are_reached, callers_of,
+    calls_between,
+};
 
 /// A call, by which a procedure is reached from a first call on.
 #[derive(Clone, Copy)]

@@ -3,20 +3,16 @@
 ghost use Rattle.std.specs.Prelude.{◌≡◌, IfOk, IfSome};
 ghost use Rattle.verify80_explain.specs.declared.sought.Kind.TheVariants.{Fault as OfFault, Clash as OfClash, Ring as OfRing};
 ghost use Rattle.verify80_explain.specs.Evidence.{IsSoughtFor, ShowsKind};
-ghost use Rattle.verify80_explain.specs.Reached.{AreReached, AreWalked};
+ghost use Rattle.verify80_walks.specs.Reached.{AreReached, AreWalked};
 
 use crate::evidence::{Clash, Fault, is_clash, is_fault};
 use crate::explanation::Explanation;
-use crate::fault::Unexplained;
 use crate::finding::{find_clash, find_fault};
-use crate::point::Point;
-use crate::reached::are_reached;
 use crate::ring::{find_ring, show_ring};
-use crate::search::{Origin, Search};
-use crate::ways::route_to;
 use frames80::{Code, FrameFault, LookFault};
 use std::alloc::Global;
 use verify80_flow::Refusal;
+use verify80_walks::{Origin, Point, Search, Unexplained, are_reached, route_to};
 
 /// What a search looks for to show a refusal.
 #[derive(Clone, Copy)]

@@ -2,7 +2,7 @@
 use Rattle.std.proofs.Common.{◌≡◌, ◌≢◌, Bool, true, false, List, [], ◌∷◌, refl, ap, sym, subst, ◌∙◌, true≢false}
 use Rattle.std.specs.List.{AllByRecursion}
 use Rattle.frames80.specs.StackFrame.{StackFrame}
-use Rattle.verify80_explain.specs.declared.point.Point.{Point}
+use Rattle.verify80_walks.specs.declared.point.Point.{Point}
 use Rattle.verify80_explain_text.specs.Explained.{has_other_frame, runs_of, with_point}
 use Rattle.verify80_explain_text.specs.Laws.{joined, AreLongestRuns, EndsBefore}
 use Rattle.verify80_explain_text.proofs.RunLemmas.{joins, own_frame, same_frame, stays}

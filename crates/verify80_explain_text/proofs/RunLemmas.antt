@@ -4,7 +4,7 @@ use Rattle.std.specs.List.{position_or_len}
 use Rattle.std.proofs.lemmas.List.Sums.{prefix_len-le-length}
 use Rattle.frames80.specs.StackFrame.{StackFrame}
 use Rattle.frames80.specs.FrameEquality.{frame_eq, frame_decides}
-use Rattle.verify80_explain.specs.declared.point.Point.{Point}
+use Rattle.verify80_walks.specs.declared.point.Point.{Point}
 use Rattle.verify80_explain_text.specs.Explained.{has_other_frame, runs_of, with_point}
 
 pub same_frame : (f : StackFrame) (p : Point) → has_other_frame f p ≡ false → f ≡ p.frame

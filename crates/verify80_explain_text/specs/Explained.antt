@@ -17,9 +17,9 @@ use Rattle.verify80_explain.specs.declared.chain.Chain.{Chain}
 use Rattle.verify80_explain.specs.declared.chain.Standing.{Standing}
 use Rattle.verify80_explain.specs.declared.explanation.Explanation.{Explanation}
 use Rattle.verify80_explain.specs.declared.explanation.Explanation.TheVariants.{Way, Ways, Ring}
-use Rattle.verify80_explain.specs.declared.point.Point.{Point}
-use Rattle.verify80_explain.specs.declared.route.Call.{Call}
-use Rattle.verify80_explain.specs.declared.route.Route.{Route}
+use Rattle.verify80_walks.specs.declared.point.Point.{Point}
+use Rattle.verify80_walks.specs.declared.route.Call.{Call}
+use Rattle.verify80_walks.specs.declared.route.Route.{Route}
 use Rattle.verify80_explain_text.specs.Frames.{frame_text}
 use Rattle.verify80_explain_text.specs.Instructions.{instruction_text}
 

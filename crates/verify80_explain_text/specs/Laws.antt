@@ -1,7 +1,7 @@
 -- What holds of every way's lines, over the definitions alone.
 use Rattle.std.specs.Prelude.{◌≡◌, ◌≢◌, List, [], ◌∷◌, ◌++◌}
 use Rattle.std.specs.List.{AllByRecursion}
-use Rattle.verify80_explain.specs.declared.point.Point.{Point}
+use Rattle.verify80_walks.specs.declared.point.Point.{Point}
 use Rattle.verify80_explain_text.specs.Explained.{runs_of}
 
 -- one after another, the points of runs

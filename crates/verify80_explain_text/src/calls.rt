@@ -8,8 +8,8 @@ use image80::Image;
 use image80_text::{PublicTable, append_name};
 use std::alloc::{AllocError, Global};
 use text80::word_digits;
-use verify80_explain::Call;
 use verify80_flow::Procedure;
+use verify80_walks::Call;
 
 /// Appends a line for each call, with the name of its target.
 pub(crate) fn append_calls(

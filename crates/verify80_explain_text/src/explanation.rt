@@ -9,8 +9,9 @@ use image80::Image;
 use image80_text::PublicTable;
 use std::alloc::{AllocError, Global};
 use verify80::ImageCode;
-use verify80_explain::{Explanation, Route};
+use verify80_explain::Explanation;
 use verify80_flow::Refusal;
+use verify80_walks::Route;
 
 /// The text of what shows a refusal: the calls and the ways, line by line.
 ///

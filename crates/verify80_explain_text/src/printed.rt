@@ -9,8 +9,9 @@ use crate::explanation::explanation_text;
 use image80::Image;
 use image80_text::PublicTable;
 use std::alloc::{AllocError, Global};
-use verify80_explain::{Chain, Explanation, Unexplained, explain, find_chain};
+use verify80_explain::{Chain, Explanation, explain, find_chain};
 use verify80_flow::Refusal;
+use verify80_walks::Unexplained;
 
 /// Appends what shows a refusal, as [`explanation_text`] has it; or the line `TOO MANY WAYS TO
 /// SHOW`, if nothing is found within the limit, which is that of [`explain`]; or nothing, if no

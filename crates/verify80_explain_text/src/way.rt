@@ -10,7 +10,7 @@ use frames80::Frame;
 use image80_text::{PublicTable, append_label};
 use std::alloc::{AllocError, Global};
 use verify80::ImageCode;
-use verify80_explain::Point;
+use verify80_walks::Point;
 
 /// The greatest number of points in a row with one frame that are all shown.
 const LONG_RUN: usize = 40;

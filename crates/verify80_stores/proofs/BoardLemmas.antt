@@ -250,7 +250,6 @@ module _ (image : Located) (bytes : ℕ) (quiet : ℕ → Bool) (reached : List 
                   brought = f.brought;
                 };
           };
-          walks = known.boards start began may_start w set g.on;
           stores = respects.0;
           jumps = respects.1.0;
         }

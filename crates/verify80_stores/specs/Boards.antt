@@ -4,7 +4,7 @@ use Rattle.image80.specs.{Image.Located}
 use Rattle.decode80.specs.declared.instr.Instr.TheVariants.{Pchl}
 use Rattle.machine80.specs.{Cpu.hl_of, Effects.pointed_bytes, Step.Machine, World.World}
 use Rattle.verify80.specs.Looking.{declared_targets}
-use Rattle.verify80.specs.Boards.{KeepsPromise, KeepsToWalks, MayStart, OnBoard}
+use Rattle.verify80.specs.Boards.{KeepsPromise, MayStart, OnBoard}
 use Rattle.verify80_states.specs.Bytes.{HoldsBytes}
 use Rattle.verify80_states.specs.QuietBoards.{OnQuietBoard}
 pub use Rattle.verify80_states.specs.QuietBoards.{is_quiet}
@@ -15,11 +15,10 @@ use Rattle.verify80_stores.specs.Stores.{GoesAsListed}
 abbrev pub IsListedAt : List OpenStore → (jumps : List ℕ) → ℕ → Type 0
 IsListedAt open_stores jumps at = Any (λ store. store.at ≡ at) open_stores ⊎ Contains jumps at
 
--- a world keeps the promise, and is on a walk of the program; its register-indirect stores go where they are listed to go, or to data;
--- and a PCHL is listed, or goes to one of its declared targets
+-- a world keeps the promise; its register-indirect stores go where they are listed to go, or to data; and a PCHL is listed, or goes to
+-- one of its declared targets
 pub record KeepsWholePromise (image : Located) (bytes : ℕ) (open_stores : List OpenStore) (open_jumps : List ℕ) (w : World) : Type 0 where
   pub promise : KeepsPromise image (IsListedAt open_stores open_jumps) bytes w
-  pub walks : KeepsToWalks image w
   pub stores : All (GoesAsListed image.regions open_stores w.machine.cpu.pc) (pointed_bytes promise.found.instr w.machine.cpu.registers)
   pub jumps : promise.found.instr ≡ Pchl →
       Contains open_jumps w.machine.cpu.pc ⊎ Contains (declared_targets image.regions w.machine.cpu.pc) (hl_of w.machine.cpu.registers)

@@ -1,8 +1,8 @@
 //! The options of LOCATE, which `locate` and `map` take.
 
-ghost use Rattle.std.specs.Prelude.{◌≡◌, ◌∷◌, None, Some, [], IfErr, IfOk};
-ghost use Rattle.plm80_console.specs.Journal.{and_reported};
-ghost use Rattle.plm80_objects.specs.Arguments.{AreLocateTexts, AreNumbersOf};
+ghost use Rattle.std.specs.Prelude.{◌≡◌, ◌∷◌, None, Some, [], IfErr, IfOk, OnErr};
+ghost use Rattle.plm80_console.specs.Journal.{and_blamed};
+ghost use Rattle.plm80_objects.specs.Arguments.{AreLocateTexts, AreNumbersOf, WriteNoNumbers};
 
 use clap::ArgMatches;
 use omf_core::segment_id::{CODE, DATA, MEMORY, STACK, UNNAMED_COMMON};
@@ -107,7 +107,8 @@ impl<'a> LocateTexts<'a> {
     pub fn numbers<C: Console>(self, console: &mut C) -> Result<Options, Reported>
         ensures numbers { IfOk result (AreNumbersOf self.entry) }
         ensures unchanged { IfOk result (λ _. C.journal console.new ≡ C.journal console.old) }
-        ensures fault { IfErr result (λ _. C.journal console.new ≡ and_reported (C.journal console.old)) }
+        ensures wrong { OnErr result (WriteNoNumbers self.entry) }
+        ensures failed { IfErr result (λ _. C.journal console.new ≡ and_blamed (C.journal console.old)) }
     {
         Ok(Options {
             code: OptionText::word_if_given(self.code, console)?,

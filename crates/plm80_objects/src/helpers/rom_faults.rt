@@ -1,7 +1,7 @@
 //! Faults of dumps, each with the path of its file.
 
-ghost use Rattle.std.specs.Prelude.{◌≡◌, ◌↔◌, None};
-ghost use Rattle.plm80_console.specs.Journal.{and_reported};
+ghost use Rattle.std.specs.Prelude.{◌≡◌, ◌≢◌, ◌↔◌, None};
+ghost use Rattle.plm80_console.specs.Journal.{Blames, and_reported};
 
 use plm80_console::{Console, FaultOf, Reported};
 use rom80::RomFault;
@@ -17,6 +17,18 @@ pub(crate) fn report_rom_fault<C: Console>(
         return console.report_memory();
     }
     let reported = console.report_file(fault.path, fault.fault);
+    console.explain_any(words_for(fault.fault));
+    reported
+}
+
+/// The same of a dump that is blamed: the caller's contract says that the fault is there.
+pub(crate) fn blame_rom_fault<C: Console>(console: &mut C, fault: FaultOf<'_, RomFault>) -> Reported
+    ensures { Blames (fault.entry.fault ≢ RomFault.Memory) (C.journal console.old) (C.journal console.new) }
+{
+    if let RomFault::Memory = fault.fault {
+        return console.report_memory();
+    }
+    let reported = console.blame_file(fault.path, fault.fault);
     console.explain_any(words_for(fault.fault));
     reported
 }

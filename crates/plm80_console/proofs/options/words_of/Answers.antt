@@ -22,9 +22,9 @@ loop-value-preserved g c =
     let d : Bor (List ℕ) = record { ref_ptr = (0, 0); now = [] } in
     record {
       words =
-          rw (c.push.ensures.items ∙ cond-true (is_ok c.push.result) (c.loop-value.words.items ++ c.in_ok-word.word ∷ []) c.loop-value.words.items
+          rw (c.push.ensures.items ∙ cond-true (is_ok c.push.result) (c.loop-value.words.items ++ c.in-Some.word ∷ []) c.loop-value.words.items
           (c.is_err.ensures.negation ∙ ap not c.if-is_err.false))
-          (words_more c.args.values.now c.loop-value.value-index d c.loop-value.words.items c.in_ok-word.word
-          c.loop-value-test.true c.loop-value.invariant.words (c.in_ok-word.ensures.word.1 ∙ ap word_value c.new.ensures.text));
-      unchanged = c.in_ok-word.ensures.unchanged ∙ c.loop-value.invariant.unchanged;
+          (words_more c.args.values.now c.loop-value.value-index d c.loop-value.words.items c.in-Some.word
+          c.loop-value-test.true c.loop-value.invariant.words c.in-Some.ensures.word.1);
+      unchanged = c.loop-value.invariant.unchanged;
     }

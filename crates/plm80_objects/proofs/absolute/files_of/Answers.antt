@@ -1,5 +1,7 @@
 use Rattle.plm80_objects.proofs.Names.{◌≡◌, ℕ, ◌+◌, ◌<◌, List, [], ◌∷◌, ◌++◌, length, take, Bor, all_zipped_more, ◌∙◌, sym, subst, get_or, take_more}
 use Rattle.plm80_objects.proofs.Names.{AreRomFiles, IsRomFile, RomFile}
+use Rattle.plm80_objects.proofs.Names.{ap, and_reported}
+use Rattle.plm80_console.specs.{AnswerLaws.err_from, Journal.Blames.other, Journal.Blames.wrong, NumberText.IsWordText}
 use Rattle.plm80_objects.proofs.absolute.files_of.Goals as goal
 
 -- one more file behind the first
@@ -28,3 +30,28 @@ loop-further-preserved g c = record {
       c.in_ok-file.ensures.file c.in_ok-add_file-2.ensures.added;
   unchanged = c.in_ok-add_file-2.ensures.unchanged ∙ c.in_ok-file.ensures.unchanged ∙ c.loop-further.invariant.unchanged;
 }
+
+-- the first dump has no address
+no_first : (path first : List ℕ) (further : List (Bor (List ℕ))) → (IsWordText first → ⊥) → (roms : List RomFile)
+    → AreRomFiles path first further roms → ⊥
+no_first path first further lacks [] are = are
+no_first path first further lacks (rom ∷ roms) are = lacks are.1.0
+
+pub returns-in_err-word-clause-fault : goal.returns-in_err-word-clause-fault
+returns-in_err-word-clause-fault g c =
+    let asked = c.args.arguments.now in
+    err_from c.from_residual.result
+    (wrong (no_first asked.bytes.now asked.first.text.now asked.further.items c.in_err-word.ensures.fault) c.in_err-word.ensures.failed)
+
+pub returns-in_err-add_file-clause-fault : goal.returns-in_err-add_file-clause-fault
+returns-in_err-add_file-clause-fault g c =
+    err_from c.from_residual-in_err-add_file.result (other (c.in_err-add_file.ensures.fault ∙ ap and_reported c.in_ok-word.ensures.unchanged))
+
+pub returns-in_err-file-clause-fault : goal.returns-in_err-file-clause-fault
+returns-in_err-file-clause-fault g c =
+    err_from c.from_residual-in_err-file.result (other (c.in_err-file.ensures.fault ∙ ap and_reported c.loop-further.invariant.unchanged))
+
+pub returns-in_err-add_file-2-clause-fault : goal.returns-in_err-add_file-2-clause-fault
+returns-in_err-add_file-2-clause-fault g c =
+    err_from c.from_residual-in_err-add_file-2.result
+    (other (c.in_err-add_file-2.ensures.fault ∙ ap and_reported (c.in_ok-file.ensures.unchanged ∙ c.loop-further.invariant.unchanged)))

@@ -1,9 +1,16 @@
-use Rattle.plm80_console.specs.AnswerLaws.{err_from, gives_up_if_made}
+use Rattle.plm80_console.specs.AnswerLaws.{blames_same, err_from, gives_up_if_made}
+use Rattle.plm80_console.specs.Journal.{Blames, Blames.other, Blames.wrong}
 use Rattle.plm80_objects.proofs.Names.{List, ◌∙◌, ap, subst, IfErr-weaker, IfOk-weaker, GivesUp, Journal, and_read_files, RomFile, AreDumpsRead}
 use Rattle.plm80_objects.proofs.Names.{GivesUpDumps, OnlyReports, WritesDumps, WritesImage, rom_paths}
 use Rattle.plm80_console.specs.Answer.GivesUp.{before}
-use Rattle.plm80_objects.specs.Absolute.GivesUpDumps.{within}
+use Rattle.plm80_objects.specs.Absolute.{WriteNoDumps, GivesUpDumps.no_dumps, GivesUpDumps.no_start, GivesUpDumps.within}
+use Rattle.plm80_objects.specs.Absolute.GivesUpDumps.{before as nothing_read}
+use Rattle.plm80_objects.specs.declared.absolute.AbsoluteArguments.{AbsoluteArguments}
 use Rattle.plm80_objects.proofs.absolute.write_dumps.Goals as goal
+
+no_files : {asked : AbsoluteArguments} {old new : Journal} → Blames (WriteNoDumps asked) old new → GivesUpDumps asked old new
+no_files (other is) = nothing_read is
+no_files (wrong lacks is) = no_dumps lacks is
 
 pub returns-clause-fault : goal.returns-clause-fault
 returns-clause-fault g c =
@@ -42,3 +49,10 @@ returns-in_err-dumps-clause-fault g c =
     err_from c.from_residual-in_err-dumps.result
     (within c.in_ok-files.files.items c.in_ok-files.ensures.files
     (before (subst (λ (j : Journal). OnlyReports (rom_paths c.in_ok-files.files.items) j (journal c.read_dumps.new.console)) same only)))
+
+pub returns-in_err-start-clause-fault : goal.returns-in_err-start-clause-fault
+returns-in_err-start-clause-fault g c = err_from c.from_residual.result (no_start c.in_err-start.ensures.fault c.in_err-start.ensures.failed)
+
+pub returns-in_err-files-clause-fault : goal.returns-in_err-files-clause-fault
+returns-in_err-files-clause-fault g c =
+    err_from c.from_residual-in_err-files.result (no_files (blames_same c.in_ok-start.ensures.unchanged c.in_err-files.ensures.fault))

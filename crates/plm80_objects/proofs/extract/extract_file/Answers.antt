@@ -1,4 +1,5 @@
-use Rattle.plm80_console.specs.AnswerLaws.{err_from, gives_or_gives_up}
+use Rattle.plm80_console.specs.AnswerLaws.{err_from, gives_or_gives_up, wrong_arguments, wrong_files}
+use Rattle.plm80_files.specs.{Wrong.SpellsNoImage, WrongLaws.no_image}
 use Rattle.plm80_objects.proofs.Names.{ℕ, List, [], ◌∷◌, refl, ◌∙◌, ap, subst, SpellsImage, without_regions, Journal, and_read, file_value}
 use Rattle.plm80_objects.proofs.{Names.ExtractsFile, Names.and_reported}
 use Rattle.plm80_console.specs.{Answer.GivesUp.before, Journal.OnlyReports.read as read_it}
@@ -25,15 +26,23 @@ returns-in-Ok g c =
     c.give-given.ensures.given c.give-given.ensures.fault in
     record { done = both.0; fault = both.1 }
 
+pub returns-in_err-extent-clause-fault : goal.returns-in_err-extent-clause-fault
+returns-in_err-extent-clause-fault g c =
+    err_from c.from_residual.result
+    (wrong_arguments (ExtractsFile c.args.arguments) (λ files answer is. c.in_err-extent.ensures.wrong is.extent is.is_extent)
+    c.in_err-extent.ensures.failed)
+
 pub returns-in_err-image-clause-fault : goal.returns-in_err-image-clause-fault
 returns-in_err-image-clause-fault g c =
     let path = c.args.arguments.image.now in
     let bytes = c.in_ok-file.file.bytes.items in
     err_from c.from_residual-in_err-image.result
-    (before
-    (read_it (file_value path bytes ∷ []) [] refl
-    (c.in_err-image.ensures.fault ∙ ap and_reported (c.in_ok-file.ensures.read
-    ∙ ap (λ (j : Journal). and_read j path bytes) c.in_ok-extent.ensures.unchanged))))
+    (wrong_files (ExtractsFile c.args.arguments) (path ∷ []) (g.C.Console.journal c.args.console.now) (g.C.Console.journal c.read_file.new.self)
+    (g.C.Console.journal c.image_of.new.console) (file_value path bytes ∷ []) refl
+    (c.in_ok-file.ensures.read ∙ ap (λ (j : Journal). and_read j path bytes) c.in_ok-extent.ensures.unchanged)
+    (λ lacks others answer named is.
+    no_image (file_value path bytes ∷ []) others [] is.file is.files_are (subst SpellsNoImage c.deref.ensures.value lacks) (without_regions is.image) is.contents)
+    c.in_err-image.ensures.fault)
 
 pub returns-clause-fault : goal.returns-clause-fault
 returns-clause-fault g c =

@@ -1,9 +1,22 @@
-use Rattle.plm80_console.specs.AnswerLaws.{both_if_made, err_from}
+use Rattle.plm80_console.specs.AnswerLaws.{both_if_made, err_from, wrong_arguments, wrong_so_far}
+use Rattle.plm80_console.specs.{Answer.AnswerValue, Journal.FileValue}
+use Rattle.plm80_objects.specs.{Arguments.WritesWord, Compare.IsDump, declared.find.FindArguments.FindArguments}
+use Rattle.std.specs.Prelude.{slice_index_or}
+use Rattle.plm80_objects.proofs.Names.{◌++◌}
 use Rattle.plm80_objects.proofs.Names.{◌≡◌, Bor, ℕ, List, [], ◌∷◌, append-nil, refl, ◌∙◌, ap, subst, sym, IfOk, IfOk-weaker, DumpValue, LinkFile, dump_of, Journal, OnlyReports}
 use Rattle.plm80_objects.proofs.Names.{and_read, and_read_files, file_value, FindsModules, PrintsFound}
-use Rattle.plm80_objects.proofs.{ReadLemmas.read_then_reported, ReadLemmas.texts}
+use Rattle.plm80_objects.proofs.{ReadLemmas.refused_dump, ReadLemmas.texts}
 use Rattle.plm80_console.specs.Answer.GivesUp.{before}
 use Rattle.plm80_objects.proofs.find.find_in_dump.Goals as goal
+
+-- a file that is no dump is that of no answer
+no_dump : (asked : FindArguments) (file : FileValue) (others : List FileValue) (answer : AnswerValue) (first : ℕ) → WritesWord asked.first first
+    → FindsModules asked ((file ∷ []) ++ others) answer → (IsDump first file.bytes → ⊥) → ⊥
+no_dump asked file others answer first is_first is lacks =
+    let same : is.dump ≡ file = sym (ap (λ (fs : List FileValue). slice_index_or fs 0 file) is.read_are) in
+    lacks
+    (subst (λ (f : FileValue). IsDump first f.bytes) same
+    (subst (λ (n : ℕ). IsDump n is.dump.bytes) (is.first_is.1 ∙ sym is_first.1) is.whole))
 
 pub returns : goal.returns
 returns g c =
@@ -44,13 +57,19 @@ returns g c =
 pub returns-in-Err-clause-fault : goal.returns-in-Err-clause-fault
 returns-in-Err-clause-fault g c =
     let asked = c.args.arguments.now in
-    before
-    (c.faults_follow_reading.ensures (g.C.Console.journal c.args.console.now) (g.C.Console.journal c.word.new.console)
-    (g.C.Console.journal c.report_rom_fault.new.console) [] (asked.dump.now ∷ texts asked.files.items) (asked.dump.now ∷ [])
-    (texts asked.files.items) refl c.in_ok-first.ensures.unchanged
-    (read_then_reported asked.dump.now c.in_ok-file.file.bytes.items (g.C.Console.journal c.word.new.console)
-    (g.C.Console.journal c.read_file.new.self) (g.C.Console.journal c.report_rom_fault.new.console) c.in_ok-file.ensures.read
-    c.report_rom_fault.ensures))
+    let file = file_value asked.dump.now c.in_ok-file.file.bytes.items in
+    wrong_so_far (FindsModules asked) (file.path ∷ texts asked.files.items) (g.C.Console.journal c.args.console.now) (g.C.Console.journal c.read_file.new.self)
+    (g.C.Console.journal c.blame_rom_fault.new.console) (file ∷ []) (texts asked.files.items) refl
+    (c.in_ok-file.ensures.read ∙ ap (λ (j : Journal). and_read j file.path file.bytes) c.in_ok-first.ensures.unchanged)
+    (λ no_memory others answer named is.
+    no_dump asked file others answer c.in_ok-first.first c.in_ok-first.ensures.word is
+    (refused_dump c.in_ok-first.first file.bytes c.in-Err.fault.fault no_memory c.in-Err.ensures.fault.1))
+    c.blame_rom_fault.ensures
+
+pub returns-in_err-first-clause-fault : goal.returns-in_err-first-clause-fault
+returns-in_err-first-clause-fault g c =
+    err_from c.from_residual.result
+    (wrong_arguments (FindsModules c.args.arguments.now) (λ files answer is. c.in_err-first.ensures.fault is.first_is.0) c.in_err-first.ensures.failed)
 
 pub returns-in_err-files-clause-fault : goal.returns-in_err-files-clause-fault
 returns-in_err-files-clause-fault g c =

@@ -1,7 +1,6 @@
 use Rattle.plm80_console.specs.AnswerLaws.{err_from}
 use Rattle.std.proofs.Common.{[], ◌∷◌}
-use Rattle.plm80_console.specs.Answer.GivesUp.{before}
-use Rattle.plm80_boards.specs.BoardLaws.{gives_on_board, stops_at_board}
+use Rattle.plm80_boards.specs.BoardLaws.{gives_on_board, gives_up_board}
 use Rattle.plm80_objects.proofs.Names.{LocatesFile}
 use Rattle.plm80_objects.proofs.locate.locate_file.Goals as goal
 
@@ -17,5 +16,5 @@ pub returns-in_err-given-clause-fault : goal.returns-in_err-given-clause-fault
 returns-in_err-given-clause-fault g c =
     let asked = c.args.arguments.now in
     err_from c.from_residual.result
-    (before (stops_at_board asked.board (asked.object.now ∷ []) (g.C.Console.journal c.args.console.now) (g.C.Console.journal c.read.new.console)
-    c.in_err-given.ensures.fault))
+    (gives_up_board asked.board (LocatesFile asked) (asked.object.now ∷ []) (g.C.Console.journal c.args.console.now) (g.C.Console.journal c.read.new.console)
+    c.in_err-given.ensures.fault)

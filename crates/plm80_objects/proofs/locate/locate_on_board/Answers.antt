@@ -1,4 +1,4 @@
-use Rattle.plm80_console.specs.AnswerLaws.{err_from, gives_or_gives_up}
+use Rattle.plm80_console.specs.AnswerLaws.{err_from, gives_or_gives_up, wrong_arguments}
 use Rattle.plm80_objects.proofs.Names.{Bor, ℕ, List, [], ◌∷◌, refl, ◌∙◌, ap, subst, Range, Journal, and_read, file_value}
 use Rattle.plm80_objects.proofs.Names.{LocatesFile, WritesLocated}
 use Rattle.plm80_objects.proofs.{Names.OnlyReports, Names.and_reported, ReadLemmas.of_program}
@@ -56,3 +56,8 @@ returns-in_err-modules-clause-fault g c =
     (before
     (subst (λ (j : Journal). OnlyReports (c.args.arguments.now.object.now ∷ []) j (g.C.Console.journal c.read_program.new.console))
     (c.in_ok-ram.ensures.unchanged ∙ c.in_ok-rom.ensures.unchanged ∙ c.in_ok-options.ensures.unchanged) c.in_err-modules.ensures.fault))
+
+pub returns-in_err-options-clause-fault : goal.returns-in_err-options-clause-fault
+returns-in_err-options-clause-fault g c =
+    err_from c.from_residual.result
+    (wrong_arguments (LocatesFile c.args.arguments.now c.args.given_board.now.board) (λ files answer is. c.in_err-options.ensures.wrong is.options is.are_options) c.in_err-options.ensures.failed)

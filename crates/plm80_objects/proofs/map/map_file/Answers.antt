@@ -1,4 +1,4 @@
-use Rattle.plm80_console.specs.AnswerLaws.{err_from, gives_or_gives_up}
+use Rattle.plm80_console.specs.AnswerLaws.{err_from, gives_or_gives_up, wrong_arguments}
 use Rattle.plm80_objects.proofs.Names.{[], ◌∷◌, refl, ◌∙◌, ap, Journal, and_read, file_value, MapsFile, PrintsMap}
 use Rattle.plm80_objects.proofs.{Names.OnlyReports, Names.and_reported, Names.subst, ReadLemmas.of_program}
 use Rattle.plm80_console.specs.{Answer.GivesUp.before, Journal.OnlyReports.read as read_it}
@@ -36,3 +36,8 @@ returns-in_err-modules-clause-fault g c =
     (before
     (subst (λ (j : Journal). OnlyReports (c.args.arguments.object.now ∷ []) j (g.C.Console.journal c.read_program.new.console))
     c.in_ok-options.ensures.unchanged c.in_err-modules.ensures.fault))
+
+pub returns-in_err-options-clause-fault : goal.returns-in_err-options-clause-fault
+returns-in_err-options-clause-fault g c =
+    err_from c.from_residual.result
+    (wrong_arguments (MapsFile c.args.arguments) (λ files answer is. c.in_err-options.ensures.wrong is.options is.are_options) c.in_err-options.ensures.failed)

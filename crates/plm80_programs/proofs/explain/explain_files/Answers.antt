@@ -1,6 +1,6 @@
 use Rattle.plm80_programs.proofs.Names.{asks_names, program_paths, AnswersProgram, PrintsExplanation}
-use Rattle.plm80_console.specs.{Answer.GivesUp.before, AnswerLaws.err_from}
-use Rattle.plm80_boards.specs.BoardLaws.{gives_on_board, stops_at_board}
+use Rattle.plm80_console.specs.AnswerLaws.{err_from}
+use Rattle.plm80_boards.specs.BoardLaws.{gives_on_board, gives_up_board}
 use Rattle.plm80_programs.proofs.explain.explain_files.Goals as goal
 
 pub returns : goal.returns
@@ -15,5 +15,5 @@ pub returns-in_err-board-clause-fault : goal.returns-in_err-board-clause-fault
 returns-in_err-board-clause-fault g c =
     let asked = c.args.arguments in
     err_from c.from_residual.result
-    (before (stops_at_board asked.board (program_paths asked.files) (g.C.Console.journal c.args.console.now) (g.C.Console.journal c.read.new.console)
-    c.in_err-board.ensures.fault))
+    (gives_up_board asked.board (λ _. AnswersProgram (PrintsExplanation asked.all) (asks_names asked.files)) (program_paths asked.files) (g.C.Console.journal c.args.console.now) (g.C.Console.journal c.read.new.console)
+    c.in_err-board.ensures.fault)

@@ -1,7 +1,6 @@
 use Rattle.plm80_programs.proofs.Names.{PrintsListing}
-use Rattle.plm80_names.specs.VerdictLaws.{program_or_gives_up}
+use Rattle.plm80_names.specs.VerdictLaws.{gives_up_program, program_or_gives_up}
 use Rattle.plm80_console.specs.AnswerLaws.{err_from}
-use Rattle.plm80_console.specs.Answer.GivesUp.{before}
 use Rattle.plm80_programs.proofs.list.list_files.Goals as goal
 
 pub returns : goal.returns
@@ -12,4 +11,5 @@ returns g c =
 
 pub returns-in_err-image-clause-fault : goal.returns-in_err-image-clause-fault
 returns-in_err-image-clause-fault g c =
-    err_from c.from_residual.result (before c.in_err-image.ensures.fault)
+    err_from c.from_residual.result
+    (gives_up_program (PrintsListing c.args.arguments.reached c.args.arguments.source) c.in_err-image.ensures.fault)

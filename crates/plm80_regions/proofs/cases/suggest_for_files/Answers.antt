@@ -1,7 +1,8 @@
 use Rattle.plm80_regions.proofs.Names.{cases_path}
 use Rattle.plm80_regions.proofs.CaseLemmas.{cases_or_gives_up}
-use Rattle.plm80_console.specs.AnswerLaws.{err_from}
-use Rattle.plm80_console.specs.Answer.GivesUp.{before}
+use Rattle.plm80_console.specs.AnswerLaws.{err_from, gives_up_unanswered}
+use Rattle.plm80_names.specs.VerdictLaws.{no_program}
+use Rattle.plm80_regions.specs.Cases.{AnswersCasesInPart, PrintsCasesInPart}
 use Rattle.plm80_regions.proofs.cases.suggest_for_files.Goals as goal
 
 pub returns : goal.returns
@@ -12,4 +13,8 @@ returns g c =
 
 pub returns-in_err-image-clause-fault : goal.returns-in_err-image-clause-fault
 returns-in_err-image-clause-fault g c =
-    err_from c.from_residual.result (before c.in_err-image.ensures.fault)
+    let path = cases_path c.args.arguments in
+    err_from c.from_residual.result
+    (gives_up_unanswered (AnswersCasesInPart path)
+    (λ files lacks others answer named is. no_program (λ image publics. PrintsCasesInPart path image) files lacks others answer named is.is)
+    c.in_err-image.ensures.fault)

@@ -5,8 +5,10 @@ use Rattle.plm80_regions.specs.Suggest.{AreOptions}
 use Rattle.plm80_regions.specs.declared.suggest.SuggestArguments.{SuggestArguments}
 use Rattle.plm80_console.specs.AnswerLaws.{gives_or_gives_up, reported_after}
 use Rattle.plm80_console.specs.Answer.GivesUp.{before}
-use Rattle.plm80_console.specs.AnswerLaws.{err_from}
-use Rattle.plm80_regions.proofs.Names.{subst, OnlyReports}
+use Rattle.image80_file.specs.ImageFile.{without_regions}
+use Rattle.plm80_console.specs.AnswerLaws.{err_from, gives_up_unanswered, only_blames_same}
+use Rattle.plm80_files.specs.WrongLaws.{no_image}
+use Rattle.plm80_regions.proofs.Names.{subst}
 use Rattle.plm80_regions.proofs.suggest.advise_on_board.Goals as goal
 
 pub advise-requires-clause-by_address : goal.advise-requires-clause-by_address
@@ -69,6 +71,6 @@ returns-clause-fault g c =
 pub returns-in_err-image-clause-fault : goal.returns-in_err-image-clause-fault
 returns-in_err-image-clause-fault g c =
     err_from c.from_residual-in_err-image.result
-    (before
-    (subst (λ (j : Journal). OnlyReports (c.args.arguments.now.image.now ∷ []) j (g.C.Console.journal c.bare_image.new.console))
-    c.in_ok-options.ensures.unchanged c.in_err-image.ensures.fault))
+    (gives_up_unanswered (AnswersAdvice c.args.arguments.now c.args.given.now.board)
+    (λ files lacks others answer named is. no_image files others [] is.file is.files_are lacks (without_regions is.image) is.contents)
+    (only_blames_same c.in_ok-options.ensures.unchanged c.in_err-image.ensures.fault))

@@ -1,4 +1,6 @@
-use Rattle.plm80_console.specs.AnswerLaws.{more_or_gives_up}
+use Rattle.plm80_console.specs.AnswerLaws.{err_from, more_or_gives_up, wrong_arguments}
+use Rattle.plm80_runs.proofs.Names.{subst, Limits}
+use Rattle.plm80_runs.proofs.ReadLemmas.{same_limits}
 use Rattle.plm80_runs.specs.OnBoards.{AnswersOnBoard, CoversBoardFiles, CoversOnBoard, board_program_paths}
 use Rattle.plm80_runs.proofs.board_cover.cover_among_devices.Goals as goal
 
@@ -9,6 +11,16 @@ returns g c =
     let both = more_or_gives_up (AnswersOnBoard (λ lines. CoversOnBoard lines limits) asked.files) (CoversBoardFiles asked) (board_program_paths asked.files)
     (g.C.Console.journal c.args.console.now) (g.C.Console.journal c.numbers.new.console) (g.C.Console.journal c.cover_within-given.new.console)
     (λ files answer answers. record { limits = limits; are_limits = c.in_ok-limits.ensures.limits; answers = answers })
-    c.in_ok-limits.ensures.unchanged c.cover_within-given.result
+    c.in_ok-limits.ensures.unchanged
+    (λ files answer is.
+    subst (λ (l : Limits). AnswersOnBoard (λ lines. CoversOnBoard lines l) asked.files files answer)
+    (same_limits asked.limits is.limits limits is.are_limits c.in_ok-limits.ensures.limits) is.answers)
+    c.cover_within-given.result
     (c.cover_within-given.ensures.done, c.cover_within-given.ensures.fault) in
     record { done = both.0; fault = both.1 }
+
+pub returns-in_err-limits-clause-fault : goal.returns-in_err-limits-clause-fault
+returns-in_err-limits-clause-fault g c =
+    err_from c.from_residual.result
+    (wrong_arguments (CoversBoardFiles c.args.arguments) (λ files answer is. c.in_err-limits.ensures.wrong is.limits is.are_limits)
+    c.in_err-limits.ensures.failed)

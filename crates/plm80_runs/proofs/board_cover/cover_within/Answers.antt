@@ -1,6 +1,5 @@
-use Rattle.plm80_runs.proofs.BoardLemmas.{board_answered}
+use Rattle.plm80_runs.proofs.BoardLemmas.{board_answered, gives_up_on_board}
 use Rattle.plm80_console.specs.AnswerLaws.{err_from}
-use Rattle.plm80_console.specs.Answer.GivesUp.{before}
 use Rattle.plm80_runs.specs.OnBoards.{CoversOnBoard}
 use Rattle.plm80_runs.proofs.board_cover.cover_within.Goals as goal
 
@@ -12,4 +11,5 @@ returns g c =
     record { done = both.0; fault = both.1 }
 
 pub returns-in_err-board-clause-fault : goal.returns-in_err-board-clause-fault
-returns-in_err-board-clause-fault g c = err_from c.from_residual.result (before c.in_err-board.ensures.fault)
+returns-in_err-board-clause-fault g c =
+    err_from c.from_residual.result (gives_up_on_board (λ lines. CoversOnBoard lines c.args.limits) c.args.files c.in_err-board.ensures.fault)

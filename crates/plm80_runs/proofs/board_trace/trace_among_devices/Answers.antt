@@ -1,5 +1,7 @@
-use Rattle.plm80_console.specs.AnswerLaws.{gives_more, gives_up_more}
-use Rattle.plm80_runs.proofs.Names.{◌∙◌}
+use Rattle.plm80_console.specs.AnswerLaws.{err_from, gives_more, gives_up_more, wrong_arguments}
+use Rattle.plm80_console.specs.Journal.{and_blamed}
+use Rattle.plm80_runs.proofs.ReadLemmas.{same_limits, same_span}
+use Rattle.plm80_runs.proofs.Names.{◌∙◌, ap, subst, Limits, Span}
 use Rattle.plm80_runs.specs.OnBoards.{AnswersOnBoard, TracesBoardFiles, TracesBoardFilesInPart, TracesOnBoard, TracesOnBoardInPart, board_program_paths}
 use Rattle.plm80_runs.proofs.board_trace.trace_among_devices.Goals as goal
 
@@ -22,5 +24,23 @@ returns g c =
           (board_program_paths asked.files) old between new
           (λ files answer answers.
           record { limits = limits; are_limits = c.in_ok-limits.ensures.limits; span = span; is_span = c.in_ok-span.ensures.span; answers = answers })
-          same c.trace_within-given.result c.trace_within-given.ensures.fault;
+          same
+          (λ files answer traces.
+          subst (λ (l : Limits). AnswersOnBoard (λ lines. TracesOnBoardInPart lines l span) asked.files files answer)
+          (same_limits asked.limits traces.limits limits traces.are_limits c.in_ok-limits.ensures.limits)
+          (subst (λ (s : Span). AnswersOnBoard (λ lines. TracesOnBoardInPart lines traces.limits s) asked.files files answer)
+          (same_span asked.span traces.span span traces.is_span c.in_ok-span.ensures.span) traces.answers))
+          c.trace_within-given.result c.trace_within-given.ensures.fault;
     }
+
+pub returns-in_err-limits-clause-fault : goal.returns-in_err-limits-clause-fault
+returns-in_err-limits-clause-fault g c =
+    err_from c.from_residual.result
+    (wrong_arguments (TracesBoardFilesInPart c.args.arguments) (λ files answer traces. c.in_err-limits.ensures.wrong traces.limits traces.are_limits)
+    c.in_err-limits.ensures.failed)
+
+pub returns-in_err-span-clause-fault : goal.returns-in_err-span-clause-fault
+returns-in_err-span-clause-fault g c =
+    err_from c.from_residual-in_err-span.result
+    (wrong_arguments (TracesBoardFilesInPart c.args.arguments) (λ files answer traces. c.in_err-span.ensures.wrong traces.span traces.is_span)
+    (c.in_err-span.ensures.failed ∙ ap and_blamed c.in_ok-limits.ensures.unchanged))

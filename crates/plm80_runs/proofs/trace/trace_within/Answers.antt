@@ -1,7 +1,6 @@
-use Rattle.plm80_runs.proofs.ReadLemmas.{run_accepted, run_accepted_given_up, run_refused, run_reported}
+use Rattle.plm80_runs.proofs.ReadLemmas.{gives_up_run, run_accepted, run_accepted_given_up, run_refused, run_reported}
 use Rattle.plm80_runs.proofs.Names.{subst, IsVerdict, TracesPart, TracesRun}
 use Rattle.plm80_console.specs.AnswerLaws.{err_from}
-use Rattle.plm80_console.specs.Answer.GivesUp.{before}
 use Rattle.plm80_runs.proofs.trace.trace_within.Goals as goal
 
 pub returns-in-Ok-Accepted : goal.returns-in-Ok-Accepted
@@ -33,4 +32,4 @@ returns-clause-fault g c = run_reported c.in_ok-program.ensures.read (g.C.Consol
 
 pub returns-in_err-program-clause-fault : goal.returns-in_err-program-clause-fault
 returns-in_err-program-clause-fault g c =
-    err_from c.from_residual.result (before c.in_err-program.ensures.fault)
+    err_from c.from_residual.result (gives_up_run (λ inputs. TracesPart inputs c.args.limits c.args.span) c.in_err-program.ensures.fault)

@@ -1,9 +1,8 @@
 use Rattle.plm80_runs.proofs.Names.{ℕ, List, subst, IsVerdict, AnswersVerdict, EndsRun, dump_path}
 use Rattle.plm80_console.specs.AnswerLaws.{answered_of, given_or_given_up}
-use Rattle.plm80_runs.proofs.ReadLemmas.{run_or_gives_up, run_reported}
+use Rattle.plm80_runs.proofs.ReadLemmas.{gives_up_run, run_or_gives_up, run_reported}
 use Rattle.plm80_names.specs.Verdict.AnswersVerdict.{accepted, refused}
 use Rattle.plm80_console.specs.AnswerLaws.{err_from}
-use Rattle.plm80_console.specs.Answer.GivesUp.{before}
 use Rattle.plm80_runs.proofs.watching.watch_run.Goals as goal
 
 pub returns-in-Ok-Accepted : goal.returns-in-Ok-Accepted
@@ -38,4 +37,6 @@ returns-clause-fault g c = run_reported c.in_ok-program.ensures.read (g.C.Consol
 
 pub returns-in_err-program-clause-fault : goal.returns-in_err-program-clause-fault
 returns-in_err-program-clause-fault g c =
-    err_from c.from_residual.result (before c.in_err-program.ensures.fault)
+    let watch = c.args.watch in
+    err_from c.from_residual.result
+    (gives_up_run (λ (inputs : List (ℕ × ℕ)). EndsRun inputs watch.limits watch.last (dump_path watch.dump)) c.in_err-program.ensures.fault)

@@ -1,5 +1,0 @@
-use Rattle.verify80_explain.specs.Ways.{Lead}
-use Rattle.verify80_explain.proofs.ways.calls_between.Given as goal
-
-abbrev pub invariant-loop-number : goal.invariant-loop-number
-invariant-loop-number g l = Lead (g.C.Code.code l.program) l.fn.from l.calls.items l.at
