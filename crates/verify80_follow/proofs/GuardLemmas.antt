@@ -40,7 +40,7 @@ module _ (regions : Areas) (ground : Ground regions) where
     pub there : in_range regions.stack address ≡ true
     pub below : IsJustBelow (top_of regions) most address
 
-  at_count : (most n : ℕ) → 0 < n → n ≤ most → n ≤ regions.stack.length → Touches most (pointer_at (bounds regions ground) n)
+  pub at_count : (most n : ℕ) → 0 < n → n ≤ most → n ≤ regions.stack.length → Touches most (pointer_at (bounds regions ground) n)
   at_count most n some few less = record {
     there = on_stack regions ground n some less;
     below = (let ends = ground.stack_ends in let short = ground.stack_short in (n - 1, (omega (arith, some, few), omega (arith, some, less, ends, short))));

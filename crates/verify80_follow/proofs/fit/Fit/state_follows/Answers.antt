@@ -18,9 +18,9 @@ returns c =
     (λ f follows is. record {
       found = found;
       executed = c.in-Some.ensures.executed;
-      serves = c.if-not-serves.ensures refl;
-      shown = subst (λ (r : Areas). IsShownOrListed r fit.listed.now found.instr state) c.requires.regions (c.if-not-is_shown_or_listed.ensures refl);
+      serves = c.if-not-may_stand.ensures.serves refl;
+      shown = subst (λ (r : Areas). IsShownOrListed r fit.listed.now found.instr state) c.requires.regions (c.if-not-may_stand.ensures.shown refl);
       follows = follows is;
-      depth = subst (λ (o : Option (List ByteSpan)). IfSome o (λ stack. length stack ≤ fit.bytes)) c.bytes.ensures (c.if-not-is_within.ensures refl);
-      knows = c.if-not-is_quiet.ensures refl;
+      depth = c.if-not-may_stand.ensures.depth refl;
+      knows = c.if-not-may_stand.ensures.knows refl;
     }) c.follows_by.ensures
