@@ -16,7 +16,8 @@ use Rattle.verify80_states.specs.{declared.states.known.Known.Known, Following.k
 use Rattle.verify80_follow.specs.declared.{calls.Summary.Summary, followed.FollowedState.FollowedState, followed.Listed.Listed, followed.Way.Way, held.Beside.Beside, stack.StackBounds.StackBounds}
 use Rattle.verify80_follow.specs.Stack.{called_on, if_true, pushed_onto, stack_after, stack_then, top_of_stack, with_one}
 use Rattle.verify80_follow.specs.Held.{beside_then, count_of}
-use Rattle.verify80_follow.specs.Follows.{Covers, CoversStack, CoversThen, FollowsBy, IsWay, JumpsBy, LeadsTo, ReturnsLeft, ReturnsTo, Goes, PassesBy, ReturnsBack, StateFollows, StateStands, StepsOver, stack_of, uses_pointer}
+use Rattle.verify80_follow.specs.Follows.{Covers, CoversStack, CoversThen, FollowsBy, IsWay, JumpsBy, LeadsTo, ReturnsLeft, ReturnsTo}
+use Rattle.verify80_follow.specs.Follows.{Goes, PassesBy, ReturnsBack, StateFollows, StateStands, StepsOver, stack_of, uses_pointer}
 use Rattle.verify80_follow.specs.Handling.{Handles, on_stack}
 
 -- where there is room there is more
