@@ -12,7 +12,7 @@ use Rattle.decode80.specs.{declared.flow.Flow.Flow, declared.instr.Instr.Instr, 
 use Rattle.decode80.specs.declared.flow.Flow.TheVariants.{Jumps, JumpsIf, JumpsToHl, Calls, CallsIf, Returns, ReturnsIf, Halts}
 use Rattle.decode80.specs.declared.instr.Instr.TheVariants.{Call, CallIf, Dad, Dcx, Di, Ei, Hlt, In, Inx, Lxi, Out, Pchl, Pop, Push, Ret, ReturnIf, Rst, Sphl, Xthl}
 use Rattle.decode80.specs.declared.pair.Pair.TheVariants.{Sp}
-use Rattle.image80.specs.{Range.in_range, Regions.AreRegions, Regions.Areas, Regions.in_code, Regions.in_data, Regions.targets_at, Regions.top_of, Image.Located, Image.memory_of}
+use Rattle.image80.specs.{Range.in_range, Regions.AreRegions, Regions.in_code, Regions.in_data, Regions.targets_at, Regions.top_of, Image.Located, Image.memory_of}
 use Rattle.machine80.specs.{Cpu.hl_of, Flags.flags_byte, Flags.bit_of, Flags.holds as holds_of, Effects.byte_in, Effects.changed}
 use Rattle.machine80.specs.{Effects.goes_to, Effects.pointed_bytes, Effects.stack_bytes, Effects.stored, Effects.stores, Effects.target}
 use Rattle.machine80.specs.{Effects.touched_by, Effects.word_in, Run.world_of, declared.cpu.Cpu.Cpu, declared.flags.Flags.Flags}
@@ -30,16 +30,15 @@ use Rattle.verify80_states.specs.{QuietBoards.StaysQuiet, Steps.AreCodeBytes, St
 use Rattle.verify80_states.specs.Known.{HoldsKnown, HoldsPair, HoldsTop, IsQuietKnown, any_pair, cut, nothing_known}
 use Rattle.verify80_states.specs.{Cells.IsQuietCell, declared.states.cells.Cell.Cell}
 use Rattle.verify80_states.specs.Laws.{ConditionsLeaveKnown, InstructionsAreFollowed, IsFollowedBy, KnownStaysQuiet, WhatHoldsOfBytes}
-use Rattle.verify80_states.specs.Invariants.{invariant_is_kept}
 use Rattle.verify80_follow.specs.declared.{calls.Summary.Summary, held.Beside.Beside, stack.StackBounds.StackBounds, followed.FollowedState.FollowedState, followed.Listed.Listed, followed.Way.Way}
 use Rattle.verify80_follow.specs.Stack.{AreBytesInside, called_on, HoldsFrom, HoldsStack, IsStackInside, bounds_of, if_true, moved_to}
 use Rattle.verify80_follow.specs.Stack.{pointer_at, return_address, set_stack, stack_after, stack_then, top_of_stack, word_on}
-use Rattle.verify80_follow.specs.InterruptedBoards.{OnInterruptedBoard, Wakes, begins, disturbed, enabled_after, executed, with_pc, woken}
+use Rattle.verify80_follow.specs.InterruptedBoards.{Wakes, enabled_after, with_pc}
 use Rattle.verify80_follow.specs.Held.{Entry, HoldsBeside, beside_then, count_of, nothing_beside}
 use Rattle.verify80_follow.proofs.HeldLemmas.{beside_around, beside_holds, is_pushing, nothing_holds, same_beside}
-use Rattle.verify80_follow.specs.Follows.{Covers, CoversThen, Follows, FollowsBy, Has, IsWay, JumpsBy, LeadsTo, ReturnsLeft}
+use Rattle.verify80_follow.specs.Follows.{Covers, CoversThen, FollowsBy, Has, IsWay, JumpsBy, LeadsTo, ReturnsLeft}
 use Rattle.verify80_follow.specs.Follows.{ReturnsTo, PassesBy, StateFollows, StateStands, called, first_stack, is_return, stack_of}
-use Rattle.verify80_follow.specs.Promise.{FollowedProgramsKeepThePromise, GoesToListed, IsLeftOpenAt, IsReady, KeepsFollowed, KnowsWorld, PromiseOfFollowed, PromiseOfInterrupted}
+use Rattle.verify80_follow.specs.Promise.{GoesToListed, IsLeftOpenAt, KeepsFollowed, KnowsWorld}
 use Rattle.verify80_follow.proofs.{GroundLemmas.Ground, FetchLemmas.anywhere_of, FetchLemmas.fetched_here, FetchLemmas.inside_of, StackSteps.stack_holds}
 use Rattle.verify80_follow.proofs.GuardLemmas.{Touches, all_of_list, passes_guard, touched}
 use Rattle.verify80_follow.proofs.StackLemmas.{any_within, byte_at, moved_holds, on_stack, pointer_is, stays_from}

@@ -1,6 +1,6 @@
 use Rattle.std.specs.Prelude.{◌≡◌, Some, true}
 use Rattle.std.proofs.Common.{ap, refl, subst, sym, ◌∙◌}
-use Rattle.decode80.specs.{Facts.flow, declared.flow.Flow.Flow}
+use Rattle.decode80.specs.{Facts.flow}
 use Rattle.image80.specs.Regions.{Areas}
 use Rattle.verify80_states.specs.{Known.nothing_known, Marks.is_marked}
 use Rattle.verify80_follow.specs.declared.held.Beside.{Beside}
