@@ -1,5 +1,6 @@
 -- The bytes of lists.
-use Rattle.std.proofs.Common.{◌≡◌, ◌≢◌, ℕ, zero, suc, ◌+◌, ◌-◌, ◌*◌, ◌/◌, ◌%◌, ◌<◌, ◌≤◌, Bool, true, false, cond, List, [], ◌∷◌, ◌++◌, length, get_or, take, drop, append_assoc, append-nil, refl, ap, sym, subst, ◌∙◌, arith}
+use Rattle.std.proofs.Common.{◌≡◌, ◌≢◌, ℕ, zero, suc, ◌+◌, ◌-◌, ◌*◌, ◌/◌, ◌%◌, ◌<◌, ◌≤◌, Bool, true, false, cond, List, [], ◌∷◌}
+use Rattle.std.proofs.Common.{◌++◌, length, get_or, take, drop, append_assoc, append-nil, refl, ap, sym, subst, ◌∙◌, arith}
 use Rattle.std.specs.Prelude.{slice_get, slice_index, ◌==◌, find, Option, Some, None}
 use Rattle.std.proofs.Math.Nat.{div-add-mod, div-le_self, mod-lt, mul-div-le, mul-le-mul_left}
 use Rattle.std.proofs.lemmas.Bool.{eq-eqb, ne_eqb}
@@ -44,7 +45,7 @@ get_after bytes ys (suc times) n =
     ∙ get_behind bytes (repeated times bytes ++ ys) (times * length bytes + n)
     ∙ get_after bytes ys times n
 
--- so many turns fit
+-- what comes `left / count` times at most needs no more than `left`
 pub turns_fit : (left count times : ℕ) → times ≤ left / count → times * count ≤ left
 turns_fit left count times below = omega (arith, mul-le-mul_left count below, mul-div-le left count)
 

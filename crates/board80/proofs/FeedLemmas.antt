@@ -20,7 +20,8 @@ use Rattle.board80.specs.declared.place.Place.{Place}
 use Rattle.board80.specs.declared.place.Place.TheVariants.{Port, Cell}
 use Rattle.board80.specs.declared.table.Row.{Row}
 use Rattle.board80.specs.Board.{AreAnswers, IsItem, IsProper}
-use Rattle.board80.specs.BoardText.{answers_text, bytes_text, for_ever_text, group_text, heading, item_text, items_text, kind_text, line_text, list_text, other_text, place_text, range_text, row_text, rows_text, source_text, spaced_text, table_text, times_text}
+use Rattle.board80.specs.BoardText.{answers_text, bytes_text, for_ever_text, group_text, heading, item_text, items_text, kind_text, line_text, list_text}
+use Rattle.board80.specs.BoardText.{other_text, place_text, range_text, row_text, rows_text, source_text, spaced_text, table_text, times_text}
 use Rattle.board80.specs.Group.{GroupBytes}
 use Rattle.board80.proofs.DigitLemmas.{digit_not}
 use Rattle.board80.proofs.WordLemmas.{times_lack}

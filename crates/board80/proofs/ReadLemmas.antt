@@ -1,5 +1,6 @@
 -- What the parts of a text that were read say of the whole.
-use Rattle.std.proofs.Common.{◌≡◌, ◌≢◌, ℕ, suc, ◌+◌, ◌<◌, ◌≤◌, ◌^◌, Bool, true, false, cond, List, [], ◌∷◌, ◌++◌, length, get_or, take, drop, append_assoc, append-nil, refl, ap, sym, subst, ◌∙◌, arith}
+use Rattle.std.proofs.Common.{◌≡◌, ◌≢◌, ℕ, suc, ◌+◌, ◌<◌, ◌≤◌, ◌^◌, Bool, true, false, cond, List, [], ◌∷◌, ◌++◌}
+use Rattle.std.proofs.Common.{length, get_or, take, drop, append_assoc, append-nil, refl, ap, sym, subst, ◌∙◌, arith}
 use Rattle.std.specs.Prelude.{◌==◌, All, codes, Option, Some, None, IfNone, IfOk, IfSome, Result, Ok, Err}
 use Rattle.std.specs.Fmt.{decimal}
 use Rattle.std.specs.List.{flat_map}
@@ -20,7 +21,8 @@ use Rattle.board80.specs.declared.place.Place.{Place}
 use Rattle.board80.specs.declared.place.Place.TheVariants.{Port, Cell}
 use Rattle.board80.specs.declared.table.Row.{Row}
 use Rattle.board80.specs.Board.{AreAnswers, AreBytes, AreItemBytes, IsAscending, IsGroup, IsItem, IsList, IsPlace, IsRow, IsTable}
-use Rattle.board80.specs.BoardText.{answers_text, bytes_text, for_ever_text, group_text, item_text, items_text, list_text, other_text, range_text, row_text, rows_text, source_text, spaced_text, table_text, times_text}
+use Rattle.board80.specs.BoardText.{answers_text, bytes_text, for_ever_text, group_text, item_text, items_text, list_text}
+use Rattle.board80.specs.BoardText.{other_text, range_text, row_text, rows_text, source_text, spaced_text, table_text, times_text}
 use Rattle.board80.specs.ByteList.{ListedBytes}
 use Rattle.board80.specs.Group.{GroupBytes}
 use Rattle.board80.specs.Reading.{IsAtEnd, IsWord}

@@ -18,7 +18,8 @@ use Rattle.board80.specs.declared.place.Place.{Place}
 use Rattle.board80.specs.declared.place.Place.TheVariants.{Port, Cell}
 use Rattle.board80.specs.declared.table.Row.{Row}
 use Rattle.board80.specs.Board.{AreAnswers, AreItemBytes, IsItem, IsList, IsProper, IsTable}
-use Rattle.board80.specs.BoardText.{answers_text, bytes_text, for_ever_text, items_text, kind_text, line_text, list_text, other_text, place_text, range_text, rows_text, source_text, table_text, times_text}
+use Rattle.board80.specs.BoardText.{answers_text, bytes_text, for_ever_text, items_text, kind_text, line_text, list_text}
+use Rattle.board80.specs.BoardText.{other_text, place_text, range_text, rows_text, source_text, table_text, times_text}
 use Rattle.board80.specs.ByteList.{ListedBytes}
 use Rattle.board80.specs.Table.{TableRows}
 use Rattle.board80.proofs.DigitLemmas.{address_first, byte_first, no_digit}

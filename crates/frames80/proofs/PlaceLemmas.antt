@@ -15,7 +15,8 @@ use Rattle.frames80.specs.Word.{met}
 use Rattle.frames80.specs.StackFrame.{StackFrame, pair_in, with_pair, top_word, taken_after_pop}
 use Rattle.frames80.specs.Moves.{changed, return_fault, is_own_alone}
 use Rattle.frames80.specs.Calls.{returned, agree, words_met, merged}
-use Rattle.frames80.specs.Places.{InPair, InWord, Source, From, Unknown, word_from_top, word_at, sourced, pair_source, source, source_after, ChangesByPlaces, ReturnsByPlaces, MeetsByPlaces, SameCounts, Covers, CoveredGoesAlong}
+use Rattle.frames80.specs.Places.{InPair, InWord, Source, From, Unknown, word_from_top, word_at, sourced, pair_source, source}
+use Rattle.frames80.specs.Places.{source_after, ChangesByPlaces, ReturnsByPlaces, MeetsByPlaces, SameCounts, Covers, CoveredGoesAlong}
 
 top_at : (words : List Word) → top_word words ≡ word_from_top words 0
 top_at [] = refl

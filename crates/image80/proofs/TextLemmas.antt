@@ -15,7 +15,8 @@ use Rattle.image80.specs.Case.{DeclaredCase, IsCase, AreByAddress}
 use Rattle.image80.specs.Lines.{parts, is_line_feed}
 use Rattle.image80.specs.Range.{IsInMemory}
 use Rattle.image80.specs.Reading.{AreCasesOf}
-use Rattle.image80.specs.RegionsText.{heading, entry_text, is_repeated, code_range, stack_range, data_range, filled, code_ranges, stack_ranges, data_ranges, case_lines, IsProper, GoodStart, GoodText, IsFirstBadLine, LacksStack, Overlaps, Refuses, Spells}
+use Rattle.image80.specs.RegionsText.{heading, entry_text, is_repeated, code_range, stack_range, data_range, filled, code_ranges, stack_ranges}
+use Rattle.image80.specs.RegionsText.{data_ranges, case_lines, IsProper, GoodStart, GoodText, IsFirstBadLine, LacksStack, Overlaps, Refuses, Spells}
 use Rattle.image80.specs.Regions.{Areas, AreRegions, AreDisjoint, Arranges}
 use Rattle.image80.specs.RegionsText.IsFirstBadLine.{after}
 use Rattle.image80.proofs.OnceLemmas.{once-push, one_stack_line}

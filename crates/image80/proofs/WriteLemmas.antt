@@ -19,7 +19,8 @@ use Rattle.image80.specs.CaseLine.{IsCaseLine}
 use Rattle.image80.specs.Lines.{is_line_feed, parts, text_of}
 use Rattle.image80.specs.Range.{IsInMemory}
 use Rattle.image80.specs.Regions.{Areas, AreRegions, all_ranges}
-use Rattle.image80.specs.RegionsText.{heading, range_text, targets_text, case_text, entry_text, code_range, stack_range, data_range, case_of, filled, stack_ranges, case_lines, entries_of, version_for, text_in, regions_text, IsProper, Migrates, Spells}
+use Rattle.image80.specs.RegionsText.{heading, range_text, targets_text, case_text, entry_text, code_range, stack_range, data_range, case_of}
+use Rattle.image80.specs.RegionsText.{filled, stack_ranges, case_lines, entries_of, version_for, text_in, regions_text, IsProper, Migrates, Spells}
 use Rattle.image80.proofs.OnceLemmas.{All-front, All-back, lines_once}
 use Rattle.image80.proofs.ReadingLemmas.{one_reading}
 

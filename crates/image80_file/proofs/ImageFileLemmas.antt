@@ -12,7 +12,8 @@ use Rattle.omf_model.specs.Modules.{ModuleValue, made_of}
 use Rattle.omf_model.specs.Rules.{IsModule, keeps_rules, is_content, is_in_bounds, is_fitting, each_after, end_of}
 use Rattle.omf_model.specs.SoundParts.{in_bounds_parts, sound_parts}
 use Rattle.omf_module.specs.declared.fault.Cause.{Cause}
-use Rattle.omf_module.specs.declared.fault.Cause.TheVariants.{Record, NoHeader, UnknownKind, BadBody, BadName, SegmentUnknown, OffsetOutside, FixupBeforeContent, FixupOutside, FixupTwice, IndexUnknown, NoEnd, Memory}
+use Rattle.omf_module.specs.declared.fault.Cause.TheVariants.{Record, NoHeader, UnknownKind, BadBody, BadName, SegmentUnknown, OffsetOutside}
+use Rattle.omf_module.specs.declared.fault.Cause.TheVariants.{FixupBeforeContent, FixupOutside, FixupTwice, IndexUnknown, NoEnd, Memory}
 use Rattle.omf_module.specs.declared.fault.ModuleFault.{ModuleFault}
 use Rattle.omf_module.specs.Spelled.{SpellsFile, FaultsFile}
 use Rattle.omf_module.specs.Reading.{OrNoMemory}
@@ -21,7 +22,9 @@ use Rattle.omf_module.specs.WritingLaws.{WrittenFileIsSpelled}
 use Rattle.image80_file.specs.declared.image_fault.ImageFault.{ImageFault}
 use Rattle.image80_file.specs.declared.image_fault.ImageFault.TheVariants.{NotAbsolute, Module, Memory as OutOfMemory}
 use Rattle.image80.specs.Image.{PlacedBytes, Located, IsChunk}
-use Rattle.image80_file.specs.ImageFile.{AbsoluteProgram, SpellsImage, chunk_content, content_chunk, named_module, image_module, is_absolute_content, is_absolute_start, is_absolute, program_from, program_of, program_of_one, of_cause, of_module_fault, FaultsImage, of_file, of_modules, WrittenImageIsSpelled, NamedModuleIsRead, OneImage, OneImageFault, NeverBothImage}
+use Rattle.image80_file.specs.ImageFile.{AbsoluteProgram, SpellsImage, chunk_content, content_chunk, named_module, image_module, is_absolute_content}
+use Rattle.image80_file.specs.ImageFile.{is_absolute_start, is_absolute, program_from, program_of, program_of_one, of_cause, of_module_fault, FaultsImage}
+use Rattle.image80_file.specs.ImageFile.{of_file, of_modules, WrittenImageIsSpelled, NamedModuleIsRead, OneImage, OneImageFault, NeverBothImage}
 
 -- ---- the module of an image
 

@@ -4,7 +4,8 @@ ghost use Rattle.std.specs.Prelude.{◌≡◌, ◌≢◌, ◌++◌, Ok, Err, map
 ghost use Rattle.std.specs.List.{AllByRecursion, list_all};
 ghost use Rattle.omf_core.specs.Name.{is_name};
 ghost use Rattle.image80.specs.Image.{IsChunk};
-ghost use Rattle.image80_file.specs.ImageFile.{named_module, image_bytes, SpellsImage, FaultsImage, chunk_content, content_chunk, is_absolute, is_absolute_content, is_absolute_start, program_of, without_regions};
+ghost use Rattle.image80_file.specs.ImageFile.{named_module, image_bytes, SpellsImage, FaultsImage, chunk_content, content_chunk};
+ghost use Rattle.image80_file.specs.ImageFile.{is_absolute, is_absolute_content, is_absolute_start, program_of, without_regions};
 
 use crate::absolute::AbsoluteProgram;
 use crate::image_fault::ImageFault;

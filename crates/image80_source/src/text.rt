@@ -4,7 +4,8 @@ ghost use Rattle.std.specs.Prelude.{◌≡◌, All, ◌<◌, ◌+◌, ◌++◌, 
 ghost use Rattle.std.specs.List.{flat_map};
 ghost use Rattle.image80_source.specs.Labels.{label_at};
 ghost use Rattle.image80_source.specs.Placed.{IsShort};
-ghost use Rattle.image80_source.specs.SourceText.{byte_number, content_text, end_text, equate_text, label_equate, label_equates, label_field, line_end, line_text, lines_text, numbers_text, origin_if, origin_text, port_equate, port_equates};
+ghost use Rattle.image80_source.specs.SourceText.{byte_number, content_text, end_text, equate_text, label_equate, label_equates, label_field};
+ghost use Rattle.image80_source.specs.SourceText.{line_end, line_text, lines_text, numbers_text, origin_if, origin_text, port_equate, port_equates};
 
 use crate::covered::{ADDRESSES, is_marked, marks_of_lines};
 use crate::labels::Labels;

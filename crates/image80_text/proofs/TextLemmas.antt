@@ -1,5 +1,6 @@
 -- The nearest public by its definition as a walk down, and the lines of texts.
-use Rattle.std.proofs.Common.{◌≡◌, ℕ, zero, suc, ◌+◌, ◌-◌, ◌<◌, ◌≤◌, Bool, true, false, Option, Some, None, List, [], ◌∷◌, ◌++◌, length, refl, sym, ap, ◌∙◌, subst, arith, cond, inl, inr, append_assoc, append-nil}
+use Rattle.std.proofs.Common.{◌≡◌, ℕ, zero, suc, ◌+◌, ◌-◌, ◌<◌, ◌≤◌, Bool, true, false, Option, Some, None, List, [], ◌∷◌}
+use Rattle.std.proofs.Common.{◌++◌, length, refl, sym, ap, ◌∙◌, subst, arith, cond, inl, inr, append_assoc, append-nil}
 use Rattle.std.specs.Prelude.{◌==◌, find, nat_le, nat_lt, ◌*◌, ◌/◌, ◌%◌, codes, slice_index, IfSome, IfNone}
 use Rattle.std.specs.List.{AllByRecursion, count_by, join_with_byte}
 use Rattle.std.specs.Option.{option_and_then, option_map, option_map_or, option_or}
@@ -15,7 +16,8 @@ use Rattle.image80.specs.Range.{in_range}
 use Rattle.image80.specs.Lines.{is_line_feed, parts}
 use Rattle.omf_model.specs.declared.symbols.Public.{Public}
 use Rattle.image80_text.specs.Names.{is_at, public_at, lies_below, IsNearest, IsNearestIn, IsNearestWithin}
-use Rattle.image80_text.specs.NameText.{nearest_from, nearest_of, above_text, name_text, digit_value, pair_value, address_at, instruction_address, address_behind, each_line, label_text, labelled_line, named_line, NoPublicsNoNames, PrintedAddressIsNamed, NearestIsGreatest}
+use Rattle.image80_text.specs.NameText.{nearest_from, nearest_of, above_text, name_text, digit_value, pair_value, address_at, instruction_address, address_behind}
+use Rattle.image80_text.specs.NameText.{each_line, label_text, labelled_line, named_line, NoPublicsNoNames, PrintedAddressIsNamed, NearestIsGreatest}
 use Rattle.image80_text.proofs.NearestLemmas.{lies_at_most, none_found, nearest_exists}
 
 all_so : (P Q : Public → Type 0) → ((x : Public) → P x → Q x) → (xs : List Public) → AllByRecursion P xs → AllByRecursion Q xs

@@ -1,5 +1,6 @@
 -- Parts that are joined by name are the segments of the linked module's commons.
-use Rattle.std.specs.Prelude.{◌≡◌, ℕ, zero, suc, ◌+◌, ◌≤◌, ◌<◌, ◌==◌, nat_eq, Bool, true, false, not, ◌||◌, Option, Some, None, option_map, List, [], ◌∷◌, ◌++◌, find, map, length, max, refl, slice_get, IsTrue}
+use Rattle.std.specs.Prelude.{◌≡◌, ℕ, zero, suc, ◌+◌, ◌≤◌, ◌<◌, ◌==◌, nat_eq, Bool, true, false, not, ◌||◌, Option, Some}
+use Rattle.std.specs.Prelude.{None, option_map, List, [], ◌∷◌, ◌++◌, find, map, length, max, refl, slice_get, IsTrue}
 use Rattle.std.specs.List.{list_any, flat_map, enumerate_from, AllByRecursion}
 use Rattle.std.specs.Option.{option_map_or}
 use Rattle.std.specs.Cmp.Lexicographic.{pointwise}

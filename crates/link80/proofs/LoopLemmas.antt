@@ -1,5 +1,6 @@
 -- Steps of loops over modules by number.
-use Rattle.std.specs.Prelude.{◌≡◌, ◌<◌, ◌≤◌, nat_lt, refl, ℕ, zero, suc, ◌+◌, length, map, [], Bool, ◌||◌, true, false, if◌then◌else◌, filter, filter_map, Option, Some, None, List, ◌∷◌, ◌++◌, drop, slice_get}
+use Rattle.std.specs.Prelude.{◌≡◌, ◌<◌, ◌≤◌, nat_lt, refl, ℕ, zero, suc, ◌+◌, length, map, [], Bool, ◌||◌, true, false}
+use Rattle.std.specs.Prelude.{if◌then◌else◌, filter, filter_map, Option, Some, None, List, ◌∷◌, ◌++◌, drop, slice_get}
 use Rattle.std.specs.List.{AllByRecursion, list_any, flat_map, enumerate_from, cons_option}
 use Rattle.std.proofs.Common.{inl, inr, ◌∙◌, ap, sym, subst, arith, append_assoc, append-nil, get_or}
 use Rattle.std.proofs.lemmas.Bool.{cases_Bool}

@@ -1,5 +1,6 @@
 -- The number of a name among names.
-use Rattle.std.specs.Prelude.{◌≡◌, ◌≤◌, ◌<◌, ℕ, suc, ◌+◌, nat_lt, if◌then◌else◌, length, nat_eq, Bool, true, false, ◌||◌, Option, Some, None, option_map, List, [], ◌∷◌, find, map, position, is_some, slice_get, refl}
+use Rattle.std.specs.Prelude.{◌≡◌, ◌≤◌, ◌<◌, ℕ, suc, ◌+◌, nat_lt, if◌then◌else◌, length, nat_eq, Bool, true, false, ◌||◌}
+use Rattle.std.specs.Prelude.{Option, Some, None, option_map, List, [], ◌∷◌, find, map, position, is_some, slice_get, refl}
 use Rattle.std.specs.List.{position_from}
 use Rattle.std.specs.Option.{option_map_or}
 use Rattle.std.specs.Cmp.Lexicographic.{pointwise}

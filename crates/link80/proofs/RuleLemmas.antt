@@ -1,5 +1,6 @@
 -- The linked module keeps the rules of modules.
-use Rattle.std.specs.Prelude.{◌≡◌, ℕ, ◌+◌, ◌≤◌, ◌<◌, ◌==◌, nat_eq, nat_le, Bool, true, false, not, ◌&&◌, ◌||◌, Option, Some, None, is_none, option_map, List, [], ◌∷◌, ◌++◌, filter_map, find, map, length, slice_get, slice_index, refl, IsTrue}
+use Rattle.std.specs.Prelude.{◌≡◌, ℕ, ◌+◌, ◌≤◌, ◌<◌, ◌==◌, nat_eq, nat_le, Bool, true, false, not, ◌&&◌, ◌||◌, Option, Some, None, is_none}
+use Rattle.std.specs.Prelude.{option_map, List, [], ◌∷◌, ◌++◌, filter_map, find, map, length, slice_get, slice_index, refl, IsTrue}
 use Rattle.std.specs.List.{list_all, list_any, cons_option, flat_map, enumerate_from, AllByRecursion}
 use Rattle.std.specs.Cmp.Lexicographic.{pointwise}
 use Rattle.std.proofs.Common.{◌∙◌, ap, sym, subst, arith, inl, inr, cond, eqb-true}
@@ -20,7 +21,9 @@ use Rattle.omf_model.specs.Patches.{byte_with}
 use Rattle.omf_model.specs.Place.{common_name, is_laid_out, starts_from, part_start}
 use Rattle.omf_model.specs.ImageByte.{name_at}
 use Rattle.omf_model.specs.SoundModules.{LiesIn, HasItsFixups, SoundModulesKeepRules, CommonsByName}
-use Rattle.link80.specs.Linked.{common_names, linked_commons, id_of, linked_id, moved, linked_public, linked_publics, public_of, unresolved, index_of, to_place, to_public, linked_reference, link_patch, linked_content, linked_contents, part_of, parts_end, greatest, linked_length, linked_segment, linked_ids, moved_start, starts, linked_parts, distinct}
+use Rattle.link80.specs.Linked.{common_names, linked_commons, id_of, linked_id, moved, linked_public, linked_publics, public_of, unresolved}
+use Rattle.link80.specs.Linked.{index_of, to_place, to_public, linked_reference, link_patch, linked_content, linked_contents, part_of}
+use Rattle.link80.specs.Linked.{parts_end, greatest, linked_length, linked_segment, linked_ids, moved_start, starts, linked_parts, distinct}
 use Rattle.link80.specs.LinkLaws.{LinkedModuleKeepsRules}
 use Rattle.link80.proofs.ListLemmas.{all_both}
 use Rattle.link80.proofs.NameLemmas.{has_name, distinct_has, passed_has, index_is}

@@ -1,7 +1,8 @@
 //! What LINK keeps, over the definitions alone. Each law is ensured by a function that does nothing: a layer above that calls
 //! it has the law in its proof.
 
-ghost use Rattle.link80.specs.LinkLaws.{LinkedChunksAreTheModules, LinkedBytesAreTheModules, LinkedStartIsTheModules, LinkedLengthsAreWords, LinkedModuleKeepsRules, LaidPartsEndAtWords, PartsEndLater};
+ghost use Rattle.link80.specs.LinkLaws.{LinkedChunksAreTheModules, LinkedBytesAreTheModules, LinkedStartIsTheModules};
+ghost use Rattle.link80.specs.LinkLaws.{LinkedLengthsAreWords, LinkedModuleKeepsRules, LaidPartsEndAtWords, PartsEndLater};
 ghost use Rattle.link80.specs.DuplicateLaws.{FirstAgainIsTheFirst, NoneAgainWhereAllAreNew, DuplicateIsTheFirst};
 
 use omf_model::relocation_laws::{

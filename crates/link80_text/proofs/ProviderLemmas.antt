@@ -1,5 +1,6 @@
 -- The first module that declares a name: of libraries, and of linked modules.
-use Rattle.std.specs.Prelude.{◌≡◌, ℕ, zero, suc, ◌+◌, ◌-◌, ◌<◌, ◌⊎◌, ◌||◌, nat_lt, is_some, Bool, true, false, Option, Some, None, option_map, option_and_then, List, [], ◌∷◌, length, slice_get, Contains, refl}
+use Rattle.std.specs.Prelude.{◌≡◌, ℕ, zero, suc, ◌+◌, ◌-◌, ◌<◌, ◌⊎◌, ◌||◌, nat_lt, is_some, Bool, true, false, Option}
+use Rattle.std.specs.Prelude.{Some, None, option_map, option_and_then, List, [], ◌∷◌, length, slice_get, Contains, refl}
 use Rattle.std.specs.List.{list_any, position_from}
 use Rattle.std.specs.Option.{option_or}
 use Rattle.std.proofs.Common.{◌∙◌, ap, sym, subst, arith, inl, inr, cond, get_or}

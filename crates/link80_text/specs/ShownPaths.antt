@@ -22,7 +22,7 @@ abbrev pub hidden_length : (first second third : ℕ) → ℕ
 hidden_length first second third =
     if is_hidden_byte first then 1 else if is_hidden_pair first second then 2 else if is_hidden_triple first second third then 3 else 0
 
--- how many bytes from this one on are of a hidden character, if the one before says that so many are
+-- how many bytes from this one on are of a hidden character: `left` by the bytes before, or what this one begins
 abbrev pub hidden_from : (left byte : ℕ) → List ℕ → ℕ
 hidden_from left byte behind = if left == 0 then hidden_length byte (slice_index_or behind 0 255) (slice_index_or behind 1 255) else left
 

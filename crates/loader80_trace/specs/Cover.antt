@@ -1,6 +1,7 @@
 -- The code of an image, line by line: the instructions at the addresses that walks reach, and the other bytes as data. (Texts:
 -- 8080 Assembly Language Programming Manual; the columns are this project's.)
-use Rattle.std.specs.Prelude.{◌≡◌, ℕ, zero, suc, ◌+◌, ◌-◌, ◌%◌, ◌==◌, ◌&&◌, ◌||◌, Bool, true, false, not, nat_le, nat_lt, is_some, List, [], ◌∷◌, ◌++◌, Option, None, Some, length, slice_index, slice_index_or, codes, if◌then◌else◌}
+use Rattle.std.specs.Prelude.{◌≡◌, ℕ, zero, suc, ◌+◌, ◌-◌, ◌%◌, ◌==◌, ◌&&◌, ◌||◌, Bool, true, false, not, nat_le, nat_lt, is_some}
+use Rattle.std.specs.Prelude.{List, [], ◌∷◌, ◌++◌, Option, None, Some, length, slice_index, slice_index_or, codes, if◌then◌else◌}
 use Rattle.std.specs.Fmt.{decimal}
 use Rattle.std.specs.List.{flat_map, range_with_len}
 use Rattle.decode80.specs.declared.fetching.Fetched.{Fetched}

@@ -40,7 +40,7 @@ impl Span {
 
     /// The last instructions up to the one before which `last` steps were made, `count` of them at most. `count` must be at
     /// least 1.
-    pub fn last_to(last: u64, count: u64) -> Span
+    fn last_to(last: u64, count: u64) -> Span
         requires { 0 < count }
         ensures count { result.count ≡ min count (last + 1) }
         ensures last { result.from + result.count ≡ last + 1 }

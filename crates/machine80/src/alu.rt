@@ -3,7 +3,8 @@
 
 ghost use Rattle.std.specs.Prelude.{◌≡◌};
 ghost use Rattle.machine80.specs.Flags.{bit_of};
-ghost use Rattle.machine80.specs.Arithmetic.{sum_answer, difference_answer, byte_answer, operation_answer, increment_answer, decrement_answer, decimal_answer, rotation_answer, pair_sum, pair_sum_flags, complement_of, carry_set, carry_turned};
+ghost use Rattle.machine80.specs.Arithmetic.{sum_answer, difference_answer, byte_answer, operation_answer, increment_answer, decrement_answer};
+ghost use Rattle.machine80.specs.Arithmetic.{decimal_answer, rotation_answer, pair_sum, pair_sum_flags, complement_of, carry_set, carry_turned};
 
 use crate::flags::Flags;
 use decode80::{Operation, Rotation};

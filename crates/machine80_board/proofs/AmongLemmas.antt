@@ -14,7 +14,8 @@ use Rattle.board80.specs.declared.place.Place.TheVariants.{Cell}
 use Rattle.machine80_board.specs.declared.end.BoardEnd.TheVariants.{OfMachine, CellEmpty}
 use Rattle.machine80_board.specs.declared.output.Output.{Output}
 use Rattle.machine80_board.specs.declared.rules.Running.{Running}
-use Rattle.machine80_board.specs.BoardRun.{BoardState, DevicesAreData, EndsBy, IsAnswered, answered, is_empty_place, no_inputs, machine_by, outputs_by, reads_by, refused_end, refused_output, unanswered, stopped, refused}
+use Rattle.machine80_board.specs.BoardRun.{BoardState, DevicesAreData, EndsBy, IsAnswered, answered, is_empty_place, no_inputs}
+use Rattle.machine80_board.specs.BoardRun.{machine_by, outputs_by, reads_by, refused_end, refused_output, unanswered, stopped, refused}
 use Rattle.machine80_board.specs.Exchanges.{answer_at, loads, outputs_of, places_read}
 use Rattle.machine80_board.specs.Keeping.{AnswersCells, HaveGiven, HaveSeen, is_apart, IsNow, IsSame, LeadsOn, answering_cells, outputs_among}
 use Rattle.machine80_board.proofs.StepLemmas.{cpu_left, fetched_same, outputs_apart, places_apart, steps_apart}

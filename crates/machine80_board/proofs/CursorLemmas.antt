@@ -1,5 +1,6 @@
 -- Cursors, and the bytes that they give.
-use Rattle.std.proofs.Common.{◌≡◌, ℕ, zero, suc, ◌+◌, ◌*◌, ◌<◌, ◌≤◌, inl, inr, List, [], ◌∷◌, ◌++◌, length, get_or, take, drop, append_assoc, append-nil, refl, ap, sym, subst, ◌∙◌, arith, length-append}
+use Rattle.std.proofs.Common.{◌≡◌, ℕ, zero, suc, ◌+◌, ◌*◌, ◌<◌, ◌≤◌, inl, inr, List, [], ◌∷◌, ◌++◌, length, get_or}
+use Rattle.std.proofs.Common.{take, drop, append_assoc, append-nil, refl, ap, sym, subst, ◌∙◌, arith, length-append}
 use Rattle.std.specs.Prelude.{slice_get, slice_index, Option, Some, None}
 use Rattle.std.proofs.lemmas.Bool.{cases_lt}
 use Rattle.std.proofs.lemmas.List.{drop_more}
@@ -139,7 +140,7 @@ elem [] i inside = absurd (omega arith)
 elem (x ∷ xs) zero inside = (x, refl)
 elem (x ∷ xs) (suc i) inside = elem xs i (omega arith)
 
--- a cursor that has passed so many items
+-- a cursor that has passed `i` items
 passed : (list : ListedBytes) (cursor : Cursor) (given i : ℕ) → cursor.item ≡ i → cursor.turn ≡ 0 → cursor.place ≡ 0 → i ≤ length list.items → given ≡ length (items_bytes (take i list.items)) → IsAt list cursor given
 passed list cursor given i at turn place inside same = elim (cases_lt i (length list.items)) [
   | inl below ↦ (let x = elem list.items i below in here_item list cursor given i x.0 at turn place below x.1 same)

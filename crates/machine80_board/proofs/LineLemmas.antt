@@ -1,5 +1,6 @@
 -- Lines, one after another, and the tables of what they say.
-use Rattle.std.proofs.Common.{◌≡◌, ℕ, zero, suc, ◌+◌, ◌<◌, ◌≤◌, ◌||◌, Bool, true, false, cond, List, [], ◌∷◌, length, get_or, take, drop, refl, ap, sym, subst, ◌∙◌, arith, get_or-set_same, get_or-set_other}
+use Rattle.std.proofs.Common.{◌≡◌, ℕ, zero, suc, ◌+◌, ◌<◌, ◌≤◌, ◌||◌, Bool, true, false, cond, List, [], ◌∷◌, length}
+use Rattle.std.proofs.Common.{get_or, take, drop, refl, ap, sym, subst, ◌∙◌, arith, get_or-set_same, get_or-set_other}
 use Rattle.std.specs.Prelude.{All, replicate, slice_get, slice_set, Option, Some, None}
 use Rattle.std.proofs.lemmas.List.{drop_more, get_or_default, get_or-replicate, length-replicate, length-set}
 use Rattle.std.proofs.lemmas.Option.{slice_get_read}

@@ -1,5 +1,6 @@
 -- Places, their slots, and what was read and put out at them.
-use Rattle.std.proofs.Common.{◌≡◌, ◌≢◌, ℕ, ◌+◌, ◌-◌, ◌<◌, Bool, true, false, cond, List, [], ◌∷◌, ◌++◌, length, get_or, refl, ap, sym, subst, ◌∙◌, arith, append-nil, length-append, get_or-set_same, get_or-set_other, eqb-true}
+use Rattle.std.proofs.Common.{◌≡◌, ◌≢◌, ℕ, ◌+◌, ◌-◌, ◌<◌, Bool, true, false, cond, List, [], ◌∷◌, ◌++◌, length, get_or, refl, ap}
+use Rattle.std.proofs.Common.{sym, subst, ◌∙◌, arith, append-nil, length-append, get_or-set_same, get_or-set_other, eqb-true}
 use Rattle.std.specs.Prelude.{slice_get, slice_set, filter, map, Option, Some, None}
 use Rattle.std.proofs.lemmas.Bool.{eq-eqb, eqb-false}
 use Rattle.std.proofs.lemmas.List.{map-append}

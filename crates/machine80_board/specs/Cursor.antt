@@ -22,7 +22,7 @@ pub data IsAt (list : ListedBytes) (cursor : Cursor) (given : ℕ) : Type 0 wher
 abbrev pub IsReady : List Item → Cursor → Type 0
 IsReady items cursor = cursor.item < length items → (item : Item) → item ≡ slice_index_or items cursor.item item → cursor.turn < item.times
 
--- a cursor moves on by a byte of a turn of so many; behind the last it stands before the first
+-- a cursor moves on by a byte of a turn that has `count` bytes; behind the last it stands before the first
 pub record MovesInTurn (count : ℕ) (old new : Cursor) : Type 0 where
   pub item : new.item ≡ old.item
   pub turn : new.turn ≡ old.turn

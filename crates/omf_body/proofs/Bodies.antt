@@ -15,7 +15,8 @@ use Rattle.omf_body.specs.declared.field.Field.{Field}
 use Rattle.omf_body.specs.declared.field.Field.TheVariants.{Low}
 use Rattle.omf_body.specs.declared.body.Place.{Place}
 use Rattle.omf_body.specs.declared.body.Body.{Body}
-use Rattle.omf_body.specs.declared.body.Body.TheVariants.{ModuleHeader, ModuleEnd, Content, LineNumbers, EndOfFile, Ancestor, LocalSymbols, PublicDeclarations, ExternalNames, ExternalReferences, Relocation, IntersegmentReferences, NamedCommons}
+use Rattle.omf_body.specs.declared.body.Body.TheVariants.{ModuleHeader, ModuleEnd, Content, LineNumbers, EndOfFile, Ancestor, LocalSymbols, PublicDeclarations}
+use Rattle.omf_body.specs.declared.body.Body.TheVariants.{ExternalNames, ExternalReferences, Relocation, IntersegmentReferences, NamedCommons}
 use Rattle.omf_body.specs.Faults.{fault_of}
 use Rattle.omf_body.specs.Fields.{◌>>=◌, read_byte, read_field, field_byte}
 use Rattle.omf_body.specs.FieldsAgain.{word_again, name_again, field_again}

@@ -9,7 +9,8 @@ use Rattle.omf_core.specs.Record.{spelling}
 use Rattle.omf_body.specs.declared.entries.SegmentEntry.{SegmentEntry}
 use Rattle.omf_body.specs.declared.body.Place.{Place}
 use Rattle.omf_body.specs.declared.body.Body.{Body}
-use Rattle.omf_body.specs.declared.body.Body.TheVariants.{ModuleHeader, ModuleEnd, Content, LineNumbers, EndOfFile, Ancestor, LocalSymbols, PublicDeclarations, ExternalNames, ExternalReferences, Relocation, IntersegmentReferences, NamedCommons}
+use Rattle.omf_body.specs.declared.body.Body.TheVariants.{ModuleHeader, ModuleEnd, Content, LineNumbers, EndOfFile, Ancestor, LocalSymbols, PublicDeclarations}
+use Rattle.omf_body.specs.declared.body.Body.TheVariants.{ExternalNames, ExternalReferences, Relocation, IntersegmentReferences, NamedCommons}
 use Rattle.omf_body.specs.Fields.{word_bytes, field_byte}
 use Rattle.omf_body.specs.Entries.{segment_bytes, common_bytes, common_layout, public_bytes, public_layout, external_bytes, external_layout, offset_bytes, index_bytes}
 

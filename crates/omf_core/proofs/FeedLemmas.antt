@@ -1,5 +1,6 @@
 -- The count of the records that bytes hold, their first fault, and what stays of it whatever bytes follow.
-use Rattle.std.proofs.Common.{◌≡◌, inl, inr, Option, ℕ, ◌+◌, ◌<◌, ◌≤◌, ◌==◌, ◌&&◌, not, Bool, true, false, if◌then◌else◌, List, [], ◌∷◌, ◌++◌, length, drop, None, Some, IsTrue, suc, refl, sym, subst, ap, ◌∙◌, arith, true≢false, get_or, Fits, w8}
+use Rattle.std.proofs.Common.{◌≡◌, inl, inr, Option, ℕ, ◌+◌, ◌<◌, ◌≤◌, ◌==◌, ◌&&◌, not, Bool, true, false, if◌then◌else◌, List, [], ◌∷◌}
+use Rattle.std.proofs.Common.{◌++◌, length, drop, None, Some, IsTrue, suc, refl, sym, subst, ap, ◌∙◌, arith, true≢false, get_or, Fits, w8}
 use Rattle.std.specs.List.{All, list_all}
 use Rattle.std.proofs.lemmas.Bool.{and_parts, cases_lt, eqb-true}
 use Rattle.std.proofs.lemmas.List.{drop_all, drop-append-le, get_or_default, length-append}

@@ -1,7 +1,9 @@
 -- The type byte of each kind of record. (8080 Object Module Formats, record types.)
 use Rattle.std.specs.Prelude.{ℕ}
 use Rattle.omf_core.specs.declared.kind.RecordKind.{RecordKind}
-use Rattle.omf_core.specs.declared.kind.RecordKind.TheVariants.{ModuleHeader, ModuleEnd, Content, LineNumbers, EndOfFile, Ancestor, LocalSymbols, PublicDeclarations, ExternalNames, ExternalReferences, Relocation, IntersegmentReferences, LibraryModuleLocations, LibraryModuleNames, LibraryDictionary, LibraryHeader, NamedCommons}
+use Rattle.omf_core.specs.declared.kind.RecordKind.TheVariants.{ModuleHeader, ModuleEnd, Content, LineNumbers, EndOfFile, Ancestor, LocalSymbols}
+use Rattle.omf_core.specs.declared.kind.RecordKind.TheVariants.{PublicDeclarations, ExternalNames, ExternalReferences, Relocation, IntersegmentReferences}
+use Rattle.omf_core.specs.declared.kind.RecordKind.TheVariants.{LibraryModuleLocations, LibraryModuleNames, LibraryDictionary, LibraryHeader, NamedCommons}
 
 abbrev pub kind_byte : RecordKind → ℕ
 kind_byte ModuleHeader = 0x02

@@ -1,7 +1,9 @@
 //! What holds of all spellings, whatever calls are made. Each law is ensured by a function that does nothing:
 //! a layer above that calls it has the law in its proof.
 
-ghost use Rattle.omf_core.specs.Laws.{OneRecordAtEachPlace, NoSpellingBeginsAnother, NoFaultExactlyAtRecords, RecordsStay, FaultsStay, TruncatedCanBeCompleted, OtherFaultsStay, TruncatedCanBeSpoilt, WrittenIsSpelled, SpelledIsWritten, OneListBeginsTheOther, OneListAtEachStretch, ListsJoin, ListGrows, ListsStay, WrittenListIsSpelled, OneNameAtEachPlace, NamesExactlyWhereHeld, WrittenNameIsSpelled};
+ghost use Rattle.omf_core.specs.Laws.{OneRecordAtEachPlace, NoSpellingBeginsAnother, NoFaultExactlyAtRecords, RecordsStay, FaultsStay, TruncatedCanBeCompleted};
+ghost use Rattle.omf_core.specs.Laws.{OtherFaultsStay, TruncatedCanBeSpoilt, WrittenIsSpelled, SpelledIsWritten, OneListBeginsTheOther, OneListAtEachStretch};
+ghost use Rattle.omf_core.specs.Laws.{ListsJoin, ListGrows, ListsStay, WrittenListIsSpelled, OneNameAtEachPlace, NamesExactlyWhereHeld, WrittenNameIsSpelled};
 ghost use Rattle.omf_core.specs.FeedLaws.{OneRecordFault, OneCount, LastingFaultsLast, CountedHaveNone};
 
 /// Bytes spell at most one record at a place.

@@ -29,7 +29,8 @@ use Rattle.omf_library.specs.Fault.{of_module, OrNoMemory}
 use Rattle.omf_library.specs.FeedLaws.{LastingFaultsLast, CountedHaveNone}
 use Rattle.omf_library.specs.Laws.{OneLibraryFault, NeverBothLibrary}
 use Rattle.omf_library.specs.LibraryFeed.{LibraryFeedValue, LastingLibraryFault, OpenLibrary, in_header as counted_in_header, at_record as counted_at_record, in_module as counted_in_module, ended}
-use Rattle.omf_library.specs.Spelled.{is_indexed, BeginsLibrary, SpellsLibrary, FaultsLibraryHeader, no_header_byte, no_header_record, FaultsAt, no_byte, no_record, in_module, FaultsLibrary, in_header, after_header}
+use Rattle.omf_library.specs.Spelled.{is_indexed, BeginsLibrary, SpellsLibrary, FaultsLibraryHeader, no_header_byte, no_header_record}
+use Rattle.omf_library.specs.Spelled.{FaultsAt, no_byte, no_record, in_module, FaultsLibrary, in_header, after_header}
 use Rattle.omf_library.specs.Unfinished.{ReadsTo, FaultsWhereCut, truncated_at, no_end_in_module}
 
 -- ---- what stays

@@ -24,7 +24,9 @@ use Rattle.omf_library.specs.LibraryFeed.{OpenLibrary, CountsModules, in_header 
 use Rattle.omf_library.specs.Unfinished.{no_end_in_module}
 use Rattle.omf_module.specs.StayLaws.{ModulesStand}
 use Rattle.omf_library.proofs.FeedLemmas.{cut_at, no_end_not_spoilt, header_faults, at_cut, within_cut}
-use Rattle.omf_library.specs.Spelled.{is_library_header, is_index_kind, is_indexed, goes_on, fault_of_record, BeginsLibrary, SpellsLibrary, FaultsLibraryHeader, no_header_byte, no_header_record, no_header, FaultsAt, no_byte, no_record, in_module, at_record, in_header, after_header}
+use Rattle.omf_library.specs.Spelled.{is_library_header, is_index_kind, is_indexed, goes_on, fault_of_record, BeginsLibrary}
+use Rattle.omf_library.specs.Spelled.{SpellsLibrary, FaultsLibraryHeader, no_header_byte, no_header_record, no_header}
+use Rattle.omf_library.specs.Spelled.{FaultsAt, no_byte, no_record, in_module, at_record, in_header, after_header}
 use Rattle.omf_library.specs.Laws.{OneLibrary, OneLibraryFault, NeverBothLibrary}
 
 -- the laws of records and modules

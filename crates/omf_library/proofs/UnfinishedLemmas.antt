@@ -24,8 +24,10 @@ use Rattle.omf_library.specs.declared.unfinished.Progress.{Progress}
 use Rattle.omf_library.specs.declared.unfinished.Progress.TheVariants.{Header, Modules, Index, Ended}
 use Rattle.omf_library.specs.Fault.{of_module, OrNoMemory}
 use Rattle.omf_library.specs.LibraryFeed.{LastingLibraryFault, OpenLibrary, CountsModules, in_header as counted_in_header, at_record as counted_at_record, in_module as counted_in_module, ended}
-use Rattle.omf_library.specs.Spelled.{is_index_kind, is_indexed, goes_on, is_library_header, BeginsLibrary, no_header_record, no_header, FaultsAt, no_record, in_module, at_record, FaultsLibrary, in_header, after_header}
-use Rattle.omf_library.specs.Unfinished.{ReadsModules, ReadsIndexed, ReadsTo, WaitsTo, left_after, ReadsFurther, ReadsAll, Extends, OtherRecord, HeaderStands, LastingHeaderFault, LastingFaultAt, LeadsTo, LeadsNowhere, FaultsWhereCut, no_end_in_module}
+use Rattle.omf_library.specs.Spelled.{is_index_kind, is_indexed, goes_on, is_library_header, BeginsLibrary, no_header_record}
+use Rattle.omf_library.specs.Spelled.{no_header, FaultsAt, no_record, in_module, at_record, FaultsLibrary, in_header, after_header}
+use Rattle.omf_library.specs.Unfinished.{ReadsModules, ReadsIndexed, ReadsTo, WaitsTo, left_after, ReadsFurther, ReadsAll, Extends, OtherRecord}
+use Rattle.omf_library.specs.Unfinished.{HeaderStands, LastingHeaderFault, LastingFaultAt, LeadsTo, LeadsNowhere, FaultsWhereCut, no_end_in_module}
 use Rattle.omf_module.specs.StayLaws.{ModulesStand}
 use Rattle.omf_library.proofs.ReadingLemmas.{other_is, all_with}
 use Rattle.omf_library.proofs.FeedLemmas.{Stay, open_stays, record_fault_stays, record_cut, module_cut}

@@ -6,7 +6,9 @@ ghost use Rattle.omf_module.specs.Pieces.{IsCutOff, ReadsModule};
 ghost use Rattle.omf_library.specs.Fault.{OrNoMemory};
 ghost use Rattle.omf_library.specs.Spelled.{BeginsLibrary, SpellsLibrary, FaultsLibrary, is_library_header, is_index_kind};
 ghost use Rattle.omf_library.specs.LibraryFeed.{LastingLibraryFault};
-ghost use Rattle.omf_library.specs.Unfinished.{ReadsModules, ReadsIndexed, ReadsLibrary, WaitsLibrary, ReadsFurther, ReadsOn, ReadsAll, Extends, HeaderStands, StandsAt, RecordStands, LastingHeaderFault, LastingFaultAt, LeadsTo, LeadsNowhere, FaultsWhereCut, no_end_in_module};
+ghost use Rattle.omf_library.specs.Unfinished.{ReadsModules, ReadsIndexed, ReadsLibrary, WaitsLibrary, ReadsFurther, ReadsOn};
+ghost use Rattle.omf_library.specs.Unfinished.{ReadsAll, Extends, HeaderStands, StandsAt, RecordStands, LastingHeaderFault};
+ghost use Rattle.omf_library.specs.Unfinished.{LastingFaultAt, LeadsTo, LeadsNowhere, FaultsWhereCut, no_end_in_module};
 
 use crate::fault::LibraryFault;
 use omf_core::laws::{list_grows, lists_stay, other_faults_stay, records_stay};

@@ -15,7 +15,8 @@ use Rattle.omf_model.specs.Modules.{ModuleValue}
 use Rattle.omf_model.specs.Segments.{has_segment}
 use Rattle.omf_module.specs.Gathered.{fixups_in, with_fixups, content_after, contents_from, parts_of}
 use Rattle.omf_module.specs.Uses.{unknown_id, ids_in, place_fault, fixup_fault, fixups_fault, is_reference, reference_fault, body_fault, bodies_fault, fault_by, header_fault}
-use Rattle.omf_module.specs.FirstUseLaws.{with_earlier, unknown_segments, nearest_content, cause_of_fixup, causes_of_fixups, causes_in, faults_at, faults_in, bodies_faults, BodiesFaultIsTheFirst, UseFaultIsTheFirst}
+use Rattle.omf_module.specs.FirstUseLaws.{with_earlier, unknown_segments, nearest_content, cause_of_fixup, causes_of_fixups}
+use Rattle.omf_module.specs.FirstUseLaws.{causes_in, faults_at, faults_in, bodies_faults, BodiesFaultIsTheFirst, UseFaultIsTheFirst}
 use Rattle.omf_module.proofs.GatheredLemmas.{no_fixups_more, fixups_twice, contents_have_the_fixups_up_to_the_next}
 
 -- ---- the first of a list

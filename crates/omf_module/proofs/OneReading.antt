@@ -1,5 +1,6 @@
 -- What stands at a place is one thing: a record that may stand there, or a first fault.
-use Rattle.std.proofs.Common.{◌≡◌, ◌⊎◌, inl, inr, ℕ, ◌<◌, ◌≤◌, Bool, true, false, ◌&&◌, Option, Some, None, List, [], ◌∷◌, ◌++◌, length, map, drop, Result, Ok, Err, refl, sym, ap, subst, ◌∙◌, arith, IsTrue}
+use Rattle.std.proofs.Common.{◌≡◌, ◌⊎◌, inl, inr, ℕ, ◌<◌, ◌≤◌, Bool, true, false, ◌&&◌, Option, Some, None, List, []}
+use Rattle.std.proofs.Common.{◌∷◌, ◌++◌, length, map, drop, Result, Ok, Err, refl, sym, ap, subst, ◌∙◌, arith, IsTrue}
 use Rattle.std.specs.Prelude.{not, ◌==◌, if◌then◌else◌}
 use Rattle.std.specs.List.{flat_map, list_all}
 use Rattle.std.proofs.lemmas.Bool.{and_parts, and_from, not-true, cond-true, cond-false}
@@ -27,7 +28,8 @@ use Rattle.omf_model.specs.declared.symbols.Common.{Common}
 use Rattle.omf_model.specs.Rules.{each_after, has_common_name, is_new_common}
 use Rattle.omf_model.specs.Segments.{has_common_id}
 use Rattle.omf_module.specs.Records.{SpellsBody, may_follow}
-use Rattle.omf_module.specs.Spelled.{cause_of, no_header_byte, no_header_record, other_kind, in_header_body, read_new_common, FaultsCommons, here, later, commons_cause, FaultsWithin, no_byte, no_record, file_ends, second_header, in_body, in_commons}
+use Rattle.omf_module.specs.Spelled.{cause_of, no_header_byte, no_header_record, other_kind, in_header_body, read_new_common, FaultsCommons}
+use Rattle.omf_module.specs.Spelled.{here, later, commons_cause, FaultsWithin, no_byte, no_record, file_ends, second_header, in_body, in_commons}
 use Rattle.omf_module.specs.Reading.{common_of, is_end}
 use Rattle.omf_module.specs.ReadingLaws.{OneHeaderFault, SoundHeader}
 use Rattle.omf_model.specs.SoundParts.{new_common}

@@ -21,7 +21,8 @@ use Rattle.omf_module.specs.Fault.{fault_of}
 use Rattle.omf_module.specs.Gathered.{parts_of}
 use Rattle.omf_module.specs.Records.{SpellsBody, SpellsBodies, ModuleRecords, SpellsModuleRecords}
 use Rattle.omf_module.specs.Uses.{fault_by, use_fault}
-use Rattle.omf_module.specs.Spelled.{FaultsHeader, no_header_byte, no_header_record, other_kind, in_header_body, FaultsWithin, no_byte, no_record, file_ends, second_header, in_body, in_commons, FaultsModule, in_header, in_records, in_uses}
+use Rattle.omf_module.specs.Spelled.{FaultsHeader, no_header_byte, no_header_record, other_kind, in_header_body, FaultsWithin, no_byte}
+use Rattle.omf_module.specs.Spelled.{no_record, file_ends, second_header, in_body, in_commons, FaultsModule, in_header, in_records, in_uses}
 use Rattle.omf_module.specs.Reading.{Follows, is_end, OrNoMemory}
 use Rattle.omf_module.specs.ReadingLaws.{OneFault, NeverBoth}
 use Rattle.omf_module.specs.Pieces.{LastingModuleFault, BegunModule, WholeModule, IsCutOff, ReadsModule, WaitsModule}

@@ -2,7 +2,8 @@
 use Rattle.std.specs.Prelude.{ℕ}
 use Rattle.omf_module.specs.declared.fault.Cause.{Cause}
 use Rattle.omf_module.specs.declared.fault.ModuleFault.{ModuleFault}
-use Rattle.omf_module.specs.declared.fault.Cause.TheVariants.{Record, NoHeader, UnknownKind, BadBody, BadName, SegmentUnknown, OffsetOutside, FixupBeforeContent, FixupOutside, FixupTwice, IndexUnknown, NoEnd, Memory as CauseMemory}
+use Rattle.omf_module.specs.declared.fault.Cause.TheVariants.{Record, NoHeader, UnknownKind, BadBody, BadName, SegmentUnknown, OffsetOutside}
+use Rattle.omf_module.specs.declared.fault.Cause.TheVariants.{FixupBeforeContent, FixupOutside, FixupTwice, IndexUnknown, NoEnd, Memory as CauseMemory}
 
 abbrev pub cause_code : Cause → ℕ
 cause_code (Record f) = 1

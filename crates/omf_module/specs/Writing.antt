@@ -9,7 +9,8 @@ use Rattle.omf_body.specs.declared.body.Place.{Place}
 use Rattle.omf_body.specs.declared.body.HeaderBody.{HeaderBody}
 use Rattle.omf_body.specs.declared.body.EndBody.{EndBody}
 use Rattle.omf_body.specs.declared.body.Body.{Body}
-use Rattle.omf_body.specs.declared.body.Body.TheVariants.{ModuleHeader, ModuleEnd, Content, EndOfFile, PublicDeclarations, ExternalNames, ExternalReferences, Relocation, IntersegmentReferences, NamedCommons}
+use Rattle.omf_body.specs.declared.body.Body.TheVariants.{ModuleHeader, ModuleEnd, Content, EndOfFile, PublicDeclarations, ExternalNames}
+use Rattle.omf_body.specs.declared.body.Body.TheVariants.{ExternalReferences, Relocation, IntersegmentReferences, NamedCommons}
 use Rattle.omf_body.specs.Bodies.{record_bytes}
 use Rattle.omf_body.specs.Writing.{end_filling}
 use Rattle.omf_model.specs.declared.segment.Segment.{Segment}

@@ -86,7 +86,7 @@ impl Page {
         self.markup(b"</table></div>".as_slice())
     }
 
-    /// Appends the row of a chart: a line, which is shown, and a bar of so many thousandths of the whole width, in another
+    /// Appends the row of a chart: a line, which is shown, and a bar of `thousandths` of the whole width, in another
     /// color if it is `marked`.
     ///
     /// # Errors

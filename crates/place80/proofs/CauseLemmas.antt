@@ -9,7 +9,8 @@ use Rattle.place80.specs.declared.placed_segments.Placed.{Placed}
 use Rattle.place80.specs.declared.place_fault.PlaceFault.{PlaceFault}
 use Rattle.place80.specs.declared.place_fault.PlaceFault.TheVariants.{Unresolved, NoStart, OutsideMemory, Overlap, HighNotPaged, StartNotCode, Memory}
 use Rattle.place80.specs.Layout.{layout_of, program_bases}
-use Rattle.place80.specs.PlaceFault.{unresolved, no_start, is_outside, outside_memory, overlaps, overlap, overlap_of, first_sharing, all_pairs, high_not_paged, start_not_code, layout_fault, locate_fault}
+use Rattle.place80.specs.PlaceFault.{unresolved, no_start, is_outside, outside_memory, overlaps, overlap, overlap_of}
+use Rattle.place80.specs.PlaceFault.{first_sharing, all_pairs, high_not_paged, start_not_code, layout_fault, locate_fault}
 use Rattle.place80.specs.Restart.{restart_pairs}
 use Rattle.place80.specs.Causes.{placed_line, pair_lines, first_overlap}
 use Rattle.place80.specs.CauseLaws.{IsReported, ShowsOutside, ShowsOverlap}

@@ -14,7 +14,8 @@ use Rattle.place80.specs.declared.placed_segments.Placed.{Placed}
 use Rattle.place80.specs.declared.place_fault.PlaceFault.TheVariants.{OutsideMemory}
 use Rattle.place80.specs.Layout.{layout_of}
 use Rattle.place80.specs.LayoutLaws.{LiesInMemory, AreApart, Fit}
-use Rattle.place80.specs.PlaceFault.{overlaps, is_in_placed, pairs, absolute_place, absolute_places, with_each, all_pairs, first_sharing, overlap_of, overlap, passes_memory, is_outside, outside_memory, layout_fault}
+use Rattle.place80.specs.PlaceFault.{overlaps, is_in_placed, pairs, absolute_place, absolute_places, with_each, all_pairs}
+use Rattle.place80.specs.PlaceFault.{first_sharing, overlap_of, overlap, passes_memory, is_outside, outside_memory, layout_fault}
 use Rattle.place80.proofs.OptionLemmas.{find_none, fails_all, none_of_both, none_mapped}
 use Rattle.place80.proofs.OverlapLemmas.{overlap_is_shared_address}
 

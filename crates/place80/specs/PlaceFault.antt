@@ -1,7 +1,8 @@
 -- Why a program can't be located: each cause as a test, and the order in which they are reported.
 -- (ISIS-II User's Guide, LOCATE: unresolved references, overlapping and out of bounds segments. Their order and numbers are
 -- this project's own.)
-use Rattle.std.specs.Prelude.{ℕ, ◌+◌, ◌==◌, Bool, ◌&&◌, ◌||◌, nat_lt, nat_le, if◌then◌else◌, Option, Some, None, is_none, option_and_then, option_map, List, [], ◌∷◌, ◌++◌, filter, find, map, length, slice_get}
+use Rattle.std.specs.Prelude.{ℕ, ◌+◌, ◌==◌, Bool, ◌&&◌, ◌||◌, nat_lt, nat_le, if◌then◌else◌, Option, Some, None, is_none}
+use Rattle.std.specs.Prelude.{option_and_then, option_map, List, [], ◌∷◌, ◌++◌, filter, find, map, length, slice_get}
 use Rattle.std.specs.List.{list_any, flat_map}
 use Rattle.std.specs.Option.{option_or}
 use Rattle.omf_model.specs.Contents.{ContentValue}

@@ -1,5 +1,6 @@
 -- The first address without memory, place by place.
-use Rattle.std.specs.Prelude.{◌≡◌, ◌⊎◌, nat_le, nat_lt, ℕ, zero, suc, ◌+◌, ◌-◌, ◌==◌, ◌<◌, ◌≤◌, Bool, true, false, not, Option, Some, None, option_map, List, [], ◌∷◌, ◌++◌, map, filter, find, drop, length, refl, if◌then◌else◌}
+use Rattle.std.specs.Prelude.{◌≡◌, ◌⊎◌, nat_le, nat_lt, ℕ, zero, suc, ◌+◌, ◌-◌, ◌==◌, ◌<◌, ◌≤◌, Bool, true, false, not, Option}
+use Rattle.std.specs.Prelude.{Some, None, option_map, List, [], ◌∷◌, ◌++◌, map, filter, find, drop, length, refl, if◌then◌else◌}
 use Rattle.std.specs.List.{range_with_len}
 use Rattle.std.specs.Option.{option_or}
 use Rattle.std.proofs.Common.{cond, inl, inr, ◌∙◌, ap, sym, subst, get_or, drop-cons, arith}

@@ -2,7 +2,8 @@
 
 ghost use Rattle.std.specs.Prelude.{◌≡◌, [], option_copied, option_map, unwrap_or};
 ghost use Rattle.std.specs.List.{list_any};
-ghost use Rattle.plm80_files.specs.Lines.{ends_in_blank, has_blanks, has_comment, has_empty_word, has_flaw, has_lower_case, has_odd_number, has_other_bytes, is_flawed, is_odd_number, line_at, part_at, without_return};
+ghost use Rattle.plm80_files.specs.Lines.{ends_in_blank, has_blanks, has_comment, has_empty_word, has_flaw, has_lower_case};
+ghost use Rattle.plm80_files.specs.Lines.{has_odd_number, has_other_bytes, is_flawed, is_odd_number, line_at, part_at, without_return};
 
 use plm80_console::{Console, are_digits};
 use thiserror::Error;

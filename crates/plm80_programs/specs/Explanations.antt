@@ -7,7 +7,8 @@ use Rattle.verify80_flow.specs.declared.refusal.Refusal.TheVariants.{Memory, Sta
 use Rattle.verify80_flow.specs.Refusal.{refusal_address, refusal_code}
 use Rattle.verify80_flow.specs.{declared.refusal.Refusal.Refusal, declared.report.ProcRow.ProcRow, Accepted.IsMeasured, Faults.Holds}
 use Rattle.verify80.specs.{Looking.code_of, Vouched.Voucher}
-use Rattle.verify80_explain.specs.{declared.conditions.Conditions.Conditions, declared.explaining_all.FurtherRefusals.FurtherRefusals, declared.explaining_all.ShownRefusal.ShownRefusal, Conditions.AreShownIf, Shows.IsShown}
+use Rattle.verify80_explain.specs.{declared.conditions.Conditions.Conditions, declared.explaining_all.FurtherRefusals.FurtherRefusals}
+use Rattle.verify80_explain.specs.{declared.explaining_all.ShownRefusal.ShownRefusal, Conditions.AreShownIf, Shows.IsShown}
 use Rattle.verify80_explain_text.specs.{Conditions.conditions_text, Explained.explanation_text, Printed.GoesOnWithChain, Printed.GoesOnWithWays, Printed.too_many}
 use Rattle.plm80_console.specs.Answer.{AnswerValue, prints}
 use Rattle.plm80_names.specs.{Printed.named_refusal_line, Printed.named_refusal_report, Printed.named_report, Verdict.IsAccepted}

@@ -7,9 +7,13 @@ use Rattle.decode80.specs.declared.fetching.Fetched.{Fetched}
 use Rattle.image80.specs.{declared.range.Range.Range, Image.Located}
 use Rattle.image80_text.specs.NameText.{named_text}
 use Rattle.verify80_stores.specs.{declared.stores.Stores.Stores, Boards.is_quiet}
-use Rattle.verify80_follow.specs.{declared.fit.Table.Table, declared.handling.Handler.Handler, FollowText.bounds_lines, FollowText.live_lines, FollowText.ways_lines, Live.PromiseOfLive, Live.handler_bounds, Promise.PromiseOf, Reaching.AreFollowed, Reaching.AreStoresFollowed, Reaching.places_of}
+use Rattle.verify80_follow.specs.{declared.fit.Table.Table, declared.handling.Handler.Handler, FollowText.bounds_lines}
+use Rattle.verify80_follow.specs.{FollowText.live_lines, FollowText.ways_lines, Live.PromiseOfLive, Live.handler_bounds}
+use Rattle.verify80_follow.specs.{Promise.PromiseOf, Reaching.AreFollowed, Reaching.AreStoresFollowed, Reaching.places_of}
 use Rattle.verify80_follow_search.specs.declared.stop.StopReason.{StopReason}
-use Rattle.verify80_follow_search.specs.declared.stop.StopReason.TheVariants.{FetchOutside, UnusedOpcode, EnablesInterrupts, DirectStore, StackNotSet, LeavesStack, UnknownReturn, UnknownJump, UnknownPointer, NotGivenBack, EnablesEarly, UsesPointer, StoresQuiet, NoRoom, TooManyStates, Unfit}
+use Rattle.verify80_follow_search.specs.declared.stop.StopReason.TheVariants.{FetchOutside, UnusedOpcode, EnablesInterrupts, DirectStore, StackNotSet}
+use Rattle.verify80_follow_search.specs.declared.stop.StopReason.TheVariants.{LeavesStack, UnknownReturn, UnknownJump, UnknownPointer, NotGivenBack}
+use Rattle.verify80_follow_search.specs.declared.stop.StopReason.TheVariants.{EnablesEarly, UsesPointer, StoresQuiet, NoRoom, TooManyStates, Unfit}
 use Rattle.board80.specs.declared.line.Line.{Line}
 use Rattle.plm80_boards.specs.{Boards.interrupts_in, Quiet.AreInRam}
 use Rattle.plm80_console.specs.{Answer.AnswerValue, Answer.prints, Journal.FileValue, Ranges.AreRangesOf}

@@ -6,7 +6,8 @@ ghost use Rattle.verify80_flow.specs.declared.refusal.Refusal.TheVariants.{Memor
 ghost use Rattle.verify80.specs.Looking.{code_of};
 ghost use Rattle.verify80_explain.specs.Conditions.{AreShownIf};
 ghost use Rattle.verify80_explain.specs.Shows.{IsShown};
-ghost use Rattle.plm80_programs.specs.Explanations.{ShowsAll, ShowsRest, conditional_lines, count_line, further_count, further_count_line, further_lines, is_of, is_same_refusal, limit_line, shown_lines};
+ghost use Rattle.plm80_programs.specs.Explanations.{ShowsAll, ShowsRest, conditional_lines, count_line, further_count};
+ghost use Rattle.plm80_programs.specs.Explanations.{further_count_line, further_lines, is_of, is_same_refusal, limit_line, shown_lines};
 
 use crate::explain::{LIMIT, refused};
 use image80::Image;

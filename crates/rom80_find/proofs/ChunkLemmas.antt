@@ -1,5 +1,6 @@
 -- The last of a module's contents in CODE over an address, as a chunk and as a byte of the pattern.
-use Rattle.std.specs.Prelude.{◌≡◌, ℕ, ◌+◌, ◌-◌, ◌%◌, ◌<◌, ◌≤◌, ◌&&◌, ◌||◌, nat_lt, nat_le, cond, Bool, true, false, Option, Some, None, is_none, option_map, List, [], ◌∷◌, length, map, filter, slice_index}
+use Rattle.std.specs.Prelude.{◌≡◌, ℕ, ◌+◌, ◌-◌, ◌%◌, ◌<◌, ◌≤◌, ◌&&◌, ◌||◌, nat_lt, nat_le, cond, Bool, true, false}
+use Rattle.std.specs.Prelude.{Option, Some, None, is_none, option_map, List, [], ◌∷◌, length, map, filter, slice_index}
 use Rattle.std.specs.List.{AllByRecursion, list_any, last_or}
 use Rattle.std.proofs.Common.{refl, sym, ◌∙◌, ap, subst, arith, inl, inr}
 use Rattle.std.proofs.lemmas.Bool.{and_parts, eqb-true, lt-ltb, le-ltb, le-leb, lt-leb, ltb-true, leb-true, true≢false, cases_lt}

@@ -1,7 +1,8 @@
 -- The bytes that the contents of a module define in CODE, each as a half of a value plus an addend.
 -- (8080 Object Module Formats: content, relocation, intersegment reference and external reference records; ISIS-II User's
 -- Guide, LOCATE: of two contents over a byte the later one stands.)
-use Rattle.std.specs.Prelude.{◌≡◌, ℕ, suc, ◌+◌, ◌-◌, ◌*◌, ◌%◌, ◌==◌, nat_le, nat_lt, Bool, ◌&&◌, if◌then◌else◌, Option, None, List, [], ◌∷◌, length, map, filter, filter_map, find, take, slice_index, slice_index_or, ◌≤◌, ◌<◌, IsTrue}
+use Rattle.std.specs.Prelude.{◌≡◌, ℕ, suc, ◌+◌, ◌-◌, ◌*◌, ◌%◌, ◌==◌, nat_le, nat_lt, Bool, ◌&&◌, if◌then◌else◌, Option, None, List}
+use Rattle.std.specs.Prelude.{[], ◌∷◌, length, map, filter, filter_map, find, take, slice_index, slice_index_or, ◌≤◌, ◌<◌, IsTrue}
 use Rattle.std.specs.List.{last_or, list_any, range_with_len}
 use Rattle.std.specs.Option.{option_map_or}
 use Rattle.omf_core.specs.Name.{same_name}

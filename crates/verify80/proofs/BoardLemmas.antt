@@ -18,7 +18,8 @@ use Rattle.verify80.specs.Looking.{code_of}
 use Rattle.verify80.specs.LookLaws.{LooksFindWhatIsAdmitted, IsAdmitted}
 use Rattle.verify80.specs.Starts.{IsStart}
 use Rattle.verify80.specs.Reached.{IsBehindCall}
-use Rattle.verify80.specs.Boards.{IsPushed, LeavesProgram, respected_pointer, with_memory, fetched_anywhere, unguarded, StaysInside, Executes, OnBoard, begins, disturbed, executed, Anywhere, KeepsPromise, KeepsToWalks, IsGuarded}
+use Rattle.verify80.specs.Boards.{IsPushed, LeavesProgram, respected_pointer, with_memory, fetched_anywhere, unguarded, StaysInside}
+use Rattle.verify80.specs.Boards.{Executes, OnBoard, begins, disturbed, executed, Anywhere, KeepsPromise, KeepsToWalks, IsGuarded}
 use Rattle.verify80.proofs.StoreLemmas.{Ground, pushed_keep_words}
 use Rattle.verify80.proofs.ChainLemmas.{Watched, chain_kept}
 use Rattle.verify80.proofs.ArriveLemmas.{here_height, in_words, stack_in_memory}

@@ -22,7 +22,9 @@ use Rattle.machine80.specs.Step.{Machine, ends_at, fetch, first_outside, guard, 
 use Rattle.machine80.specs.World.{World, IsJustBelow, returns}
 use Rattle.machine80.specs.Run.{world_of}
 use Rattle.verify80.specs.Starts.{IsStart}
-use Rattle.verify80.specs.Boards.{Anywhere, Executes, GoesBy, HasAt, IsGuarded, IsUnset, starts, goes_on, KeepsPromise, KeepsToWalks, MayStart, OnBoard, with_respected_pointer, begins, disturbed, executed, LeavesProgram, respected_pointer, StartsUnset, StaysInside, fetched_anywhere, sets_sp, uses_sp, unguarded, with_memory}
+use Rattle.verify80.specs.Boards.{Anywhere, Executes, GoesBy, HasAt, IsGuarded, IsUnset, starts, goes_on, KeepsPromise, KeepsToWalks}
+use Rattle.verify80.specs.Boards.{MayStart, OnBoard, with_respected_pointer, begins, disturbed, executed, LeavesProgram, respected_pointer}
+use Rattle.verify80.specs.Boards.{StartsUnset, StaysInside, fetched_anywhere, sets_sp, uses_sp, unguarded, with_memory}
 use Rattle.verify80.proofs.BoardSteps.{bridges, followed, none_of, same_machine, OnSetBoard, is_on_set, stays_set}
 
 found_is : {a b : Fetched} → Some a ≡ Some b → a ≡ b

@@ -21,7 +21,8 @@ use Rattle.machine80.specs.Ports.{next_input}
 use Rattle.machine80.specs.Effects.{stack_bytes, pointed_bytes, target}
 use Rattle.machine80.specs.Step.{Machine, Turn, Next, Stop, fetch, guard, guarded, execute, turn_of, leads_outside, proceeded, with_input, step_on, first_outside, ends_at}
 use Rattle.machine80.specs.Run.{world_of}
-use Rattle.machine80.specs.World.{World, world_at, world_at_start, turn_at, next_world, following, world_after, places_then, places_after, refuses, returns, IsJustBelow, IsWorldOf, fetched_by, IsNewest, IsProperEnd, NeverGoesWrong}
+use Rattle.machine80.specs.World.{World, world_at, world_at_start, turn_at, next_world, following, world_after, places_then, places_after}
+use Rattle.machine80.specs.World.{refuses, returns, IsJustBelow, IsWorldOf, fetched_by, IsNewest, IsProperEnd, NeverGoesWrong}
 use Rattle.frames80.specs.declared.procedure.Procedure.TheVariants.{Main}
 use Rattle.verify80_flow.specs.Fitting.{Table, Has, Fits, IsFitted}
 use Rattle.verify80.specs.Looking.{code_of, is_declared}

@@ -1,5 +1,6 @@
 -- Each step of a watched world is safe, and leads to a watched world.
-use Rattle.std.specs.Prelude.{◌≡◌, ◌≢◌, ℕ, ◌+◌, ◌-◌, ◌*◌, ◌/◌, ◌%◌, ◌≤◌, Bool, true, false, ◌==◌, List, [], ◌∷◌, ◌++◌, Contains, Option, Some, None, Result, Ok, Err, drop, length, slice_index, refl, if◌then◌else◌}
+use Rattle.std.specs.Prelude.{◌≡◌, ◌≢◌, ℕ, ◌+◌, ◌-◌, ◌*◌, ◌/◌, ◌%◌, ◌≤◌, Bool, true, false, ◌==◌, List, [], ◌∷◌, ◌++◌}
+use Rattle.std.specs.Prelude.{Contains, Option, Some, None, Result, Ok, Err, drop, length, slice_index, refl, if◌then◌else◌}
 use Rattle.std.proofs.Common.{◌∙◌, ap, sym, subst, arith, inl, inr, true≢false}
 use Rattle.std.specs.Cmp.{unsigned_Decides}
 use Rattle.decode80.specs.declared.condition.Condition.{Condition}
@@ -46,7 +47,8 @@ use Rattle.verify80.proofs.StoreLemmas.{Ground, is_plain, StoresData, same_memor
 use Rattle.verify80.proofs.PairLemmas.{pair_value, BringsPair, change_by, plain_pairs}
 use Rattle.verify80.proofs.ChainLemmas.{Chain, in_main, in_call, chain_room, callee_room, Watched, arrived}
 use Rattle.verify80.proofs.StepLemmas.{plain_effect, plain_frame, plain_step, machine_in, unless_ok, jumped}
-use Rattle.verify80.proofs.ArriveLemmas.{stack_within, top_is, has_height, has_wants, stays_there, pushes, PopsTo, pops_to, here_height, pops, popped_word, swaps, calls_there, touches_push, touches_pop, ReturnsTo, returns_to}
+use Rattle.verify80.proofs.ArriveLemmas.{stack_within, top_is, has_height, has_wants, stays_there, pushes, PopsTo, pops_to, here_height}
+use Rattle.verify80.proofs.ArriveLemmas.{pops, popped_word, swaps, calls_there, touches_push, touches_pop, ReturnsTo, returns_to}
 
 -- where a frame's move leads in the table
 pub record Leads (image : Located) (table : Table) (p : Procedure) (at : ℕ) (f : StackFrame) (next : ℕ) (moves : Moves) : Type 0 where

@@ -4,7 +4,8 @@ use Rattle.std.proofs.Common.{◌∙◌, ap, sym, arith, cond, inl, inr, get_or-
 use Rattle.std.proofs.lemmas.List.{length-set}
 use Rattle.std.proofs.lemmas.Bool.{cases_Bool}
 use Rattle.decode80.specs.declared.instr.Instr.{Instr}
-use Rattle.decode80.specs.declared.instr.Instr.TheVariants.{Store, MviMemory, InrMemory, DcrMemory, Stax, Sta, Shld, Push, Pop, Call, CallIf, Ret, ReturnIf, Rst, Xthl, Lxi, Inx, Dcx, Jmp, JumpIf, Pchl, Sphl, Hlt, In, Out}
+use Rattle.decode80.specs.declared.instr.Instr.TheVariants.{Store, MviMemory, InrMemory, DcrMemory, Stax, Sta, Shld, Push, Pop, Call, CallIf}
+use Rattle.decode80.specs.declared.instr.Instr.TheVariants.{Ret, ReturnIf, Rst, Xthl, Lxi, Inx, Dcx, Jmp, JumpIf, Pchl, Sphl, Hlt, In, Out}
 use Rattle.decode80.specs.declared.pair.Pair.TheVariants.{Sp}
 use Rattle.decode80.specs.Fetch.{ahead}
 use Rattle.image80.specs.Range.{in_range}

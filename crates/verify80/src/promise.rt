@@ -12,7 +12,7 @@ use verify80_flow::fitting_tables_cover_walks;
 /// The promise, as a contract. If a table of frames fits an image, and the stack has the bytes that
 /// the table says, then whatever waits at the ports, however many outputs are taken and however
 /// long the program runs, each of its steps fetches only inside code, stores by address only to
-/// data and jumps by PCHL only if targets are declared, touches as stack only so many bytes below
+/// data and jumps by PCHL only if targets are declared, touches as stack only as many bytes below
 /// the stack's top as the table says, and returns only to the place after the newest call that
 /// hasn't returned; and it ends, if at all, by HLT, at an empty port, at a refused output, at a
 /// store through a register pair outside data or at a PCHL to none of its declared targets.

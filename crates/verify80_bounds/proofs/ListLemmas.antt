@@ -1,5 +1,6 @@
 -- Lists of calls joined, with one call more or less, and how many of them a procedure has.
-use Rattle.std.proofs.Common.{◌≡◌, ◌≢◌, ◌<◌, ◌+◌, ◌-◌, ◌⊎◌, inl, inr, ℕ, suc, cond, eqb, List, [], ◌∷◌, ◌++◌, length, map, Vec, Global, get_or, set, take, drop, refl, sym, ap, subst, ◌∙◌, arith, append_assoc}
+use Rattle.std.proofs.Common.{◌≡◌, ◌≢◌, ◌<◌, ◌+◌, ◌-◌, ◌⊎◌, inl, inr, ℕ, suc, cond, eqb, List, [], ◌∷◌, ◌++◌, length}
+use Rattle.std.proofs.Common.{map, Vec, Global, get_or, set, take, drop, refl, sym, ap, subst, ◌∙◌, arith, append_assoc}
 use Rattle.std.specs.Prelude.{Contains, sum_by, slice_index}
 use Rattle.std.proofs.lemmas.List.{get_or-set_same, get_or-set_other, set_split, set-get_or, get_or-map}
 use Rattle.std.proofs.lemmas.List.Concat.{flat_map-append}

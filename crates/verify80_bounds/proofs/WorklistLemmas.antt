@@ -14,7 +14,8 @@ use Rattle.frames80.specs.Procedures.{slot_of}
 use Rattle.verify80_bounds.specs.Sums.{AreSums, AreDepths, AreCounted, IsSettled, AreSmall, IsSumAfter, AreStuck, joined, calls_of, AreGrouped, AreIdle, IsWorklist, IsAdvance, AreLeft}
 use Rattle.verify80_bounds.proofs.BoundLemmas.{slot_apart, absorbed, small_then}
 use Rattle.verify80_bounds.proofs.SumLemmas.{no_call}
-use Rattle.verify80_bounds.proofs.ListLemmas.{HasOneMore, one_pushed, one_popped, more_contains, more_contains_it, more_cases, more_length, contains_joined, some_calls, call_of, counted_more, counted_less}
+use Rattle.verify80_bounds.proofs.ListLemmas.{HasOneMore, one_pushed, one_popped, more_contains, more_contains_it, more_cases}
+use Rattle.verify80_bounds.proofs.ListLemmas.{more_length, contains_joined, some_calls, call_of, counted_more, counted_less}
 
 -- the calls are grouped
 

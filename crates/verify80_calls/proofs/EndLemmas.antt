@@ -1,5 +1,6 @@
 -- A program's chain ends at a procedure that has a walk whose depth is its bound.
-use Rattle.std.proofs.Common.{◌≡◌, ℕ, zero, suc, ◌+◌, ◌≤◌, ℤ, pos, Bool, true, false, cond, List, [], ◌∷◌, All, Contains, length, map, Option, Some, None, is_some, refl, ap, sym, subst, ◌∙◌, true≢false, arith}
+use Rattle.std.proofs.Common.{◌≡◌, ℕ, zero, suc, ◌+◌, ◌≤◌, ℤ, pos, Bool, true, false, cond, List, [], ◌∷◌, All, Contains}
+use Rattle.std.proofs.Common.{length, map, Option, Some, None, is_some, refl, ap, sym, subst, ◌∙◌, true≢false, arith}
 use Rattle.std.proofs.lemmas.Int.{ints}
 use Rattle.std.specs.Prelude.{◌||◌, ◌+ℤ◌, ◌≤ℤ◌, find}
 use Rattle.std.specs.Option.{option_and_then, option_map_or}

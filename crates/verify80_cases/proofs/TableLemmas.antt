@@ -1,5 +1,6 @@
 -- The entries of a table, and the case of its PCHL.
-use Rattle.std.specs.Prelude.{◌≡◌, ℕ, ◌+◌, ◌*◌, ◌<◌, ◌&&◌, Bool, true, false, not, eqb, nat_le, nat_lt, List, [], ◌∷◌, ◌++◌, All, Contains, IsPermutation, None, Some, length, slice_index, refl, if◌then◌else◌}
+use Rattle.std.specs.Prelude.{◌≡◌, ℕ, ◌+◌, ◌*◌, ◌<◌, ◌&&◌, Bool, true, false, not, eqb, nat_le, nat_lt, List, [], ◌∷◌}
+use Rattle.std.specs.Prelude.{◌++◌, All, Contains, IsPermutation, None, Some, length, slice_index, refl, if◌then◌else◌}
 use Rattle.std.specs.List.{dedup}
 use Rattle.std.specs.List.Sorted.{IsSorted}
 use Rattle.std.specs.Ordering.{nat_cmp}
@@ -14,7 +15,8 @@ use Rattle.std.proofs.lemmas.Map.Keys.{IsStrictlyIncreasing-dedup}
 use Rattle.image80.specs.Image.{Located, memory_of}
 use Rattle.image80.specs.Regions.{in_code}
 use Rattle.verify80_cases.specs.Marks.{marked}
-use Rattle.verify80_cases.specs.Suggested.{AreEntries, IsBegun, IsSuggested, IsSuggestedCase, goal_of, goals_of, goes_on_behind, is_ended, is_entry, is_free, is_open, is_target, is_undeclared, stride, word_in, word_place}
+use Rattle.verify80_cases.specs.Suggested.{AreEntries, IsBegun, IsSuggested, IsSuggestedCase, goal_of, goals_of, goes_on_behind}
+use Rattle.verify80_cases.specs.Suggested.{is_ended, is_entry, is_free, is_open, is_target, is_undeclared, stride, word_in, word_place}
 use Rattle.verify80_cases.specs.declared.table.TableKind.{TableKind}
 use Rattle.verify80_cases.specs.declared.table.TableKind.TheVariants.{Words, Jumps, Keys}
 

@@ -1,7 +1,8 @@
 -- The CASE line that a table suggests for a PCHL. (PL/M-80 compiles DO CASE to a jump through a table of words, low byte first; 8080
 -- Assembly Language Programming Manual, PCHL and JMP. Where a table ends, and that an entry with a key has three bytes, is this project's
 -- own.)
-use Rattle.std.specs.Prelude.{◌≡◌, ◌⊎◌, ℕ, ◌+◌, ◌*◌, ◌<◌, ◌==◌, ◌≤◌, ◌↔◌, ◌&&◌, ◌||◌, Bool, true, false, not, nat_le, nat_lt, List, ◌∷◌, All, AllPairs, Contains, IfSome, Option, None, Some, Result, Ok, Err, length, map, slice_index, is_none, if◌then◌else◌}
+use Rattle.std.specs.Prelude.{◌≡◌, ◌⊎◌, ℕ, ◌+◌, ◌*◌, ◌<◌, ◌==◌, ◌≤◌, ◌↔◌, ◌&&◌, ◌||◌, Bool, true, false, not, nat_le, nat_lt, List, ◌∷◌, All}
+use Rattle.std.specs.Prelude.{AllPairs, Contains, IfSome, Option, None, Some, Result, Ok, Err, length, map, slice_index, is_none, if◌then◌else◌}
 use Rattle.std.specs.List.{filter_map, range_with_len}
 use Rattle.std.specs.Result.{is_ok}
 use Rattle.decode80.specs.declared.fetching.Fetched.{Fetched}

@@ -38,12 +38,12 @@ pub(crate) struct Place {
 }
 
 impl Place {
-    /// Whether this place is so many bytes behind another one.
+    /// Whether this place is `bytes` behind another one.
     pub(crate) fn is_behind(self, other: Place, bytes: u8) -> bool {
         self == other.moved(bytes)
     }
 
-    /// The place so many bytes further on, modulo 256.
+    /// The place that is `bytes` further on, modulo 256.
     fn moved(self, bytes: u8) -> Place {
         Place {
             lxi: self.lxi,
@@ -115,7 +115,7 @@ impl Holding {
         }
     }
 
-    /// The pair so many bytes further on, modulo 256.
+    /// The pair, `bytes` further on, modulo 256.
     fn moved(self, bytes: u8) -> Holding {
         match self {
             Holding::Address(place) => Holding::Address(place.moved(bytes)),
@@ -200,7 +200,7 @@ impl KeyTrail {
         }
     }
 
-    /// Whether a pair points so many bytes further into the table of an LXI than before.
+    /// Whether a pair points `bytes` further into the table of an LXI than before.
     pub(crate) fn is_further(self, before: KeyTrail, lxi: u16, bytes: u8) -> bool {
         moves_on(before.hl, self.hl, lxi, bytes)
             || moves_on(before.de, self.de, lxi, bytes)
@@ -357,7 +357,7 @@ impl KeyTrail {
     }
 }
 
-/// Whether a pair points so many bytes further into the table of an LXI than before.
+/// Whether a pair points `bytes` further into the table of an LXI than before.
 fn moves_on(before: Holding, after: Holding, lxi: u16, bytes: u8) -> bool {
     match (before, after) {
         (Holding::Address(from), Holding::Address(to)) => {

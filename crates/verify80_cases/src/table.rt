@@ -2,7 +2,8 @@
 
 ghost use Rattle.std.specs.Prelude.{◌≡◌, ◌+◌, ◌*◌, ◌<◌, ◌≤◌, ◌&&◌, Some, None, All, IfOk, IfSome, length, if◌then◌else◌};
 ghost use Rattle.verify80_cases.specs.Reading.{IsLimitOf, IsRunOf};
-ghost use Rattle.verify80_cases.specs.Suggested.{AreEntries, compared_byte, goal_of, holds_pchl, is_ended, is_entry, is_free, is_jump, is_keyed, is_last, is_target, is_undeclared, is_word, loaded_word, stride, word_in, word_place};
+ghost use Rattle.verify80_cases.specs.Suggested.{AreEntries, compared_byte, goal_of, holds_pchl, is_ended, is_entry, is_free, is_jump, is_keyed};
+ghost use Rattle.verify80_cases.specs.Suggested.{is_last, is_target, is_undeclared, is_word, loaded_word, stride, word_in, word_place};
 ghost use Rattle.verify80.specs.LookLaws.{fetch_at};
 ghost use Rattle.image80.specs.Image.{memory_of};
 

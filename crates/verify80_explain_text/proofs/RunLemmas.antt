@@ -1,5 +1,6 @@
 -- The runs of points with one frame.
-use Rattle.std.proofs.Common.{◌≡◌, ℕ, suc, ◌+◌, ◌<◌, ◌≤◌, Bool, true, false, not, cond, List, [], ◌∷◌, Option, Some, None, is_some, length, take, drop, get_or, position, unwrap_or, refl, ap, sym, ◌∙◌, true≢false, ◌-◌, arith, take_all, nat_lt, one-add, ltb-false}
+use Rattle.std.proofs.Common.{◌≡◌, ℕ, suc, ◌+◌, ◌<◌, ◌≤◌, Bool, true, false, not, cond, List, [], ◌∷◌, Option, Some, None, is_some, length, take}
+use Rattle.std.proofs.Common.{drop, get_or, position, unwrap_or, refl, ap, sym, ◌∙◌, true≢false, ◌-◌, arith, take_all, nat_lt, one-add, ltb-false}
 use Rattle.std.specs.List.{position_or_len}
 use Rattle.std.proofs.lemmas.List.Sums.{prefix_len-le-length}
 use Rattle.frames80.specs.StackFrame.{StackFrame}

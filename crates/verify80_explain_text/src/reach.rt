@@ -3,7 +3,8 @@
 ghost use Rattle.std.specs.Prelude.{◌≡◌, ◌++◌, IfOk, None, OnOk};
 ghost use Rattle.verify80.specs.Looking.{code_of};
 ghost use Rattle.verify80_explain_text.specs.Explained.{with_address};
-ghost use Rattle.verify80_explain_text.specs.Reaching.{call_lines, called_at as called_in, heading, headed_lines, lines_by, point_lines, procedure_line, reach_text as text_of_reach, refusal_text, refused_lines, standing_text, target_text};
+ghost use Rattle.verify80_explain_text.specs.Reaching.{call_lines, called_at as called_in, heading, headed_lines, lines_by, point_lines, procedure_line};
+ghost use Rattle.verify80_explain_text.specs.Reaching.{reach_text as text_of_reach, refusal_text, refused_lines, standing_text, target_text};
 
 use crate::calls::{append_address, append_end};
 use frames80::{Code, Effect, effect_of};

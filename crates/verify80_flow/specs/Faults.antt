@@ -2,7 +2,8 @@
 use Rattle.std.specs.Prelude.{◌≡◌, ◌≢◌, ◌<◌, ◌+◌, ℕ, false, Ok, Err}
 use Rattle.decode80.specs.declared.fetching.Fetched.{Fetched}
 use Rattle.frames80.specs.declared.fault.FrameFault.{FrameFault}
-use Rattle.frames80.specs.declared.fault.FrameFault.TheVariants.{Sphl as FrameSphl, StackByByte as FrameStackByByte, SetsStack as FrameSetsStack, PopsBelow as FramePopsBelow, ReturnNotOwn as FrameReturnNotOwn, ReturnFromMain as FrameReturnFromMain}
+use Rattle.frames80.specs.declared.fault.FrameFault.TheVariants.{Sphl as FrameSphl, StackByByte as FrameStackByByte, SetsStack as FrameSetsStack}
+use Rattle.frames80.specs.declared.fault.FrameFault.TheVariants.{PopsBelow as FramePopsBelow, ReturnNotOwn as FrameReturnNotOwn, ReturnFromMain as FrameReturnFromMain}
 use Rattle.frames80.specs.StackFrame.{StackFrame}
 use Rattle.frames80.specs.Effects.{effect_of}
 use Rattle.frames80.specs.Moves.{moves_of}
@@ -10,7 +11,9 @@ use Rattle.frames80.specs.Calls.{room, agree}
 use Rattle.frames80.specs.declared.procedure.Procedure.{Procedure}
 use Rattle.frames80.specs.declared.procedure.Procedure.TheVariants.{Main, Entry}
 use Rattle.verify80_flow.specs.declared.refusal.Refusal.{Refusal}
-use Rattle.verify80_flow.specs.declared.refusal.Refusal.TheVariants.{FetchOutside, UnusedOpcode, EnablesInterrupts, Sphl, Pchl, StackByByte, SetsStack, DirectStore, PopsBelow, ReturnNotOwn, ReturnFromMain, HeightsDiffer, UnevenArguments, ShortArguments, Recursion, StackTooSmall, TooManyPoints, Memory}
+use Rattle.verify80_flow.specs.declared.refusal.Refusal.TheVariants.{FetchOutside, UnusedOpcode, EnablesInterrupts, Sphl, Pchl, StackByByte, SetsStack}
+use Rattle.verify80_flow.specs.declared.refusal.Refusal.TheVariants.{DirectStore, PopsBelow, ReturnNotOwn, ReturnFromMain, HeightsDiffer, UnevenArguments}
+use Rattle.verify80_flow.specs.declared.refusal.Refusal.TheVariants.{ShortArguments, Recursion, StackTooSmall, TooManyPoints, Memory}
 use Rattle.frames80.specs.declared.code.LookFault.{LookFault}
 use Rattle.frames80.specs.declared.code.LookFault.TheVariants.{Outside, Unused, EnablesInterrupts as LooksAtEi, Pchl as LooksAtPchl, DirectStore as LooksAtStore}
 use Rattle.frames80.specs.Code.{Code, role_of}

@@ -3,7 +3,8 @@
 ghost use Rattle.std.specs.Prelude.{◌≡◌, ◌+◌, ◌<◌, ◌≤◌, ℕ, Bool, is_some, List, false, true, Some, None, Ok, Err, IfOk, IfErr, OnOk, IfSome, length, replicate, slice_get};
 ghost use Rattle.frames80.specs.declared.procedure.Procedure.TheVariants.{Main, Entry};
 ghost use Rattle.verify80_flow.specs.Points.{AreAddresses, IsPointAt, IsNoPoint};
-ghost use Rattle.verify80_flow.specs.Known.{CanLead, IsSmall, Stands, Flows, Exits, CallsOut, Steps, Visits, ManyVisits, Sweeps, Lessens, Refused, AreClosed, AllClosed, IsShort, exit_of, nothing_known};
+ghost use Rattle.verify80_flow.specs.Known.{CanLead, IsSmall, Stands, Flows, Exits, CallsOut, Steps, Visits, ManyVisits};
+ghost use Rattle.verify80_flow.specs.Known.{Sweeps, Lessens, Refused, AreClosed, AllClosed, IsShort, exit_of, nothing_known};
 ghost use Rattle.frames80.specs.declared.moves.Moves.TheVariants.{Either, Case, MaybeCall, MaybeReturn};
 ghost use Rattle.frames80.specs.Calls.{room, returned};
 ghost use Rattle.frames80.specs.Moves.{changed};

@@ -1,5 +1,7 @@
 -- Memory and waiting inputs of bytes, read and written.
-use Rattle.verify80_states.proofs.Names.{All-cons, ◌≡◌, ℕ, List, [], ◌∷◌, Some, All, length, drop, slice_get, slice_index, slice_set, get_or_from_slice_get, slice_get_within, refl, ◌∙◌, arith, subst, zero, suc, length-set, All-nil, All-head, All-tail, All-set, All-drop, stored, waiting, next_input, without_next, IsByte, HasBytes}
+use Rattle.verify80_states.proofs.Names.{All-cons, ◌≡◌, ℕ, List, [], ◌∷◌, Some, All, length, drop, slice_get, slice_index, slice_set}
+use Rattle.verify80_states.proofs.Names.{get_or_from_slice_get, slice_get_within, refl, ◌∙◌, arith, subst, zero, suc, length-set, All-nil}
+use Rattle.verify80_states.proofs.Names.{All-head, All-tail, All-set, All-drop, stored, waiting, next_input, without_next, IsByte, HasBytes}
 
 -- what holds of each of a list holds of one
 pub one_of : {A : Type 0} (P : A → Type 0) (xs : List A) (k : ℕ) (x : A) → All P xs → slice_get xs k ≡ Some x → P x

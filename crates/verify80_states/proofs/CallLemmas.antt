@@ -1,5 +1,7 @@
 -- What is owed to open calls along a step.
-use Rattle.verify80_states.proofs.Names.{◌≡◌, ◌⊎◌, ℕ, Bool, true, false, List, [], ◌∷◌, drop, refl, sym, subst, inl, inr, true≢false, Flow, Jumps, JumpsIf, JumpsToHl, Calls, CallsIf, Returns, ReturnsIf, Halts, Flags, is_return_taken, places_by, CallsEntry, AccountsFor, AccountsForCall, ReturnFacts, IsWithin, Owes, no_returns}
+use Rattle.verify80_states.proofs.Names.{◌≡◌, ◌⊎◌, ℕ, Bool, true, false, List, [], ◌∷◌, drop, refl, sym, subst, inl, inr, true≢false}
+use Rattle.verify80_states.proofs.Names.{Flow, Jumps, JumpsIf, JumpsToHl, Calls, CallsIf, Returns, ReturnsIf, Halts, Flags, is_return_taken}
+use Rattle.verify80_states.proofs.Names.{places_by, CallsEntry, AccountsFor, AccountsForCall, ReturnFacts, IsWithin, Owes, no_returns}
 use Rattle.verify80_states.proofs.WayLemmas.{Leads}
 
 module _ (returns : ReturnFacts) where

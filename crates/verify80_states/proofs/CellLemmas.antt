@@ -1,6 +1,12 @@
 -- What is known of bytes of memory, along stores and where it is read.
-use Rattle.verify80_states.proofs.Names.{◌≡◌, ◌≢◌, ◌⊎◌, ◌<◌, ◌&&◌, ◌==◌, ℕ, Bool, true, false, List, [], ◌∷◌, Option, None, Some, nat_le, length, slice_index, slice_set, refl, subst, sym, ap, ◌∙◌, arith, inl, inr, eqb-true, nat_tests, get_or-set_same, length-set, Areas, in_data, byte_in, stored, Span, ByteSpan, Cell, Cells, Variable, Known, HoldsSet, IsSaid, HasBytes, Within, ByteWithin, is_alone, HoldsCell, HoldsCells, IsByteInside, any_byte, IsCellInside, AreCellsInside, IsQuietCell, AreQuietCells, any_cell, no_cells, map, get_or, All, All-map, All-replicate, slice_get-get_or, cut_cell, cut_cells, stored_cell, HoldsSource, IsQuietSource, IsQuietKnown, nothing_known, cells_after, StoredByte, All-set, IsByte}
-use Rattle.verify80_states.proofs.{ByteLemmas.byte_at as memory_byte, SpanLemmas.any_byte_within, SpanLemmas.byte_inside_within, SpanLemmas.meet_bytes_within, MemoryLemmas.Ground, MemoryLemmas.one_stored, StoredLemmas.AreStored, StoredLemmas.stack_stored}
+use Rattle.verify80_states.proofs.Names.{◌≡◌, ◌≢◌, ◌⊎◌, ◌<◌, ◌&&◌, ◌==◌, ℕ, Bool, true, false, List, [], ◌∷◌, Option, None, Some, nat_le, length, slice_index}
+use Rattle.verify80_states.proofs.Names.{slice_set, refl, subst, sym, ap, ◌∙◌, arith, inl, inr, eqb-true, nat_tests, get_or-set_same, length-set, Areas}
+use Rattle.verify80_states.proofs.Names.{in_data, byte_in, stored, Span, ByteSpan, Cell, Cells, Variable, Known, HoldsSet, IsSaid, HasBytes, Within}
+use Rattle.verify80_states.proofs.Names.{ByteWithin, is_alone, HoldsCell, HoldsCells, IsByteInside, any_byte, IsCellInside, AreCellsInside, IsQuietCell}
+use Rattle.verify80_states.proofs.Names.{AreQuietCells, any_cell, no_cells, map, get_or, All, All-map, All-replicate, slice_get-get_or, cut_cell, cut_cells}
+use Rattle.verify80_states.proofs.Names.{stored_cell, HoldsSource, IsQuietSource, IsQuietKnown, nothing_known, cells_after, StoredByte, All-set, IsByte}
+use Rattle.verify80_states.proofs.{ByteLemmas.byte_at as memory_byte, SpanLemmas.any_byte_within, SpanLemmas.byte_inside_within, SpanLemmas.meet_bytes_within}
+use Rattle.verify80_states.proofs.{MemoryLemmas.Ground, MemoryLemmas.one_stored, StoredLemmas.AreStored, StoredLemmas.stack_stored}
 
 -- what holds of each cell holds of what becomes of it
 each_so : (P W : Cell → Type 0) (f : Cell → Cell) (cells : List Cell) → ((c : Cell) → P c → W (f c)) → All P cells → All W (map f cells)

@@ -1,5 +1,7 @@
 -- What is read of bytes that are known.
-use Rattle.verify80_states.proofs.Names.{◌≡◌, ◌==◌, ℕ, List, Option, None, Some, refl, subst, sym, eqb-true, byte_in, ByteSpan, Cell, Cells, HasBytes, ReadsCode, entry_at, code_or, loaded_at, ByteWithin, byte_alone, HoldsCell, HoldsCells, bytes_at, bytes_of, find, Bool, true, false, [], ◌∷◌, All, All-head, All-tail}
+use Rattle.verify80_states.proofs.Names.{◌≡◌, ◌==◌, ℕ, List, Option, None, Some, refl, subst, sym, eqb-true, byte_in, ByteSpan, Cell}
+use Rattle.verify80_states.proofs.Names.{Cells, HasBytes, ReadsCode, entry_at, code_or, loaded_at, ByteWithin, byte_alone, HoldsCell}
+use Rattle.verify80_states.proofs.Names.{HoldsCells, bytes_at, bytes_of, find, Bool, true, false, [], ◌∷◌, All, All-head, All-tail}
 use Rattle.verify80_states.proofs.{ByteLemmas.byte_at as memory_byte, SpanLemmas.any_byte_within, SpanLemmas.alone_within}
 
 among : (memory : List ℕ) (at : ℕ) (cs : List Cell) → HasBytes memory → All (λ c. HoldsCell c memory) cs → ByteWithin (bytes_of (find (λ c. c.at == at) cs)) (byte_in memory at)

@@ -1,5 +1,7 @@
 -- Tables with an entry for each address: marks, and the bytes of code.
-use Rattle.verify80_states.proofs.Names.{◌≡◌, ◌∙◌, ◌<◌, ◌≤◌, ℕ, Bool, true, false, List, Option, None, Some, map, range_with_len, slice_index, get_or, if◌then◌else◌, inl, inr, refl, sym, subst, arith, get_or-map-range_with_len, length-map-range_with_len, Areas, Located, in_code, memory_of, entry_at, is_marked, true≢false, AreCodeBytes}
+use Rattle.verify80_states.proofs.Names.{◌≡◌, ◌∙◌, ◌<◌, ◌≤◌, ℕ, Bool, true, false, List, Option, None, Some, map, range_with_len, slice_index}
+use Rattle.verify80_states.proofs.Names.{get_or, if◌then◌else◌, inl, inr, refl, sym, subst, arith, get_or-map-range_with_len, length-map-range_with_len}
+use Rattle.verify80_states.proofs.Names.{Areas, Located, in_code, memory_of, entry_at, is_marked, true≢false, AreCodeBytes}
 use Rattle.verify80_states.specs.Steps.{code_in}
 use Rattle.std.proofs.lemmas.{Bool.cases_lt, List.get_or_past}
 

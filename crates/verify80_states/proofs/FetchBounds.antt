@@ -1,5 +1,7 @@
 -- What is fetched from bytes has an operand in its range.
-use Rattle.verify80_states.proofs.Names.{◌≡◌, ◌<◌, ℕ, Bool, true, false, Option, None, Some, Result, Ok, Err, slice_index, refl, if◌then◌else◌, result_ok, same_Some, subst, Instr, Fetched, FetchFault, Outside, decoded, HasOperandInRange, ahead, all_code, admitted_if_used, in_code, IsByte, IsBounded, FetchedOperandsAreBounded}
+use Rattle.verify80_states.proofs.Names.{◌≡◌, ◌<◌, ℕ, Bool, true, false, Option, None, Some, Result, Ok, Err, slice_index, refl, if◌then◌else◌}
+use Rattle.verify80_states.proofs.Names.{result_ok, same_Some, subst, Instr, Fetched, FetchFault, Outside, decoded, HasOperandInRange}
+use Rattle.verify80_states.proofs.Names.{ahead, all_code, admitted_if_used, in_code, IsByte, IsBounded, FetchedOperandsAreBounded}
 use Rattle.decode80.specs.Fetch.{fetch as fetch_in}
 use Rattle.machine80.specs.Step.{fetch}
 use Rattle.verify80_states.proofs.{ArithmeticBounds.ahead_is_word, ByteLemmas.byte_at}

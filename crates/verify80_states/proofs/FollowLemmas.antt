@@ -1,13 +1,28 @@
 -- Registers and flags at each kind of instruction.
-use Rattle.verify80_states.proofs.Names.{◌≡◌, ◌<◌, ◌==◌, ℕ, ◌+◌, ◌-◌, ◌*◌, ◌/◌, ◌%◌, Bool, true, false, not, List, Option, None, Some, nat_lt, bit_and, bit_or, bit_xor, refl, arith, sym, ap, nat_tests, and_self, or_self, xor_self, Register, Pair, IndexPair, IndexBc, IndexDe, A, H, L, Bc, De, Hl, Sp, StackBc, StackDe, StackHl, Psw, Instr, Operation, Operand, Mov, Load, Mvi, Lxi, Dad, Inx, Dcx, Inr, InrMemory, Dcr, DcrMemory, Operate, Pop, Ldax, Lhld, Lda, Rotate, Daa, Cma, Stc, Cmc, Xthl, Xchg, In, Subtract, And, ExclusiveOr, Or, Compare, InRegister, Memory, Immediate, Left, Right, LeftThroughCarry, RightThroughCarry, HasOperandInRange, Areas, Registers, Cpu, flags_from, byte_in, operand_of, changed, decimal_answer, word, register_of, with_register, hl_of, pair_of, with_pair, index_pair_of, Span, ByteSpan, Outcome, PairSpan, Known, Cells, HasBytes, AreBytes, ReadsCode, HoldsCells, Within, ByteWithin, any_byte, word_alone, byte_alone, is_alone, is_byte_alone, next_byte, previous_byte, operated, rotated, complemented, uncarried, HoldsPair, HoldsRegisters, HoldsWord, Compares, any_pair, pair_of_words, next_pair, previous_pair, sum_pair, compared_with, byte_of, span_of, with_byte, with_span, known_pair, loaded_at, loaded, moved, counted, resulted, tested, is_accumulator, operand_bytes, after_operation, added_carry, turned, exchanged, index_words, registers_after, cond_both, subst, StackTop, IfSome, summand, sum_carries, with_any_flags}
+use Rattle.verify80_states.proofs.Names.{◌≡◌, ◌<◌, ◌==◌, ℕ, ◌+◌, ◌-◌, ◌*◌, ◌/◌, ◌%◌, Bool, true, false, not, List, Option, None, Some, nat_lt, bit_and, bit_or}
+use Rattle.verify80_states.proofs.Names.{bit_xor, refl, arith, sym, ap, nat_tests, and_self, or_self, xor_self, Register, Pair, IndexPair, IndexBc, IndexDe, A}
+use Rattle.verify80_states.proofs.Names.{H, L, Bc, De, Hl, Sp, StackBc, StackDe, StackHl, Psw, Instr, Operation, Operand, Mov, Load, Mvi, Lxi, Dad, Inx, Dcx}
+use Rattle.verify80_states.proofs.Names.{Inr, InrMemory, Dcr, DcrMemory, Operate, Pop, Ldax, Lhld, Lda, Rotate, Daa, Cma, Stc, Cmc, Xthl, Xchg, In, Subtract}
+use Rattle.verify80_states.proofs.Names.{And, ExclusiveOr, Or, Compare, InRegister, Memory, Immediate, Left, Right, LeftThroughCarry, RightThroughCarry}
+use Rattle.verify80_states.proofs.Names.{HasOperandInRange, Areas, Registers, Cpu, flags_from, byte_in, operand_of, changed, decimal_answer, word, register_of}
+use Rattle.verify80_states.proofs.Names.{with_register, hl_of, pair_of, with_pair, index_pair_of, Span, ByteSpan, Outcome, PairSpan, Known, Cells, HasBytes}
+use Rattle.verify80_states.proofs.Names.{AreBytes, ReadsCode, HoldsCells, Within, ByteWithin, any_byte, word_alone, byte_alone, is_alone, is_byte_alone, next_byte}
+use Rattle.verify80_states.proofs.Names.{previous_byte, operated, rotated, complemented, uncarried, HoldsPair, HoldsRegisters, HoldsWord, Compares, any_pair}
+use Rattle.verify80_states.proofs.Names.{pair_of_words, next_pair, previous_pair, sum_pair, compared_with, byte_of, span_of, with_byte, with_span, known_pair}
+use Rattle.verify80_states.proofs.Names.{loaded_at, loaded, moved, counted, resulted, tested, is_accumulator, operand_bytes, after_operation, added_carry}
+use Rattle.verify80_states.proofs.Names.{turned, exchanged, index_words, registers_after, cond_both, subst, StackTop, IfSome, summand, sum_carries, with_any_flags}
 use Rattle.verify80_spans.specs.Span.{IsKnown, high_of}
 use Rattle.decode80.specs.{Fetch.ahead, Fetch.behind}
 use Rattle.machine80.specs.{Flags.bit_of, Flags.flags_of_result}
-use Rattle.machine80.specs.Arithmetic.{byte_answer, sum_answer, difference_answer, operation_answer, increment_answer, decrement_answer, rotation_answer, pair_sum, pair_sum_flags, complement_of, carry_set, carry_turned}
-use Rattle.verify80_states.proofs.{CellReads.read_within, StepBytes.operand_is_byte, ByteLemmas.byte_at as memory_byte, ArithmeticBounds.decimal_is_byte, RegisterBytes.register_is_byte, RegisterBytes.register_written}
+use Rattle.machine80.specs.Arithmetic.{byte_answer, sum_answer, difference_answer, operation_answer, increment_answer, decrement_answer}
+use Rattle.machine80.specs.Arithmetic.{rotation_answer, pair_sum, pair_sum_flags, complement_of, carry_set, carry_turned}
+use Rattle.verify80_states.proofs.{CellReads.read_within, StepBytes.operand_is_byte, ByteLemmas.byte_at as memory_byte}
+use Rattle.verify80_states.proofs.{ArithmeticBounds.decimal_is_byte, RegisterBytes.register_is_byte, RegisterBytes.register_written}
 use Rattle.verify80_states.proofs.SpanLemmas.{any_byte_within, alone_within, next_byte_within, previous_byte_within, carries}
 use Rattle.verify80_states.proofs.OutcomeLemmas.{Makes, result_of, carry_of, operated_makes, is_first}
-use Rattle.verify80_states.proofs.StateLemmas.{split_holds, high_holds, byte_holds, with_byte_holds, bc_written_holds, de_written_holds, hl_written_holds, with_span_holds, outcome_holds, carry_holds, any_flags_hold, compared_holds, copy_holds, next_holds, previous_holds, sum_holds, any_pair_holds, any_sum_holds}
+use Rattle.verify80_states.proofs.StateLemmas.{split_holds, high_holds, byte_holds, with_byte_holds, bc_written_holds, de_written_holds}
+use Rattle.verify80_states.proofs.StateLemmas.{hl_written_holds, with_span_holds, outcome_holds, carry_holds, any_flags_hold, compared_holds}
+use Rattle.verify80_states.proofs.StateLemmas.{copy_holds, next_holds, previous_holds, sum_holds, any_pair_holds, any_sum_holds}
 
 -- what is read
 pub word_first : (s : Span) (n : ℕ) → is_alone s ≡ true → Within s n → s.first ≡ n

@@ -1,5 +1,9 @@
 -- What a condition leaves of what is known holds if the condition does.
-use Rattle.verify80_states.proofs.Names.{◌≡◌, ◌==◌, ◌+◌, ◌-◌, ℕ, Bool, true, false, not, Option, None, Some, nat_lt, nat_le, min, max, refl, arith, subst, sym, ap, ◌∙◌, nat_tests, Register, A, Condition, NonZero, Zero, NoCarry, Carry, Plus, Minus, Areas, Registers, Machine, ByteSpan, Known, AreBytes, ByteWithin, byte_alone, only, without, below, from, Holds, HoldsRegisters, HoldsSource, IsQuietSource, IsQuietKnown, Compares, cut, cut_copy, given_flag, zero_bytes, carry_bytes, cut_to, given_zero, given_carry, given_sign, given, not-not, State, HoldsKnown, IsQuietState, given_state, with_known}
+use Rattle.verify80_states.proofs.Names.{◌≡◌, ◌==◌, ◌+◌, ◌-◌, ℕ, Bool, true, false, not, Option, None, Some, nat_lt, nat_le, min, max, refl, arith, subst}
+use Rattle.verify80_states.proofs.Names.{sym, ap, ◌∙◌, nat_tests, Register, A, Condition, NonZero, Zero, NoCarry, Carry, Plus, Minus, Areas, Registers}
+use Rattle.verify80_states.proofs.Names.{Machine, ByteSpan, Known, AreBytes, ByteWithin, byte_alone, only, without, below, from, Holds, HoldsRegisters}
+use Rattle.verify80_states.proofs.Names.{HoldsSource, IsQuietSource, IsQuietKnown, Compares, cut, cut_copy, given_flag, zero_bytes, carry_bytes, cut_to}
+use Rattle.verify80_states.proofs.Names.{given_zero, given_carry, given_sign, given, not-not, State, HoldsKnown, IsQuietState, given_state, with_known}
 use Rattle.verify80_spans.specs.Span.{IsKnown}
 use Rattle.machine80.specs.{Flags.holds as holds_of}
 use Rattle.verify80_states.proofs.{StateLemmas.cut_holds, CellLemmas.cells_cut, CellLemmas.cells_cut_quiet}

@@ -1,5 +1,8 @@
 -- What a state says, one says that is around it.
-use Rattle.verify80_states.proofs.Names.{◌≡◌, ◌⊎◌, ℕ, Bool, true, List, Option, None, Some, refl, subst, inl, inr, Register, A, ahead, Areas, Registers, word, register_of, byte_in, Machine, PairSpan, Words, State, Variable, HoldsSet, is_bit, bytes_at, HasBytes, ByteWithin, IsByteInside, Holds, HoldsPair, HoldsWord, HoldsWords, HoldsSource, Compares, IsPairInside, IsSameIfKnown, IsCopyInside, IsWordInside, AreWordsInside, IsStateInside, Known, HoldsKnown, IsKnownInside}
+use Rattle.verify80_states.proofs.Names.{◌≡◌, ◌⊎◌, ℕ, Bool, true, List, Option, None, Some, refl, subst, inl, inr, Register, A, ahead, Areas, Registers}
+use Rattle.verify80_states.proofs.Names.{word, register_of, byte_in, Machine, PairSpan, Words, State, Variable, HoldsSet, is_bit, bytes_at, HasBytes}
+use Rattle.verify80_states.proofs.Names.{ByteWithin, IsByteInside, Holds, HoldsPair, HoldsWord, HoldsWords, HoldsSource, Compares, IsPairInside}
+use Rattle.verify80_states.proofs.Names.{IsSameIfKnown, IsCopyInside, IsWordInside, AreWordsInside, IsStateInside, Known, HoldsKnown, IsKnownInside}
 use Rattle.verify80_spans.specs.Span.{IsKnown}
 use Rattle.verify80_states.proofs.{CellReads.cells_within, SpanLemmas.inside_within, SpanLemmas.byte_inside_within, CellLemmas.cells_around}
 

@@ -1,7 +1,21 @@
 -- Runs keep to a table that fits.
-use Rattle.verify80_states.proofs.Names.{◌≡◌, ◌⊎◌, ℕ, zero, suc, Bool, true, false, List, Option, None, Some, Ok, IsSome, drop, length, slice_get, slice_index, refl, subst, sym, ap, ◌∙◌, inl, inr, arith, true≢false, nat_tests, Condition, Pchl, Fetched, Flow, Jumps, JumpsIf, JumpsToHl, Calls, CallsIf, Returns, ReturnsIf, Halts, flow, Areas, in_data, targets_at, Located, Cpu, holds_of, hl_of, world_of, byte_in, goes_to, target, word_in, Machine, Turn, Next, Stop, fetch, step_of, World, world_at, turn_at, following, world_after, places_by, places_then, refuses, returns, is_return_taken, fetched_by, FetchesInside, IsNewest, code_of, declared_targets, IsStart, IsWorldFrom, NeverGoesWrongFromPowerOn, IsReached, StandsOnWalk, StaysOnWalks, LeavesProgram, with_memory, PairSpan, Known, State, Variable, Placed, HoldsSet, no_cells, is_steady, state_after, given_state, Fits, AreBytes, HoldsBytes, BytesStayBytes, FetchedOperandsAreBounded, MemoryKeepsItsLength, Within, ByteWithin, byte_alone, HasBytes, Holds, HoldsKnown, HoldsWord, IsQuietKnown, IsQuietState, anything, nothing_known, unknown_but, cut_state, is_taken, ReadsCode, AreCodeBytes, HasCode, Has, Covers, CoversAfter, FitsBy, KnowsQuiet, AccountsFor, ReturnFacts, KnowsReturn, KnowsReturnIf, KnowsReturnsOf, Owes, IsBehind, KeepsTo, KeepsToCalls, IsKept, HasOperandInRange, EntryFits, stored_bytes, stores, same_Some}
+use Rattle.verify80_states.proofs.Names.{◌≡◌, ◌⊎◌, ℕ, zero, suc, Bool, true, false, List, Option, None, Some, Ok, IsSome, drop, length, slice_get}
+use Rattle.verify80_states.proofs.Names.{slice_index, refl, subst, sym, ap, ◌∙◌, inl, inr, arith, true≢false, nat_tests, Condition, Pchl, Fetched, Flow}
+use Rattle.verify80_states.proofs.Names.{Jumps, JumpsIf, JumpsToHl, Calls, CallsIf, Returns, ReturnsIf, Halts, flow, Areas, in_data, targets_at, Located}
+use Rattle.verify80_states.proofs.Names.{Cpu, holds_of, hl_of, world_of, byte_in, goes_to, target, word_in, Machine, Turn, Next, Stop, fetch, step_of}
+use Rattle.verify80_states.proofs.Names.{World, world_at, turn_at, following, world_after, places_by, places_then, refuses, returns, is_return_taken}
+use Rattle.verify80_states.proofs.Names.{fetched_by, FetchesInside, IsNewest, code_of, declared_targets, IsStart, IsWorldFrom, NeverGoesWrongFromPowerOn}
+use Rattle.verify80_states.proofs.Names.{IsReached, StandsOnWalk, StaysOnWalks, LeavesProgram, with_memory, PairSpan, Known, State, Variable, Placed}
+use Rattle.verify80_states.proofs.Names.{HoldsSet, no_cells, is_steady, state_after, given_state, Fits, AreBytes, HoldsBytes, BytesStayBytes}
+use Rattle.verify80_states.proofs.Names.{FetchedOperandsAreBounded, MemoryKeepsItsLength, Within, ByteWithin, byte_alone, HasBytes, Holds, HoldsKnown}
+use Rattle.verify80_states.proofs.Names.{HoldsWord, IsQuietKnown, IsQuietState, anything, nothing_known, unknown_but, cut_state, is_taken, ReadsCode}
+use Rattle.verify80_states.proofs.Names.{AreCodeBytes, HasCode, Has, Covers, CoversAfter, FitsBy, KnowsQuiet, AccountsFor, ReturnFacts, KnowsReturn}
+use Rattle.verify80_states.proofs.Names.{KnowsReturnIf, KnowsReturnsOf, Owes, IsBehind, KeepsTo, KeepsToCalls, IsKept, HasOperandInRange, EntryFits, stored_bytes, stores, same_Some}
 use Rattle.verify80_states.specs.Runs.{IsKnown}
-use Rattle.verify80_states.proofs.{StateLemmas.anything_holds, MemoryLemmas.Ground, MemoryLemmas.none_hold, MemoryLemmas.words_stay, SpanLemmas.alone_within, VariableLemmas.none_named, ByteLemmas.one_of, VariableLemmas.tested_of, VariableLemmas.variable_kept, StoredLemmas.are_stored, GivenLemmas.given_state_holds, GivenLemmas.cut_set, GivenLemmas.cut_known, InsideLemmas.set_around, InsideLemmas.state_around, WayLemmas.Leads, WayLemmas.step_goes}
+use Rattle.verify80_states.proofs.{StateLemmas.anything_holds, MemoryLemmas.Ground, MemoryLemmas.none_hold, MemoryLemmas.words_stay}
+use Rattle.verify80_states.proofs.{SpanLemmas.alone_within, VariableLemmas.none_named, ByteLemmas.one_of, VariableLemmas.tested_of}
+use Rattle.verify80_states.proofs.{VariableLemmas.variable_kept, StoredLemmas.are_stored, GivenLemmas.given_state_holds, GivenLemmas.cut_set}
+use Rattle.verify80_states.proofs.{GivenLemmas.cut_known, InsideLemmas.set_around, InsideLemmas.state_around, WayLemmas.Leads, WayLemmas.step_goes}
 use Rattle.verify80_states.proofs.CellLemmas.{cells_beside, source_beside, known_quieter, none_hold as no_cells_hold}
 use Rattle.verify80_states.proofs.CallLemmas.{owed_on, owes_stay, returned_places, returns_here}
 use Rattle.verify80_states.proofs.StepLemmas.{other_known, step_byte, step_state, step_code}

@@ -1,8 +1,12 @@
 -- The laws of what is known, for whoever follows the stack.
-use Rattle.verify80_states.proofs.Names.{◌≡◌, ◌<◌, ℕ, Bool, true, List, [], Option, None, Some, length, refl, subst, sym, ◌∙◌, same_Some, In, Out, Hlt, Instr, Condition, HasOperandInRange, Areas, in_data, holds_of, stores, Machine, guard, proceeded, Known, StackTop, HoldsBytes, IsWord, ReadsCode, given, HoldsKnown, HoldsTop, IsQuietKnown, ByteWithin, byte_alone, HoldsSet}
+use Rattle.verify80_states.proofs.Names.{◌≡◌, ◌<◌, ℕ, Bool, true, List, [], Option, None, Some, length, refl, subst, sym, ◌∙◌, same_Some, In, Out, Hlt}
+use Rattle.verify80_states.proofs.Names.{Instr, Condition, HasOperandInRange, Areas, in_data, holds_of, stores, Machine, guard, proceeded, Known, StackTop}
+use Rattle.verify80_states.proofs.Names.{HoldsBytes, IsWord, ReadsCode, given, HoldsKnown, HoldsTop, IsQuietKnown, ByteWithin, byte_alone, HoldsSet}
 use Rattle.verify80.specs.Boards.{unguarded}
 use Rattle.verify80_states.specs.Laws.{IsFollowedBy, LeavesKnown, KnownHolds}
-use Rattle.verify80_states.proofs.{MemoryLemmas.Ground, RegisterBytes.accumulator_written, StepBytes.changed_bytes, ByteLemmas.stored_are_bytes, ByteLemmas.stored_length, StepBytes.stores_bytes, SpanLemmas.alone_within, GivenLemmas.cut_known, GivenLemmas.given_holds, InsideLemmas.known_around, StoredLemmas.are_stored, StoredLemmas.code_kept, KeepLemmas.nothing_known_holds}
+use Rattle.verify80_states.proofs.{MemoryLemmas.Ground, RegisterBytes.accumulator_written, StepBytes.changed_bytes, ByteLemmas.stored_are_bytes}
+use Rattle.verify80_states.proofs.{ByteLemmas.stored_length, StepBytes.stores_bytes, SpanLemmas.alone_within, GivenLemmas.cut_known, GivenLemmas.given_holds}
+use Rattle.verify80_states.proofs.{InsideLemmas.known_around, StoredLemmas.are_stored, StoredLemmas.code_kept, KeepLemmas.nothing_known_holds}
 use Rattle.verify80_states.specs.Following.{stored_bytes}
 use Rattle.verify80_states.proofs.StepLemmas.{known_brought, known_taken, known_proceeds}
 

@@ -1,8 +1,17 @@
 -- The memory after a step: code stays, and the words on the stack are as the state has them.
-use Rattle.verify80_states.proofs.Names.{◌≡◌, ◌≢◌, ◌<◌, ◌≤◌, ℕ, zero, suc, ◌+◌, ◌/◌, ◌%◌, Bool, true, false, not, List, [], ◌∷◌, Option, None, Some, length, slice_index, slice_set, refl, if◌then◌else◌, subst, sym, ap, ◌∙◌, arith, cond, get_or-set_other, true≢false, get_or-set_same, length-set, All-contains, Contains-append_left, Contains-append_right, Contains-push, nat_tests, Instr, Sp, StackPair, Store, MviMemory, InrMemory, DcrMemory, Stax, Sta, Shld, Push, Pop, Call, CallIf, Ret, ReturnIf, Rst, Xthl, Lxi, Inx, Dcx, Sphl, StackBc, StackDe, StackHl, Psw, flow, Range, in_range, IsInMemory, Areas, AreRegions, all_ranges, in_code, in_data, top_of, Registers, Cpu, End, Direct, Stack, StoreOutside, holds_of, flags_byte, guard, first_outside, ends_at, push_bytes, stores, stored, changed, PairSpan, Words, State, any_byte, word_alone, HoldsPair, HoldsRegisters, HoldsWord, HoldsWords, IsOnStack, pair_of_words, no_words, pushed, popped, pushed_pair, called, returned, words_after, is_taken, Known}
+use Rattle.verify80_states.proofs.Names.{◌≡◌, ◌≢◌, ◌<◌, ◌≤◌, ℕ, zero, suc, ◌+◌, ◌/◌, ◌%◌, Bool, true, false, not, List, [], ◌∷◌, Option, None, Some}
+use Rattle.verify80_states.proofs.Names.{length, slice_index, slice_set, refl, if◌then◌else◌, subst, sym, ap, ◌∙◌, arith, cond, get_or-set_other}
+use Rattle.verify80_states.proofs.Names.{true≢false, get_or-set_same, length-set, All-contains, Contains-append_left, Contains-append_right}
+use Rattle.verify80_states.proofs.Names.{Contains-push, nat_tests, Instr, Sp, StackPair, Store, MviMemory, InrMemory, DcrMemory, Stax, Sta, Shld}
+use Rattle.verify80_states.proofs.Names.{Push, Pop, Call, CallIf, Ret, ReturnIf, Rst, Xthl, Lxi, Inx, Dcx, Sphl, StackBc, StackDe, StackHl, Psw, flow}
+use Rattle.verify80_states.proofs.Names.{Range, in_range, IsInMemory, Areas, AreRegions, all_ranges, in_code, in_data, top_of, Registers, Cpu, End}
+use Rattle.verify80_states.proofs.Names.{Direct, Stack, StoreOutside, holds_of, flags_byte, guard, first_outside, ends_at, push_bytes, stores, stored}
+use Rattle.verify80_states.proofs.Names.{changed, PairSpan, Words, State, any_byte, word_alone, HoldsPair, HoldsRegisters, HoldsWord, HoldsWords}
+use Rattle.verify80_states.proofs.Names.{IsOnStack, pair_of_words, no_words, pushed, popped, pushed_pair, called, returned, words_after, is_taken, Known}
 use Rattle.machine80.specs.Cpu.{high_of, low_of}
 use Rattle.decode80.specs.{Fetch.ahead, Fetch.behind}
-use Rattle.verify80_states.proofs.{ArithmeticBounds.flags_are_byte, ArithmeticBounds.ahead_is_word, ArithmeticBounds.behind_is_word, SpanLemmas.any_byte_within, StateLemmas.halves_hold, StateLemmas.split_holds}
+use Rattle.verify80_states.proofs.{ArithmeticBounds.flags_are_byte, ArithmeticBounds.ahead_is_word, ArithmeticBounds.behind_is_word}
+use Rattle.verify80_states.proofs.{SpanLemmas.any_byte_within, StateLemmas.halves_hold, StateLemmas.split_holds}
 
 -- the rules of regions: code, data and stack share no address, and the stack is in memory
 pub record Ground (regions : Areas) : Type 0 where

@@ -1,5 +1,8 @@
 -- What the accumulator's operations make of spans.
-use Rattle.verify80_states.proofs.Names.{xor_of_8, or_of_8, ◌≡◌, ◌≤◌, ◌<◌, ◌&&◌, ℕ, ◌+◌, ◌-◌, ◌*◌, ◌%◌, Bool, true, false, Option, nat_lt, nat_le, bit_and, bit_or, bit_xor, refl, or_add_and, xor_add_and, arith, and_le_l, and_le_r, le_or_l, le_or_r, nat_tests, Operation, Add, AddCarry, Subtract, SubtractBorrow, And, ExclusiveOr, Or, Compare, Flags, ByteSpan, Outcome, ByteWithin, byte_alone, is_byte_alone, are_alone, carry_span, sum_of, difference_of, and_of, or_of, exclusive_or_of, operated}
+use Rattle.verify80_states.proofs.Names.{xor_of_8, or_of_8, ◌≡◌, ◌≤◌, ◌<◌, ◌&&◌, ℕ, ◌+◌, ◌-◌, ◌*◌, ◌%◌, Bool, true, false, Option, nat_lt, nat_le, bit_and}
+use Rattle.verify80_states.proofs.Names.{bit_or, bit_xor, refl, or_add_and, xor_add_and, arith, and_le_l, and_le_r, le_or_l, le_or_r, nat_tests, Operation}
+use Rattle.verify80_states.proofs.Names.{Add, AddCarry, Subtract, SubtractBorrow, And, ExclusiveOr, Or, Compare, Flags, ByteSpan, Outcome, ByteWithin}
+use Rattle.verify80_states.proofs.Names.{byte_alone, is_byte_alone, are_alone, carry_span, sum_of, difference_of, and_of, or_of, exclusive_or_of, operated}
 use Rattle.verify80_spans.specs.Span.{IsKnown}
 use Rattle.machine80.specs.{Flags.bit_of}
 use Rattle.verify80_states.proofs.{ArithmeticBounds.bit_is_small, SpanLemmas.any_byte_within, SpanLemmas.alone_within, SpanLemmas.carry_within}

@@ -1,5 +1,7 @@
 -- Registers and pairs of bytes, read and written.
-use Rattle.verify80_states.proofs.Names.{arith, ℕ, ◌/◌, ◌%◌, Register, Pair, StackPair, IndexPair, IndexBc, IndexDe, A, B, C, D, E, H, L, Bc, De, Hl, Sp, StackBc, StackDe, StackHl, Psw, Flags, Registers, Cpu, register_of, with_register, hl_of, with_pair, index_pair_of, with_stack_pair, IsByte, IsWord, AreBytes}
+use Rattle.verify80_states.proofs.Names.{arith, ℕ, ◌/◌, ◌%◌, Register, Pair, StackPair, IndexPair, IndexBc, IndexDe, A, B, C, D, E}
+use Rattle.verify80_states.proofs.Names.{H, L, Bc, De, Hl, Sp, StackBc, StackDe, StackHl, Psw, Flags, Registers, Cpu, register_of}
+use Rattle.verify80_states.proofs.Names.{with_register, hl_of, with_pair, index_pair_of, with_stack_pair, IsByte, IsWord, AreBytes}
 use Rattle.machine80.specs.Cpu.{high_of, low_of}
 use Rattle.verify80_states.proofs.ArithmeticBounds.{word_of_bytes, flags_are_byte}
 

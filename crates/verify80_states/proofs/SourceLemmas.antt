@@ -1,7 +1,13 @@
 -- The byte of memory that A has, along a step.
-use Rattle.verify80_states.proofs.Names.{◌≡◌, ◌&&◌, ℕ, Bool, true, false, List, [], ◌∷◌, Option, None, Some, nat_le, length, bit_and, bit_or, refl, and_self, or_self, subst, sym, ap, ◌∙◌, arith, get_or-set_same, A, Sp, Psw, Instr, Operation, Mov, Load, Store, Mvi, Lxi, Inx, Dcx, Inr, Dcr, Operate, Pop, Ldax, Sta, Lda, Rotate, Daa, Cma, In, Subtract, And, ExclusiveOr, Or, Compare, HasOperandInRange, Areas, in_data, Registers, Cpu, hl_of, operand_of, stores, stored, changed, Span, ByteSpan, Known, AreBytes, HoldsRegisters, HoldsSource, IsQuietSource, Within, is_alone, is_accumulator, operand_bytes, after_operation, only_address, registers_after, source_after, address_after, stored_bytes, StoredByte, slice_set, cond_both, StackTop}
+use Rattle.verify80_states.proofs.Names.{◌≡◌, ◌&&◌, ℕ, Bool, true, false, List, [], ◌∷◌, Option, None, Some, nat_le, length, bit_and, bit_or, refl, and_self}
+use Rattle.verify80_states.proofs.Names.{or_self, subst, sym, ap, ◌∙◌, arith, get_or-set_same, A, Sp, Psw, Instr, Operation, Mov, Load, Store, Mvi, Lxi, Inx}
+use Rattle.verify80_states.proofs.Names.{Dcx, Inr, Dcr, Operate, Pop, Ldax, Sta, Lda, Rotate, Daa, Cma, In, Subtract, And, ExclusiveOr, Or, Compare}
+use Rattle.verify80_states.proofs.Names.{HasOperandInRange, Areas, in_data, Registers, Cpu, hl_of, operand_of, stores, stored, changed, Span, ByteSpan, Known}
+use Rattle.verify80_states.proofs.Names.{AreBytes, HoldsRegisters, HoldsSource, IsQuietSource, Within, is_alone, is_accumulator, operand_bytes, after_operation}
+use Rattle.verify80_states.proofs.Names.{only_address, registers_after, source_after, address_after, stored_bytes, StoredByte, slice_set, cond_both, StackTop}
 use Rattle.machine80.specs.Arithmetic.{byte_answer, operation_answer}
-use Rattle.verify80_states.proofs.{RegisterBytes.hl_is_word, FollowLemmas.word_first, FollowLemmas.is_itself, CellLemmas.apart_from, CellLemmas.source_beside, MemoryLemmas.Ground, MemoryLemmas.one_stored, StoredLemmas.AreStored, StoredLemmas.stack_stored}
+use Rattle.verify80_states.proofs.{RegisterBytes.hl_is_word, FollowLemmas.word_first, FollowLemmas.is_itself, CellLemmas.apart_from}
+use Rattle.verify80_states.proofs.{CellLemmas.source_beside, MemoryLemmas.Ground, MemoryLemmas.one_stored, StoredLemmas.AreStored, StoredLemmas.stack_stored}
 
 -- a byte is read or stored at an address of a span
 only_is : (span : Span) (n : ℕ) (m : List ℕ) (a : ℕ) (b : Bool) → is_alone span ≡ b → Within span n → HoldsSource (Some n) m a → HoldsSource (only_address span) m a

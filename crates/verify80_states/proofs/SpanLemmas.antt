@@ -1,5 +1,7 @@
 -- What spans say of numbers.
-use Rattle.verify80_states.proofs.Names.{◌≡◌, ◌<◌, ℕ, ◌+◌, ◌%◌, Bool, true, false, Option, None, Some, nat_lt, nat_le, refl, arith, nat_tests, word, Span, ByteSpan, Within, ByteWithin, IsInside, IsByteInside, any_word, any_byte, byte_alone, next_span, previous_span, next_byte, previous_byte, sum_span, sum_carries, joined, meet, meet_bytes, carry_span, if◌then◌else◌}
+use Rattle.verify80_states.proofs.Names.{◌≡◌, ◌<◌, ℕ, ◌+◌, ◌%◌, Bool, true, false, Option, None, Some, nat_lt, nat_le, refl, arith, nat_tests, word}
+use Rattle.verify80_states.proofs.Names.{Span, ByteSpan, Within, ByteWithin, IsInside, IsByteInside, any_word, any_byte, byte_alone, next_span}
+use Rattle.verify80_states.proofs.Names.{previous_span, next_byte, previous_byte, sum_span, sum_carries, joined, meet, meet_bytes, carry_span, if◌then◌else◌}
 use Rattle.verify80_spans.specs.Span.{IsKnown, high_of, low_of}
 use Rattle.machine80.specs.{Flags.bit_of}
 

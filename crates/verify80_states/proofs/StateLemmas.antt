@@ -1,8 +1,14 @@
 -- What a state says when registers and flags are written.
-use Rattle.verify80_states.proofs.Names.{◌≡◌, ◌<◌, ◌==◌, ℕ, ◌+◌, ◌/◌, ◌%◌, Bool, true, false, Option, nat_lt, nat_le, refl, arith, subst, sym, nat_tests, Register, Pair, A, B, C, D, E, H, L, Bc, De, Hl, Sp, Flags, Registers, Cpu, word, register_of, with_register, with_pair, Span, ByteSpan, Outcome, PairSpan, Known, AreBytes, Within, ByteWithin, any_byte, byte_alone, next_span, previous_span, next_byte, previous_byte, sum_span, sum_of, joined, zero_of, sign_of, HoldsPair, HoldsRegisters, Compares, any_pair, nothing_known, pair_of_words, pair_of_halves, byte_of, copy_without, copy_outside, with_byte, with_span, with_outcome, with_carry, with_any_flags, cut_high, cut_low, cut_copy, cut, next_pair, previous_pair, sum_pair}
+use Rattle.verify80_states.proofs.Names.{◌≡◌, ◌<◌, ◌==◌, ℕ, ◌+◌, ◌/◌, ◌%◌, Bool, true, false, Option, nat_lt, nat_le, refl, arith, subst, sym, nat_tests}
+use Rattle.verify80_states.proofs.Names.{Register, Pair, A, B, C, D, E, H, L, Bc, De, Hl, Sp, Flags, Registers, Cpu, word, register_of, with_register}
+use Rattle.verify80_states.proofs.Names.{with_pair, Span, ByteSpan, Outcome, PairSpan, Known, AreBytes, Within, ByteWithin, any_byte, byte_alone, next_span}
+use Rattle.verify80_states.proofs.Names.{previous_span, next_byte, previous_byte, sum_span, sum_of, joined, zero_of, sign_of, HoldsPair, HoldsRegisters}
+use Rattle.verify80_states.proofs.Names.{Compares, any_pair, nothing_known, pair_of_words, pair_of_halves, byte_of, copy_without, copy_outside, with_byte}
+use Rattle.verify80_states.proofs.Names.{with_span, with_outcome, with_carry, with_any_flags, cut_high, cut_low, cut_copy, cut, next_pair, previous_pair, sum_pair}
 use Rattle.verify80_spans.specs.Span.{IsKnown, high_of}
 use Rattle.machine80.specs.Flags.{flags_of_result}
-use Rattle.verify80_states.proofs.SpanLemmas.{known_if, high_within, low_within, joined_within, any_word_within, any_byte_within, alone_within, next_within, previous_within, next_byte_within, previous_byte_within, sum_within, meet_within, meet_bytes_within}
+use Rattle.verify80_states.proofs.SpanLemmas.{known_if, high_within, low_within, joined_within, any_word_within, any_byte_within, alone_within, next_within}
+use Rattle.verify80_states.proofs.SpanLemmas.{previous_within, next_byte_within, previous_byte_within, sum_within, meet_within, meet_bytes_within}
 use Rattle.verify80_states.proofs.{ArithmeticBounds.word_of_bytes, OutcomeLemmas.Makes, OutcomeLemmas.sum_makes}
 
 -- pairs

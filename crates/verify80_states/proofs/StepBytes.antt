@@ -1,5 +1,10 @@
 -- One step of a machine that holds bytes.
-use Rattle.verify80_states.proofs.Names.{arith, [], ◌≡◌, ℕ, ◌/◌, ◌%◌, Bool, true, false, List, length, refl, if◌then◌else◌, All-nil, Instr, Mov, Load, Store, Mvi, MviMemory, Lxi, Dad, Inx, Dcx, Inr, InrMemory, Dcr, DcrMemory, Operate, Call, CallIf, Rst, Push, Pop, Stax, Ldax, Shld, Lhld, Sta, Lda, Rotate, Daa, Cma, Stc, Cmc, Xthl, Xchg, InRegister, Memory, Immediate, ahead, HasOperandInRange, Cpu, holds, increment_answer, decrement_answer, register_of, with_register, hl_of, pair_of, byte_in, push_bytes, stores, changed, Machine, IsByte, IsWord, HasBytes, AreBytes, HoldsBytes, BytesStayBytes, MemoryKeepsItsLength, FetchedOperandsAreBounded, operand_of, Operand, Operation, Registers}
+use Rattle.verify80_states.proofs.Names.{arith, [], ◌≡◌, ℕ, ◌/◌, ◌%◌, Bool, true, false, List, length, refl, if◌then◌else◌, All-nil, Instr, Mov, Load}
+use Rattle.verify80_states.proofs.Names.{Store, Mvi, MviMemory, Lxi, Dad, Inx, Dcx, Inr, InrMemory, Dcr, DcrMemory, Operate, Call, CallIf, Rst, Push}
+use Rattle.verify80_states.proofs.Names.{Pop, Stax, Ldax, Shld, Lhld, Sta, Lda, Rotate, Daa, Cma, Stc, Cmc, Xthl, Xchg, InRegister, Memory, Immediate}
+use Rattle.verify80_states.proofs.Names.{ahead, HasOperandInRange, Cpu, holds, increment_answer, decrement_answer, register_of, with_register, hl_of}
+use Rattle.verify80_states.proofs.Names.{pair_of, byte_in, push_bytes, stores, changed, Machine, IsByte, IsWord, HasBytes, AreBytes, HoldsBytes}
+use Rattle.verify80_states.proofs.Names.{BytesStayBytes, MemoryKeepsItsLength, FetchedOperandsAreBounded, operand_of, Operand, Operation, Registers}
 use Rattle.machine80.specs.Arithmetic.{complement_of, pair_sum}
 use Rattle.verify80_states.proofs.ArithmeticBounds.{ahead_is_word, behind_is_word, operation_is_byte, increment_is_byte, decrement_is_byte, decimal_is_byte, rotation_is_byte}
 use Rattle.verify80_states.proofs.RegisterBytes.{register_is_byte, high_is_byte, low_is_byte, flags_written, accumulator_written, hl_written, register_written, pair_written, stack_pair_written}

@@ -1,5 +1,7 @@
 -- What holds after a step, whatever that is: an input, an output, or what all other instructions do.
-use Rattle.verify80_states.proofs.Names.{[], ◌≡◌, ℕ, ◌++◌, Bool, true, false, ◌∷◌, Option, None, Some, refl, if◌then◌else◌, subst, sym, ap, ◌∙◌, Instr, In, Out, Pchl, Hlt, Fetched, Areas, targets_at, End, hl_of, next_input, without_next, Machine, Turn, Next, Stop, fetch, guard, guarded, execute, turn_of, jump_end, proceeded, with_input, step_on, step_of}
+use Rattle.verify80_states.proofs.Names.{[], ◌≡◌, ℕ, ◌++◌, Bool, true, false, ◌∷◌, Option, None, Some, refl, if◌then◌else◌, subst, sym, ap, ◌∙◌}
+use Rattle.verify80_states.proofs.Names.{Instr, In, Out, Pchl, Hlt, Fetched, Areas, targets_at, End, hl_of, next_input, without_next, Machine, Turn}
+use Rattle.verify80_states.proofs.Names.{Next, Stop, fetch, guard, guarded, execute, turn_of, jump_end, proceeded, with_input, step_on, step_of}
 
 -- what holds of the machine after a turn, if the turn leads to one
 abbrev Leads : (Machine → Type 0) → Turn → Type 0

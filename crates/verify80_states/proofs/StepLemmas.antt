@@ -1,6 +1,12 @@
 -- What is known, and a state, along a step.
-use Rattle.verify80_states.proofs.Names.{◌≡◌, ◌<◌, ℕ, Bool, true, List, Option, None, Some, length, slice_index, refl, A, In, Out, Instr, Fetched, flow, HasOperandInRange, Areas, in_code, in_data, Registers, stored, stores, without_next, Machine, Next, fetch, guard, proceeded, step_of, Cells, Known, StackTop, State, AreBytes, HasBytes, HoldsBytes, registers_after, known_after, state_after, top_word, ReadsCode, is_taken, any_byte, Holds, HoldsKnown, HoldsRegisters, HoldsTop, HoldsWords, IsQuietKnown, IsQuietState, with_byte, stored_bytes}
-use Rattle.verify80_states.proofs.{StepLeads.step_leads, SpanLemmas.any_byte_within, StateLemmas.with_byte_holds, FollowLemmas.changed_registers, FollowLemmas.popped_holds, MemoryLemmas.Ground, MemoryLemmas.words_changed, CellLemmas.cells_kept, SourceLemmas.source_changed, StoredLemmas.are_stored, StoredLemmas.code_kept}
+use Rattle.verify80_states.proofs.Names.{◌≡◌, ◌<◌, ℕ, Bool, true, List, Option, None, Some, length, slice_index, refl, A, In, Out, Instr}
+use Rattle.verify80_states.proofs.Names.{Fetched, flow, HasOperandInRange, Areas, in_code, in_data, Registers, stored, stores, without_next}
+use Rattle.verify80_states.proofs.Names.{Machine, Next, fetch, guard, proceeded, step_of, Cells, Known, StackTop, State, AreBytes, HasBytes}
+use Rattle.verify80_states.proofs.Names.{HoldsBytes, registers_after, known_after, state_after, top_word, ReadsCode, is_taken, any_byte, Holds}
+use Rattle.verify80_states.proofs.Names.{HoldsKnown, HoldsRegisters, HoldsTop, HoldsWords, IsQuietKnown, IsQuietState, with_byte, stored_bytes}
+use Rattle.verify80_states.proofs.{StepLeads.step_leads, SpanLemmas.any_byte_within, StateLemmas.with_byte_holds, FollowLemmas.changed_registers}
+use Rattle.verify80_states.proofs.{FollowLemmas.popped_holds, MemoryLemmas.Ground, MemoryLemmas.words_changed, CellLemmas.cells_kept}
+use Rattle.verify80_states.proofs.{SourceLemmas.source_changed, StoredLemmas.are_stored, StoredLemmas.code_kept}
 
 -- registers of which the same is known, whatever is known of memory
 pub other_known : (s : Known) (cells : Cells) (source : Option ℕ) (set : ℕ) (r : Registers) → HoldsRegisters s r → HoldsRegisters (record s { cells = cells; source = source; set = set }) r

@@ -1,7 +1,14 @@
 -- What an instruction stores: to data what its state says, or to the stack; all other bytes stay.
-use Rattle.verify80_states.proofs.Names.{arith, ◌≡◌, ◌≢◌, ◌<◌, ℕ, ◌/◌, ◌%◌, Bool, true, false, List, [], ◌∷◌, Option, None, Some, All, All-nil, All-head, All-tail, slice_index, slice_set, refl, if◌then◌else◌, sym, ap, ◌∙◌, true≢false, get_or-set_other, Instr, Store, MviMemory, InrMemory, DcrMemory, Stax, Sta, Shld, Push, Call, CallIf, Rst, Xthl, ahead, behind, HasOperandInRange, in_range, Areas, in_code, in_data, Registers, Cpu, Direct, Stack, StoreOutside, holds_of, hl_of, byte_in, push_bytes, stores, stored, guard, first_outside, ends_at, ByteSpan, Known, StoredByte, HasBytes, AreBytes, ReadsCode, Within, ByteWithin, byte_alone, word_alone, next_byte, previous_byte, HoldsCells, HoldsRegisters, byte_of, loaded, stored_bytes}
+use Rattle.verify80_states.proofs.Names.{arith, ◌≡◌, ◌≢◌, ◌<◌, ℕ, ◌/◌, ◌%◌, Bool, true, false, List, [], ◌∷◌, Option, None, Some, All, All-nil, All-head}
+use Rattle.verify80_states.proofs.Names.{All-tail, slice_index, slice_set, refl, if◌then◌else◌, sym, ap, ◌∙◌, true≢false, get_or-set_other, Instr, Store}
+use Rattle.verify80_states.proofs.Names.{MviMemory, InrMemory, DcrMemory, Stax, Sta, Shld, Push, Call, CallIf, Rst, Xthl, ahead, behind, HasOperandInRange}
+use Rattle.verify80_states.proofs.Names.{in_range, Areas, in_code, in_data, Registers, Cpu, Direct, Stack, StoreOutside, holds_of, hl_of, byte_in, push_bytes}
+use Rattle.verify80_states.proofs.Names.{stores, stored, guard, first_outside, ends_at, ByteSpan, Known, StoredByte, HasBytes, AreBytes, ReadsCode, Within}
+use Rattle.verify80_states.proofs.Names.{ByteWithin, byte_alone, word_alone, next_byte, previous_byte, HoldsCells, HoldsRegisters, byte_of, loaded, stored_bytes}
 use Rattle.machine80.specs.Arithmetic.{byte_answer, increment_answer, decrement_answer}
-use Rattle.verify80_states.proofs.{ByteLemmas.byte_at as memory_byte, ByteLemmas.two_each, ArithmeticBounds.ahead_is_word, ArithmeticBounds.increment_is_byte, ArithmeticBounds.decrement_is_byte, RegisterBytes.register_is_byte, RegisterBytes.pointed_is_word, RegisterBytes.hl_is_word, StateLemmas.byte_holds, FollowLemmas.loaded_within, FollowLemmas.index_within}
+use Rattle.verify80_states.proofs.{ByteLemmas.byte_at as memory_byte, ByteLemmas.two_each, ArithmeticBounds.ahead_is_word, ArithmeticBounds.increment_is_byte}
+use Rattle.verify80_states.proofs.{ArithmeticBounds.decrement_is_byte, RegisterBytes.register_is_byte, RegisterBytes.pointed_is_word}
+use Rattle.verify80_states.proofs.{RegisterBytes.hl_is_word, StateLemmas.byte_holds, FollowLemmas.loaded_within, FollowLemmas.index_within}
 use Rattle.verify80_states.proofs.SpanLemmas.{alone_within, high_within, next_byte_within, previous_byte_within}
 use Rattle.verify80_states.proofs.MemoryLemmas.{Ground, passed, passed_two, one_stored, two_stored}
 

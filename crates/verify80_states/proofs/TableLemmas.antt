@@ -1,5 +1,9 @@
 -- A table that fits what is reached fits the program.
-use Rattle.verify80_states.proofs.Names.{IsBehind, ◌≡◌, ℕ, zero, suc, ◌<◌, Bool, List, [], ◌∷◌, Option, None, Some, Ok, length, slice_get, slice_index_or, refl, subst, sym, ap, ◌∙◌, arith, true, Fetched, Located, World, world_of, Code, code_of, AreReached, IsReached, StandsOnWalk, found_at, Placed, Variable, HoldsBytes, MemoryKeepsItsLength, IsQuietState, anything, HasCode, ReturnFacts, no_returns, Has, KnowsQuiet, AllFit, Fits, nothing_at, FitsWhereReached, map, range_with_len, All-map, slice_get-get_or, get_or-map-range_with_len, length-map-range_with_len, KeepsToCalls, IsKept, FetchedOperandsAreBounded}
+use Rattle.verify80_states.proofs.Names.{IsBehind, ◌≡◌, ℕ, zero, suc, ◌<◌, Bool, List, [], ◌∷◌, Option, None, Some, Ok, length, slice_get, slice_index_or}
+use Rattle.verify80_states.proofs.Names.{refl, subst, sym, ap, ◌∙◌, arith, true, Fetched, Located, World, world_of, Code, code_of, AreReached, IsReached}
+use Rattle.verify80_states.proofs.Names.{StandsOnWalk, found_at, Placed, Variable, HoldsBytes, MemoryKeepsItsLength, IsQuietState, anything, HasCode}
+use Rattle.verify80_states.proofs.Names.{ReturnFacts, no_returns, Has, KnowsQuiet, AllFit, Fits, nothing_at, FitsWhereReached, map, range_with_len, All-map}
+use Rattle.verify80_states.proofs.Names.{slice_get-get_or, get_or-map-range_with_len, length-map-range_with_len, KeepsToCalls, IsKept, FetchedOperandsAreBounded}
 use Rattle.verify80_states.proofs.{ByteLemmas.one_of, MemoryLemmas.Ground, CellLemmas.none_quiet, CallLemmas.nothing_owed, KeepLemmas.nothing_holds, KeepLemmas.code_stays, KeepLemmas.still_keeps}
 
 -- an entry that is there is within the table

@@ -1,5 +1,7 @@
 -- Variables stay inside their spans.
-use Rattle.verify80_states.proofs.Names.{◌≡◌, ◌⊎◌, ◌≢◌, ◌<◌, ◌&&◌, ℕ, Bool, true, List, [], ◌∷◌, Option, None, Some, length, slice_get, slice_index, slice_set, list_all, subst, sym, ap, ◌∙◌, arith, inl, inr, nat_tests, shr_le, get_or-set_same, length-set, Areas, in_data, byte_in, stored, Within, ByteWithin, Variable, HoldsSet, takes, StoredByte, and_parts, AllPass-from_list_all, cases_eq}
+use Rattle.verify80_states.proofs.Names.{◌≡◌, ◌⊎◌, ◌≢◌, ◌<◌, ◌&&◌, ℕ, Bool, true, List, [], ◌∷◌, Option, None, Some, length, slice_get, slice_index, slice_set}
+use Rattle.verify80_states.proofs.Names.{list_all, subst, sym, ap, ◌∙◌, arith, inl, inr, nat_tests, shr_le, get_or-set_same, length-set, Areas, in_data, byte_in}
+use Rattle.verify80_states.proofs.Names.{stored, Within, ByteWithin, Variable, HoldsSet, takes, StoredByte, and_parts, AllPass-from_list_all, cases_eq}
 use Rattle.verify80_states.proofs.{ByteLemmas.one_of, MemoryLemmas.Ground, MemoryLemmas.one_stored, StoredLemmas.AreStored, StoredLemmas.stack_stored}
 
 -- no variable is named by an empty set

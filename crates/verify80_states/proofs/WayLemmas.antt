@@ -1,5 +1,8 @@
 -- Where the machine goes at each instruction.
-use Rattle.verify80_states.proofs.Names.{sym, [], ◌≡◌, ◌⊎◌, ℕ, ◌==◌, Bool, true, false, not, List, Contains, Option, None, Some, IsSome, refl, if◌then◌else◌, list_any, option_map_or, inl, inr, Instr, Flow, Pchl, Hlt, Pop, Jumps, JumpsIf, JumpsToHl, Calls, CallsIf, Returns, ReturnsIf, Halts, flow, Areas, targets_at, JumpOutside, Cpu, Flags, holds, hl_of, goes_to, target, is_return_taken, returns, Machine, Next, jump_end, proceeded, declared_targets, fetch, step_of, Fetched, Contains-from_any, eqb-true}
+use Rattle.verify80_states.proofs.Names.{sym, [], ◌≡◌, ◌⊎◌, ℕ, ◌==◌, Bool, true, false, not, List, Contains, Option, None, Some, IsSome, refl, if◌then◌else◌}
+use Rattle.verify80_states.proofs.Names.{list_any, option_map_or, inl, inr, Instr, Flow, Pchl, Hlt, Pop, Jumps, JumpsIf, JumpsToHl, Calls, CallsIf, Returns}
+use Rattle.verify80_states.proofs.Names.{ReturnsIf, Halts, flow, Areas, targets_at, JumpOutside, Cpu, Flags, holds, hl_of, goes_to, target, is_return_taken}
+use Rattle.verify80_states.proofs.Names.{returns, Machine, Next, jump_end, proceeded, declared_targets, fetch, step_of, Fetched, Contains-from_any, eqb-true}
 use Rattle.verify80_states.proofs.StepLeads.{step_leads}
 
 -- where a flow leads, returns that are taken aside, by the flags and HL

@@ -3,7 +3,9 @@
 use Rattle.std.specs.Prelude.{◌≡◌, ◌⊎◌, ℕ, Bool, true, false, List, ◌∷◌, [], Contains, Option, Some, IfSome}
 use Rattle.decode80.specs.{declared.flow.Flow.Flow, declared.fetching.Fetched.Fetched, Facts.flow}
 use Rattle.decode80.specs.declared.flow.Flow.TheVariants.{Jumps, JumpsIf, JumpsToHl, Calls, CallsIf, Returns, ReturnsIf, Halts}
-use Rattle.verify80_states.specs.{declared.fitting.calls.CallReturns.CallReturns, declared.fitting.fitting.Placed.Placed, declared.states.pairs.PairSpan.PairSpan, declared.states.state.State.State, declared.states.variables.Variable.Variable, Variables.HoldsSet, State.unknown_but, State.given_state, Following.state_after, Marks.is_marked, Fitting.Has, Fitting.Covers, Fitting.CallsEntry}
+use Rattle.verify80_states.specs.{declared.fitting.calls.CallReturns.CallReturns, declared.fitting.fitting.Placed.Placed, declared.states.pairs.PairSpan.PairSpan}
+use Rattle.verify80_states.specs.{declared.states.state.State.State, declared.states.variables.Variable.Variable, Variables.HoldsSet, State.unknown_but}
+use Rattle.verify80_states.specs.{State.given_state, Following.state_after, Marks.is_marked, Fitting.Has, Fitting.Covers, Fitting.CallsEntry}
 use Rattle.verify80_spans.specs.Span.{is_alone}
 
 -- from each address on, until the procedure returns: whether it may return, and whether each of its returns goes to an address that the

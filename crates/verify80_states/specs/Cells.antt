@@ -3,7 +3,8 @@ use Rattle.std.specs.Prelude.{◌≡◌, ◌⊎◌, ◌==◌, ◌&&◌, ℕ, Boo
 use Rattle.std.specs.List.{find}
 use Rattle.machine80.specs.Effects.{byte_in}
 use Rattle.verify80_spans.specs.declared.byte_span.ByteSpan.{ByteSpan}
-use Rattle.verify80_states.specs.{declared.states.cells.Cell.Cell, declared.states.cells.Cells.Cells, declared.states.memory_after.StoredByte.StoredByte, declared.states.variables.Variable.Variable, Variables.IsSaid}
+use Rattle.verify80_states.specs.{declared.states.cells.Cell.Cell, declared.states.cells.Cells.Cells}
+use Rattle.verify80_states.specs.{declared.states.memory_after.StoredByte.StoredByte, declared.states.variables.Variable.Variable, Variables.IsSaid}
 use Rattle.verify80_spans.specs.Span.{ByteWithin, IsByteInside, any_byte, is_alone, meet_bytes}
 
 -- the byte at a cell's address is one of its bytes

@@ -3,7 +3,8 @@
 use Rattle.std.specs.Prelude.{◌≡◌, ◌⊎◌, ℕ, Bool, true, false, List, All, Contains, Option, Some, slice_get, IfSome}
 use Rattle.decode80.specs.{declared.fetching.Fetched.Fetched, declared.flow.Flow.Flow, Facts.flow}
 use Rattle.decode80.specs.declared.flow.Flow.TheVariants.{Jumps, JumpsIf, JumpsToHl, Calls, CallsIf, Returns, ReturnsIf, Halts}
-use Rattle.verify80_states.specs.{declared.states.state.State.State, declared.states.variables.Variable.Variable, declared.fitting.fitting.Placed.Placed, State.IsStateInside, State.IsQuietState, State.cut_state, State.given_state, Following.state_after}
+use Rattle.verify80_states.specs.{declared.states.state.State.State, declared.states.variables.Variable.Variable, declared.fitting.fitting.Placed.Placed}
+use Rattle.verify80_states.specs.{State.IsStateInside, State.IsQuietState, State.cut_state, State.given_state, Following.state_after}
 use Rattle.verify80_spans.specs.Span.{Within, ByteWithin, byte_alone}
 
 -- the table has a state at an address that says no more than this one

@@ -7,7 +7,9 @@ use Rattle.decode80.specs.{declared.fetching.Fetched.Fetched, Facts.flow}
 use Rattle.frames80.specs.Code.{Code}
 use Rattle.image80.specs.Regions.{Areas}
 use Rattle.verify80.specs.{Looking.declared_targets, Reached.IsReached, Reached.found_at}
-use Rattle.verify80_states.specs.{declared.fitting.fitting.Placed.Placed, declared.states.state.State.State, declared.states.variables.Variable.Variable, State.anything, Following.is_steady, Fitting.Has, Fitting.FitsAt, Fitting.KnowsQuiet, Calls.ReturnFacts, Calls.AccountsFor, Calls.KeepsCalls}
+use Rattle.verify80_states.specs.{declared.fitting.fitting.Placed.Placed, declared.states.state.State.State}
+use Rattle.verify80_states.specs.{declared.states.variables.Variable.Variable, State.anything, Following.is_steady}
+use Rattle.verify80_states.specs.{Fitting.Has, Fitting.FitsAt, Fitting.KnowsQuiet, Calls.ReturnFacts, Calls.AccountsFor, Calls.KeepsCalls}
 
 -- a state that the table has at an address fits the instruction there: the table covers what comes of it, and has what calls and returns
 -- want; and what is stored where a variable may be is one of the variable's bytes

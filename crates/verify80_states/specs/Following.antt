@@ -1,16 +1,25 @@
 -- What becomes of a state at each instruction. (The registers and flags that each instruction writes are those of the Intel 8080
 -- Microcomputer Systems User's Manual, chapter 4; that spans are followed is this project's own.)
 use Rattle.std.specs.Prelude.{◌&&◌, ℕ, Bool, true, false, not, List, Option, None, Some, nat_le, unwrap_or, if◌then◌else◌}
-use Rattle.decode80.specs.{declared.register.Register.Register, declared.pair.Pair.Pair, declared.pair.StackPair.StackPair, declared.pair.IndexPair.IndexPair, declared.pair.IndexPair.TheVariants.Bc as IndexBc, declared.pair.IndexPair.TheVariants.De as IndexDe, declared.instr.Instr.Instr, declared.operation.Operation.Operation, declared.operation.Operand.Operand, declared.operation.Operand.TheVariants.Register as InRegister, declared.operation.Operand.TheVariants.Memory, declared.operation.Operand.TheVariants.Immediate, Fetch.ahead}
+use Rattle.decode80.specs.{declared.register.Register.Register, declared.pair.Pair.Pair, declared.pair.StackPair.StackPair, declared.pair.IndexPair.IndexPair}
+use Rattle.decode80.specs.{declared.pair.IndexPair.TheVariants.Bc as IndexBc, declared.pair.IndexPair.TheVariants.De as IndexDe, declared.instr.Instr.Instr}
+use Rattle.decode80.specs.{declared.operation.Operation.Operation, declared.operation.Operand.Operand, declared.operation.Operand.TheVariants.Register as InRegister}
+use Rattle.decode80.specs.{declared.operation.Operand.TheVariants.Memory, declared.operation.Operand.TheVariants.Immediate, Fetch.ahead}
 use Rattle.decode80.specs.declared.register.Register.TheVariants.{A, D, E, H, L}
 use Rattle.decode80.specs.declared.pair.Pair.TheVariants.{Bc, De, Hl, Sp}
 use Rattle.decode80.specs.declared.pair.StackPair.TheVariants.{Bc as StackBc, De as StackDe, Hl as StackHl, Psw}
-use Rattle.decode80.specs.declared.instr.Instr.TheVariants.{Mov, Load, Mvi, Lxi, Dad, Inx, Dcx, Inr, InrMemory, Dcr, DcrMemory, Operate, Store, MviMemory, Call, CallIf, Ret, ReturnIf, Rst, Push, Pop, Stax, Ldax, Shld, Lhld, Sta, Lda, Rotate, Daa, Cma, Stc, Cmc, Xthl, Xchg, Sphl, In}
+use Rattle.decode80.specs.declared.instr.Instr.TheVariants.{Mov, Load, Mvi, Lxi, Dad, Inx, Dcx, Inr, InrMemory, Dcr, DcrMemory, Operate}
+use Rattle.decode80.specs.declared.instr.Instr.TheVariants.{Store, MviMemory, Call, CallIf, Ret, ReturnIf, Rst, Push, Pop, Stax, Ldax}
+use Rattle.decode80.specs.declared.instr.Instr.TheVariants.{Shld, Lhld, Sta, Lda, Rotate, Daa, Cma, Stc, Cmc, Xthl, Xchg, Sphl, In}
 use Rattle.decode80.specs.declared.operation.Operation.TheVariants.{Subtract, And, ExclusiveOr, Or, Compare}
 use Rattle.verify80_spans.specs.{declared.span.Span.Span, declared.byte_span.ByteSpan.ByteSpan, declared.byte_span.Outcome.Outcome}
-use Rattle.verify80_states.specs.{declared.states.cells.Cells.Cells, declared.states.pairs.PairSpan.PairSpan, declared.states.words.Words.Words, declared.states.known.Known.Known, declared.states.state.State.State, declared.states.following.StackTop.StackTop, declared.states.memory_after.StoredByte.StoredByte, declared.states.variables.Variable.Variable, Marks.entry_at, Variables.takes, Cells.bytes_at, Cells.cells_after}
+use Rattle.verify80_states.specs.{declared.states.cells.Cells.Cells, declared.states.pairs.PairSpan.PairSpan, declared.states.words.Words.Words}
+use Rattle.verify80_states.specs.{declared.states.known.Known.Known, declared.states.state.State.State, declared.states.following.StackTop.StackTop}
+use Rattle.verify80_states.specs.{declared.states.memory_after.StoredByte.StoredByte, declared.states.variables.Variable.Variable}
+use Rattle.verify80_states.specs.{Marks.entry_at, Variables.takes, Cells.bytes_at, Cells.cells_after}
 use Rattle.verify80_spans.specs.Span.{any_byte, word_alone, byte_alone, is_alone, next_byte, previous_byte, sum_carries, high_of, operated, rotated, complemented, uncarried}
-use Rattle.verify80_states.specs.Known.{any_pair, pair_of_words, pair_of_halves, next_pair, previous_pair, sum_pair, byte_of, span_of, with_byte, with_span, with_outcome, with_carry, with_any_flags, compared_with}
+use Rattle.verify80_states.specs.Known.{any_pair, pair_of_words, pair_of_halves, next_pair, previous_pair, sum_pair, byte_of}
+use Rattle.verify80_states.specs.Known.{span_of, with_byte, with_span, with_outcome, with_carry, with_any_flags, compared_with}
 use Rattle.verify80_states.specs.State.{no_words, pushed, popped}
 
 -- a byte of code, if code is there, or what is known otherwise; and what is known of a word

@@ -7,8 +7,10 @@ use Rattle.decode80.specs.declared.register.Register.TheVariants.{A, B, C, D, E,
 use Rattle.decode80.specs.declared.pair.Pair.TheVariants.{Bc, De, Hl, Sp}
 use Rattle.machine80.specs.{declared.flags.Flags.Flags, declared.registers.Registers.Registers, Cpu.word, Cpu.register_of, Effects.byte_in, Step.Machine}
 use Rattle.verify80_spans.specs.{declared.span.Span.Span, declared.byte_span.ByteSpan.ByteSpan, declared.byte_span.Outcome.Outcome}
-use Rattle.verify80_states.specs.{declared.states.cells.Cells.Cells, declared.states.pairs.PairSpan.PairSpan, declared.states.known.Known.Known, declared.states.following.StackTop.StackTop, declared.states.variables.Variable.Variable, Variables.is_bit}
-use Rattle.verify80_spans.specs.Span.{Within, ByteWithin, IsInside, IsByteInside, IsKnown, any_word, any_byte, byte_alone, is_byte_alone, next_span, previous_span, next_byte, previous_byte, sum_span, sum_of, meet, meet_bytes, high_of, low_of, joined, zero_of, sign_of}
+use Rattle.verify80_states.specs.{declared.states.cells.Cells.Cells, declared.states.pairs.PairSpan.PairSpan, declared.states.known.Known.Known}
+use Rattle.verify80_states.specs.{declared.states.following.StackTop.StackTop, declared.states.variables.Variable.Variable, Variables.is_bit}
+use Rattle.verify80_spans.specs.Span.{Within, ByteWithin, IsInside, IsByteInside, IsKnown, any_word, any_byte, byte_alone, is_byte_alone, next_span}
+use Rattle.verify80_spans.specs.Span.{previous_span, next_byte, previous_byte, sum_span, sum_of, meet, meet_bytes, high_of, low_of, joined, zero_of, sign_of}
 use Rattle.verify80_states.specs.Cells.{HoldsCells, AreCellsInside, AreQuietCells, bytes_at, no_cells, cut_cells}
 
 -- the word of a pair is one of its words, and its low byte one of its low bytes

@@ -6,7 +6,8 @@ use Rattle.decode80.specs.{declared.condition.Condition.Condition, declared.inst
 use Rattle.image80.specs.Regions.{Areas, AreRegions, in_code, in_data}
 use Rattle.machine80.specs.{Flags.holds, Step.Machine, Step.guard}
 use Rattle.verify80.specs.Boards.{unguarded}
-use Rattle.verify80_states.specs.{declared.states.known.Known.Known, declared.states.following.StackTop.StackTop, Bytes.HasBytes, Bytes.HoldsBytes, Bytes.IsWord, Following.known_after, Given.given, Steps.ReadsCode}
+use Rattle.verify80_states.specs.{declared.states.known.Known.Known, declared.states.following.StackTop.StackTop, Bytes.HasBytes}
+use Rattle.verify80_states.specs.{Bytes.HoldsBytes, Bytes.IsWord, Following.known_after, Given.given, Steps.ReadsCode}
 use Rattle.verify80_states.specs.Known.{HoldsKnown, HoldsTop, IsKnownInside, IsQuietKnown, cut, nothing_known}
 use Rattle.verify80_spans.specs.Span.{byte_alone}
 

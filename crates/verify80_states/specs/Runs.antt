@@ -5,7 +5,8 @@ use Rattle.image80.specs.{Image.Located, Regions.AreRegions, Regions.in_data}
 use Rattle.machine80.specs.{Effects.target, Step.Machine, Step.Next, Step.step_of, Run.world_of}
 use Rattle.machine80.specs.World.{World, FetchesInside, IsNewest, fetched_by, places_then, returns}
 use Rattle.verify80.specs.{Looking.code_of, Starts.IsStart, Starts.IsWorldFrom, Starts.NeverGoesWrongFromPowerOn, Reached.StandsOnWalk, Reached.StaysOnWalks, Boards.LeavesProgram, Boards.with_memory}
-use Rattle.verify80_states.specs.{declared.fitting.fitting.Placed.Placed, declared.states.variables.Variable.Variable, Bytes.HoldsBytes, State.Holds, Steps.AreCodeBytes, Steps.HasCode, Variables.HoldsSet, Calls.ReturnFacts, Calls.Owes, Calls.IsBehind, FittingTable.Fits}
+use Rattle.verify80_states.specs.{declared.fitting.fitting.Placed.Placed, declared.states.variables.Variable.Variable, Bytes.HoldsBytes, State.Holds}
+use Rattle.verify80_states.specs.{Steps.AreCodeBytes, Steps.HasCode, Variables.HoldsSet, Calls.ReturnFacts, Calls.Owes, Calls.IsBehind, FittingTable.Fits}
 
 -- one of the states that the table has at a world's address holds, and the world's memory has the image's code
 pub record KeepsTo (image : Located) (table : List Placed) (w : World) : Type 0 where

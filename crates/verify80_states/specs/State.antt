@@ -5,7 +5,8 @@ use Rattle.decode80.specs.{declared.condition.Condition.Condition, Fetch.ahead}
 use Rattle.image80.specs.{Range.in_range, Regions.Areas, Regions.top_of}
 use Rattle.machine80.specs.{Effects.byte_in, Step.Machine}
 use Rattle.verify80_spans.specs.declared.byte_span.ByteSpan.{ByteSpan}
-use Rattle.verify80_states.specs.{declared.states.known.Known.Known, declared.states.pairs.PairSpan.PairSpan, declared.states.words.Words.Words, declared.states.state.State.State, declared.states.variables.Variable.Variable, Given.given}
+use Rattle.verify80_states.specs.{declared.states.known.Known.Known, declared.states.pairs.PairSpan.PairSpan, declared.states.words.Words.Words}
+use Rattle.verify80_states.specs.{declared.states.state.State.State, declared.states.variables.Variable.Variable, Given.given}
 use Rattle.verify80_states.specs.Known.{HoldsKnown, HoldsPair, IsKnownInside, IsPairInside, IsQuietKnown, cut, nothing_known}
 
 -- a word of a span lies at an address from the stack pointer up, both of its bytes on the stack

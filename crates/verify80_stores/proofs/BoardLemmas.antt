@@ -1,5 +1,13 @@
 -- On a board each world keeps to the table of states, so its stores go as they are listed.
-use Rattle.verify80_stores.proofs.Names.{◌≡◌, ◌≢◌, ◌⊎◌, ℕ, Bool, true, false, List, [], All, Any, Contains, Option, Some, length, refl, ◌∙◌, subst, sym, ap, inl, inr, get_or, true≢false, Contains-get_or, Pchl, Fetched, Range, Areas, in_data, targets_at, Located, pointed_bytes, target, hl_of, Machine, leads_outside, world_of, World, IsNewest, fetched_by, places_after, places_then, returns, code_of, declared_targets, is_pchl, IsStart, NeverGoesWrongFromPowerOn, StandsOnWalk, StaysOnWalks, AreReached, Disturbs, fetched_anywhere, StaysInside, Executes, OnBoard, with_respected_pointer, respected_pointer, begins, disturbed, executed, Anywhere, KeepsPromise, MayStart, Placed, HoldsBytes, BytesStayBytes, KeepsTo, KeepsToCalls, RunsKeepTo, IsKnown, OpenStore, stores_by_pair, GoesAsListed, AreShown, KeptTable, AreKnown, AreAllBelow, AreOpen, Note, is_at, IsListedAt, KeepsWholePromise, PromiseHoldsOnBoards, PromiseHoldsOnQuietBoards, StaysQuiet, OnQuietBoard, is_quiet, begins_quiet, disturbed_quiet, executed_quiet, and_right, is_listed}
+use Rattle.verify80_stores.proofs.Names.{◌≡◌, ◌≢◌, ◌⊎◌, ℕ, Bool, true, false, List, [], All, Any, Contains, Option, Some, length, refl, ◌∙◌, subst, sym}
+use Rattle.verify80_stores.proofs.Names.{ap, inl, inr, get_or, true≢false, Contains-get_or, Pchl, Fetched, Range, Areas, in_data, targets_at, Located}
+use Rattle.verify80_stores.proofs.Names.{pointed_bytes, target, hl_of, Machine, leads_outside, world_of, World, IsNewest, fetched_by, places_after}
+use Rattle.verify80_stores.proofs.Names.{places_then, returns, code_of, declared_targets, is_pchl, IsStart, NeverGoesWrongFromPowerOn, StandsOnWalk}
+use Rattle.verify80_stores.proofs.Names.{StaysOnWalks, AreReached, Disturbs, fetched_anywhere, StaysInside, Executes, OnBoard, with_respected_pointer}
+use Rattle.verify80_stores.proofs.Names.{respected_pointer, begins, disturbed, executed, Anywhere, KeepsPromise, MayStart, Placed, HoldsBytes, BytesStayBytes}
+use Rattle.verify80_stores.proofs.Names.{KeepsTo, KeepsToCalls, RunsKeepTo, IsKnown, OpenStore, stores_by_pair, GoesAsListed, AreShown, KeptTable, AreKnown}
+use Rattle.verify80_stores.proofs.Names.{AreAllBelow, AreOpen, Note, is_at, IsListedAt, KeepsWholePromise, PromiseHoldsOnBoards, PromiseHoldsOnQuietBoards}
+use Rattle.verify80_stores.proofs.Names.{StaysQuiet, OnQuietBoard, is_quiet, begins_quiet, disturbed_quiet, executed_quiet, and_right, is_listed}
 use Rattle.verify80_stores.proofs.StoreLemmas.{KeepsToEach, goes_if, jump_there, listed_or_not, not_outside}
 
 -- what the ports hold counts for nothing

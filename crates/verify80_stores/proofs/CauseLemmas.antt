@@ -1,5 +1,6 @@
 -- What is said of what sets a pair is so.
-use Rattle.verify80_stores.proofs.Names.{◌≡◌, ◌∙◌, ℕ, Bool, true, false, List, Option, None, Ok, ap, sym, list_any, list_any_at, true≢false, Instr, Fetched, Code, AreReached, IsReachedAs, found_at, is_kind}
+use Rattle.verify80_stores.proofs.Names.{◌≡◌, ◌∙◌, ℕ, Bool, true, false, List, Option, None, Ok, ap, sym, list_any, list_any_at}
+use Rattle.verify80_stores.proofs.Names.{true≢false, Instr, Fetched, Code, AreReached, IsReachedAs, found_at, is_kind}
 use Rattle.verify80_stores.proofs.ReachedLemmas.{there_if_reached}
 use Rattle.verify80_stores.specs.WrittenPairs.{AreWritten, has_pair, is_written}
 use Rattle.verify80_stores.specs.declared.causes.WrittenPairs.{WrittenPairs}

@@ -1,5 +1,9 @@
 -- Lists of addresses, and of the stores there.
-use Rattle.verify80_stores.proofs.Names.{◌≡◌, ◌∙◌, ◌<◌, ℕ, zero, suc, Bool, true, List, [], ◌∷◌, Option, None, Some, Contains, length, map, get_or, refl, arith, ap, sym, subst, true≢false, filter, range_with_len, All-contains, All-filter, AllPairs-filter, filter_passes, cond_both, get_or-range_with_len, length-range_with_len, get_or-map, length-map, All-map, Contains-get_or, and_parts, Fetched, Note, found_at, stores_by_pair, AreAllBelow, AreOpen, IsListed, is_at, is_kind, is_listed, note_at, store_at, instr_in}
+use Rattle.verify80_stores.proofs.Names.{◌≡◌, ◌∙◌, ◌<◌, ℕ, zero, suc, Bool, true, List, [], ◌∷◌, Option, None, Some, Contains, length}
+use Rattle.verify80_stores.proofs.Names.{map, get_or, refl, arith, ap, sym, subst, true≢false, filter, range_with_len, All-contains}
+use Rattle.verify80_stores.proofs.Names.{All-filter, AllPairs-filter, filter_passes, cond_both, get_or-range_with_len, length-range_with_len}
+use Rattle.verify80_stores.proofs.Names.{get_or-map, length-map, All-map, Contains-get_or, and_parts, Fetched, Note, found_at, stores_by_pair}
+use Rattle.verify80_stores.proofs.Names.{AreAllBelow, AreOpen, IsListed, is_at, is_kind, is_listed, note_at, store_at, instr_in}
 use Rattle.verify80_stores.specs.Listing.{addresses_where}
 
 -- what passes a test is kept

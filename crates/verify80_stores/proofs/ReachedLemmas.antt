@@ -1,5 +1,6 @@
 -- What is reached at an address.
-use Rattle.verify80_stores.proofs.Names.{◌≡◌, ◌<◌, ℕ, Bool, true, zero, suc, List, [], ◌∷◌, Option, None, Some, Ok, length, slice_index_or, refl, arith, Instr, Fetched, Code, AreReached, IsReached, IsReachedAs, found_at, is_kind}
+use Rattle.verify80_stores.proofs.Names.{◌≡◌, ◌<◌, ℕ, Bool, true, zero, suc, List, [], ◌∷◌, Option, None, Some, Ok, length, slice_index_or}
+use Rattle.verify80_stores.proofs.Names.{refl, arith, Instr, Fetched, Code, AreReached, IsReached, IsReachedAs, found_at, is_kind}
 
 -- an entry that is there is within the table
 pub entry_within : {A : Type 0} (table : List (Option A)) (at : ℕ) (x : A) → slice_index_or table at None ≡ Some x → at < length table

@@ -1,5 +1,7 @@
 -- What is shown by one table, and by another one too.
-use Rattle.verify80_stores.proofs.Names.{◌≡◌, ◌⊎◌, ◌<◌, ℕ, Bool, false, List, Option, Some, length, subst, sym, inl, inr, arith, Fetched, Located, declared_targets, found_at, Placed, Note, IsKept, StaysIn, AreNotes, AreShown, IsLeftAt, IsShut, ◌∙◌, ◌≤◌, ◌&&◌, true, true≢false, refl, ap, map, range_with_len, cases_lt, and_parts, IsShutAt, note_at, no_note, noted_by_both}
+use Rattle.verify80_stores.proofs.Names.{◌≡◌, ◌⊎◌, ◌<◌, ℕ, Bool, false, List, Option, Some, length, subst, sym, inl, inr, arith, Fetched, Located}
+use Rattle.verify80_stores.proofs.Names.{declared_targets, found_at, Placed, Note, IsKept, StaysIn, AreNotes, AreShown, IsLeftAt, IsShut, ◌∙◌, ◌≤◌, ◌&&◌}
+use Rattle.verify80_stores.proofs.Names.{true, true≢false, refl, ap, map, range_with_len, cases_lt, and_parts, IsShutAt, note_at, no_note, noted_by_both}
 use Rattle.verify80_stores.proofs.{AddressLemmas.read_at, AddressLemmas.read_past, ReachedLemmas.entry_within}
 
 module _ (image : Located) (quiet : ℕ → Bool) (reached : List (Option Fetched)) where

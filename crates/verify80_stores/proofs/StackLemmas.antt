@@ -1,5 +1,8 @@
 -- Marked addresses that are closed are all that the main program may reach with SP not set.
-use Rattle.verify80_stores.proofs.Names.{◌≡◌, ◌<◌, ◌==◌, ◌||◌, ℕ, Bool, true, false, not, List, [], ◌∷◌, Some, None, Result, Ok, Err, length, slice_index, refl, list_all, list_any, result_ok, ◌∙◌, ap, sym, subst, inl, inr, true≢false, cases_lt, eqb-true, get_or_past, Fetched, FetchFault, flow, Located, memory_of, in_code, HasAt, IsUnset, starts, goes_on, SetsStack, sets_sp, uses_sp, is_marked, AreClosed, IsClosedAt, LeadsToMarked, and_parts, same_Some}
+use Rattle.verify80_stores.proofs.Names.{◌≡◌, ◌<◌, ◌==◌, ◌||◌, ℕ, Bool, true, false, not, List, [], ◌∷◌, Some, None, Result, Ok, Err, length}
+use Rattle.verify80_stores.proofs.Names.{slice_index, refl, list_all, list_any, result_ok, ◌∙◌, ap, sym, subst, inl, inr, true≢false, cases_lt}
+use Rattle.verify80_stores.proofs.Names.{eqb-true, get_or_past, Fetched, FetchFault, flow, Located, memory_of, in_code, HasAt, IsUnset, starts}
+use Rattle.verify80_stores.proofs.Names.{goes_on, SetsStack, sets_sp, uses_sp, is_marked, AreClosed, IsClosedAt, LeadsToMarked, and_parts, same_Some}
 use Rattle.decode80.specs.{Fetch.fetch as fetch_in}
 use Rattle.machine80.specs.Step.{fetch}
 

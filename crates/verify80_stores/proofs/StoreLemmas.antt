@@ -1,5 +1,15 @@
 -- The stores of runs, by what is listed.
-use Rattle.verify80_stores.proofs.Names.{◌≡◌, ◌≢◌, ◌⊎◌, ℕ, zero, suc, ◌<◌, ◌==◌, Bool, true, false, not, List, [], ◌∷◌, All, Any, Contains, Option, None, Some, Ok, length, refl, if◌then◌else◌, list_any_at, option_map_or, nat_tests, subst, sym, ap, ◌∙◌, inl, inr, arith, get_or, Contains-get_or, All-nil, All-cons, Instr, Bc, De, Fetched, In, Out, Pchl, Hlt, Areas, in_data, targets_at, Located, End, Registers, StoreOutside, JumpOutside, Fetch, Stack, Direct, hl_of, index_pair_of, next_input, pointed_bytes, Machine, Stop, first_outside, ends_at, guard, guarded, execute, turn_of, leads_outside, proceeded, with_input, step_on, World, turn_at, fetched_by, refuses, same_Some, IsProperEnd, code_of, declared_targets, is_pchl, IsStart, IsWorldFrom, NeverGoesWrongFromPowerOn, StandsOnWalk, StaysOnWalks, AreReached, found_at, Span, Known, HoldsBytes, HoldsRegisters, Note, note_at, unwrap_or, any_word, KeepsTo, RunsKeepTo, Within, AreShown, KeptTable, stores_by_pair, IsLeftOpen, OpenStore, IsReachedAs, AreReachedAs, IsOpen, GoesAsListed, EndsAsListed, StoresGoAsListed, AreStoresOf, AreAllBelow, AreOpen, IsSpanned, IsLeftAt, IsListed, is_kind, is_at, and_parts, cases_eq, and_from, is_listed, storing, Storing, Through, ThroughHl, pointed_by, is_through_pair, span_through, IsInside, true≢false}
+use Rattle.verify80_stores.proofs.Names.{◌≡◌, ◌≢◌, ◌⊎◌, ℕ, zero, suc, ◌<◌, ◌==◌, Bool, true, false, not, List, [], ◌∷◌, All, Any, Contains, Option, None}
+use Rattle.verify80_stores.proofs.Names.{Some, Ok, length, refl, if◌then◌else◌, list_any_at, option_map_or, nat_tests, subst, sym, ap, ◌∙◌, inl, inr, arith}
+use Rattle.verify80_stores.proofs.Names.{get_or, Contains-get_or, All-nil, All-cons, Instr, Bc, De, Fetched, In, Out, Pchl, Hlt, Areas, in_data, targets_at}
+use Rattle.verify80_stores.proofs.Names.{Located, End, Registers, StoreOutside, JumpOutside, Fetch, Stack, Direct, hl_of, index_pair_of, next_input}
+use Rattle.verify80_stores.proofs.Names.{pointed_bytes, Machine, Stop, first_outside, ends_at, guard, guarded, execute, turn_of, leads_outside, proceeded}
+use Rattle.verify80_stores.proofs.Names.{with_input, step_on, World, turn_at, fetched_by, refuses, same_Some, IsProperEnd, code_of, declared_targets, is_pchl}
+use Rattle.verify80_stores.proofs.Names.{IsStart, IsWorldFrom, NeverGoesWrongFromPowerOn, StandsOnWalk, StaysOnWalks, AreReached, found_at, Span, Known}
+use Rattle.verify80_stores.proofs.Names.{HoldsBytes, HoldsRegisters, Note, note_at, unwrap_or, any_word, KeepsTo, RunsKeepTo, Within, AreShown, KeptTable}
+use Rattle.verify80_stores.proofs.Names.{stores_by_pair, IsLeftOpen, OpenStore, IsReachedAs, AreReachedAs, IsOpen, GoesAsListed, EndsAsListed, StoresGoAsListed}
+use Rattle.verify80_stores.proofs.Names.{AreStoresOf, AreAllBelow, AreOpen, IsSpanned, IsLeftAt, IsListed, is_kind, is_at, and_parts, cases_eq, and_from}
+use Rattle.verify80_stores.proofs.Names.{is_listed, storing, Storing, Through, ThroughHl, pointed_by, is_through_pair, span_through, IsInside, true≢false}
 use Rattle.verify80_stores.proofs.ReachedLemmas.{kind_there, there_if_reached}
 
 -- a store is no PCHL

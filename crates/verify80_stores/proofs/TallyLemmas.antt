@@ -1,5 +1,8 @@
 -- What is noted by address of the states of a table, place by place.
-use Rattle.verify80_stores.proofs.Names.{◌≡◌, ◌≢◌, ◌⊎◌, ℕ, ◌<◌, ◌+◌, true, false, List, Option, None, Some, ◌≤◌, length, slice_get, slice_set, refl, subst, sym, ap, ◌∙◌, inl, inr, arith, get_or-set_other, get_or-set_same, length-set, slice_get_within, true≢false, Fetched, Areas, declared_targets, found_at, Span, Placed, Note, IsInside, span_in, joined, StaysIn, IsLeftOpen, AreNotes, IsNoted, IsLeftAt, note_at, no_note, cases_eq, nat_tests, hull}
+use Rattle.verify80_stores.proofs.Names.{◌≡◌, ◌≢◌, ◌⊎◌, ℕ, ◌<◌, ◌+◌, true, false, List, Option, None, Some, ◌≤◌, length, slice_get, slice_set}
+use Rattle.verify80_stores.proofs.Names.{refl, subst, sym, ap, ◌∙◌, inl, inr, arith, get_or-set_other, get_or-set_same, length-set, slice_get_within}
+use Rattle.verify80_stores.proofs.Names.{true≢false, Fetched, Areas, declared_targets, found_at, Span, Placed, Note, IsInside, span_in, joined}
+use Rattle.verify80_stores.proofs.Names.{StaysIn, IsLeftOpen, AreNotes, IsNoted, IsLeftAt, note_at, no_note, cases_eq, nat_tests, hull}
 
 split : (a n : ℕ) → a < n + 1 → (a < n) ⊎ (a ≡ n)
 split a n h = grind arith

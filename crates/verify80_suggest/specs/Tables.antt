@@ -65,7 +65,7 @@ begins_keyed image KeyFirst covered loaded goals address = marked loaded address
 begins_keyed image KeyLast covered loaded goals address =
     marked loaded address && (not (may_be_word image covered goals (address + 2)) && may_be_keyed image KeyLast covered goals (address + 3))
 
--- whether a table has an entry of so many bytes at an address: it may, and the table begins there or goes on behind the entry before
+-- whether a table has an entry of `size` bytes at an address: it may, and the table begins there or goes on behind the entry before
 abbrev pub has_entry : (size : ℕ) → (begins may : ℕ → Bool) → (marks : List Bool) → ℕ → Bool
 has_entry size begins may marks address = (begins address || (nat_le size address && marked marks (address - size))) && may address
 

@@ -5,7 +5,8 @@ ghost use Rattle.std.specs.Prelude.{◌≡◌, ◌<◌, ℕ, Bool, true, false, 
 ghost use Rattle.decode80.specs.{declared.fetching.Fetched.Fetched, Facts.flow};
 ghost use Rattle.image80.specs.Regions.{AreRegions, in_data};
 ghost use Rattle.verify80.specs.{Looking.code_of, Looking.declared_targets, Reached.AreReached, Reached.found_at};
-ghost use Rattle.verify80_states.specs.{State.cut_state, State.unknown_but, Following.is_steady, Following.state_after, Marks.is_marked, Steps.AreCodeBytes, FittingTable.AccountsAt, FittingTable.FitsWhereReached, Runs.IsKept};
+ghost use Rattle.verify80_states.specs.{State.cut_state, State.unknown_but, Following.is_steady, Following.state_after, Marks.is_marked};
+ghost use Rattle.verify80_states.specs.{Steps.AreCodeBytes, FittingTable.AccountsAt, FittingTable.FitsWhereReached, Runs.IsKept};
 ghost use Rattle.verify80_spans.specs.Span.{Within, ByteWithin, byte_alone};
 ghost use Rattle.verify80_states.specs.Fitting.{CallsEntry, Has, Covers, CoversAfter, FitsAt, KnowsQuiet};
 ghost use Rattle.verify80_states.specs.Calls.{AccountsFor, KnowsReturn, KnowsReturnsOf, returns_of};

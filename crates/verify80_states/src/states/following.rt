@@ -1,7 +1,9 @@
 //! What becomes of a state at an instruction.
 
 ghost use Rattle.std.specs.Prelude.{◌≡◌};
-ghost use Rattle.verify80_states.specs.Following.{loaded_at, loaded, moved, counted, resulted, tested, operand_bytes, after_operation, added_carry, turned, exchanged_pairs, index_words, popped_to, summand, registers_after, known_after, pushed_pair, called, returned, words_after, state_after};
+ghost use Rattle.verify80_states.specs.Following.{loaded_at, loaded, moved, counted, resulted, tested, operand_bytes, after_operation};
+ghost use Rattle.verify80_states.specs.Following.{added_carry, turned, exchanged_pairs, index_words, popped_to, summand, registers_after};
+ghost use Rattle.verify80_states.specs.Following.{known_after, pushed_pair, called, returned, words_after, state_after};
 ghost use Rattle.verify80_spans.specs.Span.{uncarried};
 ghost use Rattle.verify80_states.specs.Known.{compared_with, with_outcome};
 

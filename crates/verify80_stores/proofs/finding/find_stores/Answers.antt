@@ -1,4 +1,6 @@
-use Rattle.verify80_stores.proofs.Names.{◌≡◌, rules, subst, length, AreReached, SetsStack, code_of, true, List, Located, Note, AreOpen, is_listed, memory_of, HasBytes, RunsKeepTo, AreShown, KeptTable, is_quiet, is_pchl, AreAllBelow, AreStoresOf, PromiseHoldsOnQuietBoards, is_at, stores_by_pair}
+use Rattle.verify80_stores.proofs.Names.{◌≡◌, rules, subst, length, AreReached, SetsStack, code_of, true, List, Located, Note}
+use Rattle.verify80_stores.proofs.Names.{AreOpen, is_listed, memory_of, HasBytes, RunsKeepTo, AreShown, KeptTable, is_quiet}
+use Rattle.verify80_stores.proofs.Names.{is_pchl, AreAllBelow, AreStoresOf, PromiseHoldsOnQuietBoards, is_at, stores_by_pair}
 use Rattle.verify80_stores.proofs.{ListLemmas.all_of, StoreLemmas.are_stores, BoardLemmas.holds_on_boards, BoardLemmas.holds_on_quiet_boards}
 use Rattle.verify80_stores.proofs.finding.find_stores.Goals as goal
 
