@@ -1,36 +1,42 @@
 -- Calls that are stepped over: what is known of a world is a state of the procedure that is executed, in its part of the stack, and for each procedure that
 -- waits for it a state behind its call, and that what lies on the stack above that part is what this state knows.
-use Rattle.std.specs.Prelude.{◌≡◌, ◌≢◌, ◌⊎◌, ◌≤◌, ◌<◌, ◌+◌, ◌-◌, ◌||◌, ℕ, zero, suc, ◌/◌, ◌%◌, Bool, true, false, List, [], ◌∷◌, Option, None, Some, Ok, All, Contains, IfSome, IsSome, is_some, length, slice_get, slice_index, if◌then◌else◌}
+use Rattle.std.specs.Prelude.{◌≡◌, ◌≢◌, ◌⊎◌, ◌≤◌, ◌<◌, ◌+◌, ◌-◌, ◌||◌, ℕ, suc, ◌/◌, ◌%◌, Bool, true, false, List, [], ◌∷◌, Option}
+use Rattle.std.specs.Prelude.{None, Some, All, Contains, IfSome, IsSome, is_some, length, slice_index, if◌then◌else◌}
 use Rattle.std.proofs.Common.{ap, arith, get_or, inl, inr, refl, subst, sym, true≢false, ◌∙◌}
 use Rattle.std.proofs.lemmas.{Bool.Decides.nat_tests}
-use Rattle.std.proofs.lemmas.List.Elements.{All-append, All-contains, All-nil}
-use Rattle.decode80.specs.{Facts.flow, Fetch.ahead, Fetch.behind, Fetch.direct_bytes, declared.condition.Condition.Condition, declared.fetching.Fetched.Fetched, declared.flow.Flow.Flow, declared.instr.Instr.Instr}
-use Rattle.decode80.specs.declared.flow.Flow.TheVariants.{Calls, CallsIf, Halts, JumpsToHl, Returns, ReturnsIf}
-use Rattle.decode80.specs.declared.instr.Instr.TheVariants.{Call, CallIf, Hlt, Pchl, Ret, ReturnIf, Rst}
+use Rattle.std.proofs.lemmas.List.Elements.{All-contains, All-nil}
+use Rattle.decode80.specs.{Facts.flow, Fetch.ahead, Fetch.behind, Fetch.direct_bytes, declared.condition.Condition.Condition}
+use Rattle.decode80.specs.{declared.fetching.Fetched.Fetched, declared.flow.Flow.Flow, declared.instr.Instr.Instr}
+use Rattle.decode80.specs.declared.flow.Flow.TheVariants.{Calls, CallsIf, Returns, ReturnsIf}
+use Rattle.decode80.specs.declared.instr.Instr.TheVariants.{Call, CallIf, Pchl, Ret, ReturnIf, Rst}
 use Rattle.decode80.specs.declared.pair.StackPair.{StackPair}
 use Rattle.decode80.specs.declared.pair.StackPair.TheVariants.{Bc as StackBc, De as StackDe, Hl as StackHl, Psw}
-use Rattle.image80.specs.{Image.Located, Image.memory_of, Range.in_range, Regions.AreRegions, Regions.Areas, Regions.in_data, Regions.targets_at, Regions.top_of}
-use Rattle.machine80.specs.{Cpu.hl_of, Effects.byte_in, Effects.changed, Effects.pointed_bytes, Effects.push_bytes, Effects.stack_bytes, Effects.stored, Effects.touched_by, Effects.word_in, Flags.holds as holds_of, Run.world_of, declared.flags.Flags.Flags, declared.registers.Registers.Registers}
+use Rattle.image80.specs.{Image.Located, Image.memory_of, Range.in_range, Regions.AreRegions, Regions.Areas, Regions.in_data, Regions.top_of}
+use Rattle.machine80.specs.{Effects.byte_in, Effects.pointed_bytes, Effects.push_bytes}
+use Rattle.machine80.specs.{Effects.stack_bytes, Effects.stored, Effects.touched_by, Effects.word_in, Flags.holds as holds_of}
+use Rattle.machine80.specs.{Run.world_of, declared.flags.Flags.Flags}
 use Rattle.machine80.specs.Step.{Machine, fetch, proceeded}
 use Rattle.machine80.specs.World.{IsJustBelow, World, is_return_taken, places_after}
-use Rattle.verify80.specs.Boards.{Disturbs, Executes, IsPushed, LeavesProgram, StaysInside, fetched_anywhere, respected_pointer, sets_sp, unguarded, with_memory}
-use Rattle.verify80.specs.LookLaws.{fetch_at}
+use Rattle.verify80.specs.Boards.{Disturbs, Executes, IsPushed, LeavesProgram, StaysInside, fetched_anywhere, respected_pointer, sets_sp, unguarded}
 use Rattle.verify80_spans.specs.declared.byte_span.ByteSpan.{ByteSpan}
 use Rattle.verify80_spans.specs.Span.{ByteWithin}
-use Rattle.verify80_states.specs.{Bytes.HoldsBytes, Known.IsQuietKnown, Known.nothing_known, QuietBoards.StaysQuiet, Steps.AreCodeBytes, Steps.HasCode, Steps.is_taken}
+use Rattle.verify80_states.specs.{Bytes.HoldsBytes, Known.nothing_known, QuietBoards.StaysQuiet, Steps.HasCode, Steps.is_taken}
 use Rattle.verify80_states.specs.Invariants.{invariant_is_kept}
-use Rattle.verify80_follow.specs.declared.{calls.Summary.Summary, followed.FollowedState.FollowedState, followed.Listed.Listed, followed.Way.Way, held.Beside.Beside, stack.StackBounds.StackBounds}
-use Rattle.verify80_follow.specs.InterruptedBoards.{OnInterruptedBoard, Wakes, begins, disturbed, enabled_after, executed, with_pc, woken}
+use Rattle.verify80_follow.specs.declared.{calls.Summary.Summary, followed.FollowedState.FollowedState, followed.Listed.Listed, followed.Way.Way, stack.StackBounds.StackBounds}
+use Rattle.verify80_follow.specs.InterruptedBoards.{OnInterruptedBoard, Wakes, begins, disturbed, enabled_after, executed, woken}
 use Rattle.verify80_follow.specs.Stack.{HoldsFrom, HoldsStack, bounds_of, pointer_at}
-use Rattle.verify80_follow.specs.Held.{Entry, HoldsBeside, HoldsPairHeld, HoldsSaved, HoldsWord, count_of, no_pair, nothing_beside}
-use Rattle.verify80_follow.specs.Follows.{FitsSummary, Follows, Goes, Has, IsBehindCall, IsWay, PassesBy, ReturnsBack, StateFollows, StateStands, StepsOver, Summarizes, beside_call, called, entered_stack, first_stack, is_call, is_return, stack_of}
+use Rattle.verify80_follow.specs.Held.{Entry, HoldsBeside, HoldsPairHeld, HoldsSaved, count_of, no_pair}
+use Rattle.verify80_follow.specs.Follows.{FitsSummary, Follows, Goes, Has, IsBehindCall, IsWay, PassesBy, ReturnsBack, StateFollows, StateStands}
+use Rattle.verify80_follow.specs.Follows.{StepsOver, Summarizes, beside_call, called, entered_stack, is_call, is_return, stack_of}
 use Rattle.verify80_follow.specs.Handling.{on_stack}
 use Rattle.verify80_follow.specs.Live.{entering}
 use Rattle.verify80_follow.specs.Promise.{FollowedProgramsKeepThePromise, IsLeftOpenAt, IsReady, KeepsFollowed, KnowsWorld, PromiseOfFollowed, PromiseOfInterrupted}
-use Rattle.verify80_follow.proofs.{FetchLemmas.inside_of, GroundLemmas.Ground, HeldLemmas.all_of, HeldLemmas.two_of, RelativeLemmas.summary_more}
-use Rattle.verify80_follow.proofs.FollowLemmas.{Laws, anywhere, begun as begun_table, bounded, direct as direct_in, disturbs as disturbs_table, enters, executes_found, executes_passed, keeps as keeps_table, keeps_by, nobody, one_of, same_some, stays_inside, touches_stack, wakes_found}
+use Rattle.verify80_follow.proofs.{GroundLemmas.Ground, HeldLemmas.all_of, HeldLemmas.two_of, RelativeLemmas.summary_more}
+use Rattle.verify80_follow.proofs.FollowLemmas.{Laws, anywhere, begun as begun_table, bounded, direct as direct_in}
+use Rattle.verify80_follow.proofs.FollowLemmas.{disturbs as disturbs_table, enters, executes_found, executes_passed}
+use Rattle.verify80_follow.proofs.FollowLemmas.{keeps as keeps_table, keeps_by, nobody, one_of, same_some, stays_inside, touches_stack, wakes_found}
 use Rattle.verify80_follow.proofs.GuardLemmas.{Touches, at_count}
-use Rattle.verify80_follow.proofs.PartLemmas.{byte_kept, into_back, into_bytes, into_stack, into_whole, off_part, off_stack, part_below, part_inside, regions_below, same_ok, two_above}
+use Rattle.verify80_follow.proofs.PartLemmas.{byte_kept, into_back, into_bytes, into_stack, into_whole, off_part, off_stack, part_below, part_inside, regions_below, two_above}
 use Rattle.verify80_follow.proofs.StackLemmas.{next_pointer, on_stack as on_part, pointer_below, pointer_is, range_high}
 
 -- a call that is taken, and a return

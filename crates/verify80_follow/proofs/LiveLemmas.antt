@@ -1,19 +1,25 @@
 -- A live machine keeps its promise: between interrupts a state of the program's table holds, and while a handler is executed one of the handler's table
 -- does, below the bytes that the program has on the stack. When it is over, it has done no more than a device, or a state of the program's table holds of
 -- which nothing is known.
-use Rattle.std.specs.Prelude.{◌≡◌, ◌≢◌, ◌⊎◌, ◌≤◌, ◌<◌, ◌+◌, ◌-◌, ◌||◌, ℕ, zero, suc, ◌/◌, ◌%◌, Bool, true, false, List, [], ◌∷◌, ◌++◌, Option, None, Some, Result, Ok, Err, All, Contains, length, nat_eq, slice_index, if◌then◌else◌}
+use Rattle.std.specs.Prelude.{◌≡◌, ◌≢◌, ◌⊎◌, ◌≤◌, ◌<◌, ◌+◌, ◌-◌, ◌||◌, ℕ, zero, suc, ◌/◌, ◌%◌, Bool, true, false, List, [], ◌∷◌}
+use Rattle.std.specs.Prelude.{◌++◌, Option, None, Some, Result, Ok, Err, All, Contains, length, nat_eq, slice_index, if◌then◌else◌}
 use Rattle.std.specs.{Result.result_ok}
 use Rattle.std.proofs.Common.{ap, arith, get_or, inl, inr, refl, subst, sym, true≢false, ◌∙◌}
 use Rattle.std.proofs.lemmas.{Bool.Decides.nat_tests}
 use Rattle.std.proofs.lemmas.List.Elements.{All-append, All-cons, All-head, All-nil, All-tail, Contains-get_or}
-use Rattle.decode80.specs.{Decoded.decoded, Facts.flow, Fetch.admitted_if_used, Fetch.ahead, Fetch.direct_bytes, Fetch.fetch as fetch_in, declared.fetching.FetchFault.FetchFault, declared.fetching.FetchFault.TheVariants.Outside, declared.fetching.Fetched.Fetched, declared.instr.Instr.Instr}
+use Rattle.decode80.specs.{Decoded.decoded, Facts.flow, Fetch.admitted_if_used, Fetch.ahead, Fetch.direct_bytes}
+use Rattle.decode80.specs.{Fetch.fetch as fetch_in, declared.fetching.FetchFault.FetchFault}
+use Rattle.decode80.specs.{declared.fetching.FetchFault.TheVariants.Outside, declared.fetching.Fetched.Fetched, declared.instr.Instr.Instr}
 use Rattle.decode80.specs.declared.instr.Instr.TheVariants.{Di, Ei, Hlt, Lxi, Pchl, Ret}
 use Rattle.decode80.specs.declared.pair.Pair.TheVariants.{Sp}
 use Rattle.decode80.specs.declared.pair.StackPair.{StackPair}
 use Rattle.decode80.specs.declared.pair.StackPair.TheVariants.{Bc as StackBc, De as StackDe, Hl as StackHl, Psw}
-use Rattle.image80.specs.{Image.Located, Image.memory_of, Range.IsInMemory, Range.in_range, Range.in_ranges, Regions.AreRegions, Regions.Areas, Regions.held, Regions.in_code, Regions.in_data, Regions.targets_at, Regions.top_of}
+use Rattle.image80.specs.{Image.Located, Image.memory_of, Range.IsInMemory, Range.in_range, Range.in_ranges, Regions.AreRegions}
+use Rattle.image80.specs.{Regions.Areas, Regions.held, Regions.in_code, Regions.in_data, Regions.targets_at, Regions.top_of}
 use Rattle.image80.specs.declared.range.Range.{Range}
-use Rattle.machine80.specs.{Cpu.hl_of, Effects.byte_in, Effects.pointed_bytes, Effects.stack_bytes, Effects.stored, Effects.stores, Effects.target, Effects.word_in, FactsLaws.stacked_by, World.IsJustBelow, World.World, World.places_after, World.returns, declared.cpu.Cpu.Cpu, declared.registers.Registers.Registers}
+use Rattle.machine80.specs.{Cpu.hl_of, Effects.byte_in, Effects.pointed_bytes, Effects.stack_bytes, Effects.stored, Effects.stores}
+use Rattle.machine80.specs.{Effects.target, Effects.word_in, FactsLaws.stacked_by, World.IsJustBelow, World.World}
+use Rattle.machine80.specs.{World.places_after, World.returns, declared.cpu.Cpu.Cpu, declared.registers.Registers.Registers}
 use Rattle.machine80.specs.Step.{Machine, fetch, proceeded}
 use Rattle.verify80.specs.Boards.{Disturbs, Executes, IsPushed, StaysInside, fetched_anywhere, respected_pointer, sets_sp, unguarded, with_memory}
 use Rattle.verify80.specs.LookLaws.{fetch_at}
@@ -26,11 +32,14 @@ use Rattle.verify80_follow.specs.Held.{Entry, HoldsBeside, HoldsPairHeld, HoldsS
 use Rattle.verify80_follow.specs.Follows.{Follows, IsWay, StateFollows, StateStands, stack_of, uses_pointer, entered_stack}
 use Rattle.verify80_follow.specs.Handling.{BeginsAnew, EndsAt, GivesBack, HandlerTable, Handles, IsReturn, entered_beside, entered_pair, on_stack}
 use Rattle.verify80_follow.specs.Promise.{GoesToListed, IsLeftOpenAt, IsReady, KeepsFollowed, KnowsWorld}
-use Rattle.verify80_follow.specs.Live.{Enable, HandlerBounds, KeepsHandler, LiveMachinesKeepThePromise, OnLiveBoard, PromiseOfLive, Takes, begins, disturbed, enable_after, entering, executed, interrupted, is_back, may_come, off, on, passed, soon, under_after, world_after}
+use Rattle.verify80_follow.specs.Live.{Enable, HandlerBounds, KeepsHandler, LiveMachinesKeepThePromise, OnLiveBoard, PromiseOfLive, Takes, begins, disturbed}
+use Rattle.verify80_follow.specs.Live.{enable_after, entering, executed, interrupted, is_back, may_come, off, on, passed, soon, under_after, world_after}
 use Rattle.verify80_follow.proofs.{FetchLemmas.anywhere_of, FetchLemmas.fetched_here, FetchLemmas.inside_of, GroundLemmas.Ground, RelativeLemmas.fits_more}
-use Rattle.verify80_follow.proofs.CallLemmas.{Knows as KnowsCalls, begun as begun_calls, disturbs as disturbs_calls, executes as executes_calls, in_main, keeps as keeps_calls, ready as ready_calls, wakes as wakes_calls}
+use Rattle.verify80_follow.proofs.CallLemmas.{Knows as KnowsCalls, begun as begun_calls, disturbs as disturbs_calls, executes as executes_calls}
+use Rattle.verify80_follow.proofs.CallLemmas.{in_main, keeps as keeps_calls, ready as ready_calls, wakes as wakes_calls}
 use Rattle.verify80_follow.proofs.PartLemmas.{into_back, into_bytes, into_stack, into_whole, off_part, off_stack, part_below, part_inside, regions_below, same_ok, stacked_within, stands_at, two_above}
-use Rattle.verify80_follow.proofs.FollowLemmas.{Laws, disturbs as disturbs_table, enters as enters_table, executes_found, goes_on, keeps as keeps_table, leaves, nobody, one_of, points, same_some, stays_inside, touches_stack}
+use Rattle.verify80_follow.proofs.FollowLemmas.{Laws, disturbs as disturbs_table, enters as enters_table, executes_found, goes_on}
+use Rattle.verify80_follow.proofs.FollowLemmas.{keeps as keeps_table, leaves, nobody, one_of, points, same_some, stays_inside, touches_stack}
 use Rattle.verify80_follow.proofs.HeldLemmas.{all_of, nothing_holds, stored_other, two_of}
 use Rattle.verify80_stores.specs.Opening.{pointer_span}
 use Rattle.verify80_follow.proofs.GuardLemmas.{Touches, all_of_list}

@@ -1,14 +1,17 @@
 -- A part of the stack: below so many bytes a handler, or a procedure that a call steps over, has a stack of its own.
-use Rattle.std.specs.Prelude.{◌≡◌, ◌≢◌, ◌⊎◌, ◌≤◌, ◌<◌, ◌+◌, ◌-◌, ◌||◌, ℕ, zero, suc, ◌/◌, ◌%◌, Bool, true, false, List, [], ◌∷◌, ◌++◌, cond, Option, None, Some, Result, Ok, Err, All, Contains, IfSome, length, nat_eq, nat_le, slice_get, slice_index, slice_set, if◌then◌else◌}
-use Rattle.std.specs.{List.fold, Result.result_ok}
-use Rattle.std.proofs.Common.{ap, arith, get_or, get_or-set_other, inl, inr, refl, subst, sym, true≢false, ◌∙◌}
-use Rattle.std.proofs.lemmas.{Bool.Decides.nat_tests, Bool.and_parts, List.length-set}
-use Rattle.std.proofs.lemmas.List.Elements.{All-append, All-cons, All-contains, All-get_or, All-head, All-nil, All-set, All-tail, Contains-get_or}
-use Rattle.decode80.specs.{Facts.flow, Fetch.ahead, Fetch.behind, Fetch.direct_bytes, declared.fetching.FetchFault.FetchFault, declared.fetching.Fetched.Fetched, declared.flow.Flow.Flow, declared.instr.Instr.Instr}
+use Rattle.std.specs.Prelude.{◌≡◌, ◌≢◌, ◌≤◌, ◌<◌, ◌+◌, ◌-◌, ℕ, ◌/◌, ◌%◌, Bool, true, false, List, [], ◌∷◌, ◌++◌, cond, Option, None}
+use Rattle.std.specs.Prelude.{Some, Result, Ok, All, IfSome, length, slice_index, slice_set}
+use Rattle.std.specs.{List.fold}
+use Rattle.std.proofs.Common.{ap, arith, refl, subst, sym, true≢false, ◌∙◌}
+use Rattle.std.proofs.lemmas.{Bool.Decides.nat_tests, List.length-set}
+use Rattle.std.proofs.lemmas.List.Elements.{All-append, All-cons, All-head, All-nil, All-set, All-tail}
+use Rattle.decode80.specs.{Facts.flow, Fetch.ahead, Fetch.behind, Fetch.direct_bytes, declared.fetching.FetchFault.FetchFault}
+use Rattle.decode80.specs.{declared.fetching.Fetched.Fetched, declared.flow.Flow.Flow, declared.instr.Instr.Instr}
 use Rattle.decode80.specs.declared.flow.Flow.TheVariants.{Calls, CallsIf, Exchanges, Pushes}
-use Rattle.image80.specs.{Image.Located, Image.memory_of, Range.IsInMemory, Range.in_range, Range.in_ranges, Regions.AreRegions, Regions.Areas, Regions.in_code, Regions.in_data, Regions.top_of}
+use Rattle.image80.specs.{Image.Located, Range.IsInMemory, Range.in_range, Regions.AreRegions, Regions.Areas}
 use Rattle.image80.specs.declared.range.Range.{Range}
-use Rattle.machine80.specs.{Effects.byte_in, Effects.pointed_bytes, Effects.push_bytes, Effects.stack_bytes, Effects.stored, Effects.stores, Effects.touched_by, FactsLaws.InstructionsKeepToFacts, FactsLaws.stacked_by, declared.cpu.Cpu.Cpu}
+use Rattle.machine80.specs.{Effects.byte_in, Effects.pointed_bytes, Effects.push_bytes, Effects.stack_bytes, Effects.stores}
+use Rattle.machine80.specs.{Effects.touched_by, FactsLaws.InstructionsKeepToFacts, FactsLaws.stacked_by, declared.cpu.Cpu.Cpu}
 use Rattle.machine80.specs.Step.{Machine}
 use Rattle.verify80.specs.Boards.{unguarded}
 use Rattle.verify80_spans.specs.declared.byte_span.ByteSpan.{ByteSpan}
@@ -20,7 +23,7 @@ use Rattle.verify80_follow.specs.Held.{HoldsSaved, count_of}
 use Rattle.verify80_follow.specs.Handling.{on_stack}
 use Rattle.verify80_follow.specs.Live.{entering}
 use Rattle.verify80_follow.proofs.{FollowLemmas.leaves, GroundLemmas.Ground, HeldLemmas.stored_other, HeldLemmas.two_of}
-use Rattle.verify80_follow.proofs.StackLemmas.{any_within, byte_at, on_stack as on_part, pointer_below, pointer_is}
+use Rattle.verify80_follow.proofs.StackLemmas.{any_within, byte_at, on_stack as on_part, pointer_below}
 use Rattle.verify80_follow.proofs.StackSteps.{behind_word, below_apart, two_read}
 
 -- a part of the stack below so many bytes

@@ -1,23 +1,23 @@
 -- A state that fits with its stack at one place fits with it at each that has as much room, if its instruction doesn't depend on where the stack lies.
-use Rattle.std.specs.Prelude.{◌≡◌, ◌⊎◌, ◌≤◌, ℕ, ◌+◌, Bool, true, false, List, [], ◌∷◌, Option, None, Some, Ok, Contains, IfSome, IsSome, length, nat_le}
+use Rattle.std.specs.Prelude.{◌≡◌, ◌⊎◌, ◌≤◌, ℕ, ◌+◌, Bool, true, false, List, Option, None, Some, Ok, length, nat_le}
 use Rattle.std.specs.Option.{option_map}
-use Rattle.std.proofs.Common.{ap, arith, inl, inr, refl, subst, sym, ◌∙◌}
+use Rattle.std.proofs.Common.{ap, arith, inl, inr, refl, subst, ◌∙◌}
 use Rattle.std.proofs.lemmas.Bool.Decides.{nat_tests}
-use Rattle.decode80.specs.{Facts.flow, declared.condition.Condition.Condition, declared.fetching.Fetched.Fetched, declared.flow.Flow.Flow, declared.instr.Instr.Instr}
+use Rattle.decode80.specs.{Facts.flow, declared.fetching.Fetched.Fetched, declared.flow.Flow.Flow, declared.instr.Instr.Instr}
 use Rattle.decode80.specs.declared.flow.Flow.TheVariants.{Jumps, JumpsIf, JumpsToHl, Calls, CallsIf, Returns, ReturnsIf, Halts}
 use Rattle.decode80.specs.declared.instr.Instr.TheVariants.{Call, CallIf, Dad, Dcx, Lxi, Push, Rst, Sphl}
 use Rattle.decode80.specs.declared.pair.Pair.TheVariants.{Bc, De, Hl, Sp}
-use Rattle.image80.specs.{Image.Located, Image.memory_of, Regions.Areas}
+use Rattle.image80.specs.{Image.Located, Image.memory_of}
 use Rattle.image80.specs.declared.range.Range.{Range}
 use Rattle.verify80.specs.{LookLaws.fetch_at, Looking.is_declared}
 use Rattle.verify80_spans.specs.declared.byte_span.ByteSpan.{ByteSpan}
-use Rattle.verify80_spans.specs.Span.{byte_alone, high_of}
-use Rattle.verify80_states.specs.{declared.states.known.Known.Known, Following.known_after, Following.pushed_pair, Given.given}
-use Rattle.verify80_follow.specs.declared.{calls.Summary.Summary, followed.FollowedState.FollowedState, followed.Listed.Listed, followed.Way.Way, held.Beside.Beside, stack.StackBounds.StackBounds}
-use Rattle.verify80_follow.specs.Stack.{called_on, if_true, pushed_onto, stack_after, stack_then, top_of_stack, with_one}
+use Rattle.verify80_states.specs.{declared.states.known.Known.Known, Following.known_after, Given.given}
+use Rattle.verify80_follow.specs.declared.{calls.Summary.Summary, followed.FollowedState.FollowedState, followed.Listed.Listed, followed.Way.Way, stack.StackBounds.StackBounds}
+use Rattle.verify80_follow.specs.Stack.{called_on, if_true, stack_after, stack_then, top_of_stack}
 use Rattle.verify80_follow.specs.Held.{beside_then, count_of}
-use Rattle.verify80_follow.specs.Follows.{Covers, CoversStack, CoversThen, FollowsBy, IsWay, JumpsBy, LeadsTo, ReturnsLeft, ReturnsTo, Goes, PassesBy, ReturnsBack, StateFollows, StateStands, StepsOver, stack_of, uses_pointer}
-use Rattle.verify80_follow.specs.Handling.{Handles, on_stack}
+use Rattle.verify80_follow.specs.Follows.{Covers, CoversThen, FollowsBy, IsWay, JumpsBy, LeadsTo, ReturnsLeft}
+use Rattle.verify80_follow.specs.Follows.{Goes, PassesBy, ReturnsBack, StateFollows, StateStands, StepsOver, stack_of, uses_pointer}
+use Rattle.verify80_follow.specs.Handling.{on_stack}
 
 -- where there is room there is more
 more_room : {X : Type 0} (a b n : ℕ) (x y : X) → a ≤ b → if_true (nat_le n a) x ≡ Some y → if_true (nat_le n b) x ≡ Some y

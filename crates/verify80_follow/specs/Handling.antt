@@ -1,15 +1,15 @@
 -- Handlers: a table of states that follows one from where it is entered until it returns, wherever the stack is then, or until it begins the program
 -- anew. (Intel 8080 Microcomputer Systems User's Manual, chapter 2: an interrupt pushes the program counter, as RST or CALL does. That a handler gives
 -- all back, or sets SP to the stack's top, is this project's own.)
-use Rattle.std.specs.Prelude.{◌≡◌, ◌⊎◌, ◌≤◌, ℕ, Bool, true, false, List, [], ◌∷◌, Option, None, Some, Ok, All, Contains, length}
-use Rattle.decode80.specs.{Fetch.direct_bytes, declared.fetching.Fetched.Fetched, declared.instr.Instr.Instr}
+use Rattle.std.specs.Prelude.{◌≡◌, ◌⊎◌, ◌≤◌, ℕ, Bool, true, false, List, [], Option, None, Some, Ok, All, Contains}
+use Rattle.decode80.specs.{Fetch.direct_bytes, declared.fetching.Fetched.Fetched}
 use Rattle.decode80.specs.declared.instr.Instr.TheVariants.{Ei, Lxi, Ret}
 use Rattle.decode80.specs.declared.pair.Pair.TheVariants.{Sp}
-use Rattle.image80.specs.{Image.Located, Image.memory_of, Regions.Areas, Regions.in_data, Regions.top_of}
+use Rattle.image80.specs.{Image.Located, Image.memory_of, Regions.in_data, Regions.top_of}
 use Rattle.image80.specs.declared.range.Range.{Range}
 use Rattle.verify80.specs.LookLaws.{fetch_at}
-use Rattle.verify80_spans.specs.declared.{byte_span.ByteSpan.ByteSpan, span.Span.Span}
-use Rattle.verify80_spans.specs.Span.{Within, any_byte}
+use Rattle.verify80_spans.specs.declared.{span.Span.Span}
+use Rattle.verify80_spans.specs.Span.{Within}
 use Rattle.verify80_states.specs.{Known.IsQuietKnown, Known.nothing_known, Steps.AreCodeBytes}
 use Rattle.verify80_stores.specs.Opening.{pointer_span}
 use Rattle.verify80_follow.specs.declared.{followed.FollowedState.FollowedState, followed.Listed.Listed, followed.Way.Way, held.Beside.Beside, held.HeldPair.HeldPair, stack.StackBounds.StackBounds}

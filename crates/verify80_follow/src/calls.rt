@@ -7,7 +7,8 @@ ghost use Rattle.image80.specs.Image.{memory_of};
 ghost use Rattle.verify80.specs.LookLaws.{fetch_at};
 ghost use Rattle.verify80_states.specs.{Known.nothing_known, Marks.is_marked, Steps.AreCodeBytes};
 ghost use Rattle.verify80_stores.specs.DataReach.{AreDataEnds};
-ghost use Rattle.verify80_follow.specs.Follows.{FitsSummary, Goes, Has, PassesBy, ReturnsBack, StateFollows, StateStands, StepsOver, Summarizes, beside_call, called, entered_stack, is_return, stack_of, uses_pointer};
+ghost use Rattle.verify80_follow.specs.Follows.{FitsSummary, Goes, Has, PassesBy, ReturnsBack, StateFollows, StateStands, StepsOver};
+ghost use Rattle.verify80_follow.specs.Follows.{Summarizes, beside_call, called, entered_stack, is_return, stack_of, uses_pointer};
 ghost use Rattle.verify80_follow.specs.Held.{count_of};
 
 use crate::fit::{Fit, Standing};

@@ -3,7 +3,8 @@
 ghost use Rattle.std.specs.Prelude.{◌≡◌, ℕ, Some, true};
 ghost use Rattle.std.specs.Option.{option_map};
 ghost use Rattle.verify80_follow.specs.Follows.{beside_call};
-ghost use Rattle.verify80_follow.specs.Held.{IsBesideInside, IsPairInside, beside_after, beside_then, changes_pair, count_of, first_of, is_at, is_pair, left_of, no_pair, nothing_beside, pair_after, pops_pair, pushes_pair, still};
+ghost use Rattle.verify80_follow.specs.Held.{IsBesideInside, IsPairInside, beside_after, beside_then, changes_pair, count_of, first_of};
+ghost use Rattle.verify80_follow.specs.Held.{is_at, is_pair, left_of, no_pair, nothing_beside, pair_after, pops_pair, pushes_pair, still};
 
 use crate::interrupts::enabled_after;
 use decode80::{AffectedFlags, Flow, Instr, Pair, Register, StackPair, Writes};

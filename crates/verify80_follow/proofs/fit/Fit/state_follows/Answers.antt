@@ -1,7 +1,6 @@
-use Rattle.std.specs.Prelude.{◌≡◌, ◌≤◌, List, Option, true, IfSome, length}
+use Rattle.std.specs.Prelude.{◌≡◌, true}
 use Rattle.std.proofs.Common.{refl, subst}
 use Rattle.decode80.specs.Facts.{flow}
-use Rattle.verify80_spans.specs.declared.byte_span.ByteSpan.{ByteSpan}
 use Rattle.verify80_states.specs.Marks.{is_marked}
 use Rattle.image80.specs.Regions.{Areas}
 use Rattle.verify80_follow.specs.Follows.{FollowsBy, IsShownOrListed, StateFollows}

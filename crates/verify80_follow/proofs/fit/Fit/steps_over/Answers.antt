@@ -1,6 +1,6 @@
-use Rattle.std.specs.Prelude.{◌≡◌, true}
+use Rattle.std.specs.Prelude.{◌≡◌, Some, true}
 use Rattle.std.proofs.Common.{ap, refl, subst, sym, ◌∙◌}
-use Rattle.decode80.specs.{Facts.flow, declared.flow.Flow.Flow}
+use Rattle.decode80.specs.{Facts.flow}
 use Rattle.image80.specs.Regions.{Areas}
 use Rattle.verify80_states.specs.{Known.nothing_known, Marks.is_marked}
 use Rattle.verify80_follow.specs.declared.held.Beside.{Beside}
@@ -12,7 +12,7 @@ pub returns : goal.returns
 returns c =
     let fit = c.args.self.now in
     let state = c.args.state.now in
-    let found = c.in-Some-executed.executed.found in
+    let found = c.in-Some.executed.found in
     let stack = c.in-Some-bytes.stack.now in
     let summary = c.in-Some-summary.summary.now in
     ok_maps c.passes_by.result (λ p. p ≡ true → PassesBy fit.program.now fit.bounds fit.interrupted (is_marked fit.quiet.now) fit.code.now fit.ways.now fit.listed.now fit.summaries.now fit.table.now fit.bytes state found (flow found.instr))
@@ -20,7 +20,7 @@ returns c =
     (λ p passes is. record {
       stands = record {
         found = found;
-        executed = c.in-Some-executed.ensures.executed;
+        executed = c.in-Some.ensures.executed;
         serves = c.if-not-may_stand.ensures.serves refl;
         shown = subst (λ (r : Areas). IsShownOrListed r fit.listed.now found.instr state) c.requires.regions (c.if-not-may_stand.ensures.shown refl);
         depth = c.if-not-may_stand.ensures.depth refl;
@@ -32,6 +32,6 @@ returns c =
       stack = stack;
       is = sym c.in-Some-bytes.ensures;
       room = c.if-not-has_room_for.ensures refl;
-      behind = subst (λ (b : Beside). Has fit.table.now found.next nothing_known b (Some stack)) c.behind_call.ensures (c.if-not-has.ensures refl);
+      behind = subst (λ (b : Beside). Has fit.table.now found.next nothing_known b (Some stack)) c.behind_call-behind.ensures (c.if-not-has.ensures refl);
       passes = passes is;
     }) c.passes_by.ensures
