@@ -27,8 +27,6 @@ mod read_table;
 mod seen;
 mod slots;
 mod table;
-#[cfg(test)]
-mod tests;
 mod write;
 mod write_answers;
 
