@@ -1,7 +1,7 @@
 -- Boards, line after line, and what their texts spell.
-use Rattle.std.proofs.Common.{◌≡◌, ◌≢◌, ℕ, suc, ◌+◌, ◌<◌, Bool, true, false, cond, List, [], ◌∷◌, ◌++◌, length, get_or, take, drop, map, append_assoc, append-nil, refl, ap, sym, subst, ◌∙◌, arith}
-use Rattle.std.specs.Prelude.{◌==◌, All, Result, Ok, Err, IfErr}
-use Rattle.std.specs.List.{flat_map, join_with_byte, onto_first, slice_split}
+use Rattle.std.proofs.Common.{◌≡◌, ◌≢◌, ℕ, ◌+◌, true, false, cond, List, [], ◌∷◌, ◌++◌, length, drop, map, append_assoc, append-nil, refl, ap, sym, subst, ◌∙◌}
+use Rattle.std.specs.Prelude.{All, Result, Ok, Err, IfErr}
+use Rattle.std.specs.List.{flat_map, join_with_byte, onto_first}
 use Rattle.std.proofs.lemmas.List.{map-append}
 use Rattle.std.proofs.lemmas.List.Elements.{All-nil, All-cons, All-head, All-tail}
 use Rattle.std.proofs.lemmas.List.Splits.{join_with_byte-slice_split}
@@ -12,7 +12,7 @@ use Rattle.board80.specs.declared.line.Kind.TheVariants.{Rom, Ram, Device}
 use Rattle.board80.specs.declared.line.Line.{Line}
 use Rattle.board80.specs.declared.line.Line.TheVariants.{Memory, Interrupt, Reads}
 use Rattle.board80.specs.declared.place.Place.TheVariants.{Port, Cell}
-use Rattle.board80.specs.Board.{Fits, GoodStart, IsBadLine, IsBoard, IsFirstBadLine, IsFree, IsOutside, IsProper, IsTaken, Misfits, Refuses, Spells, is_inside, taken_fault}
+use Rattle.board80.specs.Board.{Fits, GoodStart, IsBadLine, IsBoard, IsFirstBadLine, IsFree, IsOutside, IsProper, IsTaken, Misfits, Refuses, Spells, taken_fault}
 use Rattle.board80.specs.Board.IsFirstBadLine.{in_heading, after}
 use Rattle.board80.specs.BoardText.{board_text, heading, line_text}
 use Rattle.board80.proofs.FeedLemmas.{IsLine, parts-text_of}

@@ -1,11 +1,10 @@
 -- No line of a board has a line feed, and the lines of a text.
-use Rattle.std.proofs.Common.{◌≡◌, ◌≢◌, ℕ, suc, ◌+◌, ◌/◌, ◌%◌, ◌<◌, ◌^◌, true, false, List, [], ◌∷◌, ◌++◌, length, get_or, take, drop, map, append_assoc, refl, ap, sym, subst, ◌∙◌, arith}
-use Rattle.std.specs.Prelude.{◌==◌, All, Option, Some, None, IfSome, codes, slice_index}
-use Rattle.std.specs.List.{flat_map, AllByRecursion}
+use Rattle.std.proofs.Common.{◌≡◌, ℕ, ◌/◌, ◌%◌, false, List, [], ◌∷◌, ◌++◌, map, append_assoc, refl, ap, ◌∙◌, arith}
+use Rattle.std.specs.Prelude.{All, Option, Some, None, codes, slice_index}
+use Rattle.std.specs.List.{AllByRecursion}
 use Rattle.std.proofs.lemmas.List.Elements.{All-nil, All-cons, All-head, All-tail, All-append, All-from_recursion}
 use Rattle.std.proofs.lemmas.List.Splits.{slice_split_at}
 use Rattle.text80.specs.Digits.{byte_text, word_text}
-use Rattle.image80.specs.declared.range.Range.{Range}
 use Rattle.image80.specs.Lines.{is_line_feed, parts, text_of}
 use Rattle.board80.specs.declared.answers.Answers.{Answers}
 use Rattle.board80.specs.declared.answers.Answers.TheVariants.{Listed, By}
@@ -20,9 +19,8 @@ use Rattle.board80.specs.declared.place.Place.{Place}
 use Rattle.board80.specs.declared.place.Place.TheVariants.{Port, Cell}
 use Rattle.board80.specs.declared.table.Row.{Row}
 use Rattle.board80.specs.Board.{AreAnswers, IsItem, IsProper}
-use Rattle.board80.specs.BoardText.{answers_text, bytes_text, for_ever_text, group_text, heading, item_text, items_text, kind_text, line_text, list_text}
+use Rattle.board80.specs.BoardText.{answers_text, bytes_text, for_ever_text, group_text, heading, item_text, items_text, kind_text, line_text}
 use Rattle.board80.specs.BoardText.{other_text, place_text, range_text, row_text, rows_text, source_text, spaced_text, table_text, times_text}
-use Rattle.board80.specs.Group.{GroupBytes}
 use Rattle.board80.proofs.DigitLemmas.{digit_not}
 use Rattle.board80.proofs.WordLemmas.{times_lack}
 

@@ -1,15 +1,13 @@
 -- The texts of lists.
-use Rattle.std.proofs.Common.{◌≡◌, ◌≢◌, ℕ, ◌/◌, ◌%◌, ◌<◌, ◌^◌, true, false, List, [], ◌∷◌, ◌++◌, get_or, take, drop, append_assoc, refl, ap, sym, subst, ◌∙◌, arith}
+use Rattle.std.proofs.Common.{◌≡◌, ℕ, ◌/◌, ◌<◌, List, [], ◌∷◌, ◌++◌, get_or, drop, append_assoc, refl, ap, sym, ◌∙◌, arith}
 use Rattle.std.specs.Prelude.{All, Option, Some, None, IfSome}
-use Rattle.std.specs.List.{flat_map}
 use Rattle.std.proofs.lemmas.List.Elements.{All-head, All-tail}
 use Rattle.text80.specs.Digits.{byte_text}
 use Rattle.board80.specs.declared.byte_list.Bytes.{Bytes}
 use Rattle.board80.specs.declared.byte_list.Bytes.TheVariants.{One, Group}
 use Rattle.board80.specs.declared.byte_list.Item.{Item}
-use Rattle.board80.specs.Board.{AreBytes, AreItemBytes, IsGroup, IsItem, IsList}
-use Rattle.board80.specs.BoardText.{bytes_text, for_ever_text, group_text, item_text, items_text, list_text, spaced_text, times_text}
-use Rattle.board80.specs.ByteList.{ListedBytes}
+use Rattle.board80.specs.Board.{AreBytes, AreItemBytes, IsGroup, IsItem}
+use Rattle.board80.specs.BoardText.{bytes_text, for_ever_text, group_text, item_text, items_text, spaced_text, times_text}
 use Rattle.board80.specs.Group.{GroupBytes}
 use Rattle.board80.specs.Reading.{IsAtEnd}
 use Rattle.board80.proofs.DigitLemmas.{byte_first, no_digit}

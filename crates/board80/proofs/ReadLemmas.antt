@@ -1,11 +1,11 @@
 -- What the parts of a text that were read say of the whole.
-use Rattle.std.proofs.Common.{◌≡◌, ◌≢◌, ℕ, suc, ◌+◌, ◌<◌, ◌≤◌, ◌^◌, Bool, true, false, cond, List, [], ◌∷◌, ◌++◌}
-use Rattle.std.proofs.Common.{length, get_or, take, drop, append_assoc, append-nil, refl, ap, sym, subst, ◌∙◌, arith}
+use Rattle.std.proofs.Common.{◌≡◌, ◌≢◌, ℕ, ◌<◌, ◌≤◌, ◌^◌, true, false, cond, List, [], ◌∷◌, ◌++◌}
+use Rattle.std.proofs.Common.{length, get_or, drop, append_assoc, append-nil, refl, ap, sym, subst, ◌∙◌, arith}
 use Rattle.std.specs.Prelude.{◌==◌, All, codes, Option, Some, None, IfNone, IfOk, IfSome, Result, Ok, Err}
 use Rattle.std.specs.Fmt.{decimal}
 use Rattle.std.specs.List.{flat_map}
 use Rattle.std.specs.Str.{IsUtf8}
-use Rattle.std.specs.Str.Parse.{IsNumeral, ParsesUnsigned, digits_value, without_leading_plus}
+use Rattle.std.specs.Str.Parse.{IsNumeral, digits_value, without_leading_plus}
 use Rattle.std.proofs.lemmas.Bool.{eqb-true, ne_eqb}
 use Rattle.std.proofs.lemmas.Fmt.{IsAscii-from_digits, decimal_is_IsNumeral, parse-decimal}
 use Rattle.std.proofs.lemmas.List.Concat.{flat_map-append}
@@ -31,7 +31,7 @@ use Rattle.board80.proofs.DigitLemmas.{address_first, byte_first}
 use Rattle.board80.proofs.ListLemmas.{NoByte, NoItem, bytes_first, group_open, items_most, spaced_most}
 use Rattle.board80.proofs.SameLemmas.{list_not_by}
 use Rattle.board80.proofs.TableLemmas.{NoRow, rows_most, word_of_table}
-use Rattle.board80.proofs.WordLemmas.{times_lack, times_same, word_first}
+use Rattle.board80.proofs.WordLemmas.{times_lack, word_first}
 
 -- one more part of a text was read
 pub one_more : {X : Type 0} (f : X → List ℕ) (xs : List X) (x : X) (text rest after : List ℕ) → text ≡ flat_map f xs ++ rest → rest ≡ f x ++ after → text ≡ flat_map f (xs ++ x ∷ []) ++ after

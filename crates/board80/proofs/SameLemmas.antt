@@ -1,8 +1,7 @@
 -- Answers and lines with the same text are the same.
-use Rattle.std.proofs.Common.{◌≡◌, ◌≢◌, ℕ, ◌+◌, ◌/◌, ◌%◌, ◌<◌, true, false, List, [], ◌∷◌, ◌++◌, get_or, take, drop, append_assoc, append-nil, refl, ap, sym, subst, ◌∙◌, arith}
-use Rattle.std.specs.Prelude.{All, Option, Some, None, IfSome, codes}
-use Rattle.std.specs.List.{flat_map}
-use Rattle.text80.specs.Digits.{byte_text, word_text}
+use Rattle.std.proofs.Common.{◌≡◌, ℕ, ◌%◌, List, [], ◌∷◌, ◌++◌, get_or, drop, append_assoc, refl, ap, sym, ◌∙◌, arith}
+use Rattle.std.specs.Prelude.{Option, Some, None, IfSome, codes}
+use Rattle.text80.specs.Digits.{word_text}
 use Rattle.image80.specs.declared.range.Range.{Range}
 use Rattle.image80.specs.Range.{IsInMemory}
 use Rattle.board80.specs.declared.answers.Answers.{Answers}
@@ -10,16 +9,15 @@ use Rattle.board80.specs.declared.answers.Answers.TheVariants.{Listed, By}
 use Rattle.board80.specs.declared.byte_list.Bytes.{Bytes}
 use Rattle.board80.specs.declared.byte_list.Bytes.TheVariants.{One, Group}
 use Rattle.board80.specs.declared.byte_list.Item.{Item}
-use Rattle.board80.specs.declared.line.Kind.{Kind}
 use Rattle.board80.specs.declared.line.Kind.TheVariants.{Rom, Ram, Device}
 use Rattle.board80.specs.declared.line.Line.{Line}
 use Rattle.board80.specs.declared.line.Line.TheVariants.{Memory, Interrupt, Reads}
 use Rattle.board80.specs.declared.place.Place.{Place}
 use Rattle.board80.specs.declared.place.Place.TheVariants.{Port, Cell}
 use Rattle.board80.specs.declared.table.Row.{Row}
-use Rattle.board80.specs.Board.{AreAnswers, AreItemBytes, IsItem, IsList, IsProper, IsTable}
-use Rattle.board80.specs.BoardText.{answers_text, bytes_text, for_ever_text, items_text, kind_text, line_text, list_text}
-use Rattle.board80.specs.BoardText.{other_text, place_text, range_text, rows_text, source_text, table_text, times_text}
+use Rattle.board80.specs.Board.{AreAnswers, AreItemBytes, IsList, IsProper, IsTable}
+use Rattle.board80.specs.BoardText.{answers_text, bytes_text, for_ever_text, items_text, line_text, list_text}
+use Rattle.board80.specs.BoardText.{other_text, range_text, rows_text, table_text, times_text}
 use Rattle.board80.specs.ByteList.{ListedBytes}
 use Rattle.board80.specs.Table.{TableRows}
 use Rattle.board80.proofs.DigitLemmas.{address_first, byte_first, no_digit}

@@ -1,14 +1,12 @@
 -- Slots that lines take, and their marks.
-use Rattle.std.proofs.Common.{◌≡◌, ◌≢◌, ℕ, zero, suc, ◌+◌, ◌<◌, ◌≤◌, Bool, true, false, cond, ◌||◌, ◌&&◌, nat_le, nat_lt, List, [], ◌∷◌, ◌++◌, length, get_or, refl, ap, sym, subst, ◌∙◌, arith}
-use Rattle.std.specs.Prelude.{◌==◌, ◌↔◌, IsTrue}
+use Rattle.std.proofs.Common.{◌≡◌, ℕ, ◌+◌, ◌<◌, ◌≤◌, Bool, true, false, ◌||◌, nat_le, nat_lt, List, [], ◌∷◌, ◌++◌, refl, ap, sym, subst, ◌∙◌}
+use Rattle.std.specs.Prelude.{◌↔◌, IsTrue}
 use Rattle.std.specs.List.{list_any}
 use Rattle.std.proofs.lemmas.Bool.{and_parts, and_from, leb-true, ltb-true, le-leb, lt-ltb}
-use Rattle.board80.specs.declared.line.Kind.TheVariants.{Rom, Ram, Device}
 use Rattle.board80.specs.declared.line.Line.{Line}
-use Rattle.board80.specs.declared.line.Line.TheVariants.{Memory, Interrupt, Reads}
 use Rattle.board80.specs.declared.slots.Slots.{Slots}
 use Rattle.board80.specs.Board.{IsFree, gives_device, in_device, is_taken, takes}
-use Rattle.board80.specs.Reading.{AreUnmarked, HasSeen, SeenSlots, in_slots, is_marked, range_slots}
+use Rattle.board80.specs.Reading.{AreUnmarked, HasSeen, in_slots, is_marked}
 
 or_false : (a : Bool) → (a || false) ≡ a
 or_false true = refl

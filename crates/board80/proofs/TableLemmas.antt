@@ -1,14 +1,14 @@
 -- The texts of tables.
-use Rattle.std.proofs.Common.{◌≡◌, ◌≢◌, ℕ, ◌+◌, ◌/◌, ◌%◌, ◌<◌, ◌≤◌, Bool, true, false, List, [], ◌∷◌, ◌++◌, length, get_or, take, drop, append_assoc, append-nil, refl, ap, sym, subst, ◌∙◌, arith}
-use Rattle.std.specs.Prelude.{All, ◌↔◌, ◌==◌, IsTrue, codes, nat_lt, slice_index, slice_index_or}
-use Rattle.std.specs.List.{flat_map, IsAllAdjacentAnswer}
+use Rattle.std.proofs.Common.{◌≡◌, ℕ, ◌+◌, ◌/◌, ◌%◌, ◌<◌, ◌≤◌, Bool, true, false, List, [], ◌∷◌, ◌++◌, length, get_or, drop, refl, ap, sym, ◌∙◌, arith}
+use Rattle.std.specs.Prelude.{All, ◌↔◌, ◌==◌, IsTrue, codes, nat_lt, slice_index}
+use Rattle.std.specs.List.{IsAllAdjacentAnswer}
 use Rattle.std.proofs.lemmas.Bool.{ltb-true, ltb-false}
 use Rattle.std.proofs.lemmas.List.Elements.{All-nil, All-cons, All-head, All-tail}
-use Rattle.text80.specs.Digits.{byte_text, word_text}
+use Rattle.text80.specs.Digits.{byte_text}
 use Rattle.board80.specs.declared.place.Place.{Place}
 use Rattle.board80.specs.declared.place.Place.TheVariants.{Port, Cell}
 use Rattle.board80.specs.declared.table.Row.{Row}
-use Rattle.board80.specs.Board.{IsAscending, IsPlace, IsRow, IsTable}
+use Rattle.board80.specs.Board.{IsAscending, IsPlace, IsRow}
 use Rattle.board80.specs.BoardText.{other_text, row_text, rows_text, source_text, table_text}
 use Rattle.board80.specs.Reading.{IsAtEnd, IsWord}
 use Rattle.board80.specs.Table.{TableRows}

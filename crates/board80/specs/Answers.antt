@@ -1,6 +1,6 @@
 -- What a board answers.
 -- (The text of a board is this project's own.)
-use Rattle.std.specs.Prelude.{ℕ, zero, suc, ◌+◌, ◌-◌, ◌==◌, Bool, List, [], ◌∷◌, ◌++◌, length, find, slice_get, Option, Some, None}
+use Rattle.std.specs.Prelude.{ℕ, zero, suc, ◌==◌, List, [], ◌∷◌, ◌++◌, find, slice_get, Option, Some, None}
 use Rattle.std.specs.List.{flat_map}
 use Rattle.board80.specs.declared.byte_list.Bytes.{Bytes}
 use Rattle.board80.specs.declared.byte_list.Bytes.TheVariants.{One, Group}

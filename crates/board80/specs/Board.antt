@@ -1,6 +1,6 @@
 -- The rules of a board, what a text spells, and why it is refused.
 -- (The text is this project's own.)
-use Rattle.std.specs.Prelude.{◌≡◌, ℕ, ◌+◌, ◌<◌, ◌≤◌, ◌==◌, ◌^◌, Bool, true, false, ◌&&◌, nat_le, nat_lt, List, [], ◌∷◌, ◌++◌, length, map, All, filter_map, Option, Some, None, IfSome, slice_index_or}
+use Rattle.std.specs.Prelude.{◌≡◌, ℕ, ◌+◌, ◌<◌, ◌==◌, ◌^◌, Bool, true, false, ◌&&◌, List, [], ◌∷◌, ◌++◌, length, map, All, filter_map, Option, Some, None, IfSome, slice_index_or}
 use Rattle.std.specs.List.{list_any}
 use Rattle.image80.specs.declared.range.Range.{Range}
 use Rattle.image80.specs.Lines.{parts}

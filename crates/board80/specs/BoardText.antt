@@ -3,7 +3,7 @@
 -- port or of a cell, `PORT pp ..` or `AT aaaa ..`. Answers are a list, as ` 1B 5B (41 42)*3 03*`, or a table, as
 -- ` BY E0 FE=F7 *=FF`. Addresses and bytes are upper case hexadecimal, counts decimal.
 -- (The text is this project's own.)
-use Rattle.std.specs.Prelude.{ℕ, ◌==◌, Bool, if◌then◌else◌, List, [], ◌∷◌, ◌++◌, map, codes, Option, Some, None}
+use Rattle.std.specs.Prelude.{ℕ, ◌==◌, if◌then◌else◌, List, [], ◌∷◌, ◌++◌, map, codes, Option, Some, None}
 use Rattle.std.specs.Fmt.{decimal}
 use Rattle.std.specs.List.{flat_map}
 use Rattle.text80.specs.Digits.{byte_text, word_text}

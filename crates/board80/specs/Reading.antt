@@ -1,11 +1,11 @@
 -- What the functions of the reader of boards promise one another.
 -- (The text of a board is this project's own.)
-use Rattle.std.specs.Prelude.{◌≡◌, ℕ, ◌+◌, ◌==◌, ◌||◌, ◌&&◌, Bool, true, false, nat_le, nat_lt, slice_index_or, List, [], ◌∷◌, ◌++◌, length, codes, All}
+use Rattle.std.specs.Prelude.{◌≡◌, ℕ, ◌+◌, ◌==◌, ◌&&◌, Bool, false, nat_le, nat_lt, slice_index_or, List, [], ◌∷◌, ◌++◌, length, codes, All}
 use Rattle.image80.specs.declared.range.Range.{Range}
 use Rattle.board80.specs.declared.line.Line.{Line}
 use Rattle.board80.specs.declared.line.Line.TheVariants.{Reads}
 use Rattle.board80.specs.declared.slots.Slots.{Slots}
-use Rattle.board80.specs.Board.{takes, is_taken, in_device}
+use Rattle.board80.specs.Board.{is_taken, in_device}
 use Rattle.board80.specs.BoardText.{line_text}
 
 -- a text is at the end of a word: it is empty, or a space comes

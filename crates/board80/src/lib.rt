@@ -8,7 +8,7 @@
 //! | [`Kind`], [`Place`] | ROM, RAM or a device; a port, or a cell of a device |
 //! | [`Answers`], [`ByteList`], [`Table`] | what a port or a cell answers: the bytes of a list, or by the last byte put out |
 //! | [`Item`], [`Bytes`], [`Group`], [`Row`] | the parts of lists and tables |
-//! | [`read_board`], [`write_board`], [`BoardFault`] | a board as a text, and why bytes are no text of a board |
+//! | [`read_board`], [`BoardFault`] | a board from its text, and why bytes are no text of a board |
 //! | [`laws`] | what holds of the definitions alone |
 #![tactic(auto)]
 
@@ -27,8 +27,6 @@ mod read_table;
 mod seen;
 mod slots;
 mod table;
-mod write;
-mod write_answers;
 
 pub use answers::Answers;
 pub use board::Board;
@@ -38,4 +36,3 @@ pub use line::{Kind, Line};
 pub use place::Place;
 pub use read::read_board;
 pub use table::{Row, Table};
-pub use write::write_board;

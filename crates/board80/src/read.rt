@@ -15,7 +15,7 @@ use image80::lines::first_line;
 use std::alloc::Global;
 
 /// The first line.
-pub(crate) const HEADING: &[u8] = b"BOARD 1";
+const HEADING: &[u8] = b"BOARD 1";
 
 /// The board that a text spells.
 ///

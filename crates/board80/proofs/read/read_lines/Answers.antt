@@ -1,4 +1,4 @@
-use Rattle.std.proofs.Common.{◌≡◌, ◌+◌, ◌∙◌, ◌==◌, true, false, ap, sym, length}
+use Rattle.std.proofs.Common.{◌+◌, ◌∙◌, ◌==◌, ap, sym, length}
 use Rattle.board80.specs.Board.{IsOutside}
 use Rattle.board80.proofs.BoardLemmas.{bad_end, bad_line, good_more, misfit, taken_refuses}
 use Rattle.board80.proofs.read.read_lines.Goals as goal
