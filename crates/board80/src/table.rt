@@ -1,7 +1,7 @@
 //! Tables of answers.
 
-ghost use Rattle.std.specs.Prelude.{◌≡◌, ◌-◌, length, slice_get};
-ghost use Rattle.board80.specs.Answers.{answer_to, answer_to_last};
+ghost use Rattle.std.specs.Prelude.{◌≡◌};
+ghost use Rattle.board80.specs.Answers.{answer_to};
 
 use crate::place::Place;
 use std::marker::Model;
@@ -35,17 +35,6 @@ impl Model for Table {
 }
 
 impl Table {
-    /// The answer after these bytes were put out at the source, in their order: that to the last of them, or the other one
-    /// if none was put out.
-    pub fn answer_after(&self, outputs: &[u8]) -> u8
-        ensures { result ≡ answer_to_last self.now (slice_get outputs.now (length outputs.now - 1)) }
-    {
-        match outputs.last() {
-            Some(byte) => self.answer_to(*byte),
-            None => self.other,
-        }
-    }
-
     /// The answer to a byte that was put out.
     pub fn answer_to(&self, byte: u8) -> u8
         ensures { result ≡ answer_to self.now byte }

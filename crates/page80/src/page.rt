@@ -85,18 +85,6 @@ impl Page {
         self.put(b"</h2>\n".as_slice())
     }
 
-    /// Appends a paragraph, and a line feed.
-    ///
-    /// # Errors
-    /// `AllocError` if memory runs out; a part of it may then have been appended.
-    pub fn paragraph(&mut self, text: &[u8]) -> Result<(), AllocError>
-        ensures { OnOk result (self.new ≡ self.old ++ text.now ++ 10 ∷ []) }
-    {
-        self.markup(b"<p>".as_slice())?;
-        self.text(text)?;
-        self.put(b"</p>\n".as_slice())
-    }
-
     /// The bytes of the page, ended.
     ///
     /// # Errors
