@@ -1,6 +1,6 @@
 -- Readers of a page, piece by piece.
-use Rattle.std.proofs.Common.{◌≡◌, ℕ, ◌<◌, List, [], ◌∷◌, ◌++◌, refl, ap, ◌∙◌, sym, append_assoc, append-nil}
-use Rattle.page80.specs.Reading.{Reading, text, tag, reference, next, shows, reading_after, shown_from, shown_in}
+use Rattle.std.proofs.Common.{◌≡◌, ℕ, List, [], ◌∷◌, ◌++◌, refl, ap, ◌∙◌, sym, append_assoc}
+use Rattle.page80.specs.Reading.{Reading, text, tag, next, shows, reading_after, shown_from, shown_in}
 use Rattle.page80.specs.Pieces.{IsWhole, IsMarkup, IsTagBegun, StaysInTag, EndsTag}
 
 pub after-append : (r : Reading) (a b : List ℕ) → reading_after r (a ++ b) ≡ reading_after (reading_after r a) b

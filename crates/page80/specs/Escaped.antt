@@ -1,8 +1,8 @@
 -- Text in a page: each byte as it is, or as a reference.
 -- (HTML Living Standard, 13.1.4 Character references. The bytes without a character are those that are no printable ASCII.)
-use Rattle.std.specs.Prelude.{◌≡◌, ◌≢◌, ◌<◌, ℕ, ◌==◌, ◌||◌, ◌&&◌, Bool, true, false, nat_lt, if◌then◌else◌, List, [], ◌∷◌, ◌++◌, All, codes}
+use Rattle.std.specs.Prelude.{◌≡◌, ◌≢◌, ◌<◌, ℕ, ◌==◌, ◌||◌, ◌&&◌, Bool, nat_lt, if◌then◌else◌, List, [], ◌∷◌, ◌++◌, All, codes}
 use Rattle.text80.specs.Digits.{byte_text}
-use Rattle.page80.specs.Reading.{Reading, text, reading_after, shown_from}
+use Rattle.page80.specs.Reading.{text, reading_after, shown_from}
 
 -- a byte that could be read as markup: a quote, an ampersand, an apostrophe, or what begins or ends a tag
 abbrev pub is_markup : ℕ → Bool

@@ -1,7 +1,7 @@
 -- What a page shows: its text without tags, each numeric character reference read as the byte that it stands for.
 -- (HTML Living Standard, 13.2.5 Tokenization: data state, tag states, hexadecimal character references. That a byte without a character
 -- stands in the private use area, from E000 on, is this project's own.)
-use Rattle.std.specs.Prelude.{ℕ, ◌+◌, ◌-◌, ◌*◌, ◌==◌, ◌||◌, nat_lt, Bool, if◌then◌else◌, List, [], ◌∷◌, ◌++◌}
+use Rattle.std.specs.Prelude.{ℕ, ◌+◌, ◌-◌, ◌*◌, ◌==◌, ◌||◌, nat_lt, if◌then◌else◌, List, [], ◌∷◌, ◌++◌}
 
 -- where a reader is: in text, in a tag, or in a reference, with its value so far
 pub data Reading : Type 0 where
