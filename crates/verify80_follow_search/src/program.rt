@@ -161,9 +161,6 @@ impl FollowedProgram<'_> {
     ) -> Result<Option<Lead>, StopReason> {
         let Fetched { instr, next } = found;
         let known = state.known;
-        if self.interrupted && matches!(instr, Instr::Ei) && state.stack.is_none() {
-            return Err(StopReason::StackNotSet);
-        }
         if number == 0 && self.is_end(state, found)? {
             return Ok(None);
         }
@@ -228,6 +225,9 @@ impl FollowedProgram<'_> {
     /// Why it doesn't do what its instruction there does.
     fn is_end(self, state: &FollowedState, found: Fetched) -> Result<bool, StopReason> {
         match self.start {
+            Start::Program { .. } if self.interrupted && is_early(state, found.instr) => {
+                Err(StopReason::StackNotSet)
+            }
             Start::Program { .. } => Ok(false),
             Start::Handler { .. } => self.is_over(state, found),
             Start::Procedure { .. } if uses_pointer(found.instr) => Err(StopReason::UsesPointer),
@@ -304,6 +304,11 @@ impl FollowedProgram<'_> {
             None => Err(StopReason::UnknownJump),
         }
     }
+}
+
+/// Whether an instruction enables interrupts before SP is set.
+fn is_early(state: &FollowedState, instr: Instr) -> bool {
+    matches!(instr, Instr::Ei) && state.stack.is_none()
 }
 
 /// Whether an instruction returns.

@@ -5,7 +5,7 @@ use crate::opening::list_together;
 use crate::program::FollowedProgram;
 use crate::start::Start;
 use crate::stepping::step_over;
-use crate::stop::SearchResult;
+use crate::stop::{SearchResult, StopReason};
 use crate::trial::{Tried, try_each};
 use image80::{Image, Range};
 use std::alloc::{AllocError, Global};
@@ -94,7 +94,8 @@ fn search_from(
     }
 }
 
-/// Follows a program call by call; if there were too many states, and it is no handler, calls are stepped over.
+/// Follows a program call by call; if there were too many states, and it is no handler, its calls are stepped over, but for a program that is to be
+/// followed with SP at the stack's top.
 fn follow_or_step(
     alloc: Global,
     followed: FollowedProgram<'_>,
@@ -107,7 +108,7 @@ fn follow_or_step(
         // As long as no calls are stepped over, each is followed.
         Tried::Untried(_) => return Err(AllocError),
     };
-    if is_crowded && !is_handler {
+    if is_crowded && !is_handler && stop.reason != StopReason::StackNotSet {
         if let Some(table) = step_over(alloc, followed, budget)? {
             return Ok(SearchResult::Found(table));
         }

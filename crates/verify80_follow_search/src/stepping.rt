@@ -49,27 +49,26 @@ pub(crate) fn step_over(
     // The last one is tried next. One that calls others which weren't tried is tried again after them.
     let mut waiting: Vec<u16> = Vec::new(alloc);
     for _ in 0..ROUNDS {
-        let last = waiting.as_slice().last().copied();
-        let tried = match last {
-            Some(at) => summaries.try_procedure(alloc, followed, at, budget)?,
-            None => {
-                let stepping = FollowedProgram {
-                    procedures: &summaries.procedures,
-                    ..followed
-                };
-                try_each(alloc, stepping, budget)?
+        let Some(at) = waiting.as_slice().last().copied() else {
+            let stepping = FollowedProgram {
+                procedures: &summaries.procedures,
+                ..followed
+            };
+            match try_each(alloc, stepping, budget)? {
+                Tried::Found(table) => {
+                    return Ok(Some(with_summaries(alloc, followed, table, summaries)?));
+                }
+                Tried::Stopped(_, _) => break,
+                Tried::Untried(calls) => waiting.extend_from_slice(&calls)?,
             }
+            continue;
         };
-        match (last, tried) {
-            (_, Tried::Untried(calls)) => waiting.extend_from_slice(&calls)?,
-            (Some(at), tried) => {
+        match summaries.try_procedure(alloc, followed, at, budget)? {
+            Tried::Untried(calls) => waiting.extend_from_slice(&calls)?,
+            tried => {
                 summaries.note(at, tried)?;
                 waiting.pop();
             }
-            (None, Tried::Found(table)) => {
-                return Ok(Some(with_summaries(alloc, followed, table, summaries)?));
-            }
-            (None, Tried::Stopped(_, _)) => break,
         }
         summaries.drop_tried(&mut waiting);
     }
