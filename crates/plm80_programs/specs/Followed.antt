@@ -23,7 +23,7 @@ use Rattle.plm80_programs.specs.Reached.{ShowsRefusals}
 pub record IsFollowedCode (image : Located) (code : FollowedCode) : Type 0 where
   pub is_set : Bool
   pub promise : PromiseOf false image (is_quiet image.regions []) is_set code.table.ways.items code.table.listed code.table.bytes
-  pub reached : AreFollowed image (places_of code.table.states.items []) code.reached.items
+  pub reached : AreFollowed image (places_of code.table []) code.reached.items
 
 -- what is printed of an image that is refused: the code that is followed, with status 0, or what walks reach, with status 1
 pub data SaysRefused (Shows : Unproved → (text : List ℕ) → Type 0) (Lists : FollowedCode → (text : List ℕ) → Type 0) (image : Located) (refusal : Refusal)

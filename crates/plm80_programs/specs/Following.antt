@@ -79,7 +79,7 @@ listing_lines false image publics reached = []
 pub record PrintsTable (first : List ℕ) (quiet : List Range) (lists : Bool) (image : Located) (publics : List Public) (table : Table) (handlers : List Handler) (is_set : Bool) (answer : AnswerValue) : Type 0 where
   pub stores : Stores
   pub reached : List (Option Fetched)
-  pub are_reached : AreFollowed image (places_of table.states.items handlers) reached
+  pub are_reached : AreFollowed image (places_of table handlers) reached
   pub are_stores : AreStoresFollowed table.listed (not is_set) reached stores
   pub is : answer ≡ prints (followed_lines first quiet image publics table handlers stores ++ listing_lines lists image publics reached) 0
 

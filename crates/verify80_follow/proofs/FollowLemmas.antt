@@ -1,16 +1,21 @@
 -- A table that follows a program is an invariant of each board's worlds: one of its states holds of the first one, of one that devices have disturbed,
 -- of one after an instruction, and of one behind a HLT that was interrupted.
-use Rattle.std.specs.Prelude.{◌≡◌, ◌≢◌, ◌⊎◌, ◌≤◌, ◌<◌, ◌+◌, ◌==◌, ◌||◌, ℕ, suc, Bool, true, false, not, List, [], ◌∷◌, Option, None, Some, Ok, IfSome, IsSome, nat_le, ◌/◌, ◌%◌, All, Any, Contains, length, slice_get, slice_index, is_some, nat_eq, ◌&&◌, if◌then◌else◌}
+use Rattle.std.specs.Prelude.{◌≡◌, ◌≢◌, ◌⊎◌, ◌≤◌, ◌<◌, ◌+◌, ◌==◌, ◌||◌, ℕ, suc, Bool, true, false, not, List, [], ◌∷◌, Option, None, Some, Ok, IfSome}
+use Rattle.std.specs.Prelude.{IsSome, nat_le, ◌/◌, ◌%◌, All, Any, Contains, length, slice_get, slice_index, is_some, nat_eq, ◌&&◌, if◌then◌else◌}
 use Rattle.std.specs.{List.list_any, Option.option_map, Option.option_map_or}
 use Rattle.std.proofs.Common.{get_or, ap, arith, inl, inr, refl, subst, sym, true≢false, ◌∙◌}
 use Rattle.std.proofs.lemmas.{Option.get_or_from_slice_get, Option.slice_get_within, Bool.eqb-true, Bool.Decides.nat_tests, Map.Views.Contains-from_any}
 use Rattle.std.proofs.lemmas.List.Elements.{All-nil, Contains-get_or}
-use Rattle.decode80.specs.{Spelling.HasOperandInRange, Facts.flow, Facts.storing, Fetch.FetchReadsCodeAlone, Fetch.ahead, Fetch.direct_bytes, declared.condition.Condition.Condition, declared.fetching.Fetched.Fetched, declared.flow.Flow.Flow, declared.instr.Instr.Instr, declared.pair.StackPair.StackPair}
+use Rattle.decode80.specs.{Spelling.HasOperandInRange, Facts.flow, Facts.storing, Fetch.FetchReadsCodeAlone, Fetch.ahead}
+use Rattle.decode80.specs.{Fetch.direct_bytes, declared.condition.Condition.Condition, declared.fetching.Fetched.Fetched}
+use Rattle.decode80.specs.{declared.flow.Flow.Flow, declared.instr.Instr.Instr, declared.pair.StackPair.StackPair}
 use Rattle.decode80.specs.declared.flow.Flow.TheVariants.{Jumps, JumpsIf, JumpsToHl, Calls, CallsIf, Returns, ReturnsIf, Halts}
 use Rattle.decode80.specs.declared.instr.Instr.TheVariants.{Call, CallIf, Dad, Dcx, Di, Ei, Hlt, In, Inx, Lxi, Out, Pchl, Pop, Push, Ret, ReturnIf, Rst, Sphl, Xthl}
 use Rattle.decode80.specs.declared.pair.Pair.TheVariants.{Sp}
-use Rattle.image80.specs.{Range.in_range, Regions.AreRegions, Regions.Areas, Regions.in_code, Regions.in_data, Regions.targets_at, Regions.top_of, Image.Located, Image.memory_of}
-use Rattle.machine80.specs.{Cpu.hl_of, Flags.flags_byte, Flags.bit_of, Flags.holds as holds_of, Effects.byte_in, Effects.changed, Effects.goes_to, Effects.pointed_bytes, Effects.stack_bytes, Effects.stored, Effects.stores, Effects.target, Effects.touched_by, Effects.word_in, Run.world_of, declared.cpu.Cpu.Cpu, declared.flags.Flags.Flags}
+use Rattle.image80.specs.{Range.in_range, Regions.AreRegions, Regions.in_code, Regions.in_data, Regions.targets_at, Regions.top_of, Image.Located, Image.memory_of}
+use Rattle.machine80.specs.{Cpu.hl_of, Flags.flags_byte, Flags.bit_of, Flags.holds as holds_of, Effects.byte_in, Effects.changed}
+use Rattle.machine80.specs.{Effects.goes_to, Effects.pointed_bytes, Effects.stack_bytes, Effects.stored, Effects.stores, Effects.target}
+use Rattle.machine80.specs.{Effects.touched_by, Effects.word_in, Run.world_of, declared.cpu.Cpu.Cpu, declared.flags.Flags.Flags}
 use Rattle.machine80.specs.{ArithmeticLaws.StatusWordRoundTrip, FactsLaws.InstructionsKeepToFacts}
 use Rattle.machine80.specs.Step.{Machine, guard, leads_outside, proceeded}
 use Rattle.machine80.specs.World.{IsJustBelow, World, is_return_taken, places_after}
@@ -19,18 +24,21 @@ use Rattle.verify80.specs.{LookLaws.fetch_at, Looking.declared_targets, Looking.
 use Rattle.decode80.specs.Spelling.{opcode}
 use Rattle.verify80_spans.specs.declared.byte_span.ByteSpan.{ByteSpan}
 use Rattle.verify80_spans.specs.Span.{Within, ByteWithin, IsInside, any_byte, byte_alone, high_of, is_alone}
-use Rattle.verify80_states.specs.{declared.states.known.Known.Known, Bytes.FetchedOperandsAreBounded, Bytes.HasBytes, Bytes.HoldsBytes, Bytes.IsBounded, Following.known_after, Following.pushed_pair, Given.given, QuietBoards.StaysQuiet, Steps.AreCodeBytes, Steps.HasCode, Steps.ReadsCode, Steps.is_taken}
+use Rattle.verify80_states.specs.{declared.states.known.Known.Known, Bytes.FetchedOperandsAreBounded, Bytes.HasBytes}
+use Rattle.verify80_states.specs.{Bytes.HoldsBytes, Bytes.IsBounded, Following.known_after, Following.pushed_pair, Given.given}
+use Rattle.verify80_states.specs.{QuietBoards.StaysQuiet, Steps.AreCodeBytes, Steps.HasCode, Steps.ReadsCode, Steps.is_taken}
 use Rattle.verify80_states.specs.Known.{HoldsKnown, HoldsPair, HoldsTop, IsQuietKnown, any_pair, cut, nothing_known}
 use Rattle.verify80_states.specs.{Cells.IsQuietCell, declared.states.cells.Cell.Cell}
 use Rattle.verify80_states.specs.Laws.{ConditionsLeaveKnown, InstructionsAreFollowed, IsFollowedBy, KnownStaysQuiet, WhatHoldsOfBytes}
-use Rattle.verify80_states.specs.Invariants.{invariant_is_kept}
-use Rattle.verify80_follow.specs.declared.{held.Beside.Beside, stack.StackBounds.StackBounds, followed.FollowedState.FollowedState, followed.Listed.Listed, followed.Way.Way}
-use Rattle.verify80_follow.specs.Stack.{AreBytesInside, called_on, HoldsFrom, HoldsStack, IsStackInside, bounds_of, if_true, moved_to, pointer_at, return_address, set_stack, stack_after, stack_then, top_of_stack, word_on}
-use Rattle.verify80_follow.specs.InterruptedBoards.{OnInterruptedBoard, Wakes, begins, disturbed, enabled_after, executed, with_pc, woken}
+use Rattle.verify80_follow.specs.declared.{calls.Summary.Summary, held.Beside.Beside, stack.StackBounds.StackBounds, followed.FollowedState.FollowedState, followed.Listed.Listed, followed.Way.Way}
+use Rattle.verify80_follow.specs.Stack.{AreBytesInside, called_on, HoldsFrom, HoldsStack, IsStackInside, bounds_of, if_true, moved_to}
+use Rattle.verify80_follow.specs.Stack.{pointer_at, return_address, set_stack, stack_after, stack_then, top_of_stack, word_on}
+use Rattle.verify80_follow.specs.InterruptedBoards.{Wakes, enabled_after, with_pc}
 use Rattle.verify80_follow.specs.Held.{Entry, HoldsBeside, beside_then, count_of, nothing_beside}
 use Rattle.verify80_follow.proofs.HeldLemmas.{beside_around, beside_holds, is_pushing, nothing_holds, same_beside}
-use Rattle.verify80_follow.specs.Follows.{Covers, CoversThen, Follows, FollowsBy, Has, IsWay, JumpsBy, LeadsTo, ReturnsLeft, ReturnsTo, StateFollows, first_stack, stack_of}
-use Rattle.verify80_follow.specs.Promise.{FollowedProgramsKeepThePromise, GoesToListed, IsLeftOpenAt, IsReady, KeepsFollowed, KnowsWorld, PromiseOfFollowed, PromiseOfInterrupted}
+use Rattle.verify80_follow.specs.Follows.{Covers, CoversThen, FollowsBy, Has, IsWay, JumpsBy, LeadsTo, ReturnsLeft}
+use Rattle.verify80_follow.specs.Follows.{ReturnsTo, PassesBy, StateFollows, StateStands, called, first_stack, is_return, stack_of}
+use Rattle.verify80_follow.specs.Promise.{GoesToListed, IsLeftOpenAt, KeepsFollowed, KnowsWorld}
 use Rattle.verify80_follow.proofs.{GroundLemmas.Ground, FetchLemmas.anywhere_of, FetchLemmas.fetched_here, FetchLemmas.inside_of, StackSteps.stack_holds}
 use Rattle.verify80_follow.proofs.GuardLemmas.{Touches, all_of_list, passes_guard, touched}
 use Rattle.verify80_follow.proofs.StackLemmas.{any_within, byte_at, moved_holds, on_stack, pointer_is, stays_from}
@@ -242,7 +250,7 @@ module _ (image : Located) (ground : Ground image.regions) (set : Bool) where
   unset_after i stack next cpu m held small is = record { touched = refl; now = stays_unset i stack _ _ is }
 
 -- a return that is taken goes to the word on top of the stack
-return_target : (w : Flow) (next : ℕ) (memory : List ℕ) (cpu : Cpu) → is_return_taken w cpu.registers.flags ≡ true → goes_to w next memory cpu ≡ word_in memory cpu.sp
+pub return_target : (w : Flow) (next : ℕ) (memory : List ℕ) (cpu : Cpu) → is_return_taken w cpu.registers.flags ≡ true → goes_to w next memory cpu ≡ word_in memory cpu.sp
 return_target Returns next memory cpu taken = refl
 return_target (ReturnsIf condition) next memory cpu taken = rw taken refl
 return_target w next memory cpu taken = absurd (true≢false (sym taken))
@@ -346,7 +354,7 @@ module _ (laws : Laws) (image : Located) (interrupted : Bool) (entered : Entry) 
   })
 
   -- a world of which one state is known
-  module _ (set enabled : Bool) (w : World) (k : KnowsWorld image interrupted entered table set enabled w) (entry : StateFollows image (bounds_of image) interrupted quiet bytes_of_code ways listed table bytes k.state) where
+  module _ (set enabled : Bool) (w : World) (k : KnowsWorld image interrupted entered table set enabled w) (entry : StateStands image interrupted quiet listed bytes k.state) where
     abbrev m : Machine
     m = w.machine
 
@@ -356,13 +364,13 @@ module _ (laws : Laws) (image : Located) (interrupted : Bool) (entered : Entry) 
     fetched : fetch_at image.regions m.memory m.cpu.pc ≡ Ok found
     fetched = subst (λ n. fetch_at image.regions m.memory n ≡ Ok found) k.at (fetched_here laws.reads image m.memory k.state.at found k.code entry.executed.fetched)
 
-    anywhere : fetched_anywhere m.memory m.cpu.pc ≡ Some found
+    pub anywhere : fetched_anywhere m.memory m.cpu.pc ≡ Some found
     anywhere = anywhere_of image.regions m.memory m.cpu.pc found fetched
 
-    bounded : IsBounded found
+    pub bounded : IsBounded found
     bounded = laws.bounded image.regions m.memory m.cpu.pc found k.bytes.memory (inside_of image.regions m.memory m.cpu.pc found fetched)
 
-    direct : All (λ a. in_data image.regions a ≡ true) (direct_bytes found.instr)
+    pub direct : All (λ a. in_data image.regions a ≡ true) (direct_bytes found.instr)
     direct = all_of_list (in_data image.regions) (direct_bytes found.instr) entry.executed.stores
 
     reads : ReadsCode bytes_of_code m.memory
@@ -566,9 +574,12 @@ module _ (laws : Laws) (image : Located) (interrupted : Bool) (entered : Entry) 
         subst (λ n. IsWay image ways n (hl_of m.cpu.registers)) k.at (subst (λ n. IsWay image ways k.state.at n) same jumps.way)
     jumping_by true is jumps none = absurd (let no : is_declared image.regions k.state.at ≡ false = ap (λ (o : Option (List ℕ)). is_some o) none in true≢false (sym is ∙ no))
 
-    jumping : found.instr ≡ Pchl → targets_at image.regions m.cpu.pc ≡ None → Behind (hl_of m.cpu.registers)
-    jumping is none =
-        jumping_by (is_declared image.regions k.state.at) refl (subst (λ (f : Flow). FollowsBy image (bounds_of image) interrupted bytes_of_code ways table bytes k.state found f) (ap (λ (i : Instr). flow i) is) entry.follows) (subst (λ n. targets_at image.regions n ≡ None) (sym k.at) none)
+    abbrev HereFollows : Type 0
+    HereFollows = FollowsBy image (bounds_of image) interrupted bytes_of_code ways table bytes k.state found (flow found.instr)
+
+    jumping : HereFollows → found.instr ≡ Pchl → targets_at image.regions m.cpu.pc ≡ None → Behind (hl_of m.cpu.registers)
+    jumping follows is none =
+        jumping_by (is_declared image.regions k.state.at) refl (subst (λ (f : Flow). FollowsBy image (bounds_of image) interrupted bytes_of_code ways table bytes k.state found f) (ap (λ (i : Instr). flow i) is) follows) (subst (λ n. targets_at image.regions n ≡ None) (sym k.at) none)
 
     just_below : (xs : List ℕ) → All (Touches image.regions ground bytes) xs → All (λ a. IsJustBelow (top_of image.regions) bytes a) xs
     just_below xs each = λ k d within. (each k d within).below
@@ -578,8 +589,8 @@ module _ (laws : Laws) (image : Located) (interrupted : Bool) (entered : Entry) 
     touches_by JumpsToHl is follows = untouched (stack_bytes found.instr m.cpu) (ap (λ (f : Flow). touched_by f m.cpu) is)
     touches_by f is follows = (stands (way_of f is (λ e. cc) (λ e. absurd (let jumps : flow found.instr ≡ JumpsToHl = ap (λ (i : Instr). flow i) e in cc)) follows)).touches
 
-    pub touches_stack : All (Touches image.regions ground bytes) (stack_bytes found.instr m.cpu)
-    touches_stack = touches_by (flow found.instr) refl entry.follows
+    touches_here : HereFollows → All (Touches image.regions ground bytes) (stack_bytes found.instr m.cpu)
+    touches_here follows = touches_by (flow found.instr) refl follows
 
     halts : interrupted ≡ false → found.instr ≡ Ei → halt_follows image.regions m.memory m.cpu.pc ≡ true
     halts off is = subst (λ n. halt_follows image.regions m.memory n ≡ true) k.at (halt_here k.state.at (entry.executed.halts off is)) where
@@ -626,17 +637,19 @@ module _ (laws : Laws) (image : Located) (interrupted : Bool) (entered : Entry) 
           by (inl target) = not_outside (targets_at image.regions m.cpu.pc) (hl_of m.cpu.registers) target
           by (inr there) = (if_listed (inr there)).jumps is
 
-    pub keeps : KeepsFollowed image interrupted bytes ways listed w
-    keeps = record {
+    -- what is promised of any world of which a state is known, given where it returns and jumps and what it touches
+    pub keeps_by : (is_return_taken (flow found.instr) m.cpu.registers.flags ≡ true → Behind (word_in m.memory m.cpu.sp)) → (found.instr ≡ Pchl → targets_at image.regions m.cpu.pc ≡ None → Behind (hl_of m.cpu.registers)) →
+        All (Touches image.regions ground bytes) (stack_bytes found.instr m.cpu) → KeepsFollowed image interrupted bytes ways listed w
+    keeps_by returning jumping_here touches = record {
       found = found;
       anywhere = anywhere;
       of_image = inside_of image.regions (memory_of image.chunks) m.cpu.pc found (subst (λ n. fetch_at image.regions (memory_of image.chunks) n ≡ Ok found) k.at entry.executed.fetched);
       direct = direct;
       pointed = pointed;
       declared = declared;
-      returning = λ taken. subst (λ n. IsWay image ways m.cpu.pc n) (sym (return_target (flow found.instr) found.next m.memory m.cpu taken)) (returning_by (flow found.instr) entry.follows taken);
-      jumping = jumping;
-      stack = just_below (stack_bytes found.instr m.cpu) touches_stack;
+      returning = λ taken. subst (λ n. IsWay image ways m.cpu.pc n) (sym (return_target (flow found.instr) found.next m.memory m.cpu taken)) (returning taken);
+      jumping = jumping_here;
+      stack = just_below (stack_bytes found.instr m.cpu) touches;
       halts = halts;
       goes_on = λ on inside byte small.
           let l = goes_on found.instr byte found.next m on in
@@ -647,25 +660,46 @@ module _ (laws : Laws) (image : Located) (interrupted : Bool) (entered : Entry) 
           };
     }
 
-    pub executes_found : (v : World) (by : Executes image.regions (IsLeftOpenAt listed) w v) → by.found ≡ found → Knows (set || sets_sp by.found.instr) (enabled_after by.found.instr enabled) v
-    executes_found v by same = subst (λ (f : Fetched). Knows (set || sets_sp f.instr) (enabled_after f.instr enabled) v) (sym same)
+    keeps_here : HereFollows → KeepsFollowed image interrupted bytes ways listed w
+    keeps_here follows = keeps_by (returning_by (flow found.instr) follows) (jumping follows) (touches_here follows)
+
+    -- an instruction, by the way that it takes
+    executes_by : (v : World) (by : Executes image.regions (IsLeftOpenAt listed) w v) → by.found ≡ found → ((f : Flow) → flow found.instr ≡ f → f ≢ Halts → JumpsInside → Taken) → Knows (set || sets_sp by.found.instr) (enabled_after by.found.instr enabled) v
+    executes_by v by same way = subst (λ (f : Fetched). Knows (set || sets_sp f.instr) (enabled_after f.instr enabled) v) (sym same)
         (subst (λ (u : World). Knows (set || sets_sp found.instr) (enabled_after found.instr enabled) u) (sym by.is)
         (lands by.byte by.after by.small inside goes (places_after by.found.instr by.found.next m.cpu.registers.flags w.places)
-        (way_of (flow found.instr) refl (no_halt found.instr by.byte found.next m by.after goes) inside.jumps entry.follows))) where
+        (way (flow found.instr) refl (no_halt found.instr by.byte found.next m by.after goes) inside.jumps))) where
           inside : StaysInside image.regions m found.instr
           inside = stays_inside (λ at. subst (λ (f : Fetched). StaysInside image.regions m f.instr) same (by.inside at))
 
           goes : unguarded found.instr by.byte found.next m ≡ Some by.after
           goes = subst (λ (f : Fetched). unguarded f.instr by.byte f.next m ≡ Some by.after) same by.goes
 
+    executes_here : HereFollows → (v : World) (by : Executes image.regions (IsLeftOpenAt listed) w v) → by.found ≡ found → Knows (set || sets_sp by.found.instr) (enabled_after by.found.instr enabled) v
+    executes_here follows v by same = executes_by v by same (λ f is on inside. way_of f is on inside (subst (λ (g : Flow). FollowsBy image (bounds_of image) interrupted bytes_of_code ways table bytes k.state found g) is follows))
+
+    -- a call or a return under a condition that isn't taken
+    passed_by : (summaries : List Summary) (f : Flow) → flow found.instr ≡ f → (is_some (called f) || is_return f) ≡ true → is_taken f m.cpu.registers.flags ≡ false →
+        PassesBy image (bounds_of image) interrupted quiet bytes_of_code ways listed summaries table bytes k.state found f → Taken
+    passed_by summaries (CallsIf condition to) is kind off passes = if_given condition false found.next off passes (ap (λ (f : Flow). is_taken f m.cpu.registers.flags) is ∙ off) (ap (λ (f : Flow). goes_to f found.next m.memory m.cpu) is ∙ ap (λ (b : Bool). if b then to else found.next) off)
+    passed_by summaries (ReturnsIf condition) is kind off passes = if_given condition false found.next off passes (ap (λ (f : Flow). is_taken f m.cpu.registers.flags) is ∙ off) (ap (λ (f : Flow). goes_to f found.next m.memory m.cpu) is ∙ ap (λ (b : Bool). if b then word_in m.memory m.cpu.sp else found.next) off)
+    passed_by summaries (Calls to) is kind off passes = cc
+    passed_by summaries Returns is kind off passes = cc
+    passed_by summaries f is kind off passes = cc
+
+    pub executes_passed : (summaries : List Summary) → (is_some (called (flow found.instr)) || is_return (flow found.instr)) ≡ true → is_taken (flow found.instr) m.cpu.registers.flags ≡ false →
+        PassesBy image (bounds_of image) interrupted quiet bytes_of_code ways listed summaries table bytes k.state found (flow found.instr) → (v : World) (by : Executes image.regions (IsLeftOpenAt listed) w v) → by.found ≡ found →
+        Knows (set || sets_sp by.found.instr) (enabled_after by.found.instr enabled) v
+    executes_passed summaries kind off passes v by same = executes_by v by same (λ f is on inside. passed_by summaries (flow found.instr) refl kind off passes)
+
     -- behind a HLT all is as it was
-    wakes_found : (v : World) → interrupted ≡ true → enabled ≡ true → (by : Wakes w v) → by.found ≡ found → Knows set enabled v
-    wakes_found v on may by same = subst (λ (u : World). Knows set enabled u) (sym by.is) (subst (λ (f : Fetched). Knows set enabled (with_pc w f.next)) (sym same) (back covers.either)) where
+    wakes_here : HereFollows → (v : World) → interrupted ≡ true → enabled ≡ true → (by : Wakes w v) → by.found ≡ found → Knows set enabled v
+    wakes_here follows v on may by same = subst (λ (u : World). Knows set enabled u) (sym by.is) (subst (λ (f : Fetched). Knows set enabled (with_pc w f.next)) (sym same) (back covers.either)) where
       halts_here : flow found.instr ≡ Halts
       halts_here = ap (λ (f : Fetched). flow f.instr) (sym same) ∙ ap (λ (i : Instr). flow i) by.halts
 
       covers : Covers table found.next k.state.known k.state.beside (stack_of k.state)
-      covers = (subst (λ (f : Flow). FollowsBy image (bounds_of image) interrupted bytes_of_code ways table bytes k.state found f) halts_here entry.follows) on (k.enables may)
+      covers = (subst (λ (f : Flow). FollowsBy image (bounds_of image) interrupted bytes_of_code ways table bytes k.state found f) halts_here follows) on (k.enables may)
 
       here : Machine
       here = (with_pc w found.next).machine
@@ -686,52 +720,24 @@ module _ (laws : Laws) (image : Located) (interrupted : Bool) (entered : Entry) 
           let a = m.cpu.registers.a in
           behind (cut k.state.known (byte_alone a)) ((laws.holds here held).cuts k.state.known a holds refl) (each a k.known.registers.a)
 
-  -- a table all of whose states fit, with one at the start
-  module _ (start_has : Has table image.start nothing_known nothing_beside (first_stack is_set)) (states : All (λ s. StateFollows image (bounds_of image) interrupted quiet bytes_of_code ways listed table bytes s) table) where
+  -- a state that fits
+  module _ (set enabled : Bool) (w : World) (k : KnowsWorld image interrupted entered table set enabled w) (entry : StateFollows image (bounds_of image) interrupted quiet bytes_of_code ways listed table bytes k.state) where
+    abbrev stood : StateStands image interrupted quiet listed bytes k.state
+    stood = record { found = entry.found; executed = entry.executed; serves = entry.serves; shown = entry.shown; depth = entry.depth; knows = entry.knows }
+
+    pub keeps : KeepsFollowed image interrupted bytes ways listed w
+    keeps = keeps_here set enabled w k stood entry.follows
+
+    pub touches_stack : All (Touches image.regions ground bytes) (stack_bytes entry.found.instr w.machine.cpu)
+    touches_stack = touches_here set enabled w k stood entry.follows
+
+    pub executes_found : (v : World) (by : Executes image.regions (IsLeftOpenAt listed) w v) → by.found ≡ entry.found → Knows (set || sets_sp by.found.instr) (enabled_after by.found.instr enabled) v
+    executes_found = executes_here set enabled w k stood entry.follows
+
+    pub wakes_found : (v : World) → interrupted ≡ true → enabled ≡ true → (by : Wakes w v) → by.found ≡ entry.found → Knows set enabled v
+    wakes_found = wakes_here set enabled w k stood entry.follows
+
+  -- a table with a state at the start
+  module _ (start_has : Has table image.start nothing_known nothing_beside (first_stack is_set)) where
     pub begun : (start : Machine) → start.cpu.pc ≡ image.start → length start.memory ≡ 65536 → HasCode image start.memory → HoldsBytes start → (is_set ≡ true → start.cpu.sp ≡ top_of image.regions) → Knows is_set false (world_of start)
     begun start pc whole code held top = enters is_set false nothing_beside (world_of start) nothing_known (first_stack is_set) (subst (λ n. Has table n nothing_known nothing_beside (first_stack is_set)) (sym pc) start_has) (λ is. is) (nothing_holds (bounds_of image) entered false (count_of (first_stack is_set)) start) (λ on is. cc) (laws.holds start held).nothing (empty_at_top is_set start.cpu.sp start.memory top) held whole code
-
-    entry_of : (set enabled : Bool) (w : World) (k : Knows set enabled w) → StateFollows image (bounds_of image) interrupted quiet bytes_of_code ways listed table bytes k.state
-    entry_of set enabled w k = one_of (λ s. StateFollows image (bounds_of image) interrupted quiet bytes_of_code ways listed table bytes s) table k.place k.state states k.there
-
-    pub executes : (before may : Bool) (w v : World) → Knows before may w → (by : Executes image.regions (IsLeftOpenAt listed) w v) → Knows (before || sets_sp by.found.instr) (enabled_after by.found.instr may) v
-    executes before may w v k by = executes_found before may w k (entry_of before may w k) v by (same_some _ _ (sym by.fetched ∙ anywhere before may w k (entry_of before may w k)))
-
-    pub wakes : (set enabled : Bool) (w v : World) → Knows set enabled w → interrupted ≡ true → enabled ≡ true → Wakes w v → Knows set enabled v
-    wakes set enabled w v k on may by = wakes_found set enabled w k (entry_of set enabled w k) v on may by (same_some _ _ (sym by.fetched ∙ anywhere set enabled w k (entry_of set enabled w k)))
-
-    -- one that isn't interrupted
-    abbrev KnowsSome : (set : Bool) → World → Type 0
-    KnowsSome set w = (enabled : Bool) × Knows set enabled w
-
-    pub followed_keeps : interrupted ≡ false → PromiseOfFollowed image quiet is_set ways listed bytes
-    followed_keeps off start pc whole code held top w set on =
-        invariant_is_kept image quiet (IsLeftOpenAt listed) start is_set KnowsSome (λ v. KeepsFollowed image false bytes ways listed v)
-        (record {
-          begun = (false, begun start pc whole code held top);
-          disturbs = λ s v u k by stays. (k.0, disturbs s k.0 v u k.1 (entry_of s k.0 v k.1).knows by stays);
-          executes = λ s v u k by. (enabled_after by.found.instr k.0, executes s k.0 v u k.1 by);
-          keeps = λ s v k. subst (λ (b : Bool). KeepsFollowed image b bytes ways listed v) off (keeps s k.0 v k.1 (entry_of s k.0 v k.1));
-        }) w set on
-
-    -- one that is
-    module _ (on : interrupted ≡ true) (start : Machine) (pc : start.cpu.pc ≡ image.start) (whole : length start.memory ≡ 65536) (code : HasCode image start.memory) (held : HoldsBytes start) (top : is_set ≡ true → start.cpu.sp ≡ top_of image.regions) where
-      pub knows : (set enabled : Bool) (w : World) → OnInterruptedBoard image.regions quiet (IsLeftOpenAt listed) start is_set set enabled w → Knows set enabled w
-      knows set enabled w (begins _ _ _ is same off) = subst (λ (u : World). Knows set enabled u) (sym is) (subst (λ (b : Bool). Knows set b (world_of start)) (sym off) (subst (λ (b : Bool). Knows b false (world_of start)) (sym same) (begun start pc whole code held top)))
-      knows set enabled w (disturbed _ _ u _ before by stays) = disturbs set enabled u w (knows set enabled u before) (entry_of set enabled u (knows set enabled u before)).knows by stays
-      knows set enabled w (executed was _ may _ u _ before by is after) = subst (λ (b : Bool). Knows set b w) (sym after) (subst (λ (b : Bool). Knows b (enabled_after by.found.instr may) w) (sym is) (executes was may u w (knows was may u before) by))
-      knows set enabled w (woken _ _ u _ before may by) = wakes set enabled u w (knows set enabled u before) on may by
-
-    pub ready : (set : Bool) (w : World) (stack : Option (List ByteSpan)) → IsSome stack → IfSome stack (λ b. HoldsStack (bounds_of image) b w.machine.cpu.sp w.machine.memory × (set ≡ true)) → IfSome stack (λ b. length b ≤ bytes) →
-        IsReady image bytes set w
-    ready set w None some stands few = cc
-    ready set w (Some b) some stands few = record { is_set = stands.1; count = length b; few = few; pointer = stands.0.pointer }
-
-    pub interrupted_keeps : interrupted ≡ true → PromiseOfInterrupted image quiet is_set ways listed bytes
-    interrupted_keeps on start pc whole code held top w set enabled board =
-        let k = knows on start pc whole code held top set enabled w board in
-        (subst (λ (b : Bool). KeepsFollowed image b bytes ways listed w) on (keeps set enabled w k (entry_of set enabled w k)), λ may. ready set w (stack_of k.state) (k.serves on may) k.stack (entry_of set enabled w k).depth)
-
-pub promise : Laws → ((regions : Areas) → AreRegions regions → Ground regions) → FollowedProgramsKeepThePromise
-promise laws ground false image quiet is_set ways listed table bytes rules quiet_data fits few = followed_keeps laws image false nobody quiet is_set ways listed table bytes rules (ground image.regions rules) quiet_data fits.code fits.are_code few fits.start fits.states refl
-promise laws ground true image quiet is_set ways listed table bytes rules quiet_data fits few = interrupted_keeps laws image true nobody quiet is_set ways listed table bytes rules (ground image.regions rules) quiet_data fits.code fits.are_code few fits.start fits.states refl

@@ -7,7 +7,8 @@ use Rattle.std.proofs.lemmas.List.Elements.{All-cons, All-head, All-nil, All-tai
 use Rattle.decode80.specs.{Facts.flow, Fetch.ahead, Fetch.behind, Fetch.direct_bytes, declared.instr.Instr.Instr}
 use Rattle.decode80.specs.declared.instr.Instr.TheVariants.{Push, Pop, Xthl, Call, CallIf, Ret, ReturnIf, Rst}
 use Rattle.image80.specs.{Range.in_range, Regions.Areas, Regions.in_data, Regions.top_of}
-use Rattle.machine80.specs.{Flags.holds as holds_of, Effects.pointed_bytes, Effects.stack_bytes, declared.cpu.Cpu.Cpu, declared.end.End.TheVariants.Direct, declared.end.End.TheVariants.Stack, declared.end.End.TheVariants.StoreOutside, World.IsJustBelow}
+use Rattle.machine80.specs.{Flags.holds as holds_of, Effects.pointed_bytes, Effects.stack_bytes, declared.cpu.Cpu.Cpu, declared.end.End.TheVariants.Direct}
+use Rattle.machine80.specs.{declared.end.End.TheVariants.Stack, declared.end.End.TheVariants.StoreOutside, World.IsJustBelow}
 use Rattle.machine80.specs.Step.{ends_at, first_outside, guard}
 use Rattle.verify80_spans.specs.declared.byte_span.ByteSpan.{ByteSpan}
 use Rattle.verify80_states.specs.{declared.states.known.Known.Known, Steps.is_taken}
@@ -40,7 +41,7 @@ module _ (regions : Areas) (ground : Ground regions) where
     pub there : in_range regions.stack address ≡ true
     pub below : IsJustBelow (top_of regions) most address
 
-  at_count : (most n : ℕ) → 0 < n → n ≤ most → n ≤ regions.stack.length → Touches most (pointer_at (bounds regions ground) n)
+  pub at_count : (most n : ℕ) → 0 < n → n ≤ most → n ≤ regions.stack.length → Touches most (pointer_at (bounds regions ground) n)
   at_count most n some few less = record {
     there = on_stack regions ground n some less;
     below = (let ends = ground.stack_ends in let short = ground.stack_short in (n - 1, (omega (arith, some, few), omega (arith, some, less, ends, short))));

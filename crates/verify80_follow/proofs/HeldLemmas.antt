@@ -1,9 +1,12 @@
 -- What a handler still has after an instruction.
-use Rattle.std.specs.Prelude.{◌≡◌, ◌≢◌, ◌≤◌, ◌<◌, ℕ, suc, ◌+◌, ◌-◌, ◌/◌, ◌%◌, min, Bool, true, false, not, ◌&&◌, ◌||◌, List, [], ◌∷◌, ◌++◌, Option, None, Some, IfSome, All, length, map, nat_eq, nat_le, slice_index, slice_set, if◌then◌else◌}
+use Rattle.std.specs.Prelude.{◌≡◌, ◌≢◌, ◌≤◌, ◌<◌, ℕ, suc, ◌+◌, ◌-◌, ◌/◌, ◌%◌, min, Bool, true, false, not, ◌&&◌, ◌||◌, List, [], ◌∷◌}
+use Rattle.std.specs.Prelude.{◌++◌, Option, None, Some, IfSome, All, length, map, nat_le, slice_index, slice_set, if◌then◌else◌}
 use Rattle.std.proofs.Common.{arith, ap, refl, subst, sym, ◌∙◌, get_or-set_other, true≢false}
-use Rattle.std.proofs.lemmas.{Bool.Decides.nat_tests, Bool.and_parts, List.get_or-set_same, List.length-set}
+use Rattle.std.proofs.lemmas.{Bool.Decides.nat_tests, Bool.and_parts}
 use Rattle.std.proofs.lemmas.List.Elements.{All-append, All-cons, All-head, All-nil, All-tail}
-use Rattle.decode80.specs.{Facts.flags, Facts.flow, Facts.is_half, Facts.writes, Facts.writes_pair, Fetch.ahead, Fetch.behind, Fetch.direct_bytes, declared.flow.Flow.Flow, declared.instr.Instr.Instr, declared.pair.StackPair.StackPair, declared.register.Register.Register, declared.writes.AffectedFlags.AffectedFlags, declared.writes.Writes.Writes}
+use Rattle.decode80.specs.{Facts.flags, Facts.flow, Facts.writes, Facts.writes_pair, Fetch.ahead, Fetch.behind}
+use Rattle.decode80.specs.{Fetch.direct_bytes, declared.flow.Flow.Flow, declared.instr.Instr.Instr, declared.pair.StackPair.StackPair}
+use Rattle.decode80.specs.{declared.writes.AffectedFlags.AffectedFlags, declared.writes.Writes.Writes}
 use Rattle.decode80.specs.declared.flow.Flow.TheVariants.{Calls, CallsIf, Exchanges, Pushes}
 use Rattle.decode80.specs.declared.instr.Instr.TheVariants.{Hlt, In, Out, Pop, Push}
 use Rattle.decode80.specs.declared.pair.Pair.TheVariants.{Bc, De, Hl, Sp}
@@ -12,10 +15,15 @@ use Rattle.decode80.specs.declared.register.Register.TheVariants.{A, B, C, D, E,
 use Rattle.decode80.specs.declared.writes.AffectedFlags.TheVariants.{NoFlags, CarryAlone, AllButCarry, AllFlags}
 use Rattle.decode80.specs.declared.writes.Writes.TheVariants.{Nothing, One, Both, DeAndHl}
 use Rattle.image80.specs.{Range.in_range, Regions.Areas, Regions.in_data}
-use Rattle.machine80.specs.{ArithmeticLaws.StatusWordRoundTrip, ArithmeticLaws.status_word, Cpu.high_of, Cpu.low_of, Cpu.register_of, Effects.byte_in, Effects.changed, Effects.pointed_bytes, Effects.push_bytes, Effects.stored, Effects.stores, FactsLaws.InstructionsKeepToFacts, FactsLaws.KeepsFlags, FactsLaws.stacked_by, FactsLaws.writes_register, Flags.flags_byte, Flags.flags_from, Flags.holds, Step.Machine, declared.cpu.Cpu.Cpu, declared.flags.Flags.Flags, declared.registers.Registers.Registers}
+use Rattle.machine80.specs.{ArithmeticLaws.StatusWordRoundTrip, ArithmeticLaws.status_word, Cpu.high_of, Cpu.low_of, Effects.byte_in}
+use Rattle.machine80.specs.{Effects.changed, Effects.pointed_bytes, Effects.push_bytes, Effects.stored, Effects.stores, FactsLaws.InstructionsKeepToFacts}
+use Rattle.machine80.specs.{FactsLaws.KeepsFlags, FactsLaws.stacked_by, FactsLaws.writes_register, Flags.flags_byte, Flags.flags_from, Flags.holds}
+use Rattle.machine80.specs.{Step.Machine, declared.cpu.Cpu.Cpu, declared.flags.Flags.Flags, declared.registers.Registers.Registers}
 use Rattle.verify80.specs.Boards.{unguarded}
 use Rattle.verify80_follow.specs.declared.{held.Beside.Beside, held.HeldPair.HeldPair, stack.StackBounds.StackBounds}
-use Rattle.verify80_follow.specs.Held.{Entry, HoldsBeside, HoldsPairHeld, HoldsSaved, HoldsWord, IsAsEntered, IsBesideInside, IsPairInside, affects_none, beside_after, changes_pair, first_of, is_at, is_pair, left_of, no_pair, nothing_beside, pair_after, pops_pair, pushes_pair, still, writes_a}
+use Rattle.verify80_follow.specs.Held.{Entry, HoldsBeside, HoldsPairHeld, HoldsSaved, HoldsWord, IsAsEntered, IsBesideInside}
+use Rattle.verify80_follow.specs.Held.{IsPairInside, affects_none, beside_after, changes_pair, first_of, is_at, is_pair}
+use Rattle.verify80_follow.specs.Held.{left_of, no_pair, nothing_beside, pair_after, pops_pair, pushes_pair, still, writes_a}
 use Rattle.verify80_follow.specs.Stack.{if_true, pointer_at}
 use Rattle.verify80_follow.proofs.GroundLemmas.{Ground}
 use Rattle.verify80_follow.proofs.StackLemmas.{bounds, next_pointer, on_stack, pointer_below, pointer_is}

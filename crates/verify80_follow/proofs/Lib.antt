@@ -7,6 +7,8 @@ mod HeldLemmas
 mod RelativeLemmas
 mod PointLemmas
 mod FollowLemmas
+mod PartLemmas
+mod CallLemmas
 mod LiveLemmas
 mod FitLemmas
 mod ReachLemmas

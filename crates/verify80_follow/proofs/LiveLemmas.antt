@@ -1,85 +1,49 @@
 -- A live machine keeps its promise: between interrupts a state of the program's table holds, and while a handler is executed one of the handler's table
 -- does, below the bytes that the program has on the stack. When it is over, it has done no more than a device, or a state of the program's table holds of
 -- which nothing is known.
-use Rattle.std.specs.Prelude.{◌≡◌, ◌≢◌, ◌⊎◌, ◌≤◌, ◌<◌, ◌+◌, ◌-◌, ◌||◌, ℕ, zero, suc, ◌/◌, ◌%◌, Bool, true, false, List, [], ◌∷◌, ◌++◌, cond, Option, None, Some, Result, Ok, Err, All, Contains, IfSome, length, nat_eq, nat_le, slice_get, slice_index, slice_set, if◌then◌else◌}
-use Rattle.std.specs.{List.fold, Result.result_ok}
-use Rattle.std.proofs.Common.{ap, arith, get_or, get_or-set_other, inl, inr, refl, subst, sym, true≢false, ◌∙◌}
-use Rattle.std.proofs.lemmas.{Bool.Decides.nat_tests, Bool.and_parts, List.length-set}
-use Rattle.std.proofs.lemmas.List.Elements.{All-append, All-cons, All-contains, All-get_or, All-head, All-nil, All-set, All-tail, Contains-get_or}
-use Rattle.decode80.specs.{Decoded.decoded, Facts.flow, Facts.storing, Fetch.admitted_if_used, Fetch.ahead, Fetch.behind, Fetch.direct_bytes, Fetch.fetch as fetch_in, declared.fetching.FetchFault.FetchFault, declared.fetching.FetchFault.TheVariants.Outside, declared.fetching.Fetched.Fetched, declared.flow.Flow.Flow, declared.instr.Instr.Instr}
-use Rattle.decode80.specs.declared.flow.Flow.TheVariants.{Calls, CallsIf, Exchanges, Pushes}
+use Rattle.std.specs.Prelude.{◌≡◌, ◌≢◌, ◌⊎◌, ◌≤◌, ◌<◌, ◌+◌, ◌-◌, ◌||◌, ℕ, zero, suc, ◌/◌, ◌%◌, Bool, true, false, List, [], ◌∷◌}
+use Rattle.std.specs.Prelude.{◌++◌, Option, None, Some, Result, Ok, Err, All, Contains, length, nat_eq, slice_index, if◌then◌else◌}
+use Rattle.std.specs.{Result.result_ok}
+use Rattle.std.proofs.Common.{ap, arith, get_or, inl, inr, refl, subst, sym, true≢false, ◌∙◌}
+use Rattle.std.proofs.lemmas.{Bool.Decides.nat_tests}
+use Rattle.std.proofs.lemmas.List.Elements.{All-append, All-cons, All-head, All-nil, All-tail, Contains-get_or}
+use Rattle.decode80.specs.{Decoded.decoded, Facts.flow, Fetch.admitted_if_used, Fetch.ahead, Fetch.direct_bytes}
+use Rattle.decode80.specs.{Fetch.fetch as fetch_in, declared.fetching.FetchFault.FetchFault}
+use Rattle.decode80.specs.{declared.fetching.FetchFault.TheVariants.Outside, declared.fetching.Fetched.Fetched, declared.instr.Instr.Instr}
 use Rattle.decode80.specs.declared.instr.Instr.TheVariants.{Di, Ei, Hlt, Lxi, Pchl, Ret}
 use Rattle.decode80.specs.declared.pair.Pair.TheVariants.{Sp}
 use Rattle.decode80.specs.declared.pair.StackPair.{StackPair}
 use Rattle.decode80.specs.declared.pair.StackPair.TheVariants.{Bc as StackBc, De as StackDe, Hl as StackHl, Psw}
-use Rattle.image80.specs.{Image.Located, Image.memory_of, Range.IsInMemory, Range.in_range, Range.in_ranges, Regions.AreDisjoint, Regions.AreRegions, Regions.Areas, Regions.all_ranges, Regions.held, Regions.in_code, Regions.in_data, Regions.targets_at, Regions.top_of}
+use Rattle.image80.specs.{Image.Located, Image.memory_of, Range.IsInMemory, Range.in_range, Range.in_ranges, Regions.AreRegions}
+use Rattle.image80.specs.{Regions.Areas, Regions.held, Regions.in_code, Regions.in_data, Regions.targets_at, Regions.top_of}
 use Rattle.image80.specs.declared.range.Range.{Range}
-use Rattle.machine80.specs.{Cpu.hl_of, Effects.byte_in, Effects.changed, Effects.pointed_bytes, Effects.push_bytes, Effects.stack_bytes, Effects.stored, Effects.stores, Effects.target, Effects.touched_by, Effects.word_in, FactsLaws.stacked_by, Run.world_of, World.IsJustBelow, World.World, World.places_after, World.returns, declared.cpu.Cpu.Cpu, declared.registers.Registers.Registers}
+use Rattle.machine80.specs.{Cpu.hl_of, Effects.byte_in, Effects.pointed_bytes, Effects.stack_bytes, Effects.stored, Effects.stores}
+use Rattle.machine80.specs.{Effects.target, Effects.word_in, FactsLaws.stacked_by, World.IsJustBelow, World.World}
+use Rattle.machine80.specs.{World.places_after, World.returns, declared.cpu.Cpu.Cpu, declared.registers.Registers.Registers}
 use Rattle.machine80.specs.Step.{Machine, fetch, proceeded}
-use Rattle.verify80.specs.Boards.{Disturbs, Executes, IsFollowed, IsPushed, LeavesProgram, StaysInside, fetched_anywhere, respected_pointer, sets_sp, unguarded, with_memory}
+use Rattle.verify80.specs.Boards.{Disturbs, Executes, IsPushed, StaysInside, fetched_anywhere, respected_pointer, sets_sp, unguarded, with_memory}
 use Rattle.verify80.specs.LookLaws.{fetch_at}
 use Rattle.verify80.specs.Looking.{declared_targets, is_declared}
-use Rattle.verify80_spans.specs.declared.{byte_span.ByteSpan.ByteSpan, span.Span.Span}
-use Rattle.verify80_spans.specs.Span.{Within, any_byte}
-use Rattle.verify80_states.specs.{Bytes.HasBytes, Bytes.HoldsBytes, Known.IsQuietKnown, Known.nothing_known, QuietBoards.StaysQuiet, Steps.AreCodeBytes, Steps.HasCode}
+use Rattle.verify80_states.specs.{Bytes.HoldsBytes, Known.nothing_known, QuietBoards.StaysQuiet, Steps.HasCode}
 use Rattle.verify80_follow.specs.declared.{followed.FollowedState.FollowedState, followed.Listed.Listed, followed.Way.Way, stack.StackBounds.StackBounds}
 use Rattle.verify80_follow.specs.InterruptedBoards.{Wakes, enabled_after, with_pc}
-use Rattle.verify80_follow.specs.Stack.{HoldsStack, bounds_of, pointer_at}
+use Rattle.verify80_follow.specs.Stack.{bounds_of, pointer_at}
 use Rattle.verify80_follow.specs.Held.{Entry, HoldsBeside, HoldsPairHeld, HoldsSaved, count_of, nothing_beside}
-use Rattle.verify80_follow.specs.Follows.{Follows, Has, IsBehindCall, IsWay, StateFollows, stack_of}
-use Rattle.verify80_follow.specs.Handling.{BeginsAnew, EndsAt, GivesBack, HandlerTable, Handles, HandlesAt, IsReturn, entered_beside, entered_pair, entered_stack, on_stack, uses_pointer}
+use Rattle.verify80_follow.specs.Follows.{Follows, IsWay, StateFollows, StateStands, stack_of, uses_pointer, entered_stack}
+use Rattle.verify80_follow.specs.Handling.{BeginsAnew, EndsAt, GivesBack, HandlerTable, Handles, IsReturn, entered_beside, entered_pair, on_stack}
 use Rattle.verify80_follow.specs.Promise.{GoesToListed, IsLeftOpenAt, IsReady, KeepsFollowed, KnowsWorld}
-use Rattle.verify80_follow.specs.Live.{Enable, HandlerBounds, IsHaltedBefore, KeepsHandler, LiveMachinesKeepThePromise, OnLiveBoard, PromiseOfLive, Takes, again, begins, disturbed, enable_after, entering, executed, interrupted, is_back, may_come, off, on, passed, soon, under_after, world_after}
+use Rattle.verify80_follow.specs.Live.{Enable, HandlerBounds, KeepsHandler, LiveMachinesKeepThePromise, OnLiveBoard, PromiseOfLive, Takes, begins, disturbed}
+use Rattle.verify80_follow.specs.Live.{enable_after, entering, executed, interrupted, is_back, may_come, off, on, passed, soon, under_after, world_after}
 use Rattle.verify80_follow.proofs.{FetchLemmas.anywhere_of, FetchLemmas.fetched_here, FetchLemmas.inside_of, GroundLemmas.Ground, RelativeLemmas.fits_more}
-use Rattle.verify80_follow.proofs.FollowLemmas.{Laws, begun as begun_table, disturbs as disturbs_table, enters as enters_table, executes as executes_table, executes_found, goes_on, keeps as keeps_table, nobody, leaves, one_of, points, ready as ready_table, same_some, stays_inside, touches_stack, wakes as wakes_table}
+use Rattle.verify80_follow.proofs.CallLemmas.{Knows as KnowsCalls, begun as begun_calls, disturbs as disturbs_calls, executes as executes_calls}
+use Rattle.verify80_follow.proofs.CallLemmas.{in_main, keeps as keeps_calls, ready as ready_calls, wakes as wakes_calls}
+use Rattle.verify80_follow.proofs.PartLemmas.{into_back, into_bytes, into_stack, into_whole, off_part, off_stack, part_below, part_inside, regions_below, same_ok, stacked_within, stands_at, two_above}
+use Rattle.verify80_follow.proofs.FollowLemmas.{Laws, disturbs as disturbs_table, enters as enters_table, executes_found, goes_on}
+use Rattle.verify80_follow.proofs.FollowLemmas.{keeps as keeps_table, leaves, nobody, one_of, points, same_some, stays_inside, touches_stack}
 use Rattle.verify80_follow.proofs.HeldLemmas.{all_of, nothing_holds, stored_other, two_of}
 use Rattle.verify80_stores.specs.Opening.{pointer_span}
 use Rattle.verify80_follow.proofs.GuardLemmas.{Touches, all_of_list}
-use Rattle.verify80_follow.proofs.StackLemmas.{any_within, byte_at, next_pointer, on_stack as on_part, pointer_below, pointer_is, range_high, range_low}
-use Rattle.verify80_follow.proofs.StackSteps.{behind_word, below_apart, two_read}
-
--- a part of the stack below so many bytes
-abbrev pub part_below : Areas → (count : ℕ) → Range
-part_below regions count = record { first = regions.stack.first; length = regions.stack.length - count }
-
-part_inside : (regions : Areas) (count a : ℕ) → in_range (part_below regions count) a ≡ true → in_range regions.stack a ≡ true
-part_inside regions count a there = grind (arith, nat_tests, there)
-
-abbrev one_if : ℕ → ℕ → Range → ℕ
-one_if a count range = count + cond (in_range range a) 1 0
-
-fold_less : (a : ℕ) (xs : List Range) (n k : ℕ) → n ≤ k → fold (one_if a) n xs ≤ fold (one_if a) k xs
-fold_less a [] n k less = less
-fold_less a (x ∷ xs) n k less = fold_less a xs (one_if a n x) (one_if a k x) (omega (arith, less))
-
-head_less : (p q : Bool) (n : ℕ) → (p ≡ true → q ≡ true) → n + cond p 1 0 ≤ n + cond q 1 0
-head_less true true n more = omega arith
-head_less true false n more = absurd (true≢false (sym (more refl)))
-head_less false true n more = omega arith
-head_less false false n more = omega arith
-
-held_less : (a : ℕ) (inner outer : Range) (xs ys : List Range) (n : ℕ) → (in_range inner a ≡ true → in_range outer a ≡ true) → fold (one_if a) n (xs ++ inner ∷ ys) ≤ fold (one_if a) n (xs ++ outer ∷ ys)
-held_less a inner outer [] ys n inside = fold_less a ys (one_if a n inner) (one_if a n outer) (head_less (in_range inner a) (in_range outer a) n inside)
-held_less a inner outer (x ∷ xs) ys n inside = held_less a inner outer xs ys (one_if a n x) inside
-
-regions_below : (regions : Areas) (count : ℕ) → AreRegions regions → AreRegions (record regions { stack = part_below regions count })
-regions_below regions count rules = record {
-  code_by_address = rules.code_by_address;
-  data_by_address = rules.data_by_address;
-  code_filled = rules.code_filled;
-  data_filled = rules.data_filled;
-  in_memory = replaced regions.code rules.in_memory;
-  disjoint = λ a. let less = held_less a (part_below regions count) regions.stack regions.code regions.data_ranges 0 (part_inside regions count a) in let one = rules.disjoint a in omega (arith, less, one);
-  cases_by_address = rules.cases_by_address;
-  each_case = rules.each_case;
-}
-  where
-    replaced : (xs : List Range) → All IsInMemory (xs ++ regions.stack ∷ regions.data_ranges) → All IsInMemory (xs ++ part_below regions count ∷ regions.data_ranges)
-    replaced [] each =
-        let lies = All-head IsInMemory regions.stack regions.data_ranges each in
-        let first = lies.first in let long = lies.length in let ends = lies.«end» in
-        All-cons IsInMemory (part_below regions count) regions.data_ranges (record { first = first; length = omega (arith, long); «end» = omega (arith, ends) }) (All-tail IsInMemory regions.stack regions.data_ranges each)
-    replaced (x ∷ xs) each = All-cons IsInMemory x (xs ++ part_below regions count ∷ regions.data_ranges) (All-head IsInMemory x (xs ++ regions.stack ∷ regions.data_ranges) each) (replaced xs (All-tail IsInMemory x (xs ++ regions.stack ∷ regions.data_ranges) each))
+use Rattle.verify80_follow.proofs.StackLemmas.{next_pointer, pointer_is, range_high}
 
 -- flags of both boards
 flag_same : (i : Instr) (flag : Enable) → enabled_after i (may_come flag) ≡ may_come (enable_after i flag)
@@ -96,9 +60,6 @@ flags_more i off enabled more is = cc
 flags_more i soon enabled more is = more refl
 flags_more i on enabled more is = more refl
 
-bytes_stay : (m : List ℕ) (a b x y : ℕ) → x < 256 → y < 256 → HasBytes m → HasBytes (slice_set (slice_set m a x) b y)
-bytes_stay m a b x y one other each = All-set (λ (n : ℕ). n < 256) (slice_set m a x) b y other (All-set (λ (n : ℕ). n < 256) m a x one each)
-
 -- an unguarded step leaves what waits at the ports
 ports : (i : Instr) (byte next : ℕ) (m after : Machine) → unguarded i byte next m ≡ Some after → (after.inputs ≡ m.inputs) × (after.outputs ≡ m.outputs)
 ports Hlt byte next m after is = cc
@@ -107,23 +68,6 @@ ports i byte next m after is = subst (λ (n : Machine). (n.inputs ≡ m.inputs) 
 -- a RET
 ret_goes : (byte next : ℕ) (m after : Machine) → unguarded Ret byte next m ≡ Some after → after ≡ proceeded Ret next m
 ret_goes byte next m after is = sym (same_some _ _ is)
-
--- the bytes of the stack that are written are some of those that are touched
-stacked_within : (P : ℕ → Type 0) (w : Flow) (cpu : Cpu) → All P (touched_by w cpu) → All P (stacked_by w cpu)
-stacked_within P (Calls to) cpu each = each
-stacked_within P (CallsIf condition to) cpu each = each
-stacked_within P Pushes cpu each = each
-stacked_within P Exchanges cpu each = each
-stacked_within P w cpu each = All-nil P
-
--- SP where a state's stack is known
-stands_at : (b : StackBounds) (sp : ℕ) (memory : List ℕ) (stack : Option (List ByteSpan)) → 2 ≤ count_of stack → IfSome stack (λ bytes. HoldsStack b bytes sp memory × (true ≡ true)) → sp ≡ pointer_at b (count_of stack)
-stands_at b sp memory None enough stands = absurd (omega (arith, enough))
-stands_at b sp memory (Some bytes) enough stands = stands.0.pointer
-
--- what is fetched once is fetched again
-same_ok : (r : Result Fetched FetchFault) (a b : Fetched) → r ≡ Ok a → r ≡ Ok b → a ≡ b
-same_ok r a b one other = cc
 
 -- records of which each part is the same
 same_registers : (r s : Registers) → r.a ≡ s.a → r.b ≡ s.b → r.c ≡ s.c → r.d ≡ s.d → r.e ≡ s.e → r.h ≡ s.h → r.l ≡ s.l → r.flags ≡ s.flags → r ≡ s
@@ -159,10 +103,6 @@ lxi_goes n byte next m after is = sym (same_some _ _ is)
 sets_uses : (i : Instr) → uses_pointer i ≡ false → sets_sp i ≡ false
 sets_uses (Lxi Sp n) fixed = cc
 sets_uses i fixed = refl
-
-two_above : (b : StackBounds) → ahead (pointer_at b 2) 2 ≡ pointer_at b 0
-unfolding ahead
-two_above b = omega arith
 
 -- code is in memory
 front_of : {X : Type 0} (P : X → Type 0) (xs ys : List X) → All P (xs ++ ys) → All P xs
@@ -214,30 +154,27 @@ module _ (laws : Laws) (grounds : (regions : Areas) → AreRegions regions → G
   abbrev entry_of : World → Entry
   entry_of u = record { registers = u.machine.cpu.registers; back = u.machine.cpu.pc }
 
-  -- what is known between interrupts
-  abbrev MainKnows : (set enabled : Bool) → World → Type 0
-  MainKnows set enabled w = KnowsWorld image true nobody mtable set enabled w
-
   few_main : main ≤ image.regions.stack.length
   few_main = omega (arith, room)
 
-  main_entry : (set enabled : Bool) (w : World) (k : MainKnows set enabled w) → StateFollows image (bounds_of image) true quiet main_fits.code ways listed mtable main k.state
-  main_entry set enabled w k = one_of (λ s. StateFollows image (bounds_of image) true quiet main_fits.code ways listed mtable main s) mtable k.place k.state main_fits.states k.there
+  -- what is known between interrupts
+  abbrev MainKnows : (set enabled : Bool) → World → Type 0
+  MainKnows set enabled w = KnowsCalls laws grounds image true quiet is_set ways listed mtable main rules quiet_data main_fits few_main set enabled w
 
   main_disturbs : (set enabled : Bool) (w v : World) → MainKnows set enabled w → (by : Disturbs image.regions (respected_pointer image.regions set w) w v) → StaysQuiet quiet w.machine.memory by.memory → MainKnows set enabled v
-  main_disturbs set enabled w v k by stays = disturbs_table laws image true nobody quiet is_set ways listed mtable main rules ground quiet_data main_fits.code main_fits.are_code few_main set enabled w v k (main_entry set enabled w k).knows by stays
+  main_disturbs = disturbs_calls laws grounds image true quiet is_set ways listed mtable main rules quiet_data main_fits few_main
 
   main_executes : (before may : Bool) (w v : World) → MainKnows before may w → (by : Executes image.regions (IsLeftOpenAt listed) w v) → MainKnows (before || sets_sp by.found.instr) (enabled_after by.found.instr may) v
-  main_executes = executes_table laws image true nobody quiet is_set ways listed mtable main rules ground quiet_data main_fits.code main_fits.are_code few_main main_fits.start main_fits.states
+  main_executes = executes_calls laws grounds image true quiet is_set ways listed mtable main rules quiet_data main_fits few_main
 
   main_wakes : (set : Bool) (w v : World) → MainKnows set true w → Wakes w v → MainKnows set true v
-  main_wakes set w v k by = wakes_table laws image true nobody quiet is_set ways listed mtable main rules ground quiet_data main_fits.code main_fits.are_code few_main main_fits.start main_fits.states set true w v k refl refl by
+  main_wakes set w v k by = wakes_calls laws grounds image true quiet is_set ways listed mtable main rules quiet_data main_fits few_main set true w v k refl refl by
 
   main_keeps : (set enabled : Bool) (w : World) → MainKnows set enabled w → KeepsFollowed image true main ways listed w
-  main_keeps set enabled w k = keeps_table laws image true nobody quiet is_set ways listed mtable main rules ground quiet_data main_fits.code main_fits.are_code few_main set enabled w k (main_entry set enabled w k)
+  main_keeps = keeps_calls laws grounds image true quiet is_set ways listed mtable main rules quiet_data main_fits few_main
 
   main_ready : (set : Bool) (w : World) → MainKnows set true w → IsReady image main set w
-  main_ready set w k = ready_table laws image true nobody quiet is_set ways listed mtable main rules ground quiet_data main_fits.code main_fits.are_code few_main main_fits.start main_fits.states set w (stack_of k.state) (k.serves refl refl) k.stack (main_entry set true w k).depth
+  main_ready set w k = ready_calls laws grounds image true quiet is_set ways listed mtable main rules quiet_data main_fits few_main set true w k refl refl
 
   module _ (start : Machine) (pc : start.cpu.pc ≡ image.start) (whole : length start.memory ≡ 65536) (code : HasCode image start.memory) (held : HoldsBytes start) (top : is_set ≡ true → start.cpu.sp ≡ top_of image.regions) where
     record Runs (set : Bool) (flag : Enable) (w : World) : Type 0 where
@@ -303,7 +240,10 @@ module _ (laws : Laws) (grounds : (regions : Areas) → AreRegions regions → G
         found_same = same_ok (fetch_at image.regions (memory_of image.chunks) x.known.state.at) found fits.found handles.executed.fetched fits.executed.fetched
 
         abbrev entry : StateFollows part (bounds_of part) true quiet x.of.fits.code x.of.ways listed x.of.table x.of.bytes x.known.state
-        entry = fits_more x.of.bounds (bounds_of part) wide image (part_below image.regions x.count) quiet x.of.fits.code x.of.ways listed x.of.table x.of.bytes x.known.state fits (subst (λ (f : Fetched). uses_pointer f.instr ≡ false) found_same fixed) handles.enough
+        entry = fits_more x.of.bounds (bounds_of part) wide image (part_below image.regions x.count) true quiet x.of.fits.code x.of.ways listed x.of.table x.of.bytes x.known.state fits (subst (λ (f : Fetched). uses_pointer f.instr ≡ false) found_same fixed) handles.enough
+
+        abbrev stood : StateStands part true quiet listed x.of.bytes x.known.state
+        stood = record { found = entry.found; executed = entry.executed; serves = entry.serves; shown = entry.shown; depth = entry.depth; knows = entry.knows }
 
         kept : KeepsFollowed part true x.of.bytes x.of.ways listed w
         kept = keeps_table laws part true (entry_of u) quiet true x.of.ways listed x.of.table x.of.bytes (regions_below image.regions x.count rules) (ground_below x.count) quiet_data x.of.fits.code x.of.fits.are_code enough_room true (may_come flag) w x.known entry
@@ -313,7 +253,7 @@ module _ (laws : Laws) (grounds : (regions : Areas) → AreRegions regions → G
 
         pointed_written : (k d : ℕ) → k < length (pointed_bytes fits.found.instr m.cpu.registers) → in_data image.regions (get_or (pointed_bytes fits.found.instr m.cpu.registers) k d) ≡ true → inner.written (get_or (pointed_bytes fits.found.instr m.cpu.registers) k d) ≡ true
         pointed_written k d inside =
-            let p = points laws part true (entry_of u) quiet true x.of.ways listed x.of.table x.of.bytes (regions_below image.regions x.count rules) (ground_below x.count) quiet_data x.of.fits.code x.of.fits.are_code enough_room true (may_come flag) w x.known entry
+            let p = points laws part true (entry_of u) quiet true x.of.ways listed x.of.table x.of.bytes (regions_below image.regions x.count rules) (ground_below x.count) quiet_data x.of.fits.code x.of.fits.are_code enough_room true (may_come flag) w x.known stood
             (get_or (pointed_bytes fits.found.instr m.cpu.registers) k d) (Contains-get_or (pointed_bytes fits.found.instr m.cpu.registers) k d inside) in
             handles.pointed p.span (subst (λ (f : Fetched). pointer_span f.instr x.known.state.known ≡ Some p.span) (sym found_same) p.is) (get_or (pointed_bytes fits.found.instr m.cpu.registers) k d) p.within
 
@@ -341,7 +281,7 @@ module _ (laws : Laws) (grounds : (regions : Areas) → AreRegions regions → G
           goes = subst (λ (f : Fetched). unguarded f.instr by.byte f.next m ≡ Some by.after) by_found by.goes
 
           stays : StaysInside part.regions m fits.found.instr
-          stays = stays_inside laws part true (entry_of u) quiet true x.of.ways listed x.of.table x.of.bytes (regions_below image.regions x.count rules) (ground_below x.count) quiet_data x.of.fits.code x.of.fits.are_code enough_room true (may_come flag) w x.known entry
+          stays = stays_inside laws part true (entry_of u) quiet true x.of.ways listed x.of.table x.of.bytes (regions_below image.regions x.count rules) (ground_below x.count) quiet_data x.of.fits.code x.of.fits.are_code enough_room true (may_come flag) w x.known stood
               (λ at. subst (λ (f : Fetched). StaysInside part.regions m f.instr) by_found (by_part.inside at))
 
           memory_then : v.machine.memory ≡ stored m.memory (stores fits.found.instr fits.found.next m.memory m.cpu)
@@ -462,7 +402,7 @@ module _ (laws : Laws) (grounds : (regions : Areas) → AreRegions regions → G
           back_again = main_disturbs true true u (record { machine = v.machine; places = u.places }) x.u_known
               (record {
                 memory = m.memory;
-                leaves = record { code = λ a there. x.known.code a there ∙ sym (x.u_known.code a there); pushed = x.left.pushed; size = x.known.whole ∙ sym x.u_known.whole; bytes = x.known.bytes.memory };
+                leaves = record { code = λ a there. x.known.code a there ∙ sym (x.u_known.known.code a there); pushed = x.left.pushed; size = x.known.whole ∙ sym x.u_known.known.whole; bytes = x.known.bytes.memory };
                 is = ap (λ (z : Machine). record { machine = z; places = u.places }) machine_is;
               }) x.left.quiet_same
 
@@ -496,8 +436,8 @@ module _ (laws : Laws) (grounds : (regions : Areas) → AreRegions regions → G
           fresh_bytes = record { registers = x.known.bytes.registers; memory = x.known.bytes.memory; inputs = x.known.bytes.inputs }
 
           begun_known : (places : List ℕ) → MainKnows true false (begun_world places)
-          begun_known places = enters_table laws image true nobody quiet is_set ways listed mtable main rules ground quiet_data main_fits.code main_fits.are_code few_main true false nothing_beside (begun_world places) nothing_known (Some [])
-              anew.has (λ is. is) (nothing_holds (bounds_of image) nobody false 0 fresh) (λ on is. cc) (laws.holds fresh fresh_bytes).nothing (record { pointer = omega arith; within = omega arith; each = tt }, refl) fresh_bytes x.known.whole (λ a there. x.known.code a there)
+          begun_known places = in_main laws grounds image true quiet is_set ways listed mtable main rules quiet_data main_fits few_main true false (begun_world places) (enters_table laws image true nobody quiet is_set ways listed mtable main rules ground quiet_data main_fits.code main_fits.are_code few_main true false nothing_beside (begun_world places) nothing_known (Some [])
+              anew.has (λ is. is) (nothing_holds (bounds_of image) nobody false 0 fresh) (λ on is. cc) (laws.holds fresh fresh_bytes).nothing (record { pointer = omega arith; within = omega arith; each = tt }, refl) fresh_bytes x.known.whole (λ a there. x.known.code a there))
 
           anew_known : MainKnows true false v
           anew_known =
@@ -569,42 +509,26 @@ module _ (laws : Laws) (grounds : (regions : Areas) → AreRegions regions → G
         started : Handles image mtable inner.written of.bounds quiet of.fits.code of.ways listed of.table of.bytes of.fits.start.state
         started = one_of (λ s. Handles image mtable inner.written of.bounds quiet of.fits.code of.ways listed of.table of.bytes s) of.table of.fits.start.place of.fits.start.state of.fits.states of.fits.start.there
 
-      below_top : (behind u.machine.cpu.sp 1 ≡ pointer_at (bounds_of (below n)) 1) × (behind u.machine.cpu.sp 2 ≡ pointer_at (bounds_of (below n)) 2)
-      below_top = let both = pointer_below (below n).regions (ground_below n) 0 two_fit_here in (ap (λ k. behind k 1) at_top ∙ both.0, ap (λ k. behind k 2) at_top ∙ both.1)
-
-      first_is : behind u.machine.cpu.sp 1 ≡ image.regions.stack.first + (image.regions.stack.length - n) - 1
-      first_is = below_top.0 ∙ pointer_is (below n).regions (ground_below n) 1 (omega arith) (omega (arith, two_fit_here))
-
-      second_is : behind u.machine.cpu.sp 2 ≡ image.regions.stack.first + (image.regions.stack.length - n) - 2
-      second_is = below_top.1 ∙ pointer_is (below n).regions (ground_below n) 2 (omega arith) two_fit_here
-
-      -- a byte elsewhere
-      elsewhere : (a : ℕ) → a ≢ behind u.machine.cpu.sp 1 → a ≢ behind u.machine.cpu.sp 2 → slice_index into.machine.memory a ≡ slice_index u.machine.memory a
-      elsewhere a one other = stored_other (push_bytes u.machine.cpu.sp (u.machine.cpu.pc / 256) (u.machine.cpu.pc % 256)) u.machine.memory a (two_of (λ (b : ℕ). a ≢ b) (behind u.machine.cpu.sp 1) (behind u.machine.cpu.sp 2) one other)
-
-      in_stack_here : (k : ℕ) → 1 ≤ k → k ≤ 2 → in_range image.regions.stack (pointer_at (bounds_of (below n)) k) ≡ true
-      in_stack_here k some less = part_inside image.regions n (pointer_at (bounds_of (below n)) k) (on_part (below n).regions (ground_below n) k some (omega (arith, less, two_fit_here)))
-
-      off_stack : (a : ℕ) → in_range image.regions.stack a ≡ false → slice_index into.machine.memory a ≡ slice_index u.machine.memory a
-      off_stack a out = elsewhere a (λ same. true≢false (sym (in_stack_here 1 (omega arith) (omega arith)) ∙ ap (in_range image.regions.stack) (sym (same ∙ below_top.0)) ∙ out)) (λ same. true≢false (sym (in_stack_here 2 (omega arith) (omega arith)) ∙ ap (in_range image.regions.stack) (sym (same ∙ below_top.1)) ∙ out))
+      -- a byte off the stack, and one that is pushed
+      off_it : (a : ℕ) → in_range image.regions.stack a ≡ false → slice_index into.machine.memory a ≡ slice_index u.machine.memory a
+      off_it = off_stack grounds image rules n low_n u.machine u.machine.cpu.pc h u_small at_top two_fit_here u_known.known.bytes u_known.known.whole
 
       above_it : (a : ℕ) → IsPushed image.regions u.machine.cpu.sp a → slice_index into.machine.memory a ≡ slice_index u.machine.memory a
-      above_it a is = by_count n refl where
-        by_count : (k : ℕ) → n ≡ k → slice_index into.machine.memory a ≡ slice_index u.machine.memory a
-        by_count zero none = absurd (is.filled (ready.pointer ∙ ap (λ k. pointer_at (bounds_of image) k) none ∙ omega arith))
-        by_count (suc k) some =
+      above_it a is = off_part grounds image rules n low_n u.machine u.machine.cpu.pc h u_small at_top two_fit_here u_known.known.bytes u_known.known.whole a (by (in_range (part_below image.regions n) a) refl) where
+        by_count : (k : ℕ) → n ≡ k → in_range (part_below image.regions n) a ≡ true → ⊥
+        by_count zero none there = is.filled (ready.pointer ∙ ap (λ k. pointer_at (bounds_of image) k) none ∙ omega arith)
+        by_count (suc k) some there =
             let above = is.above in
+            let high = range_high image.regions.stack.first (image.regions.stack.length - n) a there in
             let sp = ready.pointer ∙ pointer_is image.regions ground n (omega (arith, some)) low_n in
-            elsewhere a (λ same. absurd (omega (arith, same, first_is, above, sp, two_fit_here))) (λ same. absurd (omega (arith, same, second_is, above, sp, two_fit_here)))
+            omega (arith, above, high, sp, low_n)
 
-      into_bytes : HoldsBytes into.machine
-      into_bytes = record { registers = u_known.bytes.registers; memory = bytes_stay u.machine.memory (behind u.machine.cpu.sp 1) (behind u.machine.cpu.sp 2) (u.machine.cpu.pc / 256) (u.machine.cpu.pc % 256) (omega (arith, u_small)) (omega arith) u_known.bytes.memory; inputs = u_known.bytes.inputs }
+        by : (b : Bool) → in_range (part_below image.regions n) a ≡ b → in_range (part_below image.regions n) a ≡ false
+        by true there = absurd (by_count n refl there)
+        by false out = out
 
-      into_whole : length into.machine.memory ≡ 65536
-      into_whole = length-set (slice_set u.machine.memory (behind u.machine.cpu.sp 1) (u.machine.cpu.pc / 256)) (behind u.machine.cpu.sp 2) (u.machine.cpu.pc % 256) ∙ length-set u.machine.memory (behind u.machine.cpu.sp 1) (u.machine.cpu.pc / 256) ∙ u_known.whole
-
-      read : (byte_in into.machine.memory (behind u.machine.cpu.sp 1) ≡ u.machine.cpu.pc / 256) × (byte_in into.machine.memory (behind u.machine.cpu.sp 2) ≡ u.machine.cpu.pc % 256)
-      read = two_read u.machine.memory (behind u.machine.cpu.sp 1) (behind u.machine.cpu.sp 2) (u.machine.cpu.pc / 256) (u.machine.cpu.pc % 256) u_known.whole (behind_word u.machine.cpu.sp 1) (behind_word u.machine.cpu.sp 2) (below_apart u.machine.cpu.sp)
+      into_held_bytes : HoldsBytes into.machine
+      into_held_bytes = into_bytes grounds image rules n low_n u.machine u.machine.cpu.pc h u_small at_top two_fit_here u_known.known.bytes u_known.known.whole
 
       kept_pair : (pair : StackPair) → HoldsPairHeld (bounds_of (below n)) (entry_of u) pair entered_pair 2 into.machine
       kept_pair StackBc = record { in_place = λ is. (refl, refl); saved = tt }
@@ -618,14 +542,7 @@ module _ (laws : Laws) (grounds : (regions : Areas) → AreRegions regions → G
         bc = kept_pair StackBc;
         de = kept_pair StackDe;
         hl = kept_pair StackHl;
-        back = (omega arith, record { two = omega arith; low_is = ap (λ k. byte_in into.machine.memory k) (sym below_top.1) ∙ read.1; high_is = ap (λ k. byte_in into.machine.memory k) (sym below_top.0) ∙ read.0 });
-      }
-
-      into_stack : HoldsStack (bounds_of (below n)) (any_byte ∷ any_byte ∷ []) into.machine.cpu.sp into.machine.memory
-      into_stack = record {
-        pointer = below_top.1;
-        within = two_fit_here;
-        each = (any_within (byte_in into.machine.memory into.machine.cpu.sp) (byte_at into.machine.memory into.machine.cpu.sp into_bytes.memory), (any_within (byte_in into.machine.memory (ahead into.machine.cpu.sp 1)) (byte_at into.machine.memory (ahead into.machine.cpu.sp 1) into_bytes.memory), tt));
+        back = into_back grounds image rules n low_n u.machine u.machine.cpu.pc h u_small at_top two_fit_here u_known.known.bytes u_known.known.whole;
       }
 
       enters_handler : Handling u off into
@@ -638,8 +555,10 @@ module _ (laws : Laws) (grounds : (regions : Areas) → AreRegions regions → G
         u_known = u_known;
         u_small = u_small;
         known = enters_table laws (below n) true (entry_of u) quiet true of.ways listed of.table of.bytes (regions_below image.regions n rules) (ground_below n) quiet_data of.fits.code of.fits.are_code (let few = ready.few in let less = of.few in omega (arith, few, less, room)) true false entered_beside into nothing_known entered_stack
-            of.fits.start (λ is. is) into_held (λ h is. refl) (laws.holds into.machine into_bytes).nothing (into_stack, refl) into_bytes into_whole (λ a there. off_stack a (ground.code_or_stack a there) ∙ u_known.code a there);
-        left = record { pushed = above_it; quiet_same = λ a is. off_stack a (ground.data_or_stack a (quiet_data a is)); inputs = refl; outputs = refl };
+            of.fits.start (λ is. is) into_held (λ h is. refl) (laws.holds into.machine into_held_bytes).nothing
+            (into_stack grounds image rules n low_n u.machine u.machine.cpu.pc h u_small at_top two_fit_here u_known.known.bytes u_known.known.whole, refl) into_held_bytes
+            (into_whole grounds image rules n low_n u.machine u.machine.cpu.pc h u_small at_top two_fit_here u_known.known.bytes u_known.known.whole) (λ a there. off_it a (ground.code_or_stack a there) ∙ u_known.known.code a there);
+        left = record { pushed = above_it; quiet_same = λ a is. off_it a (ground.data_or_stack a (quiet_data a is)); inputs = refl; outputs = refl };
         now = inl refl;
       }
 
@@ -739,7 +658,7 @@ module _ (laws : Laws) (grounds : (regions : Areas) → AreRegions regions → G
     knows set flag under w (begins _ _ _ _ is same is_off none) =
         subst (λ (o : Option World). Knows set flag o w) (sym none) (record { enabled = false; main_known = started; more = λ may. absurd (let no : may_come flag ≡ false = ap may_come is_off in true≢false (sym may ∙ no)) }) where
           started : MainKnows set false w
-          started = subst (λ (b : Bool). MainKnows b false w) (sym same) (subst (λ (z : World). MainKnows is_set false z) (sym is) (begun_table laws image true nobody quiet is_set ways listed mtable main rules ground quiet_data main_fits.code main_fits.are_code few_main main_fits.start main_fits.states start pc whole code held top))
+          started = subst (λ (b : Bool). MainKnows b false w) (sym same) (subst (λ (z : World). MainKnows is_set false z) (sym is) (begun_calls laws grounds image true quiet is_set ways listed mtable main rules quiet_data main_fits few_main start pc whole code held top))
     knows set flag None w (disturbed _ _ _ v _ before by stays) = let runs = knows set flag None v before in record { enabled = runs.enabled; main_known = main_disturbs set runs.enabled v w runs.main_known by stays; more = runs.more }
     knows set flag (Some u) w (disturbed _ _ _ v _ before by stays) =
         let known = knows set flag (Some u) v before in

@@ -1,23 +1,23 @@
 -- A state that fits with its stack at one place fits with it at each that has as much room, if its instruction doesn't depend on where the stack lies.
-use Rattle.std.specs.Prelude.{◌≡◌, ◌⊎◌, ◌≤◌, ℕ, ◌+◌, Bool, true, false, List, [], ◌∷◌, Option, None, Some, Contains, IfSome, IsSome, length, nat_le}
+use Rattle.std.specs.Prelude.{◌≡◌, ◌⊎◌, ◌≤◌, ℕ, ◌+◌, Bool, true, false, List, Option, None, Some, Ok, length, nat_le}
 use Rattle.std.specs.Option.{option_map}
-use Rattle.std.proofs.Common.{ap, arith, inl, inr, refl, subst, sym, ◌∙◌}
+use Rattle.std.proofs.Common.{ap, arith, inl, inr, refl, subst, ◌∙◌}
 use Rattle.std.proofs.lemmas.Bool.Decides.{nat_tests}
-use Rattle.decode80.specs.{Facts.flow, declared.condition.Condition.Condition, declared.fetching.Fetched.Fetched, declared.flow.Flow.Flow, declared.instr.Instr.Instr}
+use Rattle.decode80.specs.{Facts.flow, declared.fetching.Fetched.Fetched, declared.flow.Flow.Flow, declared.instr.Instr.Instr}
 use Rattle.decode80.specs.declared.flow.Flow.TheVariants.{Jumps, JumpsIf, JumpsToHl, Calls, CallsIf, Returns, ReturnsIf, Halts}
 use Rattle.decode80.specs.declared.instr.Instr.TheVariants.{Call, CallIf, Dad, Dcx, Lxi, Push, Rst, Sphl}
 use Rattle.decode80.specs.declared.pair.Pair.TheVariants.{Bc, De, Hl, Sp}
-use Rattle.image80.specs.{Image.Located, Regions.Areas}
+use Rattle.image80.specs.{Image.Located, Image.memory_of}
 use Rattle.image80.specs.declared.range.Range.{Range}
-use Rattle.verify80.specs.Looking.{is_declared}
+use Rattle.verify80.specs.{LookLaws.fetch_at, Looking.is_declared}
 use Rattle.verify80_spans.specs.declared.byte_span.ByteSpan.{ByteSpan}
-use Rattle.verify80_spans.specs.Span.{byte_alone, high_of}
-use Rattle.verify80_states.specs.{declared.states.known.Known.Known, Following.known_after, Following.pushed_pair, Given.given}
-use Rattle.verify80_follow.specs.declared.{followed.FollowedState.FollowedState, followed.Listed.Listed, followed.Way.Way, held.Beside.Beside, stack.StackBounds.StackBounds}
-use Rattle.verify80_follow.specs.Stack.{called_on, if_true, pushed_onto, stack_after, stack_then, top_of_stack, with_one}
+use Rattle.verify80_states.specs.{declared.states.known.Known.Known, Following.known_after, Given.given}
+use Rattle.verify80_follow.specs.declared.{calls.Summary.Summary, followed.FollowedState.FollowedState, followed.Listed.Listed, followed.Way.Way, stack.StackBounds.StackBounds}
+use Rattle.verify80_follow.specs.Stack.{called_on, if_true, stack_after, stack_then, top_of_stack}
 use Rattle.verify80_follow.specs.Held.{beside_then, count_of}
-use Rattle.verify80_follow.specs.Follows.{Covers, CoversStack, CoversThen, FollowsBy, IsWay, JumpsBy, LeadsTo, ReturnsLeft, ReturnsTo, StateFollows, stack_of}
-use Rattle.verify80_follow.specs.Handling.{Handles, on_stack, uses_pointer}
+use Rattle.verify80_follow.specs.Follows.{Covers, CoversThen, FollowsBy, IsWay, JumpsBy, LeadsTo, ReturnsLeft}
+use Rattle.verify80_follow.specs.Follows.{Goes, PassesBy, ReturnsBack, StateFollows, StateStands, StepsOver, stack_of, uses_pointer}
+use Rattle.verify80_follow.specs.Handling.{on_stack}
 
 -- where there is room there is more
 more_room : {X : Type 0} (a b n : ℕ) (x y : X) → a ≤ b → if_true (nat_le n a) x ≡ Some y → if_true (nat_le n b) x ≡ Some y
@@ -94,14 +94,60 @@ module _ (one other : StackBounds) (more : one.length ≤ other.length) where
     by_more w follows = leads_more false found.next (Some s.known) follows
 
 -- a state that fits
-abbrev pub fits_more : (one other : StackBounds) → one.length ≤ other.length → (image : Located) (range : Range) (quiet : ℕ → Bool) (code : List (Option ℕ)) (ways : List Way) (listed : Listed) (table : List FollowedState) (bytes : ℕ) (s : FollowedState) →
-    (fits : StateFollows image one true quiet code ways listed table bytes s) → uses_pointer fits.found.instr ≡ false → 2 ≤ count_of (stack_of s) → StateFollows (on_stack image range) other true quiet code ways listed table bytes s
-fits_more one other more image range quiet code ways listed table bytes s fits fixed enough = record {
+abbrev pub fits_more : (one other : StackBounds) → one.length ≤ other.length → (image : Located) (range : Range) (interrupted : Bool) (quiet : ℕ → Bool) (code : List (Option ℕ)) (ways : List Way) (listed : Listed) (table : List FollowedState) (bytes : ℕ) (s : FollowedState) →
+    (fits : StateFollows image one interrupted quiet code ways listed table bytes s) → uses_pointer fits.found.instr ≡ false → 2 ≤ count_of (stack_of s) → StateFollows (on_stack image range) other interrupted quiet code ways listed table bytes s
+fits_more one other more image range interrupted quiet code ways listed table bytes s fits fixed enough = record {
   found = fits.found;
   executed = record { fetched = fits.executed.fetched; stores = fits.executed.stores; halts = fits.executed.halts };
   serves = fits.serves;
   shown = record { stores = fits.shown.stores; jumps = fits.shown.jumps };
-  follows = by_more one other more image range true code ways table bytes s fits.found fixed enough (flow fits.found.instr) fits.follows;
+  follows = by_more one other more image range interrupted code ways table bytes s fits.found fixed enough (flow fits.found.instr) fits.follows;
   depth = fits.depth;
   knows = fits.knows;
 }
+
+-- the same of a call that is stepped over, and of a return
+module _ (one other : StackBounds) (more : one.length ≤ other.length) (image : Located) (range : Range) (interrupted : Bool) (quiet : ℕ → Bool) (code : List (Option ℕ)) (ways : List Way) (listed : Listed) (summaries : List Summary) (table : List FollowedState) (bytes : ℕ) (s : FollowedState) (enough : 2 ≤ count_of (stack_of s))
+    (fixed : (found : Fetched) → fetch_at image.regions (memory_of image.chunks) s.at ≡ Ok found → uses_pointer found.instr ≡ false) where
+  abbrev stands_more : StateStands image interrupted quiet listed bytes s → StateStands (on_stack image range) interrupted quiet listed bytes s
+  stands_more stands = record {
+    found = stands.found;
+    executed = record { fetched = stands.executed.fetched; stores = stands.executed.stores; halts = stands.executed.halts };
+    serves = stands.serves;
+    shown = record { stores = stands.shown.stores; jumps = stands.shown.jumps };
+    depth = stands.depth;
+    knows = stands.knows;
+  }
+
+  passes_more : (found : Fetched) → uses_pointer found.instr ≡ false → (w : Flow) → PassesBy image one interrupted quiet code ways listed summaries table bytes s found w → PassesBy (on_stack image range) other interrupted quiet code ways listed summaries table bytes s found w
+  passes_more found still (CallsIf condition to) passes = leads_more one other more image range interrupted code ways table bytes s found still enough false found.next (given condition false s.known) passes
+  passes_more found still (ReturnsIf condition) passes = leads_more one other more image range interrupted code ways table bytes s found still enough false found.next (given condition false s.known) passes
+  passes_more found still w passes = tt
+
+  steps_more : StepsOver image one interrupted quiet code ways listed summaries table bytes s → StepsOver (on_stack image range) other interrupted quiet code ways listed summaries table bytes s
+  steps_more steps = record {
+    stands = stands_more steps.stands;
+    summary = steps.summary;
+    among = steps.among;
+    calls = steps.calls;
+    stack = steps.stack;
+    is = steps.is;
+    room = steps.room;
+    behind = steps.behind;
+    passes = passes_more steps.stands.found (fixed steps.stands.found steps.stands.executed.fetched) (flow steps.stands.found.instr) steps.passes;
+  }
+
+  backs_more : ReturnsBack image one interrupted quiet code ways listed summaries table bytes s → ReturnsBack (on_stack image range) other interrupted quiet code ways listed summaries table bytes s
+  backs_more back = record {
+    stands = stands_more back.stands;
+    returns = back.returns;
+    back = back.back;
+    alone = back.alone;
+    passes = passes_more back.stands.found (fixed back.stands.found back.stands.executed.fetched) (flow back.stands.found.instr) back.passes;
+  }
+
+  pub summary_more : ReturnsBack image one interrupted quiet code ways listed summaries table bytes s ⊎ Goes image one interrupted quiet code ways listed summaries table bytes s →
+      ReturnsBack (on_stack image range) other interrupted quiet code ways listed summaries table bytes s ⊎ Goes (on_stack image range) other interrupted quiet code ways listed summaries table bytes s
+  summary_more (inl back) = inl (backs_more back)
+  summary_more (inr (inl fits)) = inr (inl (fits_more one other more image range interrupted quiet code ways listed table bytes s fits (fixed fits.found fits.executed.fetched) enough))
+  summary_more (inr (inr steps)) = inr (inr (steps_more steps))

@@ -8,7 +8,8 @@ use Rattle.decode80.specs.declared.instr.Instr.TheVariants.{Store, MviMemory, In
 use Rattle.decode80.specs.declared.pair.Pair.TheVariants.{Sp}
 use Rattle.decode80.specs.declared.pair.StackPair.TheVariants.{Bc as StackBc, De as StackDe, Hl as StackHl, Psw}
 use Rattle.image80.specs.{Range.in_range, Regions.Areas, Regions.in_data}
-use Rattle.machine80.specs.{Cpu.high_of, Cpu.low_of, Cpu.hl_of, Cpu.word, Flags.holds as holds_of, Flags.flags_byte, Effects.byte_in, Effects.changed, Effects.pointed_bytes, Effects.push_bytes, Effects.stored, Effects.stores, declared.cpu.Cpu.Cpu, declared.registers.Registers.Registers}
+use Rattle.machine80.specs.{Cpu.high_of, Cpu.low_of, Cpu.hl_of, Cpu.word, Flags.holds as holds_of, Flags.flags_byte, Effects.byte_in, Effects.changed}
+use Rattle.machine80.specs.{Effects.pointed_bytes, Effects.push_bytes, Effects.stored, Effects.stores, declared.cpu.Cpu.Cpu, declared.registers.Registers.Registers}
 use Rattle.verify80_spans.specs.declared.{byte_span.ByteSpan.ByteSpan, span.Span.Span}
 use Rattle.verify80_spans.specs.Span.{Within, ByteWithin, any_byte, byte_alone, is_alone, high_of as high_bytes}
 use Rattle.verify80_states.specs.{declared.states.known.Known.Known, Bytes.AreBytes, Bytes.HasBytes, Known.HoldsRegisters, Following.pushed_pair, Steps.is_taken}

@@ -1,21 +1,22 @@
 -- A table of states that follows a program: the start is in it, and wherever an instruction leads from a state, what it makes of the state is covered
 -- there. There are no procedures: a call pushes a number, and a return goes to the number that the state knows. If the program is interrupted, a HLT at
 -- which interrupts may come leads on. (This project's own.)
-use Rattle.std.specs.Prelude.{◌≡◌, ◌≤◌, ◌⊎◌, ℕ, Bool, true, false, List, [], All, Any, Contains, Option, None, Some, Ok, IfSome, IsSome, length, slice_get}
+use Rattle.std.specs.Prelude.{◌≡◌, ◌≤◌, ◌⊎◌, ◌+◌, ℕ, Bool, true, false, List, [], ◌∷◌, All, Any, Contains, Option, None, Some, Ok, IfSome, IsSome, length, slice_get}
 use Rattle.std.specs.Option.{option_map}
 use Rattle.decode80.specs.{declared.condition.Condition.Condition, declared.fetching.Fetched.Fetched, declared.flow.Flow.Flow, Facts.flow}
 use Rattle.decode80.specs.declared.flow.Flow.TheVariants.{Jumps, JumpsIf, JumpsToHl, Calls, CallsIf, Returns, ReturnsIf, Halts}
 use Rattle.decode80.specs.declared.instr.Instr.{Instr}
-use Rattle.decode80.specs.declared.instr.Instr.TheVariants.{Ei}
+use Rattle.decode80.specs.declared.instr.Instr.TheVariants.{Dad, Ei, Lxi, Sphl}
+use Rattle.decode80.specs.declared.pair.Pair.TheVariants.{Sp}
 use Rattle.image80.specs.{Image.Located, Image.memory_of, Regions.Areas, Regions.in_data}
 use Rattle.verify80.specs.{LookLaws.fetch_at, Looking.declared_targets, Looking.halt_follows, Looking.is_declared, Looking.is_pchl, Looking.stores_in_data}
 use Rattle.verify80_spans.specs.declared.byte_span.ByteSpan.{ByteSpan}
 use Rattle.verify80_spans.specs.declared.span.Span.{Span}
-use Rattle.verify80_spans.specs.Span.{Within, ByteWithin, IsInside, byte_alone, is_alone}
+use Rattle.verify80_spans.specs.Span.{Within, ByteWithin, IsInside, any_byte, byte_alone, is_alone}
 use Rattle.verify80_states.specs.{declared.states.known.Known.Known, Known.IsKnownInside, Known.IsQuietKnown, Known.cut, Known.nothing_known, Given.given, Following.known_after, Steps.AreCodeBytes}
 use Rattle.verify80_stores.specs.Opening.{pointer_span}
-use Rattle.verify80_follow.specs.declared.{held.Beside.Beside, stack.StackBounds.StackBounds, followed.FollowedState.FollowedState, followed.Listed.Listed, followed.Way.Way}
-use Rattle.verify80_follow.specs.Held.{IsBesideInside, beside_then, nothing_beside}
+use Rattle.verify80_follow.specs.declared.{calls.Summary.Summary, held.Beside.Beside, stack.StackBounds.StackBounds, followed.FollowedState.FollowedState, followed.Listed.Listed, followed.Way.Way}
+use Rattle.verify80_follow.specs.Held.{IsBesideInside, beside_then, count_of, nothing_beside}
 use Rattle.verify80_follow.specs.Stack.{IsStackInside, bounds_of, return_address, stack_then, top_of_stack}
 
 -- the bytes of a state's stack
@@ -36,11 +37,24 @@ pub record Has (table : List FollowedState) (to : ℕ) (known : Known) (beside :
 pub record Covers (table : List FollowedState) (to : ℕ) (known : Known) (beside : Beside) (stack : Option (List ByteSpan)) : Type 0 where
   pub either : Has table to known beside stack ⊎ ((byte : ℕ) → ByteWithin known.a byte → Has table to (cut known (byte_alone byte)) beside stack)
 
+-- what an instruction does depends on where the stack lies
+abbrev pub uses_pointer : Instr → Bool
+uses_pointer (Lxi Sp _) = true
+uses_pointer (Dad Sp) = true
+uses_pointer Sphl = true
+uses_pointer _ = false
+
 -- whether an instruction calls
 abbrev pub is_call : Flow → Bool
 is_call (Calls to) = true
 is_call (CallsIf condition to) = true
 is_call w = false
+
+-- whether an instruction returns
+abbrev pub is_return : Flow → Bool
+is_return Returns = true
+is_return (ReturnsIf condition) = true
+is_return w = false
 
 -- some address of the image's code has a call that returns to an address
 pub record IsBehindCall (image : Located) (to : ℕ) : Type 0 where
@@ -136,14 +150,85 @@ pub record StateFollows (image : Located) (bounds : StackBounds) (interrupted : 
   pub depth : IfSome (stack_of s) (λ stack. length stack ≤ bytes)
   pub knows : IsQuietKnown quiet s.known
 
+-- the same without where the instruction leads
+pub record StateStands (image : Located) (interrupted : Bool) (quiet : ℕ → Bool) (listed : Listed) (bytes : ℕ) (s : FollowedState) : Type 0 where
+  pub found : Fetched
+  pub executed : IsExecuted image interrupted s.at found
+  pub serves : interrupted ≡ true → found.instr ≡ Ei → IsSome (stack_of s)
+  pub shown : IsShownOrListed image.regions listed found.instr s
+  pub depth : IfSome (stack_of s) (λ stack. length stack ≤ bytes)
+  pub knows : IsQuietKnown quiet s.known
+
+-- where an instruction calls
+abbrev pub called : Flow → Option ℕ
+called (Calls to) = Some to
+called (CallsIf condition to) = Some to
+called w = None
+
+-- behind a call that is stepped over only the stack is known, and where on it the caller's own return address is; and interrupts may come there
+abbrev pub beside_call : Option ℕ → Beside
+beside_call back = record nothing_beside { is_enabled = true; back = back }
+
+-- the stack where a summary or a handler begins: the word at SP is the address to which it returns
+abbrev pub entered_stack : Option (List ByteSpan)
+entered_stack = Some (any_byte ∷ any_byte ∷ [])
+
+module _ (image : Located) (bounds : StackBounds) (interrupted : Bool) (quiet : ℕ → Bool) (code : List (Option ℕ)) (ways : List Way) (listed : Listed) (summaries : List Summary) (table : List FollowedState) (bytes : ℕ) (s : FollowedState) where
+  -- a call or return under a condition is covered behind it, as far as something is left without the condition
+  abbrev pub PassesBy : Fetched → Flow → Type 0
+  PassesBy found (CallsIf condition to) = LeadsTo image bounds interrupted code ways table bytes s found false found.next (given condition false s.known)
+  PassesBy found (ReturnsIf condition) = LeadsTo image bounds interrupted code ways table bytes s found false found.next (given condition false s.known)
+  PassesBy found w = Unit {0}
+
+  -- a call is stepped over: there is a summary of what it calls, room for that, and behind the call a state that knows the stack alone
+  pub record StepsOver : Type 0 where
+    pub stands : StateStands image interrupted quiet listed bytes s
+    pub summary : Summary
+    pub among : Contains summaries summary
+    pub calls : called (flow stands.found.instr) ≡ Some summary.at
+    pub stack : List ByteSpan
+    pub is : stack_of s ≡ Some stack
+    pub room : length stack + summary.bytes ≤ bytes
+    pub behind : Has table stands.found.next nothing_known (beside_call s.beside.back) (Some stack)
+    pub passes : PassesBy stands.found (flow stands.found.instr)
+
+  -- a summary's procedure returns: only the address to which it returns is on the stack
+  pub record ReturnsBack : Type 0 where
+    pub stands : StateStands image interrupted quiet listed bytes s
+    pub returns : is_return (flow stands.found.instr) ≡ true
+    pub back : s.beside.back ≡ Some 2
+    pub alone : count_of (stack_of s) ≡ 2
+    pub passes : PassesBy stands.found (flow stands.found.instr)
+
+  -- a state fits, or its call is stepped over
+  abbrev pub Goes : Type 0
+  Goes = StateFollows image bounds interrupted quiet code ways listed table bytes s ⊎ StepsOver
+
+  -- a state of a summary: it doesn't depend on where the stack lies, has at least the address to which the procedure returns on its stack, and goes as
+  -- any does or returns
+  pub record Summarizes : Type 0 where
+    pub enough : 2 ≤ count_of (stack_of s)
+    pub few : count_of (stack_of s) ≤ bytes
+    pub fixed : (found : Fetched) → fetch_at image.regions (memory_of image.chunks) s.at ≡ Ok found → uses_pointer found.instr ≡ false
+    pub goes : ReturnsBack ⊎ Goes
+
+-- a summary's table follows its procedure from where that is entered, with no more bytes on the stack than the summary says
+pub record FitsSummary (image : Located) (interrupted : Bool) (quiet : ℕ → Bool) (code : List (Option ℕ)) (ways : List Way) (listed : Listed) (summaries : List Summary) (summary : Summary) : Type 0 where
+  pub bounds : StackBounds
+  pub room : bounds.length ≤ summary.bytes
+  pub start : Has summary.states.items summary.at nothing_known (beside_call (Some 2)) entered_stack
+  pub states : All (λ s. Summarizes image bounds interrupted quiet code ways listed summaries summary.states.items summary.bytes s) summary.states.items
+
 -- the stack at the image's start: empty if the pointer is at its top, or not set
 abbrev pub first_stack : (is_set : Bool) → Option (List ByteSpan)
 first_stack true = Some []
 first_stack false = None
 
--- a table follows an image, with no more bytes on the stack than these
+-- a table follows an image, with summaries of procedures that calls step over, and no more bytes on the stack than these
 pub record Follows (image : Located) (interrupted : Bool) (quiet : ℕ → Bool) (is_set : Bool) (ways : List Way) (listed : Listed) (table : List FollowedState) (bytes : ℕ) : Type 0 where
   pub code : List (Option ℕ)
   pub are_code : AreCodeBytes image code
   pub start : Has table image.start nothing_known nothing_beside (first_stack is_set)
-  pub states : All (λ s. StateFollows image (bounds_of image) interrupted quiet code ways listed table bytes s) table
+  pub summaries : List Summary
+  pub states : All (λ s. Goes image (bounds_of image) interrupted quiet code ways listed summaries table bytes s) table
+  pub fit : All (λ summary. FitsSummary image interrupted quiet code ways listed summaries summary) summaries

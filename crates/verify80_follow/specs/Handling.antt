@@ -1,19 +1,19 @@
 -- Handlers: a table of states that follows one from where it is entered until it returns, wherever the stack is then, or until it begins the program
 -- anew. (Intel 8080 Microcomputer Systems User's Manual, chapter 2: an interrupt pushes the program counter, as RST or CALL does. That a handler gives
 -- all back, or sets SP to the stack's top, is this project's own.)
-use Rattle.std.specs.Prelude.{◌≡◌, ◌⊎◌, ◌≤◌, ℕ, Bool, true, false, List, [], ◌∷◌, Option, None, Some, Ok, All, Contains, length}
-use Rattle.decode80.specs.{Fetch.direct_bytes, declared.fetching.Fetched.Fetched, declared.instr.Instr.Instr}
-use Rattle.decode80.specs.declared.instr.Instr.TheVariants.{Dad, Ei, Lxi, Ret, Sphl}
+use Rattle.std.specs.Prelude.{◌≡◌, ◌⊎◌, ◌≤◌, ℕ, Bool, true, false, List, [], Option, None, Some, Ok, All, Contains}
+use Rattle.decode80.specs.{Fetch.direct_bytes, declared.fetching.Fetched.Fetched}
+use Rattle.decode80.specs.declared.instr.Instr.TheVariants.{Ei, Lxi, Ret}
 use Rattle.decode80.specs.declared.pair.Pair.TheVariants.{Sp}
-use Rattle.image80.specs.{Image.Located, Image.memory_of, Regions.Areas, Regions.in_data, Regions.top_of}
+use Rattle.image80.specs.{Image.Located, Image.memory_of, Regions.in_data, Regions.top_of}
 use Rattle.image80.specs.declared.range.Range.{Range}
 use Rattle.verify80.specs.LookLaws.{fetch_at}
-use Rattle.verify80_spans.specs.declared.{byte_span.ByteSpan.ByteSpan, span.Span.Span}
-use Rattle.verify80_spans.specs.Span.{Within, any_byte}
+use Rattle.verify80_spans.specs.declared.{span.Span.Span}
+use Rattle.verify80_spans.specs.Span.{Within}
 use Rattle.verify80_states.specs.{Known.IsQuietKnown, Known.nothing_known, Steps.AreCodeBytes}
 use Rattle.verify80_stores.specs.Opening.{pointer_span}
 use Rattle.verify80_follow.specs.declared.{followed.FollowedState.FollowedState, followed.Listed.Listed, followed.Way.Way, held.Beside.Beside, held.HeldPair.HeldPair, stack.StackBounds.StackBounds}
-use Rattle.verify80_follow.specs.{Follows.Has, Follows.IsExecuted, Follows.StateFollows, Follows.stack_of, Held.count_of, Held.nothing_beside}
+use Rattle.verify80_follow.specs.{Follows.Has, Follows.IsExecuted, Follows.StateFollows, Follows.entered_stack, Follows.stack_of, Follows.uses_pointer, Held.count_of, Held.nothing_beside}
 
 -- an image with another stack, of which a handler has a part
 abbrev pub on_stack : Located → Range → Located
@@ -26,9 +26,6 @@ entered_pair = record { in_place = true; saved = None }
 abbrev pub entered_beside : Beside
 entered_beside = record { is_enabled = false; psw = entered_pair; bc = entered_pair; de = entered_pair; hl = entered_pair; back = Some 2 }
 
-abbrev pub entered_stack : Option (List ByteSpan)
-entered_stack = Some (any_byte ∷ any_byte ∷ [])
-
 -- a state gives all back: each pair is what it was, and on the stack is only the word to which the handler returns
 pub record GivesBack (s : FollowedState) : Type 0 where
   pub psw : s.beside.psw.in_place ≡ true
@@ -37,13 +34,6 @@ pub record GivesBack (s : FollowedState) : Type 0 where
   pub hl : s.beside.hl.in_place ≡ true
   pub back : s.beside.back ≡ Some 2
   pub alone : count_of (stack_of s) ≡ 2
-
--- what an instruction does depends on where the stack lies
-abbrev pub uses_pointer : Instr → Bool
-uses_pointer (Lxi Sp _) = true
-uses_pointer (Dad Sp) = true
-uses_pointer Sphl = true
-uses_pointer _ = false
 
 -- the image has a RET at an address
 pub record IsReturn (image : Located) (at : ℕ) : Type 0 where

@@ -1,7 +1,8 @@
 -- What a handler still has of what it was entered with: pairs of registers that are what they were, words of the stack that hold what such a pair was, and
 -- the word to which it returns. (Intel 8080 Microcomputer Systems User's Manual, chapter 4: PUSH and POP. That these are followed is this project's own.)
 use Rattle.std.specs.Prelude.{◌≡◌, ◌≤◌, ℕ, ◌-◌, ◌/◌, ◌%◌, min, Bool, true, false, not, ◌&&◌, ◌||◌, List, Option, None, Some, IfSome, length, nat_eq, nat_le, if◌then◌else◌}
-use Rattle.decode80.specs.{Facts.flags, Facts.flow, Facts.writes, Facts.writes_pair, declared.flow.Flow.Flow, declared.instr.Instr.Instr, declared.pair.StackPair.StackPair, declared.writes.AffectedFlags.AffectedFlags, declared.writes.Writes.Writes}
+use Rattle.decode80.specs.{Facts.flags, Facts.flow, Facts.writes, Facts.writes_pair, declared.flow.Flow.Flow, declared.instr.Instr.Instr}
+use Rattle.decode80.specs.{declared.pair.StackPair.StackPair, declared.writes.AffectedFlags.AffectedFlags, declared.writes.Writes.Writes}
 use Rattle.decode80.specs.declared.flow.Flow.TheVariants.{Exchanges}
 use Rattle.decode80.specs.declared.instr.Instr.TheVariants.{Pop, Push}
 use Rattle.decode80.specs.declared.pair.Pair.TheVariants.{Bc, De, Hl}

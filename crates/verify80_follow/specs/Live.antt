@@ -9,7 +9,8 @@ use Rattle.decode80.specs.{Fetch.behind, Fetch.direct_bytes, declared.fetching.F
 use Rattle.decode80.specs.declared.instr.Instr.TheVariants.{Di, Ei, Hlt, Lxi, Pchl}
 use Rattle.decode80.specs.declared.pair.Pair.TheVariants.{Sp}
 use Rattle.image80.specs.{Image.Located, Image.memory_of, Range.in_ranges, Regions.AreRegions, Regions.Areas, Regions.in_data, Regions.targets_at, Regions.top_of}
-use Rattle.machine80.specs.{Cpu.hl_of, Effects.pointed_bytes, Effects.push_bytes, Effects.stack_bytes, Effects.stored, Effects.target, Run.world_of, Step.Machine, Step.fetch, World.World, World.IsJustBelow, World.returns}
+use Rattle.machine80.specs.{Cpu.hl_of, Effects.pointed_bytes, Effects.push_bytes, Effects.stack_bytes, Effects.stored}
+use Rattle.machine80.specs.{Effects.target, Run.world_of, Step.Machine, Step.fetch, World.World, World.IsJustBelow, World.returns}
 use Rattle.verify80.specs.Boards.{Disturbs, Executes, IsFollowed, StaysInside, fetched_anywhere, respected_pointer, sets_sp}
 use Rattle.verify80.specs.Looking.{declared_targets, is_declared}
 use Rattle.verify80_states.specs.{Bytes.HoldsBytes, QuietBoards.StaysQuiet, Steps.HasCode}

@@ -11,7 +11,8 @@ use Rattle.verify80_spans.specs.Span.{Within}
 use Rattle.verify80_states.specs.{Bytes.HoldsBytes, Known.HoldsKnown, QuietBoards.OnQuietBoard, Steps.HasCode}
 use Rattle.verify80_stores.specs.{declared.stores.OpenStore.OpenStore, Boards.IsListedAt}
 use Rattle.verify80_follow.specs.declared.{followed.FollowedState.FollowedState, followed.Listed.Listed, followed.Way.Way}
-use Rattle.verify80_follow.specs.{Held.Entry, Held.HoldsBeside, Held.count_of, InterruptedBoards.OnInterruptedBoard, Stack.HoldsStack, Stack.bounds_of, Stack.pointer_at, Follows.Follows, Follows.IsWay, Follows.stack_of}
+use Rattle.verify80_follow.specs.{Held.Entry, Held.HoldsBeside, Held.count_of, InterruptedBoards.OnInterruptedBoard, Stack.HoldsStack}
+use Rattle.verify80_follow.specs.{Stack.bounds_of, Stack.pointer_at, Follows.Follows, Follows.IsWay, Follows.stack_of}
 
 -- a store is listed at an address, or a PCHL is
 abbrev pub IsLeftOpenAt : Listed → ℕ → Type 0

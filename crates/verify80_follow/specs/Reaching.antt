@@ -5,11 +5,12 @@ use Rattle.decode80.specs.declared.fetching.Fetched.{Fetched}
 use Rattle.image80.specs.{Image.Located, Image.memory_of}
 use Rattle.verify80.specs.{LookLaws.fetch_at, Looking.is_pchl, Reached.found_at}
 use Rattle.verify80_stores.specs.{declared.stores.Stores.Stores, Listing.addresses_where, Listing.is_at, Pointers.stores_by_pair}
-use Rattle.verify80_follow.specs.declared.{followed.FollowedState.FollowedState, followed.Listed.Listed, handling.Handler.Handler}
+use Rattle.verify80_follow.specs.declared.{fit.Table.Table, followed.Listed.Listed, handling.Handler.Handler}
 
--- where the states of a program's table stand, and those of its handlers' tables
-abbrev pub places_of : List FollowedState → List Handler → List ℕ
-places_of states handlers = map (λ s. s.at) states ++ flat_map (λ handler. map (λ s. s.at) handler.table.states.items) handlers
+-- where the states of a program's table stand, those of its summaries, and those of its handlers' tables
+abbrev pub places_of : Table → List Handler → List ℕ
+places_of table handlers = map (λ s. s.at) table.states.items
+    ++ (flat_map (λ summary. map (λ s. s.at) summary.states.items) table.summaries.items ++ flat_map (λ handler. map (λ s. s.at) handler.table.states.items) handlers)
 
 -- by address the image's instruction: only at one of the places, and at each
 pub record AreFollowed (image : Located) (places : List ℕ) (reached : List (Option Fetched)) : Type 0 where

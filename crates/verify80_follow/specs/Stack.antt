@@ -12,7 +12,8 @@ use Rattle.verify80_spans.specs.declared.byte_span.ByteSpan.{ByteSpan}
 use Rattle.verify80_spans.specs.Span.{ByteWithin, IsByteInside, any_byte, byte_alone, is_alone, high_of}
 use Rattle.verify80_follow.specs.declared.{stack.StackAfter.StackAfter, stack.StackBounds.StackBounds}
 use Rattle.verify80_follow.specs.declared.stack.StackAfter.TheVariants.{Refused, Unset, Set}
-use Rattle.verify80_states.specs.{declared.states.known.Known.Known, declared.states.following.StackTop.StackTop, declared.states.pairs.PairSpan.PairSpan, Known.any_pair, Known.pair_of_halves, Following.pushed_pair}
+use Rattle.verify80_states.specs.{declared.states.known.Known.Known, declared.states.following.StackTop.StackTop}
+use Rattle.verify80_states.specs.{declared.states.pairs.PairSpan.PairSpan, Known.any_pair, Known.pair_of_halves, Following.pushed_pair}
 
 -- the bytes of a memory from an address on are among these
 abbrev pub HoldsFrom : (memory : List ℕ) → (at : ℕ) → List ByteSpan → Type 0

@@ -4,8 +4,10 @@ ghost use Rattle.std.specs.Prelude.{◌≡◌, ◌⊎◌, ◌≤◌, ℕ, Bool, 
 ghost use Rattle.std.specs.Option.{option_map};
 ghost use Rattle.image80.specs.{Image.memory_of, Regions.AreRegions, Regions.in_data};
 ghost use Rattle.verify80_spans.specs.Span.{Within, ByteWithin, IsInside, byte_alone};
-ghost use Rattle.verify80_states.specs.{Known.IsKnownInside, Known.cut, Known.nothing_known, Following.known_after, Marks.is_marked, QuietBoards.is_quiet, Steps.AreCodeBytes};
-ghost use Rattle.verify80_follow.specs.Follows.{Covers, CoversStack, CoversThen, Follows, FollowsBy, Has, IsBehindCall, IsWay, JumpsBy, IsExecuted, IsShownOrListed, JumpsByNumber, LeadsIf, LeadsTo, LeavesHalt, ReturnsLeft, ReturnsTo, StateFollows, first_stack, is_call, stack_of};
+ghost use Rattle.verify80_states.specs.{Known.IsKnownInside, Known.IsQuietKnown, Known.cut, Known.nothing_known, Following.known_after, Marks.is_marked, QuietBoards.is_quiet, Steps.AreCodeBytes};
+ghost use Rattle.verify80_follow.specs.Follows.{Covers, CoversStack, CoversThen, Follows, FollowsBy, Has, IsBehindCall, IsWay};
+ghost use Rattle.verify80_follow.specs.Follows.{JumpsBy, IsExecuted, IsShownOrListed, JumpsByNumber, LeadsIf, LeadsTo, LeavesHalt};
+ghost use Rattle.verify80_follow.specs.Follows.{ReturnsLeft, ReturnsTo, StateFollows, first_stack, is_call, stack_of};
 ghost use Rattle.verify80_follow.specs.Held.{IsBesideInside, beside_then, nothing_beside};
 ghost use Rattle.verify80_follow.specs.Promise.{PromiseOf};
 ghost use Rattle.verify80_follow.specs.Stack.{IsStackInside, after_of, bounds_of};
@@ -13,6 +15,7 @@ ghost use Rattle.decode80.specs.{Facts.flow, declared.flow.Flow.TheVariants.Jump
 ghost use Rattle.verify80.specs.{LookLaws.fetch_at, Looking.declared_targets, Looking.is_declared};
 ghost use Rattle.verify80_stores.specs.DataReach.{AreDataEnds};
 
+use crate::calls::Summary;
 use crate::followed::{FollowedState, Listed, RunKind, Way};
 use crate::held::{Beside, beside_then};
 use crate::laws::followed_programs_keep_the_promise;
@@ -41,6 +44,8 @@ pub struct Table {
     pub listed: Listed,
     /// How many bytes the stack has, at most.
     pub bytes: u16,
+    /// Summaries of procedures, by which calls are stepped over.
+    pub summaries: Vec<Summary>,
 }
 
 /// A table with the program that it has to follow.
@@ -50,6 +55,8 @@ pub(crate) struct Fit<'a> {
     pub hints: &'a [u32],
     pub ways: &'a [Way],
     pub listed: &'a Listed,
+    /// The summaries of procedures.
+    pub summaries: &'a [Summary],
     pub bytes: u16,
     /// The stack's end and length.
     pub bounds: StackBounds,
@@ -69,9 +76,9 @@ pub(crate) struct Fit<'a> {
 
 /// A state with the instruction at its address.
 #[derive(Clone, Copy)]
-struct Standing<'a> {
-    state: &'a FollowedState,
-    found: Fetched,
+pub(crate) struct Standing<'a> {
+    pub state: &'a FollowedState,
+    pub found: Fetched,
 }
 
 /// An instruction that may be executed, and whether targets are declared for it, if it is a PCHL.
@@ -83,7 +90,7 @@ pub(crate) struct Executed {
 
 /// A way on from a state: where it leads, whether a call or return is taken on it, and which hint names the states there.
 #[derive(Clone, Copy)]
-struct Onward {
+pub(crate) struct Onward {
     hint: u32,
     taken: bool,
     to: u16,
@@ -132,7 +139,7 @@ impl Standing<'_> {
     }
 
     /// The way to the next instruction, by the hint at this place of the state's.
-    fn passed(&self, place: usize) -> Onward
+    pub(crate) fn passed(&self, place: usize) -> Onward
         ensures taken { result.taken ≡ false }
         ensures to { result.to ≡ self.now.found.next }
     {
@@ -266,7 +273,7 @@ impl Fit<'_> {
     }
 
     /// Whether a way's hint names states that cover what is left of a state on that way; true if nothing is left.
-    fn leads_to(
+    pub(crate) fn leads_to(
         &self,
         alloc: Global,
         here: Standing<'_>,
@@ -528,6 +535,20 @@ impl Fit<'_> {
         }
     }
 
+    /// Whether an instruction may be executed in a state.
+    pub(crate) fn may_stand(&self, instr: Instr, state: &FollowedState) -> bool
+        requires ends { AreDataEnds self.now.regions.now self.now.ends.now }
+        ensures shown { result ≡ true → IsShownOrListed self.now.regions.now self.now.listed.now instr state.now }
+        ensures serves { result ≡ true → self.now.interrupted ≡ true → instr ≡ Ei → IsSome (stack_of state.now) }
+        ensures depth { result ≡ true → IfSome (stack_of state.now) (λ stack. length stack ≤ self.now.bytes) }
+        ensures knows { result ≡ true → IsQuietKnown (is_marked self.now.quiet.now) state.now.known }
+    {
+        state.known.is_quiet(self.quiet)
+            && is_within(state.bytes(), self.bytes)
+            && self.is_shown_or_listed(instr, state)
+            && self.serves(instr, state)
+    }
+
     /// Whether a state fits the instruction at its address.
     pub(crate) fn state_follows(
         &self,
@@ -542,28 +563,10 @@ impl Fit<'_> {
             return Ok(false);
         };
         let found = executed.found;
-        if !state.known.is_quiet(self.quiet)
-            || !is_within(state.bytes(), self.bytes)
-            || !self.is_shown_or_listed(found.instr, state)
-            || !self.serves(found.instr, state)
-        {
+        if !self.may_stand(found.instr, state) {
             return Ok(false);
         }
         self.follows_by(alloc, Standing { state, found }, executed.by_targets)
-    }
-
-    /// Whether each state of the table fits.
-    fn all_follow(&self, alloc: Global) -> Result<bool, AllocError>
-        requires regions { self.now.regions.now ≡ self.now.program.now.regions }
-        requires ends { AreDataEnds self.now.regions.now self.now.ends.now }
-        ensures { IfOk result (λ follow. follow ≡ true → All (λ s. StateFollows self.now.program.now self.now.bounds self.now.interrupted (is_marked self.now.quiet.now) self.now.code.now self.now.ways.now self.now.listed.now self.now.table.now self.now.bytes s) self.now.table.now) }
-    {
-        for place in 0..self.table.len() {
-            if !self.state_follows(alloc, &self.table[place])? {
-                return Ok(false);
-            }
-        }
-        Ok(true)
     }
 }
 
@@ -655,6 +658,7 @@ pub(crate) fn fits(
         hints: &table.hints,
         ways: &table.ways,
         listed: &table.listed,
+        summaries: &table.summaries,
         bytes: table.bytes,
         bounds: bounds_of(&program),
         interrupted: run.interrupted,
@@ -667,5 +671,8 @@ pub(crate) fn fits(
     if table.bytes > program.stack() || !fit.has_start(program.start(), run.is_set) {
         return Ok(false);
     }
-    fit.all_follow(alloc)
+    if !fit.fits_summaries(alloc)? {
+        return Ok(false);
+    }
+    fit.all_go(alloc)
 }

@@ -6,9 +6,9 @@ ghost use Rattle.image80.specs.Regions.{AreRegions, in_data};
 ghost use Rattle.verify80_spans.specs.Span.{Within};
 ghost use Rattle.verify80_states.specs.{Known.IsKnownInside, Known.nothing_known, Marks.is_marked, QuietBoards.is_quiet, Steps.AreCodeBytes};
 ghost use Rattle.verify80_stores.specs.{DataReach.AreDataEnds, Opening.pointer_span};
-ghost use Rattle.verify80_follow.specs.Follows.{Has, stack_of};
+ghost use Rattle.verify80_follow.specs.Follows.{Has, stack_of, uses_pointer, entered_stack};
 ghost use Rattle.verify80_follow.specs.Held.{IsBesideInside, count_of, nothing_beside};
-ghost use Rattle.verify80_follow.specs.Handling.{BeginsAnew, GivesBack, Handles, HandlerTable, IsReturn, entered_beside, entered_stack, uses_pointer};
+ghost use Rattle.verify80_follow.specs.Handling.{BeginsAnew, GivesBack, Handles, HandlerTable, IsReturn, entered_beside};
 ghost use Rattle.verify80_follow.specs.Live.{PromiseOfLive, handler_bounds, handler_ways};
 ghost use Rattle.verify80_follow.specs.Stack.{IsStackInside};
 ghost use Rattle.verify80_follow.specs.Writes.{AreWriteEnds, MayBeWritten};
@@ -184,7 +184,7 @@ pub fn gives_back(state: &FollowedState) -> bool
 }
 
 /// Whether a state has at least the word to which the handler returns on the stack, and no more bytes than `most`.
-fn has_room(state: &FollowedState, most: u16) -> bool
+pub(crate) fn has_room(state: &FollowedState, most: u16) -> bool
     ensures enough { result ≡ true → 2 ≤ count_of (stack_of state.now) }
     ensures few { result ≡ true → count_of (stack_of state.now) ≤ most }
 {
@@ -399,6 +399,7 @@ fn is_handled(
         hints: &table.hints,
         ways: &table.ways,
         listed,
+        summaries: &table.summaries,
         bytes: table.bytes,
         bounds: StackBounds {
             top: program.top(),

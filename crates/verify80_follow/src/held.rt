@@ -2,7 +2,9 @@
 
 ghost use Rattle.std.specs.Prelude.{◌≡◌, ℕ, Some, true};
 ghost use Rattle.std.specs.Option.{option_map};
-ghost use Rattle.verify80_follow.specs.Held.{IsBesideInside, IsPairInside, beside_after, beside_then, changes_pair, count_of, first_of, is_at, is_pair, left_of, no_pair, nothing_beside, pair_after, pops_pair, pushes_pair, still};
+ghost use Rattle.verify80_follow.specs.Follows.{beside_call};
+ghost use Rattle.verify80_follow.specs.Held.{IsBesideInside, IsPairInside, beside_after, beside_then, changes_pair, count_of, first_of};
+ghost use Rattle.verify80_follow.specs.Held.{is_at, is_pair, left_of, no_pair, nothing_beside, pair_after, pops_pair, pushes_pair, still};
 
 use crate::interrupts::enabled_after;
 use decode80::{AffectedFlags, Flow, Instr, Pair, Register, StackPair, Writes};
@@ -104,6 +106,17 @@ impl Beside {
         hl: HeldPair::ENTERED,
         back: Some(2),
     };
+
+    /// Behind a call that is stepped over: only where the caller's own return address is, is known, and interrupts may come.
+    pub fn behind_call(back: Option<usize>) -> Beside
+        ensures { result ≡ beside_call back }
+    {
+        Beside {
+            is_enabled: true,
+            back,
+            ..Beside::NOTHING
+        }
+    }
 
     /// Whether this says all that `outer` does, and interrupts may come there if they may by this.
     pub fn is_inside(self, outer: Beside) -> bool

@@ -11,12 +11,14 @@
 //! | [`Beside`], [`HeldPair`], [`beside_then`] | what a handler still has of what it was entered with, and whether interrupts may come |
 //! | [`StackBounds`], [`stack_then`], [`StackAfter`], [`top_of_stack`], [`return_address`] | what becomes of the stack, and what is known of it at SP |
 //! | [`Table`], [`RunKind`], [`follows`] | whether a table follows an image |
+//! | [`Summary`], [`called`], [`is_last`] | tables that follow procedures, by which calls are stepped over |
 //! | [`Handler`], [`LiveRun`], [`follows_live`], [`gives_back`], [`uses_pointer`] | whether handlers give all back, wherever the stack is when they are entered, or begin the program anew |
 //! | [`places_of`], [`followed_instructions`] | the instructions to which a followed program may come |
 //! | [`followed_stores`], [`bounds_text`], [`live_text`], [`ways_text`] | what is printed of a program that is followed |
 //! | [`followed_programs_keep_the_promise`], [`live_machines_keep_the_promise`] | the promises, as contracts |
 #![tactic(auto)]
 
+mod calls;
 mod fit;
 mod followed;
 mod handling;
@@ -28,6 +30,7 @@ mod reaching;
 mod stack;
 mod writes;
 
+pub use calls::{Summary, called, is_last};
 pub use fit::{Table, follows};
 pub use followed::{FollowedState, Listed, RunKind, Way};
 pub use handling::{Handler, LiveRun, follows_live, gives_back, uses_pointer};

@@ -2,7 +2,8 @@
 
 ghost use Rattle.std.specs.Prelude.{◌≡◌, ◌++◌, IfOk, OnOk, length};
 ghost use Rattle.std.specs.List.{flat_map};
-ghost use Rattle.verify80_follow.specs.{FollowText.bounds_lines, FollowText.handler_line, FollowText.handlers_line, FollowText.live_lines, FollowText.pair_line, FollowText.way_line, FollowText.ways_lines, FollowText.written_line, Reaching.AreStoresFollowed};
+ghost use Rattle.verify80_follow.specs.{FollowText.bounds_lines, FollowText.handler_line, FollowText.handlers_line, FollowText.live_lines};
+ghost use Rattle.verify80_follow.specs.{FollowText.pair_line, FollowText.way_line, FollowText.ways_lines, FollowText.written_line, Reaching.AreStoresFollowed};
 
 use crate::fit::Table;
 use crate::followed::{Listed, Way};

@@ -7,6 +7,7 @@ ghost use Rattle.image80.specs.Image.{memory_of};
 ghost use Rattle.verify80.specs.LookLaws.{fetch_at};
 ghost use Rattle.verify80_follow.specs.Reaching.{AreFollowed, places_of};
 
+use crate::calls::Summary;
 use crate::fit::Table;
 use crate::followed::FollowedState;
 use crate::handling::Handler;
@@ -15,19 +16,30 @@ use image80::Image;
 use std::alloc::{AllocError, Global};
 use verify80::ImageCode;
 
-/// Where the states of a program's table stand, and those of its handlers' tables.
+/// Where the states of a program's table stand, those of its summaries, and those of its handlers' tables.
 ///
 /// # Errors
 /// `AllocError` if memory runs out.
 pub fn places_of(alloc: Global, table: &Table, handlers: &[Handler]) -> Result<Vec<u16>, AllocError>
-    ensures { IfOk result (λ places. places.items ≡ places_of table.now.states.items handlers.now) }
+    ensures { IfOk result (λ places. places.items ≡ places_of table.now handlers.now) }
 {
     let mut places = Vec::new(alloc);
     append_places(&mut places, &table.states)?;
+    append_summaries(&mut places, &table.summaries)?;
     for handler in handlers {
         append_places(&mut places, &handler.table.states)?;
     }
     Ok(places)
+}
+
+/// Appends where the states of summaries stand.
+fn append_summaries(places: &mut Vec<u16>, summaries: &[Summary]) -> Result<(), AllocError>
+    ensures { OnOk result (places.new.items ≡ places.old.items ++ flat_map (λ summary. map (λ s. s.at) summary.states.items) summaries.now) }
+{
+    for summary in summaries {
+        append_places(places, &summary.states)?;
+    }
+    Ok(())
 }
 
 /// Appends where states stand.

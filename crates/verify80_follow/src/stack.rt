@@ -3,7 +3,9 @@
 ghost use Rattle.std.specs.Prelude.{◌≡◌, ◌≤◌, ◌++◌, IfOk, length, true};
 ghost use Rattle.std.specs.Option.{option_map};
 ghost use Rattle.verify80.specs.Boards.{uses_sp};
-ghost use Rattle.verify80_follow.specs.Stack.{pointer_at, word_on, top_of_stack, return_address, pushed_onto, popped_from, exchanged_on, count_above, resized, moved_to, without_one, with_one, called_on, returned_from, stack_after, set_stack, stack_then, after_of, AreBytesInside, IsStackInside};
+ghost use Rattle.verify80_follow.specs.Stack.{pointer_at, word_on, top_of_stack, return_address, pushed_onto, popped_from};
+ghost use Rattle.verify80_follow.specs.Stack.{exchanged_on, count_above, resized, moved_to, without_one, with_one, called_on};
+ghost use Rattle.verify80_follow.specs.Stack.{returned_from, stack_after, set_stack, stack_then, after_of, AreBytesInside, IsStackInside};
 
 use decode80::{Fetched, Instr, Pair};
 use std::alloc::{AllocError, Global};

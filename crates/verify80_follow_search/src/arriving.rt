@@ -1,13 +1,13 @@
 //! What a way makes of a state.
 
-use crate::marks::{marks_between, with_known, without_marked};
+use crate::marks::{AT_SP, marks_between, with_known, without_marked};
 use crate::program::{FollowedProgram, Lead};
 use crate::stop::{StopReason, Unfollowed};
 use decode80::{Fetched, Instr, Operand, Operation, Pair, Register, fetch};
 use frames80::Code;
 use std::alloc::{AllocError, Global};
 use verify80_follow::{
-    FollowedState, StackAfter, StackBounds, beside_then, stack_then, top_of_stack,
+    Beside, FollowedState, StackAfter, StackBounds, beside_then, stack_then, top_of_stack,
 };
 use verify80_states::{
     ByteSpan, Cell, Cells, Known, PairSpan, entry_at, is_marked, known_after, stored_bytes,
@@ -60,6 +60,9 @@ impl FollowedProgram<'_> {
         found: Fetched,
         lead: Lead,
     ) -> Result<Arrival, Unfollowed> {
+        if lead.steps {
+            return self.arrive_behind(alloc, state, marks, lead);
+        }
         let after = self.after(alloc, state, found, lead, lead.known)?;
         let plain = without_marked(alloc, state, lead.known, marks)?;
         let mut plain = self.after(alloc, &plain, found, lead, plain.known)?;
@@ -75,6 +78,28 @@ impl FollowedProgram<'_> {
             state: after,
             marks,
             is_split: is_asked && is_few,
+        })
+    }
+
+    /// What a call that is stepped over leaves of a state: its stack.
+    fn arrive_behind(
+        self,
+        alloc: Global,
+        state: &FollowedState,
+        marks: &[bool],
+        lead: Lead,
+    ) -> Result<Arrival, Unfollowed> {
+        let mut after = with_known(alloc, state, self.named(lead.to, lead.known))?;
+        after.at = lead.to;
+        after.beside = Beside::behind_call(state.beside.back);
+        let mut marks = Vec::from_slice(alloc, marks)?;
+        for mark in marks.iter_mut().take(AT_SP) {
+            *mark = false;
+        }
+        Ok(Arrival {
+            state: after,
+            marks,
+            is_split: false,
         })
     }
 
@@ -98,7 +123,7 @@ impl FollowedProgram<'_> {
         let stack = match stack_then(alloc, bounds, found, lead.taken, pushed, state.bytes())? {
             StackAfter::Refused => return Err(refusal_of(found.instr, state).into()),
             StackAfter::Unset => None,
-            StackAfter::Set(bytes) if self.is_handler && bytes.len() < 2 => {
+            StackAfter::Set(bytes) if (self.is_handler || self.is_summary) && bytes.len() < 2 => {
                 return Err(StopReason::LeavesStack.into());
             }
             StackAfter::Set(bytes) => Some(bytes),

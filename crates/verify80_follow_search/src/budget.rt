@@ -32,6 +32,26 @@ impl Budget {
         }
     }
 
+    /// As much of it as another one has, at most.
+    pub(crate) fn least(self, other: Budget) -> Budget {
+        Budget {
+            states: self.states.min(other.states),
+            ways: self.ways.min(other.ways),
+        }
+    }
+
+    /// The budget after a part of it was taken, of which something is left.
+    pub(crate) fn taken(self, part: Budget, left: Budget) -> Budget {
+        Budget {
+            states: self
+                .states
+                .saturating_sub(part.states.saturating_sub(left.states)),
+            ways: self
+                .ways
+                .saturating_sub(part.ways.saturating_sub(left.ways)),
+        }
+    }
+
     /// The budget without states that are kept.
     pub(crate) fn without(self, states: usize) -> Budget {
         Budget {

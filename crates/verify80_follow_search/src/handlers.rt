@@ -24,6 +24,9 @@ pub fn list_together(
     let program = ImageCode::new(alloc, image)?;
     let mut opening = Opening::new(alloc, &image.regions)?;
     opening.note_all(&program, &image.regions, &table.states);
+    for summary in &table.summaries {
+        opening.note_all(&program, &image.regions, &summary.states);
+    }
     for handler in handlers {
         opening.note_all(&program, &image.regions, &handler.table.states);
     }

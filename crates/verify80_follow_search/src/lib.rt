@@ -18,6 +18,7 @@ mod arriving;
 mod budget;
 mod growing;
 mod handlers;
+mod layers;
 mod marks;
 mod nodes;
 mod opening;

@@ -1,12 +1,16 @@
 //! The program that is followed, and where each way leads from a state.
 
 use crate::handlers::sets_top;
+use crate::marks::{AT_SP, count_bytes};
+use crate::nodes::NOWHERE;
 use crate::stop::StopReason;
 use decode80::{Fetched, Flow, Instr, ahead, behind, direct_bytes, fetch};
 use frames80::{Code, LookFault};
 use image80::Regions;
 use verify80::ImageCode;
-use verify80_follow::{FollowedState, gives_back, return_address, uses_pointer};
+use verify80_follow::{
+    FollowedState, Summary, called, gives_back, is_last, return_address, uses_pointer,
+};
 use verify80_states::{Known, Span, given};
 use verify80_stores::pointer_span;
 
@@ -25,6 +29,12 @@ pub(crate) struct FollowedProgram<'a> {
     pub interrupted: bool,
     /// Whether it is a handler, which gives all back.
     pub is_handler: bool,
+    /// Whether it is a procedure that calls are to step over.
+    pub is_summary: bool,
+    /// The summaries of procedures by which calls are stepped over.
+    pub summaries: &'a [Summary],
+    /// For each address the place of the summary of the procedure there, or `NOWHERE`; empty if there are none.
+    pub by_entry: &'a [u32],
     /// Whether addresses of code that LXI names tell states apart.
     pub splits_addresses: bool,
     /// Whether bytes of A tell states apart, where ANA or a comparison leaves few of them.
@@ -37,6 +47,8 @@ pub(crate) struct Lead {
     pub to: u16,
     pub taken: bool,
     pub known: Known,
+    /// Whether a call is stepped over.
+    pub steps: bool,
 }
 
 impl FollowedProgram<'_> {
@@ -65,12 +77,31 @@ impl FollowedProgram<'_> {
     /// How many hints the ways of an instruction have.
     pub fn count_hints(self, at: u16, instr: Instr) -> usize {
         match instr.flow() {
+            _ if self.steps_over(instr).is_some() => 3,
             Flow::Halts => usize::from(self.interrupted),
             Flow::JumpsIf(_, _) | Flow::CallsIf(_, _) | Flow::Returns => 2,
             Flow::ReturnsIf(_) => 3,
             Flow::JumpsToHl => self.image.targets(at).len().max(2),
             _ => 1,
         }
+    }
+
+    /// The place of the summary of what an instruction calls, if there is one.
+    pub fn steps_over(self, instr: Instr) -> Option<u32> {
+        let place = *self.by_entry.get(usize::from(called(instr.flow())?))?;
+        (place != NOWHERE).then_some(place)
+    }
+
+    /// How many bytes a state's stack has, at most, with what its instruction steps over.
+    pub fn count_deepest(self, state: &FollowedState, instr: Instr) -> usize {
+        let stepped = match self.steps_over(instr) {
+            Some(place) => self.summaries.get(place as usize),
+            None => None,
+        };
+        let bytes = stepped.map_or(0, |summary| usize::from(summary.bytes));
+        count_bytes(state)
+            .saturating_sub(AT_SP)
+            .saturating_add(bytes)
     }
 
     /// Whether the way from a return, or from a PCHL without declared targets, is to be listed: it goes to no address behind a call.
@@ -111,6 +142,12 @@ impl FollowedProgram<'_> {
         if self.is_handler && self.is_over(state, found)? {
             return Ok(None);
         }
+        if self.is_summary && self.is_back(state, instr)? && number == 0 {
+            return Ok(None);
+        }
+        if self.steps_over(instr).is_some() {
+            return self.lead_over(state, found, number);
+        }
         let (to, taken, left) = match (instr.flow(), number) {
             (Flow::Calls(to), 0) => (Some(to), true, Some(known)),
             (Flow::Jumps(to), 0) => (Some(to), false, Some(known)),
@@ -136,9 +173,56 @@ impl FollowedProgram<'_> {
             _ => (None, false, None),
         };
         Ok(match (to, left) {
-            (Some(to), Some(known)) => Some(Lead { to, taken, known }),
+            (Some(to), Some(known)) => Some(Lead {
+                to,
+                taken,
+                known,
+                steps: false,
+            }),
             _ => None,
         })
+    }
+
+    /// The way on from a state whose call is stepped over: behind it, or if it isn't taken.
+    ///
+    /// # Errors
+    /// If there is no room for what it calls.
+    fn lead_over(
+        self,
+        state: &FollowedState,
+        found: Fetched,
+        number: usize,
+    ) -> Result<Option<Lead>, StopReason> {
+        let Fetched { instr, next } = found;
+        if state.stack.is_none() {
+            return Err(StopReason::StackNotSet);
+        }
+        if self.count_deepest(state, instr) > usize::from(self.image.stack()) {
+            return Err(StopReason::LeavesStack);
+        }
+        let left = match (instr.flow(), number) {
+            (_, 0) => Some(Known::ANY),
+            (Flow::CallsIf(condition, _), 2) => given(condition, false, state.known),
+            _ => None,
+        };
+        Ok(left.map(|known| Lead {
+            to: next,
+            taken: false,
+            known,
+            steps: number == 0,
+        }))
+    }
+
+    /// Whether a procedure returns at a state, if it does there.
+    ///
+    /// # Errors
+    /// `UsesPointer` if what its instruction does depends on where the stack lies.
+    fn is_back(self, state: &FollowedState, instr: Instr) -> Result<bool, StopReason> {
+        if uses_pointer(instr) {
+            return Err(StopReason::UsesPointer);
+        }
+        let returns = matches!(instr.flow(), Flow::Returns | Flow::ReturnsIf(_));
+        Ok(returns && is_last(state))
     }
 
     /// Whether a handler is over at a state, with its RET, or with an LXI SP that begins the program anew.

@@ -1,13 +1,16 @@
 //! A table is searched for.
 
 use crate::budget::Budget;
+use crate::handlers::list_together;
+use crate::layers::called_first;
+use crate::nodes::{NOWHERE, place_of};
 use crate::program::FollowedProgram;
 use crate::stop::{SearchResult, Stop, StopReason};
 use crate::trial::follow_from;
 use image80::{Image, Range};
 use std::alloc::{AllocError, Global};
 use verify80::ImageCode;
-use verify80_follow::{Beside, FollowedState, RunKind};
+use verify80_follow::{Beside, FollowedState, RunKind, Summary, Table};
 use verify80_states::{ByteSpan, Known, code_bytes, mark_quiet};
 
 /// Whether addresses that LXI names and few bytes of A tell states apart, in one trial after the other.
@@ -60,13 +63,16 @@ enum Start<'a> {
     Handler {
         at: u16,
     },
+    Procedure {
+        at: u16,
+    },
 }
 
 impl Start<'_> {
     /// The address.
     fn at(self) -> u16 {
         match self {
-            Start::Program { at, .. } | Start::Handler { at } => at,
+            Start::Program { at, .. } | Start::Handler { at } | Start::Procedure { at } => at,
         }
     }
 
@@ -85,6 +91,10 @@ impl Start<'_> {
                 let stack = vec![in alloc; ByteSpan::ANY; 2]?;
                 states.push(state_at(at, Some(stack), Beside::ENTERED))?;
             }
+            Start::Procedure { at } => {
+                let stack = vec![in alloc; ByteSpan::ANY; 2]?;
+                states.push(state_at(at, Some(stack), Beside::behind_call(Some(2))))?;
+            }
         }
         Ok(states)
     }
@@ -93,7 +103,7 @@ impl Start<'_> {
     fn is_interrupted(self) -> bool {
         match self {
             Start::Program { run, .. } => run.interrupted,
-            Start::Handler { .. } => true,
+            Start::Handler { .. } | Start::Procedure { .. } => true,
         }
     }
 }
@@ -133,6 +143,40 @@ fn search_from(
     let marks = mark_quiet(alloc, &image.regions, quiet)?;
     let quiet_below = count_below(alloc, &marks)?;
     let program = ImageCode::new(alloc, image)?;
+    let followed = FollowedProgram {
+        image: &program,
+        regions: &image.regions,
+        code: &code,
+        quiet: &marks,
+        quiet_below: &quiet_below,
+        interrupted: start.is_interrupted(),
+        is_handler: matches!(start, Start::Handler { .. }),
+        is_summary: false,
+        summaries: &[],
+        by_entry: &[],
+        splits_addresses: false,
+        splits_bytes: false,
+    };
+    let stop = match try_each(alloc, followed, start, budget)? {
+        SearchResult::Stopped(stop) if stop.reason == StopReason::TooManyStates => stop,
+        result => return Ok(result),
+    };
+    if followed.is_handler {
+        return Ok(SearchResult::Stopped(stop));
+    }
+    match step_over(alloc, image, followed, start, budget)? {
+        Some(table) => Ok(SearchResult::Found(table)),
+        None => Ok(SearchResult::Stopped(stop)),
+    }
+}
+
+/// Tries each way to tell states apart.
+fn try_each(
+    alloc: Global,
+    followed: FollowedProgram<'_>,
+    start: Start<'_>,
+    budget: &mut Budget,
+) -> Result<SearchResult, AllocError> {
     let mut are_many = [false; 2];
     let mut shown = Stop {
         at: start.at(),
@@ -145,15 +189,9 @@ fn search_from(
             continue;
         }
         let followed = FollowedProgram {
-            image: &program,
-            regions: &image.regions,
-            code: &code,
-            quiet: &marks,
-            quiet_below: &quiet_below,
-            interrupted: start.is_interrupted(),
-            is_handler: matches!(start, Start::Handler { .. }),
             splits_addresses,
             splits_bytes,
+            ..followed
         };
         let stop = match follow_from(alloc, followed, start.states(alloc)?, budget)? {
             SearchResult::Found(table) => return Ok(SearchResult::Found(table)),
@@ -167,4 +205,92 @@ fn search_from(
         }
     }
     Ok(SearchResult::Stopped(shown))
+}
+
+/// How many states the summary of a procedure has, at most, and how many ways are followed for it.
+const SUMMARY: Budget = Budget {
+    states: 16_384,
+    ways: 100_000,
+};
+
+/// How much summaries take, all together.
+const SUMMARIES: Budget = Budget {
+    states: 262_144,
+    ways: 800_000,
+};
+
+/// Searches for a table that steps over the calls of procedures that can be stepped over.
+fn step_over(
+    alloc: Global,
+    image: &Image,
+    followed: FollowedProgram<'_>,
+    start: Start<'_>,
+    budget: &mut Budget,
+) -> Result<Option<Table>, AllocError> {
+    let mut summaries = Vec::new(alloc);
+    let mut by_entry = vec![in alloc; NOWHERE; 65_536]?;
+    let part_of_all = budget.least(SUMMARIES);
+    let mut left = part_of_all;
+    for at in called_first(alloc, followed, start.at())? {
+        let part = FollowedProgram {
+            is_summary: true,
+            summaries: &summaries,
+            by_entry: &by_entry,
+            ..followed
+        };
+        if let Some(summary) = summarize(alloc, part, at, &mut left)? {
+            if let Some(entry) = by_entry.get_mut(usize::from(at)) {
+                *entry = place_of(summaries.len());
+            }
+            summaries.push(summary)?;
+        }
+    }
+    *budget = budget.taken(part_of_all, left);
+    if summaries.is_empty() {
+        return Ok(None);
+    }
+    let stepping = FollowedProgram {
+        summaries: &summaries,
+        by_entry: &by_entry,
+        ..followed
+    };
+    match try_each(alloc, stepping, start, budget)? {
+        SearchResult::Found(mut table) => {
+            table.summaries = summaries;
+            table.listed = list_together(alloc, image, &table, &[])?;
+            Ok(Some(table))
+        }
+        SearchResult::Stopped(_) => Ok(None),
+    }
+}
+
+/// Searches for a summary of the procedure at an address.
+fn summarize(
+    alloc: Global,
+    part: FollowedProgram<'_>,
+    at: u16,
+    budget: &mut Budget,
+) -> Result<Option<Summary>, AllocError> {
+    let whole = budget.least(SUMMARY);
+    let mut left = whole;
+    let start = Start::Procedure { at };
+    let found = try_each(alloc, part, start, &mut left)?;
+    *budget = budget.taken(whole, left);
+    match found {
+        SearchResult::Found(table) if table.ways.is_empty() => {
+            let Table {
+                states,
+                hints,
+                bytes,
+                ..
+            } = table;
+            Ok(Some(Summary {
+                at,
+                states,
+                hints,
+                bytes,
+            }))
+        }
+        _ => Ok(None),
+    }
 }

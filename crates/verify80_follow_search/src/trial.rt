@@ -2,7 +2,7 @@
 
 use crate::arriving::Arrival;
 use crate::budget::Budget;
-use crate::marks::{AT_SP, count_bytes};
+use crate::marks::count_bytes;
 use crate::nodes::{NOWHERE, Nodes, place_of};
 use crate::opening::list_open;
 use crate::program::FollowedProgram;
@@ -104,13 +104,16 @@ impl Trial<'_> {
     /// Follows each state once more for its hints, and answers the table.
     fn make_table(&mut self) -> Result<Table, Unfollowed> {
         let ways = self.ways.iter().copied().collect::<Vec<Way>>(self.alloc)?;
-        let mut most = AT_SP;
+        let mut most = 0;
         self.hints.clear();
         self.hints.push(0)?;
         for number in 0..self.nodes.states.len() {
             if let Some(state) = self.nodes.states.get_mut(number) {
                 state.hint = place_of(self.hints.len());
-                most = most.max(count_bytes(state));
+            }
+            if let Some((state, _)) = self.nodes.get(place_of(number)) {
+                let found = self.program.instruction(state.at)?;
+                most = most.max(self.program.count_deepest(state, found.instr));
             }
             self.follow(place_of(number), &ways)?;
         }
@@ -120,7 +123,8 @@ impl Trial<'_> {
             hints: mem::replace(&mut self.hints, Vec::new(self.alloc)),
             ways,
             listed,
-            bytes: u16::try_from(most.saturating_sub(AT_SP)).unwrap_or(u16::MAX),
+            bytes: u16::try_from(most).unwrap_or(u16::MAX),
+            summaries: Vec::new(self.alloc),
         })
     }
 
@@ -136,6 +140,9 @@ impl Trial<'_> {
         let count = self.program.count_hints(at, found.instr);
         let first = self.hints.len();
         self.hints.resize(first.saturating_add(count), NOWHERE)?;
+        if let Some(place) = self.program.steps_over(found.instr) {
+            self.set_hint(first.saturating_add(1), place as usize);
+        }
         for number in 0..count {
             if self.left.ways < cost {
                 return Err(Unfollowed::Stopped(StopReason::TooManyStates));

@@ -1,7 +1,6 @@
 use Rattle.std.specs.Prelude.{◌≡◌, ℕ, Bool, List, map, true}
 use Rattle.std.proofs.Common.{subst}
 use Rattle.image80.specs.Image.{Located}
-use Rattle.image80.specs.declared.range.Range.{Range}
 use Rattle.verify80_states.specs.{Marks.is_marked, QuietBoards.is_quiet}
 use Rattle.verify80_follow.specs.Live.{HandlerBounds, PromiseOfLive, handler_bounds, handler_ways}
 use Rattle.verify80_follow.proofs.FitLemmas.{live_of_more, ok_maps}

@@ -1,4 +1,4 @@
-use Rattle.std.specs.Prelude.{◌≡◌, ◌≤◌, All, List, ℕ, map, true}
+use Rattle.std.specs.Prelude.{◌≡◌, All, map, true}
 use Rattle.std.proofs.Common.{refl}
 use Rattle.verify80_states.specs.Marks.{is_marked}
 use Rattle.verify80_follow.specs.declared.handling.Handler.{Handler}

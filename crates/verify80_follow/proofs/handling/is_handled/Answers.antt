@@ -1,9 +1,9 @@
-use Rattle.std.specs.Prelude.{◌≡◌, ◌≤◌, All, Contains, List, ℕ, true}
+use Rattle.std.specs.Prelude.{◌≡◌, All, Contains, List, true}
 use Rattle.std.proofs.Common.{arith, refl, subst}
 use Rattle.std.proofs.lemmas.Bool.Decides.{nat_tests}
 use Rattle.image80.specs.Image.{Located}
-use Rattle.verify80_states.specs.{Known.nothing_known, Marks.is_marked}
-use Rattle.verify80_follow.specs.declared.{followed.FollowedState.FollowedState, followed.Way.Way}
+use Rattle.verify80_states.specs.{Marks.is_marked}
+use Rattle.verify80_follow.specs.declared.{followed.Way.Way}
 use Rattle.verify80_follow.specs.Handling.{HandlerTable, Handles}
 use Rattle.verify80_follow.proofs.FitLemmas.{ok_maps}
 use Rattle.verify80_follow.proofs.handling.is_handled.Goals as goal

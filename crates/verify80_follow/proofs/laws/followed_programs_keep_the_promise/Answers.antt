@@ -1,4 +1,4 @@
-use Rattle.verify80_follow.proofs.{GroundLemmas.ground_of, FollowLemmas.promise}
+use Rattle.verify80_follow.proofs.{GroundLemmas.ground_of, CallLemmas.promise}
 use Rattle.verify80_follow.proofs.laws.followed_programs_keep_the_promise.Goals as goal
 
 pub returns : goal.returns

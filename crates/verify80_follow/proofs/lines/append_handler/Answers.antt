@@ -1,4 +1,4 @@
-use Rattle.std.specs.Prelude.{◌≡◌, ◌++◌, List, ℕ, codes}
+use Rattle.std.specs.Prelude.{◌++◌, List, ℕ, codes}
 use Rattle.std.specs.Fmt.{decimal}
 use Rattle.std.proofs.Common.{◌∙◌, ap}
 use Rattle.text80.specs.Digits.{word_text}

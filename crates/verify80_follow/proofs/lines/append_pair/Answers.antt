@@ -1,4 +1,4 @@
-use Rattle.std.specs.Prelude.{◌≡◌, ◌++◌, ℕ, List, [], ◌∷◌}
+use Rattle.std.specs.Prelude.{◌++◌, ℕ, List, [], ◌∷◌}
 use Rattle.std.proofs.Common.{◌∙◌, ap}
 use Rattle.text80.specs.Digits.{word_text}
 use Rattle.verify80_follow.specs.FollowText.{pair_line}

@@ -1,7 +1,6 @@
-use Rattle.std.specs.Prelude.{◌≡◌, ◌≤◌, List, Option, true, IfSome, length}
+use Rattle.std.specs.Prelude.{◌≡◌, true}
 use Rattle.std.proofs.Common.{refl, subst}
 use Rattle.decode80.specs.Facts.{flow}
-use Rattle.verify80_spans.specs.declared.byte_span.ByteSpan.{ByteSpan}
 use Rattle.verify80_states.specs.Marks.{is_marked}
 use Rattle.image80.specs.Regions.{Areas}
 use Rattle.verify80_follow.specs.Follows.{FollowsBy, IsShownOrListed, StateFollows}
@@ -18,9 +17,9 @@ returns c =
     (λ f follows is. record {
       found = found;
       executed = c.in-Some.ensures.executed;
-      serves = c.if-not-serves.ensures refl;
-      shown = subst (λ (r : Areas). IsShownOrListed r fit.listed.now found.instr state) c.requires.regions (c.if-not-is_shown_or_listed.ensures refl);
+      serves = c.if-not-may_stand.ensures.serves refl;
+      shown = subst (λ (r : Areas). IsShownOrListed r fit.listed.now found.instr state) c.requires.regions (c.if-not-may_stand.ensures.shown refl);
       follows = follows is;
-      depth = subst (λ (o : Option (List ByteSpan)). IfSome o (λ stack. length stack ≤ fit.bytes)) c.bytes.ensures (c.if-not-is_within.ensures refl);
-      knows = c.if-not-is_quiet.ensures refl;
+      depth = c.if-not-may_stand.ensures.depth refl;
+      knows = c.if-not-may_stand.ensures.knows refl;
     }) c.follows_by.ensures
