@@ -1,2 +1,2 @@
+mod FaultLemmas
 mod PieceLemmas
-mod ReadLemmas

@@ -1,7 +1,8 @@
 //! Why an object file or a library isn't read.
 
-ghost use Rattle.std.specs.Prelude.{◌≡◌};
-ghost use Rattle.plm80_console.specs.Journal.{and_reported};
+ghost use Rattle.std.specs.Prelude.{◌≡◌, ◌≢◌};
+ghost use Rattle.plm80_console.specs.Journal.{Blames};
+ghost use Rattle.plm80_files.specs.Wrong.{IsOfBytes};
 
 use crate::damage_words::damage_words;
 use crate::file_kinds::{FileRole, explain_file};
@@ -50,26 +51,25 @@ impl From<LibraryFault> for FileFault {
 }
 
 impl FileFault {
-    /// Reports the fault of the file of this path, which was read, with words below it.
+    /// Reports the fault of the file of this path, which was read, with words below it, or that memory ran out.
     pub fn report<C: Console>(self, console: &mut C, path: &str) -> Reported
-        ensures { C.journal console.new ≡ and_reported (C.journal console.old) }
+        ensures { Blames (IsOfBytes self) (C.journal console.old) (C.journal console.new) }
     {
         match self {
-            FileFault::Module(fault) => match fault.cause {
-                Cause::Memory => console.report_memory(),
-                _ => report_module(console, path, fault),
-            },
-            FileFault::Library(LibraryFault::Memory) => console.report_memory(),
+            FileFault::Module(fault) => report_module(console, path, fault),
             FileFault::Library(fault) => report_library(console, path, fault),
         }
     }
 }
 
-/// Reports a fault of the file of this path as a library.
+/// Reports a fault of the file of this path as a library, or that memory ran out.
 fn report_library<C: Console>(console: &mut C, path: &str, fault: LibraryFault) -> Reported
-    ensures { C.journal console.new ≡ and_reported (C.journal console.old) }
+    ensures { Blames (fault ≢ LibraryFault.Memory) (C.journal console.old) (C.journal console.new) }
 {
-    let reported = console.report_file(path, fault);
+    if let LibraryFault::Memory = fault {
+        return console.report_memory();
+    }
+    let reported = console.blame_file(path, fault);
     let words = match (fault, console.text_to_explain(path)) {
         (LibraryFault::Module(fault), Some(bytes)) => damage_words(&bytes, fault.cause),
         _ => None,
@@ -78,11 +78,15 @@ fn report_library<C: Console>(console: &mut C, path: &str, fault: LibraryFault) 
     reported
 }
 
-/// Reports a fault of the file of this path as an object file, and says below it what the file seems to be, if it can be read again.
+/// Reports a fault of the file of this path as an object file, and says below it what the file seems to be, if it can be read again; or
+/// reports that memory ran out.
 fn report_module<C: Console>(console: &mut C, path: &str, fault: ModuleFault) -> Reported
-    ensures { C.journal console.new ≡ and_reported (C.journal console.old) }
+    ensures { Blames (fault.cause ≢ Cause.Memory) (C.journal console.old) (C.journal console.new) }
 {
-    let reported = console.report_file(path, fault);
+    if let Cause::Memory = fault.cause {
+        return console.report_memory();
+    }
+    let reported = console.blame_file(path, fault);
     if let Some(bytes) = console.text_to_explain(path) {
         if !explain_file(console, &bytes, FileRole::ObjectFile) {
             console.explain(damage_words(&bytes, fault.cause).unwrap_or(OBJECT_WORDS));

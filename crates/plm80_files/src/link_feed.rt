@@ -1,13 +1,16 @@
 //! The files that `link` takes: object files and libraries, by their first byte.
 
 ghost use Rattle.std.specs.Prelude.{◌∷◌, List, [], ℕ, IfOk, IfErr};
-ghost use Rattle.plm80_console.specs.Journal.{OnlyReports};
+ghost use Rattle.plm80_console.specs.Journal.{OnlyBlames};
 ghost use Rattle.plm80_files.specs.LinkFiles.{FaultsEither, HasTakenEither, IsLinkFileRead, SpellsEither};
+ghost use Rattle.plm80_files.specs.Wrong.{OfFirst, SpellsNeither};
 
 use crate::file_fault::FileFault;
 use crate::unread_bytes::UnreadBytes;
 use omf_core::RecordKind;
+use omf_library::laws::one_library;
 use omf_library::{Library, LibraryFeed};
+use omf_module::laws::one_file_reading;
 use omf_module::{FileFeed, Module};
 use plm80_console::{Console, Reported, TakePieces};
 use std::alloc::{AllocError, Global};
@@ -89,8 +92,10 @@ impl LinkFeed {
 /// Reads the file of this path, in pieces, as an object file or as a library, by its first byte. A fault is reported.
 pub fn read_link_file<C: Console>(console: &mut C, path: &str) -> Result<LinkFile, Reported>
     ensures read { IfOk result (IsLinkFileRead path.now (C.journal console.old) (C.journal console.new)) }
-    ensures fault { IfErr result (λ _. OnlyReports (path.now ∷ []) (C.journal console.old) (C.journal console.new)) }
+    ensures fault { IfErr result (λ _. OnlyBlames (OfFirst SpellsNeither) (path.now ∷ []) (C.journal console.old) (C.journal console.new)) }
 {
+    one_file_reading();
+    one_library();
     let mut feed = LinkFeed::Empty(console.alloc());
     console.read_in_pieces(path, &mut feed)?;
     match feed.finish() {

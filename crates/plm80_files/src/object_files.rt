@@ -1,11 +1,12 @@
 //! The modules of object files, for the commands that take them.
 
 ghost use Rattle.std.specs.Prelude.{◌≡◌, ◌∷◌, ◌++◌, [], IfErr, IfOk, OnOk};
-ghost use Rattle.plm80_console.specs.Journal.{OnlyReports, and_reported};
-ghost use Rattle.plm80_files.specs.LinkFiles.{AreModulesRead};
+ghost use Rattle.plm80_console.specs.Journal.{OnlyBlames, and_reported};
+ghost use Rattle.plm80_files.specs.{LinkFiles.AreModulesRead, Wrong.OfFirst, Wrong.SpellsNoModules};
 
 use crate::file_fault::FileFault;
 use crate::unread_bytes::UnreadBytes;
+use omf_module::laws::one_file_reading;
 use omf_module::{FileFeed, Module};
 use plm80_console::{Console, Reported};
 
@@ -13,8 +14,9 @@ use plm80_console::{Console, Reported};
 /// a fault. A fault is reported.
 pub fn read_modules<C: Console>(console: &mut C, path: &str) -> Result<Vec<Module>, Reported>
     ensures read { IfOk result (λ modules. AreModulesRead path.now (C.journal console.old) (C.journal console.new) modules.items) }
-    ensures fault { IfErr result (λ _. OnlyReports (path.now ∷ []) (C.journal console.old) (C.journal console.new)) }
+    ensures fault { IfErr result (λ _. OnlyBlames (OfFirst SpellsNoModules) (path.now ∷ []) (C.journal console.old) (C.journal console.new)) }
 {
+    one_file_reading();
     let mut feed = FileFeed::new(console.alloc());
     console.read_in_pieces(path, &mut feed)?;
     match feed.finish() {
