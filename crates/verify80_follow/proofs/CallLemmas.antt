@@ -328,12 +328,9 @@ module _ (laws : Laws) (grounds : (regions : Areas) → AreRegions regions → G
     goes : GoesAt l k.state
     goes = one_of (λ s. GoesAt l s) l.table k.place k.state fit.goes k.there
 
-    abbrev stood_of : StateFollows (part l.base) (bounds_of (part l.base)) interrupted quiet fits.code ways listed l.table l.most k.state → StateStands (part l.base) interrupted quiet listed l.most k.state
-    stood_of f = record { found = f.found; executed = f.executed; serves = f.serves; shown = f.shown; depth = f.depth; knows = f.knows }
-
     stands_of : GoesAt l k.state → StateStands (part l.base) interrupted quiet listed l.most k.state
     stands_of (inl (inner, back)) = back.stands
-    stands_of (inr (inl f)) = stood_of f
+    stands_of (inr (inl f)) = f.stands
     stands_of (inr (inr steps)) = steps.stands
 
     -- by what is known as far as the instruction is executed
@@ -588,9 +585,9 @@ module _ (laws : Laws) (grounds : (regions : Areas) → AreRegions regions → G
     -- whatever is executed
     executes_at : (rest : List Level) → Chain rest l m.memory → GoesAt l k.state → (v : World) (by : Executes image.regions (IsLeftOpenAt listed) w v) → Knows (set || sets_sp by.found.instr) (enabled_after by.found.instr enabled) v
     executes_at rest chain (inl (inner, back)) v by = executes_back rest chain inner back v by
-    executes_at rest chain (inr (inl f)) v by = goes_on_here (stood_of f) v by rest chain
+    executes_at rest chain (inr (inl f)) v by = goes_on_here f.stands v by rest chain
         (touches_stack laws (part l.base) interrupted l.entered quiet is_set ways listed l.table l.most (rules_of l.base) (ground_of l.base) quiet_data fits.code fits.are_code (few_at l fit) set enabled w k f)
-        (executes_found laws (part l.base) interrupted l.entered quiet is_set ways listed l.table l.most (rules_of l.base) (ground_of l.base) quiet_data fits.code fits.are_code (few_at l fit) set enabled w k f v (by_part (stood_of f) v by) (same (stood_of f) v by))
+        (executes_found laws (part l.base) interrupted l.entered quiet is_set ways listed l.table l.most (rules_of l.base) (ground_of l.base) quiet_data fits.code fits.are_code (few_at l fit) set enabled w k f v (by_part f.stands v by) (same f.stands v by))
     executes_at rest chain (inr (inr steps)) v by = executes_call steps rest chain v by
 
     keeps_at : (rest : List Level) → Chain rest l m.memory → GoesAt l k.state → KeepsFollowed (part l.base) interrupted l.most ways listed w
@@ -646,7 +643,7 @@ module _ (laws : Laws) (grounds : (regions : Areas) → AreRegions regions → G
       halts_not : (stood : StateStands (part l.base) interrupted quiet listed l.most k.state) → (by : Wakes w v) → (is_some (called (flow stood.found.instr)) || is_return (flow stood.found.instr)) ≡ true → ⊥
       halts_not stood by kind = true≢false (sym kind ∙ ap (λ (f : Fetched). is_some (called (flow f.instr)) || is_return (flow f.instr)) (same_some stood.found by.found (sym (here stood) ∙ by.fetched)) ∙ ap (λ (i : Instr). is_some (called (flow i)) || is_return (flow i)) by.halts)
     wakes_at (inr (inl f)) v on may by = wakes_found laws (part l.base) interrupted l.entered quiet is_set ways listed l.table l.most (rules_of l.base) (ground_of l.base) quiet_data fits.code fits.are_code (few_at l fit) set enabled w k f v on may by
-        (same_some by.found f.found (sym by.fetched ∙ here (stood_of f)))
+        (same_some by.found f.stands.found (sym by.fetched ∙ here f.stands))
 
     -- devices leave what lies above SP
     module _ (v : World) (by : Disturbs image.regions (respected_pointer image.regions set w) w v) (still : StaysQuiet quiet m.memory by.memory) where

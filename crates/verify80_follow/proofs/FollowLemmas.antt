@@ -723,18 +723,18 @@ module _ (laws : Laws) (image : Located) (interrupted : Bool) (entered : Entry) 
   -- a state that fits
   module _ (set enabled : Bool) (w : World) (k : KnowsWorld image interrupted entered table set enabled w) (entry : StateFollows image (bounds_of image) interrupted quiet bytes_of_code ways listed table bytes k.state) where
     abbrev stood : StateStands image interrupted quiet listed bytes k.state
-    stood = record { found = entry.found; executed = entry.executed; serves = entry.serves; shown = entry.shown; depth = entry.depth; knows = entry.knows }
+    stood = entry.stands
 
     pub keeps : KeepsFollowed image interrupted bytes ways listed w
     keeps = keeps_here set enabled w k stood entry.follows
 
-    pub touches_stack : All (Touches image.regions ground bytes) (stack_bytes entry.found.instr w.machine.cpu)
+    pub touches_stack : All (Touches image.regions ground bytes) (stack_bytes entry.stands.found.instr w.machine.cpu)
     touches_stack = touches_here set enabled w k stood entry.follows
 
-    pub executes_found : (v : World) (by : Executes image.regions (IsLeftOpenAt listed) w v) → by.found ≡ entry.found → Knows (set || sets_sp by.found.instr) (enabled_after by.found.instr enabled) v
+    pub executes_found : (v : World) (by : Executes image.regions (IsLeftOpenAt listed) w v) → by.found ≡ entry.stands.found → Knows (set || sets_sp by.found.instr) (enabled_after by.found.instr enabled) v
     executes_found = executes_here set enabled w k stood entry.follows
 
-    pub wakes_found : (v : World) → interrupted ≡ true → enabled ≡ true → (by : Wakes w v) → by.found ≡ entry.found → Knows set enabled v
+    pub wakes_found : (v : World) → interrupted ≡ true → enabled ≡ true → (by : Wakes w v) → by.found ≡ entry.stands.found → Knows set enabled v
     wakes_found = wakes_here set enabled w k stood entry.follows
 
   -- a table with a state at the start

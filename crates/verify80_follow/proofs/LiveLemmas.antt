@@ -236,26 +236,26 @@ module _ (laws : Laws) (grounds : (regions : Areas) → AreRegions regions → G
 
       -- a state that fits as any does
       module _ (fixed : uses_pointer found.instr ≡ false) (fits : StateFollows image x.of.bounds true quiet x.of.fits.code x.of.ways listed x.of.table x.of.bytes x.known.state) where
-        found_same : found ≡ fits.found
-        found_same = same_ok (fetch_at image.regions (memory_of image.chunks) x.known.state.at) found fits.found handles.executed.fetched fits.executed.fetched
+        found_same : found ≡ fits.stands.found
+        found_same = same_ok (fetch_at image.regions (memory_of image.chunks) x.known.state.at) found fits.stands.found handles.executed.fetched fits.stands.executed.fetched
 
         abbrev entry : StateFollows part (bounds_of part) true quiet x.of.fits.code x.of.ways listed x.of.table x.of.bytes x.known.state
         entry = fits_more x.of.bounds (bounds_of part) wide image (part_below image.regions x.count) true quiet x.of.fits.code x.of.ways listed x.of.table x.of.bytes x.known.state fits (subst (λ (f : Fetched). uses_pointer f.instr ≡ false) found_same fixed) handles.enough
 
         abbrev stood : StateStands part true quiet listed x.of.bytes x.known.state
-        stood = record { found = entry.found; executed = entry.executed; serves = entry.serves; shown = entry.shown; depth = entry.depth; knows = entry.knows }
+        stood = entry.stands
 
         kept : KeepsFollowed part true x.of.bytes x.of.ways listed w
         kept = keeps_table laws part true (entry_of u) quiet true x.of.ways listed x.of.table x.of.bytes (regions_below image.regions x.count rules) (ground_below x.count) quiet_data x.of.fits.code x.of.fits.are_code enough_room true (may_come flag) w x.known entry
 
-        touches : All (Touches part.regions (ground_below x.count) x.of.bytes) (stack_bytes fits.found.instr m.cpu)
+        touches : All (Touches part.regions (ground_below x.count) x.of.bytes) (stack_bytes fits.stands.found.instr m.cpu)
         touches = touches_stack laws part true (entry_of u) quiet true x.of.ways listed x.of.table x.of.bytes (regions_below image.regions x.count rules) (ground_below x.count) quiet_data x.of.fits.code x.of.fits.are_code enough_room true (may_come flag) w x.known entry
 
-        pointed_written : (k d : ℕ) → k < length (pointed_bytes fits.found.instr m.cpu.registers) → in_data image.regions (get_or (pointed_bytes fits.found.instr m.cpu.registers) k d) ≡ true → inner.written (get_or (pointed_bytes fits.found.instr m.cpu.registers) k d) ≡ true
+        pointed_written : (k d : ℕ) → k < length (pointed_bytes fits.stands.found.instr m.cpu.registers) → in_data image.regions (get_or (pointed_bytes fits.stands.found.instr m.cpu.registers) k d) ≡ true → inner.written (get_or (pointed_bytes fits.stands.found.instr m.cpu.registers) k d) ≡ true
         pointed_written k d inside =
             let p = points laws part true (entry_of u) quiet true x.of.ways listed x.of.table x.of.bytes (regions_below image.regions x.count rules) (ground_below x.count) quiet_data x.of.fits.code x.of.fits.are_code enough_room true (may_come flag) w x.known stood
-            (get_or (pointed_bytes fits.found.instr m.cpu.registers) k d) (Contains-get_or (pointed_bytes fits.found.instr m.cpu.registers) k d inside) in
-            handles.pointed p.span (subst (λ (f : Fetched). pointer_span f.instr x.known.state.known ≡ Some p.span) (sym found_same) p.is) (get_or (pointed_bytes fits.found.instr m.cpu.registers) k d) p.within
+            (get_or (pointed_bytes fits.stands.found.instr m.cpu.registers) k d) (Contains-get_or (pointed_bytes fits.stands.found.instr m.cpu.registers) k d inside) in
+            handles.pointed p.span (subst (λ (f : Fetched). pointer_span f.instr x.known.state.known ≡ Some p.span) (sym found_same) p.is) (get_or (pointed_bytes fits.stands.found.instr m.cpu.registers) k d) p.within
 
         -- an instruction of it
         module _ (v : World) (by : Executes image.regions (IsLeftOpenAt listed) w v) where
@@ -271,51 +271,51 @@ module _ (laws : Laws) (grounds : (regions : Areas) → AreRegions regions → G
             is = by.is;
           }
 
-          by_found : by.found ≡ fits.found
+          by_found : by.found ≡ fits.stands.found
           by_found = same_some by.found found (sym by.fetched ∙ anywhere) ∙ found_same
 
           known_then : KnowsWorld part true (entry_of u) x.of.table true (enabled_after by.found.instr (may_come flag)) v
           known_then = executes_found laws part true (entry_of u) quiet true x.of.ways listed x.of.table x.of.bytes (regions_below image.regions x.count rules) (ground_below x.count) quiet_data x.of.fits.code x.of.fits.are_code enough_room true (may_come flag) w x.known entry v by_part by_found
 
-          goes : unguarded fits.found.instr by.byte fits.found.next m ≡ Some by.after
+          goes : unguarded fits.stands.found.instr by.byte fits.stands.found.next m ≡ Some by.after
           goes = subst (λ (f : Fetched). unguarded f.instr by.byte f.next m ≡ Some by.after) by_found by.goes
 
-          stays : StaysInside part.regions m fits.found.instr
+          stays : StaysInside part.regions m fits.stands.found.instr
           stays = stays_inside laws part true (entry_of u) quiet true x.of.ways listed x.of.table x.of.bytes (regions_below image.regions x.count rules) (ground_below x.count) quiet_data x.of.fits.code x.of.fits.are_code enough_room true (may_come flag) w x.known stood
               (λ at. subst (λ (f : Fetched). StaysInside part.regions m f.instr) by_found (by_part.inside at))
 
-          memory_then : v.machine.memory ≡ stored m.memory (stores fits.found.instr fits.found.next m.memory m.cpu)
-          memory_then = ap (λ (z : World). z.machine.memory) by.is ∙ (leaves fits.found.instr by.byte fits.found.next m by.after goes).memory
+          memory_then : v.machine.memory ≡ stored m.memory (stores fits.stands.found.instr fits.stands.found.next m.memory m.cpu)
+          memory_then = ap (λ (z : World). z.machine.memory) by.is ∙ (leaves fits.stands.found.instr by.byte fits.stands.found.next m by.after goes).memory
 
           -- a byte to which nothing is stored
-          byte_same : (a : ℕ) → ((b : ℕ) → in_range (part_below image.regions x.count) b ≡ true → a ≢ b) → All (λ (b : ℕ). a ≢ b) (direct_bytes fits.found.instr) → All (λ (b : ℕ). a ≢ b) (pointed_bytes fits.found.instr m.cpu.registers) →
+          byte_same : (a : ℕ) → ((b : ℕ) → in_range (part_below image.regions x.count) b ≡ true → a ≢ b) → All (λ (b : ℕ). a ≢ b) (direct_bytes fits.stands.found.instr) → All (λ (b : ℕ). a ≢ b) (pointed_bytes fits.stands.found.instr m.cpu.registers) →
               slice_index v.machine.memory a ≡ slice_index m.memory a
           byte_same a off_part direct pointed =
               ap (λ (l : List ℕ). slice_index l a) memory_then
-              ∙ stored_other (stores fits.found.instr fits.found.next m.memory m.cpu) m.memory a
-              (subst (λ (l : List ℕ). All (λ (b : ℕ). a ≢ b) l) (sym (laws.facts fits.found.instr fits.found.next m.memory m.cpu).stored)
-              (All-append (λ (b : ℕ). a ≢ b) (stacked_by (flow fits.found.instr) m.cpu) (direct_bytes fits.found.instr ++ pointed_bytes fits.found.instr m.cpu.registers)
-              (stacked_within (λ (b : ℕ). a ≢ b) (flow fits.found.instr) m.cpu (all_of (Touches part.regions (ground_below x.count) x.of.bytes) (λ (b : ℕ). a ≢ b) (stack_bytes fits.found.instr m.cpu) (λ b it. off_part b it.there) touches))
-              (All-append (λ (b : ℕ). a ≢ b) (direct_bytes fits.found.instr) (pointed_bytes fits.found.instr m.cpu.registers) direct pointed)))
+              ∙ stored_other (stores fits.stands.found.instr fits.stands.found.next m.memory m.cpu) m.memory a
+              (subst (λ (l : List ℕ). All (λ (b : ℕ). a ≢ b) l) (sym (laws.facts fits.stands.found.instr fits.stands.found.next m.memory m.cpu).stored)
+              (All-append (λ (b : ℕ). a ≢ b) (stacked_by (flow fits.stands.found.instr) m.cpu) (direct_bytes fits.stands.found.instr ++ pointed_bytes fits.stands.found.instr m.cpu.registers)
+              (stacked_within (λ (b : ℕ). a ≢ b) (flow fits.stands.found.instr) m.cpu (all_of (Touches part.regions (ground_below x.count) x.of.bytes) (λ (b : ℕ). a ≢ b) (stack_bytes fits.stands.found.instr m.cpu) (λ b it. off_part b it.there) touches))
+              (All-append (λ (b : ℕ). a ≢ b) (direct_bytes fits.stands.found.instr) (pointed_bytes fits.stands.found.instr m.cpu.registers) direct pointed)))
 
           data_all : (xs : List ℕ) (a : ℕ) → in_range image.regions.stack a ≡ true → All (λ b. in_data image.regions b ≡ true) xs → All (λ (b : ℕ). a ≢ b) xs
           data_all xs a there each = all_of (λ b. in_data image.regions b ≡ true) (λ (b : ℕ). a ≢ b) xs (λ b is same. true≢false (sym there ∙ ap (in_range image.regions.stack) same ∙ ground.data_or_stack b is)) each
 
-          direct_data : All (λ b. in_data image.regions b ≡ true) (direct_bytes fits.found.instr)
-          direct_data = all_of_list (in_data image.regions) (direct_bytes fits.found.instr) fits.executed.stores
+          direct_data : All (λ b. in_data image.regions b ≡ true) (direct_bytes fits.stands.found.instr)
+          direct_data = all_of_list (in_data image.regions) (direct_bytes fits.stands.found.instr) fits.stands.executed.stores
 
           is_loud : (a b : ℕ) → quiet a ≡ true → a ≡ b → (in_data image.regions b ≡ true → inner.written b ≡ true) → ⊥
           is_loud a b is same says = true≢false (sym (says (ap (in_data image.regions) (sym same) ∙ quiet_data a is)) ∙ ap inner.written (sym same) ∙ loud a is)
 
           left_then : LeftAlone u v
           left_then = record {
-            pushed = λ a is. byte_same a (above_part a is) (data_all (direct_bytes fits.found.instr) a is.in_stack direct_data) (data_all (pointed_bytes fits.found.instr m.cpu.registers) a is.in_stack stays.stores) ∙ x.left.pushed a is;
+            pushed = λ a is. byte_same a (above_part a is) (data_all (direct_bytes fits.stands.found.instr) a is.in_stack direct_data) (data_all (pointed_bytes fits.stands.found.instr m.cpu.registers) a is.in_stack stays.stores) ∙ x.left.pushed a is;
             quiet_same = λ a is. byte_same a (λ b there same. true≢false (sym (part_inside image.regions x.count b there) ∙ sym (ap (in_range image.regions.stack) same) ∙ ground.data_or_stack a (quiet_data a is)))
-                (all_of (λ b. in_data image.regions b ≡ true → inner.written b ≡ true) (λ (b : ℕ). a ≢ b) (direct_bytes fits.found.instr) (λ b says same. is_loud a b is same says) (subst (λ (f : Fetched). All (λ b. in_data image.regions b ≡ true → inner.written b ≡ true) (direct_bytes f.instr)) found_same handles.direct))
-                (λ k d inside same. is_loud a (get_or (pointed_bytes fits.found.instr m.cpu.registers) k d) is same (pointed_written k d inside))
+                (all_of (λ b. in_data image.regions b ≡ true → inner.written b ≡ true) (λ (b : ℕ). a ≢ b) (direct_bytes fits.stands.found.instr) (λ b says same. is_loud a b is same says) (subst (λ (f : Fetched). All (λ b. in_data image.regions b ≡ true → inner.written b ≡ true) (direct_bytes f.instr)) found_same handles.direct))
+                (λ k d inside same. is_loud a (get_or (pointed_bytes fits.stands.found.instr m.cpu.registers) k d) is same (pointed_written k d inside))
                 ∙ x.left.quiet_same a is;
-            inputs = ap (λ (z : World). z.machine.inputs) by.is ∙ (ports fits.found.instr by.byte fits.found.next m by.after goes).0 ∙ x.left.inputs;
-            outputs = ap (λ (z : World). z.machine.outputs) by.is ∙ (ports fits.found.instr by.byte fits.found.next m by.after goes).1 ∙ x.left.outputs;
+            inputs = ap (λ (z : World). z.machine.inputs) by.is ∙ (ports fits.stands.found.instr by.byte fits.stands.found.next m by.after goes).0 ∙ x.left.inputs;
+            outputs = ap (λ (z : World). z.machine.outputs) by.is ∙ (ports fits.stands.found.instr by.byte fits.stands.found.next m by.after goes).1 ∙ x.left.outputs;
           }
             where
               above_part : (a : ℕ) → IsPushed image.regions u.machine.cpu.sp a → (b : ℕ) → in_range (part_below image.regions x.count) b ≡ true → a ≢ b

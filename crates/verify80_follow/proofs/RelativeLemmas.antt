@@ -93,32 +93,28 @@ module _ (one other : StackBounds) (more : one.length ≤ other.length) where
     by_more Halts follows = follows
     by_more w follows = leads_more false found.next (Some s.known) follows
 
+-- a state that stands at an instruction
+abbrev stands_more : (image : Located) (range : Range) (interrupted : Bool) (quiet : ℕ → Bool) (listed : Listed) (bytes : ℕ) (s : FollowedState) → StateStands image interrupted quiet listed bytes s → StateStands (on_stack image range) interrupted quiet listed bytes s
+stands_more image range interrupted quiet listed bytes s stands = record {
+  found = stands.found;
+  executed = record { fetched = stands.executed.fetched; stores = stands.executed.stores; halts = stands.executed.halts };
+  serves = stands.serves;
+  shown = record { stores = stands.shown.stores; jumps = stands.shown.jumps };
+  depth = stands.depth;
+  knows = stands.knows;
+}
+
 -- a state that fits
 abbrev pub fits_more : (one other : StackBounds) → one.length ≤ other.length → (image : Located) (range : Range) (interrupted : Bool) (quiet : ℕ → Bool) (code : List (Option ℕ)) (ways : List Way) (listed : Listed) (table : List FollowedState) (bytes : ℕ) (s : FollowedState) →
-    (fits : StateFollows image one interrupted quiet code ways listed table bytes s) → uses_pointer fits.found.instr ≡ false → 2 ≤ count_of (stack_of s) → StateFollows (on_stack image range) other interrupted quiet code ways listed table bytes s
+    (fits : StateFollows image one interrupted quiet code ways listed table bytes s) → uses_pointer fits.stands.found.instr ≡ false → 2 ≤ count_of (stack_of s) → StateFollows (on_stack image range) other interrupted quiet code ways listed table bytes s
 fits_more one other more image range interrupted quiet code ways listed table bytes s fits fixed enough = record {
-  found = fits.found;
-  executed = record { fetched = fits.executed.fetched; stores = fits.executed.stores; halts = fits.executed.halts };
-  serves = fits.serves;
-  shown = record { stores = fits.shown.stores; jumps = fits.shown.jumps };
-  follows = by_more one other more image range interrupted code ways table bytes s fits.found fixed enough (flow fits.found.instr) fits.follows;
-  depth = fits.depth;
-  knows = fits.knows;
+  stands = stands_more image range interrupted quiet listed bytes s fits.stands;
+  follows = by_more one other more image range interrupted code ways table bytes s fits.stands.found fixed enough (flow fits.stands.found.instr) fits.follows;
 }
 
 -- the same of a call that is stepped over, and of a return
 module _ (one other : StackBounds) (more : one.length ≤ other.length) (image : Located) (range : Range) (interrupted : Bool) (quiet : ℕ → Bool) (code : List (Option ℕ)) (ways : List Way) (listed : Listed) (summaries : List Summary) (table : List FollowedState) (bytes : ℕ) (s : FollowedState) (enough : 2 ≤ count_of (stack_of s))
     (fixed : (found : Fetched) → fetch_at image.regions (memory_of image.chunks) s.at ≡ Ok found → uses_pointer found.instr ≡ false) where
-  abbrev stands_more : StateStands image interrupted quiet listed bytes s → StateStands (on_stack image range) interrupted quiet listed bytes s
-  stands_more stands = record {
-    found = stands.found;
-    executed = record { fetched = stands.executed.fetched; stores = stands.executed.stores; halts = stands.executed.halts };
-    serves = stands.serves;
-    shown = record { stores = stands.shown.stores; jumps = stands.shown.jumps };
-    depth = stands.depth;
-    knows = stands.knows;
-  }
-
   passes_more : (found : Fetched) → uses_pointer found.instr ≡ false → (w : Flow) → PassesBy image one interrupted quiet code ways listed summaries table bytes s found w → PassesBy (on_stack image range) other interrupted quiet code ways listed summaries table bytes s found w
   passes_more found still (CallsIf condition to) passes = leads_more one other more image range interrupted code ways table bytes s found still enough false found.next (given condition false s.known) passes
   passes_more found still (ReturnsIf condition) passes = leads_more one other more image range interrupted code ways table bytes s found still enough false found.next (given condition false s.known) passes
@@ -126,7 +122,7 @@ module _ (one other : StackBounds) (more : one.length ≤ other.length) (image :
 
   steps_more : StepsOver image one interrupted quiet code ways listed summaries table bytes s → StepsOver (on_stack image range) other interrupted quiet code ways listed summaries table bytes s
   steps_more steps = record {
-    stands = stands_more steps.stands;
+    stands = stands_more image range interrupted quiet listed bytes s steps.stands;
     summary = steps.summary;
     among = steps.among;
     calls = steps.calls;
@@ -139,7 +135,7 @@ module _ (one other : StackBounds) (more : one.length ≤ other.length) (image :
 
   backs_more : ReturnsBack image one interrupted quiet code ways listed summaries table bytes s → ReturnsBack (on_stack image range) other interrupted quiet code ways listed summaries table bytes s
   backs_more back = record {
-    stands = stands_more back.stands;
+    stands = stands_more image range interrupted quiet listed bytes s back.stands;
     returns = back.returns;
     back = back.back;
     alone = back.alone;
@@ -149,5 +145,5 @@ module _ (one other : StackBounds) (more : one.length ≤ other.length) (image :
   pub summary_more : ReturnsBack image one interrupted quiet code ways listed summaries table bytes s ⊎ Goes image one interrupted quiet code ways listed summaries table bytes s →
       ReturnsBack (on_stack image range) other interrupted quiet code ways listed summaries table bytes s ⊎ Goes (on_stack image range) other interrupted quiet code ways listed summaries table bytes s
   summary_more (inl back) = inl (backs_more back)
-  summary_more (inr (inl fits)) = inr (inl (fits_more one other more image range interrupted quiet code ways listed table bytes s fits (fixed fits.found fits.executed.fetched) enough))
+  summary_more (inr (inl fits)) = inr (inl (fits_more one other more image range interrupted quiet code ways listed table bytes s fits (fixed fits.stands.found fits.stands.executed.fetched) enough))
   summary_more (inr (inr steps)) = inr (inr (steps_more steps))

@@ -140,17 +140,7 @@ pub record IsShownOrListed (regions : Areas) (listed : Listed) (instr : Instr) (
   pub jumps : is_pchl instr ≡ true → is_declared regions s.at ≡ true →
       ((to : ℕ) → Within s.known.hl.words to → Contains (declared_targets regions s.at) to) ⊎ Contains listed.jumps.items s.at
 
--- a state fits the instruction at its address, which is the image's; an interrupted program lets interrupts in only once SP is set
-pub record StateFollows (image : Located) (bounds : StackBounds) (interrupted : Bool) (quiet : ℕ → Bool) (code : List (Option ℕ)) (ways : List Way) (listed : Listed) (table : List FollowedState) (bytes : ℕ) (s : FollowedState) : Type 0 where
-  pub found : Fetched
-  pub executed : IsExecuted image interrupted s.at found
-  pub serves : interrupted ≡ true → found.instr ≡ Ei → IsSome (stack_of s)
-  pub shown : IsShownOrListed image.regions listed found.instr s
-  pub follows : FollowsBy image bounds interrupted code ways table bytes s found (flow found.instr)
-  pub depth : IfSome (stack_of s) (λ stack. length stack ≤ bytes)
-  pub knows : IsQuietKnown quiet s.known
-
--- the same without where the instruction leads
+-- a state stands at an instruction of the image that may be executed there; an interrupted program lets interrupts in only once SP is set
 pub record StateStands (image : Located) (interrupted : Bool) (quiet : ℕ → Bool) (listed : Listed) (bytes : ℕ) (s : FollowedState) : Type 0 where
   pub found : Fetched
   pub executed : IsExecuted image interrupted s.at found
@@ -158,6 +148,11 @@ pub record StateStands (image : Located) (interrupted : Bool) (quiet : ℕ → B
   pub shown : IsShownOrListed image.regions listed found.instr s
   pub depth : IfSome (stack_of s) (λ stack. length stack ≤ bytes)
   pub knows : IsQuietKnown quiet s.known
+
+-- a state fits: what its instruction makes of it is covered where that leads
+pub record StateFollows (image : Located) (bounds : StackBounds) (interrupted : Bool) (quiet : ℕ → Bool) (code : List (Option ℕ)) (ways : List Way) (listed : Listed) (table : List FollowedState) (bytes : ℕ) (s : FollowedState) : Type 0 where
+  pub stands : StateStands image interrupted quiet listed bytes s
+  pub follows : FollowsBy image bounds interrupted code ways table bytes s stands.found (flow stands.found.instr)
 
 -- where an instruction calls
 abbrev pub called : Flow → Option ℕ

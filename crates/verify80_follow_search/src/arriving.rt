@@ -123,7 +123,7 @@ impl FollowedProgram<'_> {
         let stack = match stack_then(alloc, bounds, found, lead.taken, pushed, state.bytes())? {
             StackAfter::Refused => return Err(refusal_of(found.instr, state).into()),
             StackAfter::Unset => None,
-            StackAfter::Set(bytes) if (self.is_handler || self.is_summary) && bytes.len() < 2 => {
+            StackAfter::Set(bytes) if self.start.is_entered() && bytes.len() < 2 => {
                 return Err(StopReason::LeavesStack.into());
             }
             StackAfter::Set(bytes) => Some(bytes),

@@ -32,24 +32,19 @@ impl Budget {
         }
     }
 
-    /// As much of it as another one has, at most.
-    pub(crate) fn least(self, other: Budget) -> Budget {
-        Budget {
-            states: self.states.min(other.states),
-            ways: self.ways.min(other.ways),
-        }
+    /// Lends as much of it as another one has, at most.
+    pub(crate) fn lend(&mut self, most: Budget) -> Budget {
+        let states = self.states.min(most.states);
+        let ways = self.ways.min(most.ways);
+        self.states = self.states.saturating_sub(states);
+        self.ways = self.ways.saturating_sub(ways);
+        Budget { states, ways }
     }
 
-    /// The budget after a part of it was taken, of which something is left.
-    pub(crate) fn taken(self, part: Budget, left: Budget) -> Budget {
-        Budget {
-            states: self
-                .states
-                .saturating_sub(part.states.saturating_sub(left.states)),
-            ways: self
-                .ways
-                .saturating_sub(part.ways.saturating_sub(left.ways)),
-        }
+    /// Takes back what is left of what was lent.
+    pub(crate) fn take_back(&mut self, left: Budget) {
+        self.states = self.states.saturating_add(left.states);
+        self.ways = self.ways.saturating_add(left.ways);
     }
 
     /// The budget without states that are kept.

@@ -1,37 +1,14 @@
-//! What a program's table and those of its handlers say together.
+//! What the tables of handlers say: where the program begins anew, and what is written.
 
-use crate::opening::Opening;
 use decode80::{Instr, Pair, direct_bytes, fetch};
 use frames80::Code;
 use image80::{Image, Range, RegionMap};
 use std::alloc::{AllocError, Global};
 use std::collections::BTreeSet;
 use verify80::ImageCode;
-use verify80_follow::{FollowedState, Handler, Listed, Table};
+use verify80_follow::{FollowedState, Handler};
 use verify80_states::Span;
 use verify80_stores::pointer_span;
-
-/// The stores and jumps that a program's table or one of its handlers' tables leaves open.
-///
-/// # Errors
-/// `AllocError` if memory runs out.
-pub fn list_together(
-    alloc: Global,
-    image: &Image,
-    table: &Table,
-    handlers: &[Handler],
-) -> Result<Listed, AllocError> {
-    let program = ImageCode::new(alloc, image)?;
-    let mut opening = Opening::new(alloc, &image.regions)?;
-    opening.note_all(&program, &image.regions, &table.states);
-    for summary in &table.summaries {
-        opening.note_all(&program, &image.regions, &summary.states);
-    }
-    for handler in handlers {
-        opening.note_all(&program, &image.regions, &handler.table.states);
-    }
-    opening.listed(alloc)
-}
 
 /// The addresses at which handlers begin the program anew, ascending: those behind their LXI SP with the stack's top.
 ///

@@ -74,6 +74,11 @@ impl Nodes {
         Some(place)
     }
 
+    /// Whether a state waits.
+    pub fn is_waiting(&self) -> bool {
+        !self.waiting.is_empty()
+    }
+
     /// The place of a state that says no more than this one: one that is there, which may grow, or this.
     ///
     /// # Errors

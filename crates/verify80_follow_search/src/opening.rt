@@ -1,18 +1,16 @@
 //! The stores and jumps by register pairs that states leave open.
 
-use crate::program::FollowedProgram;
-use crate::stop::Unfollowed;
 use decode80::{Instr, fetch};
-use image80::Regions;
+use image80::{Image, Regions};
 use std::alloc::{AllocError, Global};
 use verify80::ImageCode;
-use verify80_follow::{FollowedState, Listed};
+use verify80_follow::{FollowedState, Handler, Listed, Table};
 use verify80_states::Span;
 use verify80_stores::{OpenStore, find_data_ends, is_target, pointer_span};
 
 /// What states say of the stores and jumps at each address.
 #[derive(Drop)]
-pub(crate) struct Opening {
+struct Opening {
     /// For each address the first one from there on that is not data.
     ends: Vec<u32>,
     /// The store at an address, with the addresses that it may have in the states there.
@@ -21,26 +19,31 @@ pub(crate) struct Opening {
     are_open: Vec<bool>,
 }
 
-/// The stores and jumps that states of a program leave open.
+/// The stores and jumps that a program's table or one of its handlers' tables leaves open.
 ///
 /// # Errors
-/// If memory runs out.
-pub(crate) fn list_open(
+/// `AllocError` if memory runs out.
+pub fn list_together(
     alloc: Global,
-    program: FollowedProgram<'_>,
-    states: &[FollowedState],
-) -> Result<Listed, Unfollowed> {
-    let mut opening = Opening::new(alloc, program.regions)?;
-    for state in states {
-        let found = program.instruction(state.at)?;
-        opening.note(program.regions, found.instr, state);
+    image: &Image,
+    table: &Table,
+    handlers: &[Handler],
+) -> Result<Listed, AllocError> {
+    let program = ImageCode::new(alloc, image)?;
+    let mut opening = Opening::new(alloc, &image.regions)?;
+    opening.note_all(&program, &image.regions, &table.states);
+    for summary in &table.summaries {
+        opening.note_all(&program, &image.regions, &summary.states);
     }
-    Ok(opening.listed(alloc)?)
+    for handler in handlers {
+        opening.note_all(&program, &image.regions, &handler.table.states);
+    }
+    opening.listed(alloc)
 }
 
 impl Opening {
     /// Nothing is noted.
-    pub fn new(alloc: Global, regions: &Regions) -> Result<Opening, AllocError> {
+    fn new(alloc: Global, regions: &Regions) -> Result<Opening, AllocError> {
         Ok(Opening {
             ends: find_data_ends(alloc, regions)?,
             stores: vec![in alloc; None; 65_536]?,
@@ -49,12 +52,7 @@ impl Opening {
     }
 
     /// Notes what states say of the instructions at their addresses.
-    pub fn note_all(
-        &mut self,
-        program: &ImageCode<'_>,
-        regions: &Regions,
-        states: &[FollowedState],
-    ) {
+    fn note_all(&mut self, program: &ImageCode<'_>, regions: &Regions, states: &[FollowedState]) {
         for state in states {
             if let Ok(found) = fetch(state.at, program) {
                 self.note(regions, found.instr, state);
@@ -97,7 +95,7 @@ impl Opening {
     }
 
     /// The stores and jumps that are noted as open.
-    pub fn listed(&self, alloc: Global) -> Result<Listed, AllocError> {
+    fn listed(&self, alloc: Global) -> Result<Listed, AllocError> {
         let mut listed = Listed {
             stores: Vec::new(alloc),
             jumps: Vec::new(alloc),

@@ -2,15 +2,12 @@
 
 use crate::handlers::sets_top;
 use crate::marks::{AT_SP, count_bytes};
-use crate::nodes::NOWHERE;
+use crate::start::Start;
 use crate::stop::StopReason;
 use decode80::{Fetched, Flow, Instr, ahead, behind, direct_bytes, fetch};
 use frames80::{Code, LookFault};
-use image80::Regions;
 use verify80::ImageCode;
-use verify80_follow::{
-    FollowedState, Summary, called, gives_back, is_last, return_address, uses_pointer,
-};
+use verify80_follow::{FollowedState, called, gives_back, is_last, return_address, uses_pointer};
 use verify80_states::{Known, Span, given};
 use verify80_stores::pointer_span;
 
@@ -18,7 +15,6 @@ use verify80_stores::pointer_span;
 #[derive(Clone, Copy)]
 pub(crate) struct FollowedProgram<'a> {
     pub image: &'a ImageCode<'a>,
-    pub regions: &'a Regions,
     /// The bytes of code, by address.
     pub code: &'a [Option<u8>],
     /// Marks of the quiet addresses.
@@ -27,18 +23,27 @@ pub(crate) struct FollowedProgram<'a> {
     pub quiet_below: &'a [u32],
     /// Whether the program is interrupted.
     pub interrupted: bool,
-    /// Whether it is a handler, which gives all back.
-    pub is_handler: bool,
-    /// Whether it is a procedure that calls are to step over.
-    pub is_summary: bool,
-    /// The summaries of procedures by which calls are stepped over.
-    pub summaries: &'a [Summary],
-    /// For each address the place of the summary of the procedure there, or `NOWHERE`; empty if there are none.
-    pub by_entry: &'a [u32],
+    /// Where it is followed from.
+    pub start: Start<'a>,
+    /// What is known of the procedure at each address; empty if no calls are stepped over.
+    pub procedures: &'a [Procedure],
     /// Whether addresses of code that LXI names tell states apart.
     pub splits_addresses: bool,
     /// Whether bytes of A tell states apart, where ANA or a comparison leaves few of them.
     pub splits_bytes: bool,
+}
+
+/// What is known of a procedure.
+#[derive(Clone, Copy)]
+pub(crate) enum Procedure {
+    /// Nothing yet.
+    Untried,
+    /// It is being tried; its calls are followed meanwhile.
+    Open,
+    /// Its calls are followed.
+    Followed,
+    /// Its calls are stepped over, by the summary at a place, with so many bytes on the stack.
+    Stepped { place: u32, bytes: u16 },
 }
 
 /// A way on from a state: where it leads, whether the call or the return is taken, and what is known before the instruction then.
@@ -86,32 +91,52 @@ impl FollowedProgram<'_> {
         }
     }
 
-    /// The place of the summary of what an instruction calls, if there is one.
-    pub fn steps_over(self, instr: Instr) -> Option<u32> {
-        let place = *self.by_entry.get(usize::from(called(instr.flow())?))?;
-        (place != NOWHERE).then_some(place)
+    /// What an instruction calls, with what is known of it; `None` if it is no call, or no calls are stepped over.
+    fn procedure(self, instr: Instr) -> Option<(u16, Procedure)> {
+        let to = called(instr.flow())?;
+        Some((to, *self.procedures.get(usize::from(to))?))
+    }
+
+    /// The procedure that an instruction calls, if it wasn't tried.
+    pub fn untried(self, instr: Instr) -> Option<u16> {
+        match self.procedure(instr)? {
+            (to, Procedure::Untried) => Some(to),
+            _ => None,
+        }
+    }
+
+    /// The place of the summary of what an instruction calls, and how many bytes that has on the stack; `None` if the call isn't stepped over.
+    pub fn steps_over(self, instr: Instr) -> Option<(u32, u16)> {
+        match self.procedure(instr)? {
+            (_, Procedure::Stepped { place, bytes }) => Some((place, bytes)),
+            _ => None,
+        }
     }
 
     /// How many bytes a state's stack has, at most, with what its instruction steps over.
     pub fn count_deepest(self, state: &FollowedState, instr: Instr) -> usize {
-        let stepped = match self.steps_over(instr) {
-            Some(place) => self.summaries.get(place as usize),
-            None => None,
-        };
-        let bytes = stepped.map_or(0, |summary| usize::from(summary.bytes));
+        let stepped = self
+            .steps_over(instr)
+            .map_or(0, |(_, bytes)| usize::from(bytes));
         count_bytes(state)
             .saturating_sub(AT_SP)
-            .saturating_add(bytes)
+            .saturating_add(stepped)
+    }
+
+    /// Whether the instruction at an address is a return, or a PCHL without declared targets.
+    pub fn goes_by_number(self, at: u16, instr: Instr) -> bool {
+        match instr.flow() {
+            Flow::Returns | Flow::ReturnsIf(_) => true,
+            Flow::JumpsToHl => self.image.targets(at).is_empty(),
+            _ => false,
+        }
     }
 
     /// Whether the way from a return, or from a PCHL without declared targets, is to be listed: it goes to no address behind a call.
     pub fn is_listed(self, at: u16, instr: Instr, to: u16) -> bool {
-        let is_number = match instr.flow() {
-            Flow::Returns | Flow::ReturnsIf(_) => true,
-            Flow::JumpsToHl => self.image.targets(at).is_empty(),
-            _ => false,
-        };
-        is_number && !self.has_call(behind(to, 1), to) && !self.has_call(behind(to, 3), to)
+        self.goes_by_number(at, instr)
+            && !self.has_call(behind(to, 1), to)
+            && !self.has_call(behind(to, 3), to)
     }
 
     /// Whether the code has a call at an address that returns to another.
@@ -139,23 +164,22 @@ impl FollowedProgram<'_> {
         if self.interrupted && matches!(instr, Instr::Ei) && state.stack.is_none() {
             return Err(StopReason::StackNotSet);
         }
-        if self.is_handler && self.is_over(state, found)? {
+        if number == 0 && self.is_end(state, found)? {
             return Ok(None);
         }
-        if self.is_summary && self.is_back(state, instr)? && number == 0 {
-            return Ok(None);
-        }
-        if self.steps_over(instr).is_some() {
-            return self.lead_over(state, found, number);
-        }
+        let steps = self.is_stepped(state, instr)?;
         let (to, taken, left) = match (instr.flow(), number) {
+            (Flow::Calls(_) | Flow::CallsIf(_, _), 0) if steps => {
+                (Some(next), false, Some(Known::ANY))
+            }
+            (Flow::CallsIf(_, _), 1) if steps => (None, false, None),
             (Flow::Calls(to), 0) => (Some(to), true, Some(known)),
             (Flow::Jumps(to), 0) => (Some(to), false, Some(known)),
             (Flow::JumpsIf(condition, to) | Flow::CallsIf(condition, to), 0) => {
                 (Some(to), true, given(condition, true, known))
             }
             (Flow::JumpsIf(condition, _) | Flow::CallsIf(condition, _), 1)
-            | (Flow::ReturnsIf(condition), 2) => {
+            | (Flow::CallsIf(condition, _) | Flow::ReturnsIf(condition), 2) => {
                 (Some(next), false, given(condition, false, known))
             }
             (Flow::Returns, 0) => (Some(returned_to(state)?), true, Some(known)),
@@ -177,52 +201,38 @@ impl FollowedProgram<'_> {
                 to,
                 taken,
                 known,
-                steps: false,
+                steps: steps && number == 0,
             }),
             _ => None,
         })
     }
 
-    /// The way on from a state whose call is stepped over: behind it, or if it isn't taken.
+    /// Whether a state's call is stepped over.
     ///
     /// # Errors
     /// If there is no room for what it calls.
-    fn lead_over(
-        self,
-        state: &FollowedState,
-        found: Fetched,
-        number: usize,
-    ) -> Result<Option<Lead>, StopReason> {
-        let Fetched { instr, next } = found;
-        if state.stack.is_none() {
+    fn is_stepped(self, state: &FollowedState, instr: Instr) -> Result<bool, StopReason> {
+        let steps = self.steps_over(instr).is_some();
+        if steps && state.stack.is_none() {
             return Err(StopReason::StackNotSet);
         }
-        if self.count_deepest(state, instr) > usize::from(self.image.stack()) {
+        if steps && self.count_deepest(state, instr) > usize::from(self.image.stack()) {
             return Err(StopReason::LeavesStack);
         }
-        let left = match (instr.flow(), number) {
-            (_, 0) => Some(Known::ANY),
-            (Flow::CallsIf(condition, _), 2) => given(condition, false, state.known),
-            _ => None,
-        };
-        Ok(left.map(|known| Lead {
-            to: next,
-            taken: false,
-            known,
-            steps: number == 0,
-        }))
+        Ok(steps)
     }
 
-    /// Whether a procedure returns at a state, if it does there.
+    /// Whether a procedure returns at a state, or a handler is over there.
     ///
     /// # Errors
-    /// `UsesPointer` if what its instruction does depends on where the stack lies.
-    fn is_back(self, state: &FollowedState, instr: Instr) -> Result<bool, StopReason> {
-        if uses_pointer(instr) {
-            return Err(StopReason::UsesPointer);
+    /// Why it doesn't do what its instruction there does.
+    fn is_end(self, state: &FollowedState, found: Fetched) -> Result<bool, StopReason> {
+        match self.start {
+            Start::Program { .. } => Ok(false),
+            Start::Handler { .. } => self.is_over(state, found),
+            Start::Procedure { .. } if uses_pointer(found.instr) => Err(StopReason::UsesPointer),
+            Start::Procedure { .. } => Ok(is_return(found.instr) && is_last(state)),
         }
-        let returns = matches!(instr.flow(), Flow::Returns | Flow::ReturnsIf(_));
-        Ok(returns && is_last(state))
     }
 
     /// Whether a handler is over at a state, with its RET, or with an LXI SP that begins the program anew.
@@ -237,23 +247,22 @@ impl FollowedProgram<'_> {
         if uses_pointer(instr) {
             return Err(StopReason::UsesPointer);
         }
-        if matches!(instr, Instr::Ei) && !(gives_back(state) && self.is_return(next)) {
+        if matches!(instr, Instr::Ei) && !(gives_back(state) && self.has_return(next)) {
             return Err(StopReason::EnablesEarly);
         }
         if self.stores_quiet(instr, state) {
             return Err(StopReason::StoresQuiet);
         }
         let is_last = state.bytes().unwrap_or(&[]).len() == 2;
-        let returns = matches!(instr.flow(), Flow::Returns | Flow::ReturnsIf(_));
         match (instr, gives_back(state)) {
             (Instr::Ret, true) => Ok(true),
-            _ if returns && is_last => Err(StopReason::NotGivenBack),
+            _ if is_return(instr) && is_last => Err(StopReason::NotGivenBack),
             _ => Ok(false),
         }
     }
 
     /// Whether a RET is at an address.
-    fn is_return(self, at: u16) -> bool {
+    fn has_return(self, at: u16) -> bool {
         matches!(
             fetch(at, self.image),
             Ok(Fetched {
@@ -295,6 +304,11 @@ impl FollowedProgram<'_> {
             None => Err(StopReason::UnknownJump),
         }
     }
+}
+
+/// Whether an instruction returns.
+fn is_return(instr: Instr) -> bool {
+    matches!(instr.flow(), Flow::Returns | Flow::ReturnsIf(_))
 }
 
 /// Where a return goes from a state.

@@ -1,21 +1,32 @@
-//! One trial: states are followed from the start until no more are found.
+//! Trials: states are followed from the start until no more are found, and told apart in one way after the other.
 
 use crate::arriving::Arrival;
 use crate::budget::Budget;
 use crate::marks::count_bytes;
 use crate::nodes::{NOWHERE, Nodes, place_of};
-use crate::opening::list_open;
 use crate::program::FollowedProgram;
-use crate::stop::{SearchResult, Stop, StopReason, Unfollowed};
+use crate::stop::{Stop, StopReason, Unfollowed};
 use decode80::Fetched;
 use std::alloc::{AllocError, Global};
 use std::collections::BTreeSet;
 use std::mem;
-use verify80_follow::{FollowedState, Table, Way};
+use verify80_follow::{Listed, Table, Way};
 use verify80_states::APART;
 
+/// Whether addresses that LXI names and few bytes of A tell states apart, in one trial after the other.
+const TRIALS: [(bool, bool); 4] = [(false, false), (true, false), (false, true), (true, true)];
 /// How many bytes of a state are followed at the cost of a way.
 const BYTES_PER_WAY: usize = 64;
+
+/// What comes of trials.
+#[derive(Drop)]
+pub(crate) enum Tried {
+    Found(Table),
+    /// None gave a table; and whether there were too many states with one.
+    Stopped(Stop, bool),
+    /// What is called and wasn't tried, by a program whose calls are to be stepped over.
+    Untried(Vec<u16>),
+}
 
 /// A trial.
 #[derive(Drop)]
@@ -27,33 +38,74 @@ struct Trial<'a> {
     hints: Vec<u32>,
     /// The ways that are listed.
     ways: BTreeSet<Way>,
+    /// What is called and wasn't tried.
+    untried: BTreeSet<u16>,
     /// The place of the state that is followed.
     place: u32,
+    /// How many bytes the stack has, at most.
+    most: usize,
     /// What may still be taken.
     left: Budget,
 }
 
-/// Follows a program from states, the first of which is its start, as far as `left` allows.
+/// Follows a program with each way to tell states apart, until one gives a table, or comes to what wasn't tried.
 ///
 /// # Errors
 /// `AllocError` if memory runs out.
-pub(crate) fn follow_from(
+pub(crate) fn try_each(
+    alloc: Global,
+    followed: FollowedProgram<'_>,
+    budget: &mut Budget,
+) -> Result<Tried, AllocError> {
+    let mut are_many = [false; 2];
+    let mut is_crowded = false;
+    let mut shown = Stop {
+        at: followed.start.at(),
+        reason: StopReason::TooManyStates,
+        way: Vec::new(alloc),
+    };
+    for (splits_addresses, splits_bytes) in TRIALS {
+        // If there are too many states, there are with more splits.
+        if splits_addresses && are_many[0] || splits_bytes && are_many[1] {
+            continue;
+        }
+        let followed = FollowedProgram {
+            splits_addresses,
+            splits_bytes,
+            ..followed
+        };
+        let (stop, are_too_many) = match try_once(alloc, followed, budget)? {
+            Tried::Stopped(stop, are_too_many) => (stop, are_too_many),
+            tried => return Ok(tried),
+        };
+        are_many[0] |= are_too_many && !splits_bytes;
+        are_many[1] |= are_too_many && !splits_addresses;
+        is_crowded |= are_too_many;
+        if !are_too_many || shown.way.is_empty() {
+            shown = stop;
+        }
+    }
+    Ok(Tried::Stopped(shown, is_crowded))
+}
+
+/// Follows a program from its start, as far as `left` allows.
+fn try_once(
     alloc: Global,
     program: FollowedProgram<'_>,
-    firsts: Vec<FollowedState>,
     left: &mut Budget,
-) -> Result<SearchResult, AllocError> {
+) -> Result<Tried, AllocError> {
     let mut trial = Trial {
         alloc,
         program,
         nodes: Nodes::new(alloc, left.states),
         hints: Vec::new(alloc),
         ways: BTreeSet::new(alloc),
+        untried: BTreeSet::new(alloc),
         place: 0,
+        most: 0,
         left: *left,
     };
-    let start = firsts.as_slice().first().map_or(0, |first| first.at);
-    let followed = match trial.follow_all(firsts) {
+    let followed = match trial.follow_all() {
         Ok(()) => trial.make_table(),
         Err(reason) => Err(reason),
     };
@@ -61,29 +113,34 @@ pub(crate) fn follow_from(
     match followed {
         Ok(table) => {
             *left = left.without(table.states.len());
-            Ok(SearchResult::Found(table))
+            Ok(Tried::Found(table))
         }
         Err(Unfollowed::Memory) => Err(AllocError),
+        Err(_) if !trial.untried.is_empty() => {
+            Ok(Tried::Untried(trial.untried.iter().copied().collect(alloc)?))
+        }
         Err(Unfollowed::Stopped(reason)) => {
-            let place = if reason == StopReason::TooManyStates {
+            let are_too_many = reason == StopReason::TooManyStates;
+            let place = if are_too_many {
                 trial.nodes.most_crowded(alloc)?
             } else {
                 trial.place
             };
             let way = trial.nodes.way_to(alloc, place)?;
-            Ok(SearchResult::Stopped(Stop {
-                at: way.as_slice().last().copied().unwrap_or(start),
+            let stop = Stop {
+                at: way.as_slice().last().copied().unwrap_or(program.start.at()),
                 reason,
                 way,
-            }))
+            };
+            Ok(Tried::Stopped(stop, are_too_many))
         }
     }
 }
 
 impl Trial<'_> {
-    /// Follows states from these on until none waits.
-    fn follow_all(&mut self, firsts: Vec<FollowedState>) -> Result<(), Unfollowed> {
-        for first in firsts {
+    /// Follows states from the first ones on until none waits.
+    fn follow_all(&mut self) -> Result<(), Unfollowed> {
+        for first in self.program.start.states(self.alloc)? {
             let first = Arrival {
                 marks: vec![in self.alloc; false; count_bytes(&first)]?,
                 state: first,
@@ -93,37 +150,37 @@ impl Trial<'_> {
         }
         for _ in 0..=self.left.ways {
             let Some(place) = self.nodes.next() else {
-                return Ok(());
+                break;
             };
             self.hints.clear();
             self.follow(place, &[])?;
         }
-        Err(Unfollowed::Stopped(StopReason::TooManyStates))
+        if self.nodes.is_waiting() || !self.untried.is_empty() {
+            return Err(Unfollowed::Stopped(StopReason::TooManyStates));
+        }
+        Ok(())
     }
 
-    /// Follows each state once more for its hints, and answers the table.
+    /// Follows each state once more for its hints, and answers the table, without what it leaves open.
     fn make_table(&mut self) -> Result<Table, Unfollowed> {
         let ways = self.ways.iter().copied().collect::<Vec<Way>>(self.alloc)?;
-        let mut most = 0;
         self.hints.clear();
         self.hints.push(0)?;
         for number in 0..self.nodes.states.len() {
             if let Some(state) = self.nodes.states.get_mut(number) {
                 state.hint = place_of(self.hints.len());
             }
-            if let Some((state, _)) = self.nodes.get(place_of(number)) {
-                let found = self.program.instruction(state.at)?;
-                most = most.max(self.program.count_deepest(state, found.instr));
-            }
             self.follow(place_of(number), &ways)?;
         }
-        let listed = list_open(self.alloc, self.program, &self.nodes.states)?;
         Ok(Table {
             states: mem::replace(&mut self.nodes.states, Vec::new(self.alloc)),
             hints: mem::replace(&mut self.hints, Vec::new(self.alloc)),
             ways,
-            listed,
-            bytes: u16::try_from(most).unwrap_or(u16::MAX),
+            listed: Listed {
+                stores: Vec::new(self.alloc),
+                jumps: Vec::new(self.alloc),
+            },
+            bytes: u16::try_from(self.most).unwrap_or(u16::MAX),
             summaries: Vec::new(self.alloc),
         })
     }
@@ -137,10 +194,17 @@ impl Trial<'_> {
         let at = state.at;
         let cost = 1 + count_bytes(state) / BYTES_PER_WAY;
         let found = self.program.instruction(at)?;
+        if let Some(to) = self.program.untried(found.instr) {
+            self.untried.insert(to)?;
+            return Ok(());
+        }
+        self.most = self
+            .most
+            .max(self.program.count_deepest(state, found.instr));
         let count = self.program.count_hints(at, found.instr);
         let first = self.hints.len();
         self.hints.resize(first.saturating_add(count), NOWHERE)?;
-        if let Some(place) = self.program.steps_over(found.instr) {
+        if let Some((place, _)) = self.program.steps_over(found.instr) {
             self.set_hint(first.saturating_add(1), place as usize);
         }
         for number in 0..count {

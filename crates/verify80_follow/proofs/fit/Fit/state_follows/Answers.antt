@@ -15,11 +15,13 @@ returns c =
     ok_maps c.follows_by.result (λ f. f ≡ true → FollowsBy fit.program.now fit.bounds fit.interrupted fit.code.now fit.ways.now fit.table.now fit.bytes state found (flow found.instr))
     (λ f. f ≡ true → StateFollows fit.program.now fit.bounds fit.interrupted (is_marked fit.quiet.now) fit.code.now fit.ways.now fit.listed.now fit.table.now fit.bytes state)
     (λ f follows is. record {
-      found = found;
-      executed = c.in-Some.ensures.executed;
-      serves = c.if-not-may_stand.ensures.serves refl;
-      shown = subst (λ (r : Areas). IsShownOrListed r fit.listed.now found.instr state) c.requires.regions (c.if-not-may_stand.ensures.shown refl);
+      stands = record {
+        found = found;
+        executed = c.in-Some.ensures.executed;
+        serves = c.if-not-may_stand.ensures.serves refl;
+        shown = subst (λ (r : Areas). IsShownOrListed r fit.listed.now found.instr state) c.requires.regions (c.if-not-may_stand.ensures.shown refl);
+        depth = c.if-not-may_stand.ensures.depth refl;
+        knows = c.if-not-may_stand.ensures.knows refl;
+      };
       follows = follows is;
-      depth = c.if-not-may_stand.ensures.depth refl;
-      knows = c.if-not-may_stand.ensures.knows refl;
     }) c.follows_by.ensures
