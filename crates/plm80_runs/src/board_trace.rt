@@ -1,6 +1,6 @@
 //! `plm80 trace --board`: the instructions of a located program's run among the devices of a board.
 
-ghost use Rattle.std.specs.Prelude.{◌≡◌, ◌<◌, ◌++◌, List, [], None, IfErr, IfNone, IfOk, IfSome, OnErr, OnOk, codes};
+ghost use Rattle.std.specs.Prelude.{◌≡◌, ◌<◌, ◌++◌, ℕ, List, None, IfErr, IfNone, IfOk, IfSome, OnErr, OnOk, codes};
 ghost use Rattle.std.specs.Io.KnownBytes.{Appends};
 ghost use Rattle.clap.specs.Matches.{first_value, found_of};
 ghost use Rattle.loader80_trace.specs.Traces.{AppendsFront};
@@ -137,7 +137,8 @@ fn write_trace<K: Sink>(
     ensures front { OnErr result (LeavesFront (BeginsTrace trace.limits trace.span board.now names.now program.now)
         (K.written out.old) (K.written out.new)) }
 {
-    if let Some(number) = misplaced_device(board, &program.image().regions) {
+    let image = program.image();
+    if let Some(number) = misplaced_device(board, &image.regions) {
         return Err(BoardRunFault::DeviceOutsideData(number));
     }
     write_first(alloc, program, out)?;
@@ -147,7 +148,7 @@ fn write_trace<K: Sink>(
     };
     write_board_lines(
         alloc,
-        program.image(),
+        image,
         board,
         trace.limits,
         trace.span,

@@ -1,6 +1,7 @@
 //! Programs that run among the devices of a board: those that the verifier accepts, and those that it refuses and a table follows.
 
-ghost use Rattle.std.specs.Prelude.{◌≡◌, IfOk, IfSome};
+ghost use Rattle.std.specs.Prelude.{◌≡◌, ◌<◌, All, IfOk, IfSome};
+ghost use Rattle.image80.specs.Image.{memory_of};
 ghost use Rattle.verify80_follow.specs.declared.fit.Table.{Table};
 ghost use Rattle.plm80_runs.specs.OnBoards.{IsJudged, KeepsTable, RunsKeepPromise, first_line, image_of, stack_bytes_of, states_line};
 ghost use Rattle.plm80_runs.specs.declared.runnable.Runnable.TheVariants.{Followed};
@@ -34,7 +35,7 @@ pub enum Judged {
 impl Runnable {
     /// The program's image.
     pub fn image(&self) -> &Image
-        ensures { result ≡ image_of self.now }
+        ensures { result.now ≡ image_of self.now }
     {
         match self {
             Runnable::Accepted(vouched) => vouched.image(),
@@ -105,7 +106,7 @@ fn find_table(alloc: Global, image: &Image) -> Result<Option<Table>, AllocError>
     ensures table { IfOk result (λ found. IfSome found (KeepsTable image.now)) }
     ensures runs { IfOk result (λ found. IfSome found (λ table. RunsKeepPromise (Followed image.now table))) }
 {
-    runs_of_followed(image);
+    runs_of_followed(image, &image.memory(alloc)?);
     let run = RunKind {
         is_set: true,
         interrupted: false,
@@ -123,10 +124,17 @@ fn find_table(alloc: Global, image: &Image) -> Result<Option<Table>, AllocError>
     }
 }
 
-/// What is known of the runs of a program that a table follows. (It carries laws, and does nothing.)
-fn runs_of_followed(image: &Image)
+/// What is known of the runs of a program that a table follows, since its memory holds bytes. (It carries laws, and does nothing.)
+fn runs_of_followed(image: &Image, memory: &[u8])
+    requires { memory.now ≡ memory_of image.now.chunks }
     ensures { (table : Table) → KeepsTable image.now table → RunsKeepPromise (Followed image.now table) }
 {
     runs_are_on_quiet_boards();
+    are_bytes(memory);
     image.regions.stack();
 }
+
+/// Bytes are below 256. (It carries this fact alone.)
+fn are_bytes(memory: &[u8])
+    ensures { All (λ byte. byte < 256) memory.now }
+{}
