@@ -118,8 +118,11 @@ module _ (limits : Limits) (span : Span) (lines : List Line) (publics : List Pub
       WritesFront lines (image_of program).regions (board_start (image_of program)) limits span publics true between new →
       LeavesFront (BeginsTrace limits span lines publics program) old new
   lines_begun old between new first is =
-      inr (first_line program ++ is.text, record { devices = devices; text = is.text; are_lines = is.are_lines; is = refl },
-          front_of_second old between new (first_line program) is.text first is.written)
+      inr (
+        first_line program ++ is.text,
+        record { devices = devices; text = is.text; are_lines = is.are_lines; is = refl },
+        front_of_second old between new (first_line program) is.text first is.written,
+      )
 
   pub lines_stopped : (r : Result (Option BoardEnded) BoardRunFault) (old between new : Option (List ℕ)) → Appends old between (first_line program) →
       TracesBoard lines (image_of program) limits span publics true r between new →

@@ -65,6 +65,7 @@ struct Cover {
 
 impl BoardCommand for Cover {
     ghost answers = { λ self. CoversImage self.limits };
+
     ghost begins = { λ self. CoversImage self.limits };
 
     fn print<C: Console>(
@@ -79,11 +80,7 @@ impl BoardCommand for Cover {
 }
 
 /// What `cover --board` answers: the program's code with the counts of its run; the line of its refusal if the verifier refuses it.
-fn cover_judged(
-    alloc: Global,
-    program: BoardProgram,
-    limits: Limits,
-) -> Result<Ran, BoardRunFault>
+fn cover_judged(alloc: Global, program: BoardProgram, limits: Limits) -> Result<Ran, BoardRunFault>
     ensures { IfOk result (λ ran. CoversImage limits program.board program.image program.names ran.answer) }
 {
     let BoardProgram {

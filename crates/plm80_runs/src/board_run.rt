@@ -66,6 +66,7 @@ struct Transcript {
 
 impl BoardCommand for Transcript {
     ghost answers = { λ self. TranscribesImage self.limits };
+
     ghost begins = { λ self. TranscribesImage self.limits };
 
     fn print<C: Console>(
@@ -112,8 +113,13 @@ fn transcribe(
     ensures { IfOk result (λ ran. TranscribesRun limits board.now names.now program.now ran.answer) }
 {
     let image = program.image();
-    let BoardReply { answer, text } =
-        transcribe_on_board(alloc, image, program.stack_bytes(), board, limits);
+    let BoardReply { answer, text } = transcribe_on_board(
+        alloc,
+        image,
+        program.stack_bytes(),
+        board,
+        limits,
+    );
     let outcome = answer?;
     let named = name_ending(alloc, image.regions.code(), text.into_bytes(), names)?;
     let mut lines = program.first_line(alloc)?;

@@ -76,6 +76,7 @@ struct Trace {
 
 impl BoardCommand for Trace {
     ghost answers = { λ self. TracesImage self.limits self.span };
+
     ghost begins = { λ self. TracesImageInPart self.limits self.span };
 
     fn print<C: Console>(
@@ -146,15 +147,7 @@ fn write_trace<K: Sink>(
         numbered: true,
         publics: names.publics(),
     };
-    write_board_lines(
-        alloc,
-        image,
-        board,
-        trace.limits,
-        trace.span,
-        form,
-        out,
-    )
+    write_board_lines(alloc, image, board, trace.limits, trace.span, form, out)
 }
 
 /// Writes the first line of a program, if it has one.
