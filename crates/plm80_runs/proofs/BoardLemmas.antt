@@ -2,7 +2,7 @@
 use Rattle.plm80_runs.proofs.Names.{◌≡◌, ◌∙◌, ap, arith, ℕ, true, List, [], ◌∷◌, Option, None, Some, Result, Ok, Err, IfOk, IfErr, IsOkAnd, refl, Public, Located}
 use Rattle.plm80_runs.proofs.Names.{AnswerValue, Appends, Appends-trans, AppendsFront, GaveUp, Gives, GivesUp, IsAnswered, IsGiven, IsGivenUp, prints, Journal, file_value, FileValue, IfErr-weaker, Bor, ◌++◌, drop, subst, sym}
 use Rattle.plm80_runs.proofs.Names.{IsRefusal, LeavesFront, Limits, Span}
-use Rattle.std.proofs.Common.{inl, inr}
+use Rattle.std.proofs.Common.{inr}
 use Rattle.board80.specs.declared.line.Line.{Line}
 use Rattle.loader80_board.specs.BoardLines.{TracesBoard, WritesFront}
 use Rattle.loader80_board.specs.declared.ended.BoardEnded.{BoardEnded}
