@@ -1,6 +1,5 @@
 mod FetchLemmas
 mod OnBoardLemmas
-mod SaysLemmas
 mod DecideLemmas
 mod StatesLemmas
 mod LineLemmas

@@ -1,18 +1,12 @@
 -- What is answered and written of a run on a board. (This project's own.)
-use Rattle.std.specs.Prelude.{◌≡◌, ℕ, ◌<◌, List, [], Result, Ok, Err}
+use Rattle.std.specs.Prelude.{◌≡◌, ℕ, List, [], Result, Ok, Err}
 use Rattle.image80.specs.Image.{Located}
 use Rattle.board80.specs.declared.line.Line.{Line}
-use Rattle.machine80_board.specs.BoardRun.{BoardState, DevicesAreData, IsBoardRun, IsMisplaced, IsReached, board_start}
+use Rattle.machine80_board.specs.BoardRun.{BoardState, DevicesAreData, IsBoardRun, IsMisplaced, board_start}
 use Rattle.loader80_board.specs.declared.fault.BoardRunFault.{BoardRunFault}
 use Rattle.loader80_board.specs.declared.fault.BoardRunFault.TheVariants.{DeviceOutsideData, Write, Memory}
 use Rattle.loader80_board.specs.declared.running.BoardOutcome.{BoardOutcome}
 use Rattle.loader80_board.specs.BoardTranscript.{board_transcript}
-use Rattle.loader80_board.specs.OnBoards.{StandsOnBoard}
-
--- each state of each run among devices in data is a world on a board that keeps the promise
-abbrev pub AreKnown : Located → (bytes : ℕ) → Type 0
-AreKnown image bytes = (lines : List Line) → DevicesAreData lines image.regions → (most steps : ℕ) (s : BoardState) →
-    IsReached lines image.regions most (board_start image) steps s → StandsOnBoard image bytes s
 
 -- the text is the transcript of a run on a board, of at most a given number of steps and outputs, among devices in data
 pub record IsRunTranscript (lines : List Line) (image : Located) (most limit : ℕ) (o : BoardOutcome) (text : List ℕ) : Type 0 where
@@ -22,24 +16,12 @@ pub record IsRunTranscript (lines : List Line) (image : Located) (most limit : �
   pub at : o.at ≡ last.machine.cpu.pc
   pub spells : text ≡ board_transcript o.stack_bytes last.outputs o.end o.at o.steps
 
--- and each of its states keeps the promise
-pub record IsBoardTranscript (lines : List Line) (image : Located) (most limit : ℕ) (o : BoardOutcome) (text : List ℕ) : Type 0 where
-  pub transcript : IsRunTranscript lines image most limit o text
-  pub promise : (steps : ℕ) (s : BoardState) → IsReached lines image.regions most (board_start image) steps s →
-      StandsOnBoard image o.stack_bytes s
-
 -- what is answered of a run, with its text
-abbrev pub SaysBy : (Transcribes : BoardOutcome → List ℕ → Type 0) → List Line → Located → Result BoardOutcome BoardRunFault → List ℕ → Type 0
-SaysBy Transcribes lines image (Ok o) text = Transcribes o text
-SaysBy Transcribes lines image (Err (DeviceOutsideData number)) text = IsMisplaced lines image.regions number × (text ≡ [])
-SaysBy Transcribes lines image (Err Memory) text = text ≡ []
-SaysBy Transcribes lines image (Err Write) text = ⊥
-
 abbrev pub BoardTells : List Line → Located → (most limit : ℕ) → Result BoardOutcome BoardRunFault → List ℕ → Type 0
-BoardTells lines image most limit = SaysBy (IsRunTranscript lines image most limit) lines image
-
-abbrev pub BoardSays : List Line → Located → (most limit : ℕ) → Result BoardOutcome BoardRunFault → List ℕ → Type 0
-BoardSays lines image most limit = SaysBy (IsBoardTranscript lines image most limit) lines image
+BoardTells lines image most limit (Ok o) text = IsRunTranscript lines image most limit o text
+BoardTells lines image most limit (Err (DeviceOutsideData number)) text = IsMisplaced lines image.regions number × (text ≡ [])
+BoardTells lines image most limit (Err Memory) text = text ≡ []
+BoardTells lines image most limit (Err Write) text = ⊥
 
 -- the failures of the writer that an answer means
 abbrev pub write_failures_of : {A : Type 0} → Result A BoardRunFault → ℕ

@@ -17,12 +17,15 @@ pub record StandsOnBoard (image : Located) (bytes : ℕ) (s : BoardState) : Type
   pub on : OnBoard image.regions Anywhere (board_start image).machine true true world
   pub promise : KeepsPromise image Anywhere bytes world
 
--- each state of a run among devices in data is such a one, if a table of frames fits the image
+-- each state of each run among devices in data is such a one
+abbrev pub RunsStandOnBoards : Located → (bytes : ℕ) → Type 0
+RunsStandOnBoards image bytes = (lines : List Line) → DevicesAreData lines image.regions → (most steps : ℕ) (s : BoardState) →
+    IsReached lines image.regions most (board_start image) steps s → StandsOnBoard image bytes s
+
+-- so are they if a table of frames fits the image
 abbrev pub RunsAreOnBoards : Type 0
 RunsAreOnBoards = (image : Located) (bytes : ℕ) → AreRegions image.regions → IsFitted (code_of image) bytes →
-    bytes ≤ image.regions.stack.length → All (λ byte. byte < 256) (memory_of image.chunks) →
-    (lines : List Line) → DevicesAreData lines image.regions → (most steps : ℕ) (s : BoardState) →
-    IsReached lines image.regions most (board_start image) steps s → StandsOnBoard image bytes s
+    bytes ≤ image.regions.stack.length → All (λ byte. byte < 256) (memory_of image.chunks) → RunsStandOnBoards image bytes
 
 -- the devices of a board leave quiet addresses alone
 abbrev pub LeavesQuiet : List Line → (quiet : ℕ → Bool) → Type 0

@@ -10,7 +10,7 @@ ghost use Rattle.loader80_board.specs.BoardStates.{EndsSo};
 use crate::ended::BoardEnded;
 use crate::fault::BoardRunFault;
 use board80::Board;
-use loader80::Vouched;
+use image80::Image;
 use loader80_trace::{Limits, count_at};
 use machine80_board::{IndexedLines, Rules, Running, misplaced_device, start, step_on_board};
 use std::alloc::{AllocError, Global};
@@ -24,20 +24,19 @@ pub struct BoardCounts {
     pub steps: Vec<u64>,
 }
 
-/// Runs a vouched image from its start on a board and within these limits, and counts the steps that begin at each address.
+/// Runs any image from its start on a board and within these limits, and counts the steps that begin at each address.
 ///
 /// # Errors
 /// `DeviceOutsideData` with the number of the board's line if a device doesn't lie in the image's data; `Memory` if memory
 /// runs out, also for an output below the limit.
 pub fn count_board_steps(
     alloc: Global,
-    vouched: &Vouched,
+    image: &Image,
     board: &Board,
     limits: Limits,
 ) -> Result<BoardCounts, BoardRunFault>
-    ensures { CountsBoard board.now vouched.now.image limits result }
+    ensures { CountsBoard board.now image.now limits result }
 {
-    let image = vouched.image();
     image.regions.stack();
     if let Some(number) = misplaced_device(board, &image.regions) {
         return Err(BoardRunFault::DeviceOutsideData(number));

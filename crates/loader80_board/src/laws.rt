@@ -1,9 +1,11 @@
 //! What holds of runs among devices. The functions do nothing: their contracts are the laws.
 
+ghost use Rattle.std.specs.Prelude.{◌<◌, All};
 ghost use Rattle.loader80_board.specs.BoardStates.{BoardsDecideRuns};
-ghost use Rattle.loader80_board.specs.OnBoards.{RunsAreOnBoards, RunsAreOnQuietBoards, StartsHoldBytes};
+ghost use Rattle.loader80_board.specs.OnBoards.{RunsAreOnBoards, RunsAreOnQuietBoards, RunsStandOnBoards, StartsHoldBytes};
 
 use image80::laws::code_data_and_stack_are_apart;
+use loader80::Vouched;
 use verify80::promise_is_kept_on_boards;
 use verify80_states::bytes_stay_bytes;
 
@@ -16,6 +18,20 @@ pub fn runs_are_on_boards()
     runs_are_on_quiet_boards();
     promise_is_kept_on_boards();
 }
+
+/// A law: each state of each run of a vouched image among devices in its data is one on a board of which the promise holds.
+pub fn vouched_images_keep_the_promise(vouched: &Vouched)
+    ensures { RunsStandOnBoards vouched.now.image vouched.now.stack_bytes }
+{
+    runs_are_on_boards();
+    are_bytes(vouched.memory());
+    vouched.image().regions.stack();
+}
+
+/// Bytes are below 256. (It carries this fact alone.)
+fn are_bytes(memory: &[u8])
+    ensures { All (λ byte. byte < 256) memory.now }
+{}
 
 /// A law: a run of any image among devices in its data is a run on a board whose devices leave alone what isn't theirs.
 pub fn runs_are_on_quiet_boards()

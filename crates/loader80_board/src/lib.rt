@@ -1,12 +1,11 @@
-//! Runs of vouched images among the devices of a board.
+//! Runs of images among the devices of a board.
 //!
-//! Proved: the transcript of the run; each of its states is one on a board, of which the promise holds; the lines of its
-//! instructions are those of its states; its counts.
+//! Proved: the transcript of the run; each state of a vouched image's run is one on a board, of which the promise holds; the
+//! lines of a run's instructions are those of its states; its counts.
 //!
 //! | Item | What it is |
 //! |---|---|
-//! | [`answer_on_board`], [`BoardReply`], [`BoardOutcome`] | a vouched image runs on a board; the transcript |
-//! | [`transcribe_on_board`] | any image runs on a board; the transcript |
+//! | [`transcribe_on_board`], [`BoardReply`], [`BoardOutcome`] | an image runs on a board; the transcript |
 //! | [`write_board_lines`] | the lines of some of a run's instructions, written as they come |
 //! | [`count_board_steps`], [`BoardCounts`] | how often a run begins the instruction at each address |
 //! | [`BoardEnded`] | how a run ended, or was stopped |
@@ -28,6 +27,6 @@ mod transcript;
 pub use counting::{BoardCounts, count_board_steps};
 pub use ended::BoardEnded;
 pub use fault::BoardRunFault;
-pub use running::{BoardOutcome, BoardReply, answer_on_board, transcribe_on_board};
+pub use running::{BoardOutcome, BoardReply, transcribe_on_board};
 pub use tracing::write_board_lines;
 pub use transcript::{board_ending_text, board_transcript_text};

@@ -1,14 +1,12 @@
 //! Images run on a board.
 
-ghost use Rattle.std.specs.Prelude.{◌≡◌, ◌<◌, [], All, IfOk, string_bytes};
-ghost use Rattle.loader80_board.specs.BoardSays.{AreKnown, BoardSays, BoardTells};
+ghost use Rattle.std.specs.Prelude.{◌≡◌, [], IfOk, string_bytes};
+ghost use Rattle.loader80_board.specs.BoardSays.{BoardTells};
 
 use crate::fault::BoardRunFault;
-use crate::laws::runs_are_on_boards;
 use crate::transcript::board_transcript_text;
 use board80::Board;
 use image80::Image;
-use loader80::Vouched;
 use loader80_trace::Limits;
 use machine80_board::{BoardEnd, misplaced_device, run_on_board};
 use std::alloc::Global;
@@ -33,24 +31,6 @@ pub struct BoardReply {
     pub answer: Result<BoardOutcome, BoardRunFault>,
     /// The transcript of the run, or nothing at a fault.
     pub text: String,
-}
-
-/// Runs a vouched image on a board within these limits; the reply has the outcome and the transcript. Each state of the
-/// run is one on a board of which verify80's promise holds ([`runs_are_on_boards`]).
-///
-/// The fault is `DeviceOutsideData` if a device of the board doesn't lie in the image's data, or `Memory` if memory runs
-/// out, also for an output below the limit; then there is no text.
-pub fn answer_on_board(
-    alloc: Global,
-    vouched: &Vouched,
-    board: &Board,
-    limits: Limits,
-) -> BoardReply
-    ensures says { BoardSays board.now vouched.now.image limits.outputs limits.steps result.answer (string_bytes result.text) }
-    ensures stack { IfOk result.answer (λ outcome. outcome.stack_bytes ≡ vouched.now.stack_bytes) }
-{
-    runs_of(vouched);
-    transcribe_on_board(alloc, vouched.image(), vouched.stack_bytes(), board, limits)
 }
 
 /// Runs any image on a board within these limits; the reply has the outcome and the transcript, in which the program
@@ -106,17 +86,3 @@ fn faulty(alloc: Global, fault: BoardRunFault) -> BoardReply
         text: String::new(alloc),
     }
 }
-
-/// What is known of a vouched image's runs on boards. (It carries laws, and does nothing.)
-fn runs_of(vouched: &Vouched)
-    ensures { AreKnown vouched.now.image vouched.now.stack_bytes }
-{
-    runs_are_on_boards();
-    are_bytes(vouched.memory());
-    vouched.image().regions.stack();
-}
-
-/// Bytes are below 256. (It carries this fact alone.)
-fn are_bytes(memory: &[u8])
-    ensures { All (λ byte. byte < 256) memory.now }
-{}

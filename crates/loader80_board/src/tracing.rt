@@ -13,13 +13,13 @@ use crate::fault::BoardRunFault;
 use crate::line::show_step;
 use crate::skipping::skip_steps;
 use board80::Board;
-use loader80::Vouched;
+use image80::Image;
 use loader80_trace::{Limits, LineForm, Span, TraceFault, append_front};
 use machine80_board::{IndexedLines, Rules, Running, misplaced_device, start};
 use std::alloc::Global;
 use stream80::{Sink, write_all};
 
-/// Runs a vouched image from its start on a board and within these limits, and writes the lines of the instructions in the
+/// Runs any image from its start on a board and within these limits, and writes the lines of the instructions in the
 /// span, each as it comes, in the form of [`loader80_trace::write_lines`]: IN shows the byte that the board answers. After
 /// the last step that the limits allow, the next instruction has a line too.
 ///
@@ -33,7 +33,7 @@ use stream80::{Sink, write_all};
 /// a prefix of the lines has then been written.
 pub fn write_board_lines<K: Sink>(
     alloc: Global,
-    vouched: &Vouched,
+    image: &Image,
     board: &Board,
     limits: Limits,
     span: Span,
@@ -41,10 +41,9 @@ pub fn write_board_lines<K: Sink>(
     out: &mut K,
 ) -> Result<Option<BoardEnded>, BoardRunFault>
     requires { K.failed out.old < u64.MAX }
-    ensures traces { TracesBoard board.now vouched.now.image limits span form.entry.publics.now form.entry.numbered result (K.written out.old) (K.written out.new) }
+    ensures traces { TracesBoard board.now image.now limits span form.entry.publics.now form.entry.numbered result (K.written out.old) (K.written out.new) }
     ensures failures { K.failed out.new ≡ K.failed out.old + write_failures_of result }
 {
-    let image = vouched.image();
     image.regions.stack();
     if let Some(number) = misplaced_device(board, &image.regions) {
         return Err(BoardRunFault::DeviceOutsideData(number));

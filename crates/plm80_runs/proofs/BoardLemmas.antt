@@ -1,27 +1,31 @@
 -- Answers that are given to a board, an image and its regions that were read.
-use Rattle.plm80_runs.proofs.Names.{◌≡◌, ◌∙◌, ap, ℕ, true, List, [], ◌∷◌, Option, None, Some, Result, Ok, Err, IfOk, IfErr, refl, Public, Located, Voucher}
-use Rattle.plm80_runs.proofs.Names.{AnswerValue, GaveUp, Gives, GivesUp, IsAnswered, IsGiven, IsGivenUp, prints, Journal, file_value, FileValue, IfErr-weaker, Bor, ◌++◌, drop, subst, sym}
-use Rattle.plm80_runs.proofs.Names.{AnswersVerdict, IsAccepted, IsRefusal, Limits, Span}
-use Rattle.std.proofs.Common.{inl, inr}
+use Rattle.plm80_runs.proofs.Names.{◌≡◌, ◌∙◌, ap, arith, ℕ, true, List, [], ◌∷◌, Option, None, Some, Result, Ok, Err, IfOk, IfErr, IsOkAnd, refl, Public, Located}
+use Rattle.plm80_runs.proofs.Names.{AnswerValue, Appends, Appends-trans, AppendsFront, GaveUp, Gives, GivesUp, IsAnswered, IsGiven, IsGivenUp, prints, Journal, file_value, FileValue, IfErr-weaker, Bor, ◌++◌, drop, subst, sym}
+use Rattle.plm80_runs.proofs.Names.{IsRefusal, LeavesFront, Limits, Span}
+use Rattle.std.proofs.Common.{inr}
 use Rattle.board80.specs.declared.line.Line.{Line}
-use Rattle.loader80_board.specs.BoardLines.{AreFirstLinesOf, TracesBoard}
+use Rattle.loader80_board.specs.BoardLines.{TracesBoard, WritesFront}
 use Rattle.loader80_board.specs.declared.ended.BoardEnded.{BoardEnded}
 use Rattle.loader80_board.specs.declared.fault.BoardRunFault.{BoardRunFault}
 use Rattle.loader80_board.specs.declared.fault.BoardRunFault.TheVariants.{DeviceOutsideData, Write, Memory}
-use Rattle.machine80_board.specs.BoardRun.{board_start}
+use Rattle.machine80_board.specs.BoardRun.{DevicesAreData, board_start}
 use Rattle.board80.specs.Board.{Spells}
 use Rattle.plm80_boards.specs.BoardLaws.{gives_on_board}
 use Rattle.plm80_boards.specs.Boards.{HaveNoBoard, IsBoardOf, IsBoardRead, board_paths}
-use Rattle.std.specs.Prelude.{Bool, slice_index_or}
+use Rattle.std.specs.Prelude.{Bool, OnErr, slice_index_or}
 use Rattle.plm80_boards.specs.Boards.IsBoardOf.{one}
+use Rattle.plm80_console.specs.Answer.IsGivenUp.{before as unmade, within as unfinished}
 use Rattle.plm80_console.specs.Journal.{Blames, OnlyBlames, and_read}
 use Rattle.plm80_console.specs.Journal.OnlyBlames.{other, wrong}
 use Rattle.plm80_console.specs.AnswerLaws.{answered_of, blamed_after, given_or_given_up, gives_up_unanswered, more_paths}
-use Rattle.plm80_names.specs.{Arguments.asks_names, Arguments.program_paths, Fronts.LeavesFront, Verdict.AnswersProgram, Verdict.HaveNoProgram}
-use Rattle.plm80_names.specs.Verdict.AnswersVerdict.{accepted, refused}
+use Rattle.plm80_names.specs.{Arguments.asks_names, Arguments.program_paths, Verdict.AnswersProgram, Verdict.HaveNoProgram}
+use Rattle.plm80_names.specs.FrontLaws.{all_front, front_of_first, front_of_second}
 use Rattle.plm80_names.specs.VerdictLaws.{no_program, program_answered, program_given_up}
 use Rattle.plm80_runs.specs.declared.board_files.BoardFiles.{BoardFiles}
-use Rattle.plm80_runs.specs.OnBoards.{AnswersBoard, AnswersOnBoard, HaveNoBoardProgram, IfGiven, IsBoardProgramRead, board_program_paths, board_trace_ending}
+use Rattle.plm80_runs.specs.declared.on_board.Ran.{Ran}
+use Rattle.plm80_runs.specs.declared.runnable.Runnable.{Runnable}
+use Rattle.plm80_runs.specs.OnBoards.{AnswersBoard, AnswersRunnable, BeginsTrace, HaveNoBoardProgram, IfGiven, IsBoardProgramRead, IsRunnable, TracesLines, board_program_paths, board_trace_ending, first_line, image_of}
+use Rattle.plm80_runs.specs.OnBoards.AnswersRunnable.{refused, runs}
 
 module _ {paths : BoardFiles} {old between : Journal} {board : List Line} {image : Located} {publics : List Public}
     (read : IsBoardProgramRead paths old between board image publics) (new : Journal) where
@@ -44,50 +48,101 @@ module _ {paths : BoardFiles} {old between : Journal} {board : List Line} {image
           tt (program_given_up read.program new (IfGiven Part (Some board)) {E = E} (Err e) up)).1,
     )
 
-  -- of a program that the verifier judges
-  pub board_answered : (Done Part : List Line → List Public → Voucher → AnswerValue → Type 0) {E : Type 0} (r : Result ℕ E)
-      → IfOk r (IsAnswered (AnswersVerdict (Done board publics) image publics) between new)
-      → IfErr r (λ _. IsGivenUp (AnswersVerdict (Part board publics) image publics) between new)
-      → IfOk r (Gives (AnswersOnBoard Done paths) (board_program_paths paths) old new)
-      × IfErr r (λ _. GivesUp (AnswersOnBoard Part paths) (board_program_paths paths) old new)
-  board_answered Done Part {E} r gave up =
-      board_answers (λ lines i ps. AnswersVerdict (Done lines ps) i ps) (λ lines i ps. AnswersVerdict (Part lines ps) i ps) {E = E} r gave up
-
-module _ (Done Part : Voucher → AnswerValue → Type 0) (image : Located) (publics : List Public) (old new : Journal) where
-  -- of a program that is accepted, what is answered of its run
-  pub accepted_answered : {E : Type 0} (program : Voucher) → IsAccepted image program → (r : Result ℕ E) → IfOk r (IsAnswered (Done program) old new)
-      → IfErr r (λ _. IsGivenUp (Part program) old new)
-      → IfOk r (IsAnswered (AnswersVerdict Done image publics) old new) × IfErr r (λ _. IsGivenUp (AnswersVerdict Part image publics) old new)
-  accepted_answered {E = E} program is (Ok status) gave up = (
-    (answered_of {E = E} (Done program) (AnswersVerdict Done image publics) (λ answer done. accepted program is done) old new (Ok status) (gave, tt)).0,
+module _ (Done Part : Runnable → AnswerValue → Type 0) (image : Located) (publics : List Public) (old new : Journal) where
+  -- of a program that runs, what is answered of its run
+  pub runnable_answered : {E : Type 0} (program : Runnable) → IsRunnable image publics program → (r : Result ℕ E)
+      → IfOk r (IsAnswered (Done program) old new) → IfErr r (λ _. IsGivenUp (Part program) old new)
+      → IfOk r (IsAnswered (AnswersRunnable Done image publics) old new) × IfErr r (λ _. IsGivenUp (AnswersRunnable Part image publics) old new)
+  runnable_answered {E = E} program is (Ok status) gave up = (
+    (answered_of {E = E} (Done program) (AnswersRunnable Done image publics) (λ answer done. runs program is done) old new (Ok status) (gave, tt)).0,
     tt,
   )
-  accepted_answered {E = E} program is (Err e) gave up = (
+  runnable_answered {E = E} program is (Err e) gave up = (
     tt,
-    (answered_of {E = E} (Part program) (AnswersVerdict Part image publics) (λ answer done. accepted program is done) old new (Err e) (tt, up)).1,
+    (answered_of {E = E} (Part program) (AnswersRunnable Part image publics) (λ answer done. runs program is done) old new (Err e) (tt, up)).1,
   )
 
   -- of another one, its refusal
   pub refused_answered : {E : Type 0} (line : List ℕ) (answer : AnswerValue) (r : Result ℕ E) → IsRefusal image publics line → answer ≡ prints line 1
       → IfOk r (IsGiven answer old new) → IfErr r (λ _. GaveUp answer old new)
-      → IfOk r (IsAnswered (AnswersVerdict Done image publics) old new) × IfErr r (λ _. IsGivenUp (AnswersVerdict Part image publics) old new)
+      → IfOk r (IsAnswered (AnswersRunnable Done image publics) old new) × IfErr r (λ _. IsGivenUp (AnswersRunnable Part image publics) old new)
   refused_answered line answer r is answer_is gave up = (
-    (given_or_given_up (AnswersVerdict Done image publics) answer old new r (refused line is answer_is) gave up).0,
-    (given_or_given_up (AnswersVerdict Part image publics) answer old new r (refused line is answer_is) gave up).1,
+    (given_or_given_up (AnswersRunnable Done image publics) answer old new r (refused line is answer_is) gave up).0,
+    (given_or_given_up (AnswersRunnable Part image publics) answer old new r (refused line is answer_is) gave up).1,
   )
 
--- the answer behind a trace prints nothing first
-pub board_trace_first : (program : Voucher) (publics : List Public) (ended : Option BoardEnded) → (board_trace_ending program publics ended).first ≡ []
-board_trace_first program publics None = refl
-board_trace_first program publics (Some ended) = refl
+module _ (Answers : AnswerValue → Type 0) (old new : Journal) where
+  -- the answer of a run that was printed
+  pub ran_answered : {E F : Type 0} (ran : Result Ran F) (r : Result ℕ E) → IfOk ran (λ it. Answers it.answer)
+      → IfOk r (λ status. IsOkAnd ran (λ it. IsGiven it.answer old new status)) → IfOk r (IsAnswered Answers old new)
+  ran_answered (Ok it) (Ok status) are gave = record { answer = it.answer; answers = are; given = gave }
+  ran_answered (Err f) (Ok status) are gave = absurd gave
+  ran_answered ran (Err e) are gave = tt
 
--- what a fault of the lines leaves: nothing, or a front part of the lines of first states
-pub leaves_front : (lines : List Line) (image : Located) (limits : Limits) (span : Span) (publics : List Public) (fault : BoardRunFault) (old new : Option (List ℕ)) →
-    TracesBoard lines image limits span publics true (Err fault) old new →
-    LeavesFront (AreFirstLinesOf lines image.regions (board_start image) limits span publics true) old new
-leaves_front lines image limits span publics (DeviceOutsideData number) old new is = inl is.1
-leaves_front lines image limits span publics Write old new is = inr (is.text, is.are_lines, is.written)
-leaves_front lines image limits span publics Memory old new is = inr (is.text, is.are_lines, is.written)
+  -- or was given up
+  pub ran_given_up : {A E F : Type 0} (ran : Result Ran F) (r : Result A E) → IfOk ran (λ it. Answers it.answer)
+      → IfErr r (λ _. IsGivenUp (λ answer. IsOkAnd ran (λ it. answer ≡ it.answer)) old new) → IfErr r (λ _. IsGivenUp Answers old new)
+  ran_given_up {F = F} ran r are gave = IfErr-weaker r _ _ (λ _. of_up ran are) gave
+    where
+      of_ran : (ran : Result Ran F) (answer : AnswerValue) → IfOk ran (λ it. Answers it.answer) → IsOkAnd ran (λ it. answer ≡ it.answer) → Answers answer
+      of_ran (Ok it) answer are is = subst Answers (sym is) are
+      of_ran (Err f) answer are is = absurd is
+
+      of_up : (ran : Result Ran F) → IfOk ran (λ it. Answers it.answer) → IsGivenUp (λ answer. IsOkAnd ran (λ it. answer ≡ it.answer)) old new
+          → IsGivenUp Answers old new
+      of_up ran are (unmade is) = unmade is
+      of_up ran are (unfinished answer is up) = unfinished answer (of_ran ran answer are is) up
+
+-- the answer behind a trace prints nothing first
+pub board_trace_first : (image : Located) (publics : List Public) (ended : Option BoardEnded) → (board_trace_ending image publics ended).first ≡ []
+board_trace_first image publics None = refl
+board_trace_first image publics (Some ended) = refl
+
+module _ (limits : Limits) (span : Span) (lines : List Line) (publics : List Public) (program : Runnable)
+    (devices : DevicesAreData lines (image_of program).regions) where
+  -- the program's first line alone
+  first_alone : BeginsTrace limits span lines publics program (first_line program ++ [])
+  first_alone = record {
+    devices = devices;
+    text = [];
+    are_lines = record { states = []; are_states = tt; within = omega arith; spells = refl };
+    is = refl;
+  }
+
+  -- what a fault leaves as the first line is written
+  pub first_stopped : (old new : Option (List ℕ)) → AppendsFront old new (first_line program) → LeavesFront (BeginsTrace limits span lines publics program) old new
+  first_stopped old new part = inr (first_line program ++ [], first_alone, front_of_first old new (first_line program) [] part)
+
+  -- and behind it: a front part of the lines of first states
+  lines_begun : (old between new : Option (List ℕ)) → Appends old between (first_line program) →
+      WritesFront lines (image_of program).regions (board_start (image_of program)) limits span publics true between new →
+      LeavesFront (BeginsTrace limits span lines publics program) old new
+  lines_begun old between new first is =
+      inr (
+        first_line program ++ is.text,
+        record { devices = devices; text = is.text; are_lines = is.are_lines; is = refl },
+        front_of_second old between new (first_line program) is.text first is.written,
+      )
+
+  pub lines_stopped : (r : Result (Option BoardEnded) BoardRunFault) (old between new : Option (List ℕ)) → Appends old between (first_line program) →
+      TracesBoard lines (image_of program) limits span publics true r between new →
+      OnErr r (LeavesFront (BeginsTrace limits span lines publics program) old new)
+  lines_stopped (Ok ended) old between new first is = tt
+  lines_stopped (Err (DeviceOutsideData number)) old between new first is =
+      inr (first_line program ++ [], first_alone, front_of_second old between new (first_line program) [] first (all_front between new [] is.1))
+  lines_stopped (Err Write) old between new first is = lines_begun old between new first is
+  lines_stopped (Err Memory) old between new first is = lines_begun old between new first is
+
+  -- all of them
+  pub lines_behind : (r : Result (Option BoardEnded) BoardRunFault) (old between new : Option (List ℕ)) → Appends old between (first_line program) →
+      TracesBoard lines (image_of program) limits span publics true r between new →
+      IfOk r (λ ended. (text : List ℕ) × Appends old new (first_line program ++ text) × TracesLines limits span lines publics (image_of program) text ended)
+  lines_behind (Ok ended) old between new first is = (
+    is.text,
+    Appends-trans old between new (first_line program) is.text first is.written,
+    record { devices = devices; are_lines = is.are_lines; traced = is.traced },
+  )
+  lines_behind (Err e) old between new first is = tt
 
 -- the board of a file that was read, which no other is
 alone_in : (path : Bor (List ℕ)) (file : FileValue) (board : List Line) → ((other : List Line) → Spells file.bytes other → other ≡ board)
@@ -149,9 +204,3 @@ gives_up_with_board Answers paths blames =
     (λ files lacks others answer named is. no_board_program paths.board is.board_files is.board is.is_board (IfGiven Answers is.board) files others is.others answer
     is.files_are lacks is.answers)
     blames
-
-pub gives_up_on_board : (Answers : List Line → List Public → Voucher → AnswerValue → Type 0) (paths : BoardFiles) {old new : Journal}
-    → OnlyBlames (HaveNoBoardProgram paths.program.names) (board_program_paths paths) old new
-    → GivesUp (AnswersOnBoard Answers paths) (board_program_paths paths) old new
-gives_up_on_board Answers paths {old} {new} blames =
-    gives_up_with_board (λ lines image publics. AnswersVerdict (Answers lines publics) image publics) paths {old = old} {new = new} blames

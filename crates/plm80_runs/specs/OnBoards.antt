@@ -6,23 +6,25 @@ use Rattle.image80.specs.Image.{Located}
 use Rattle.image80_text.specs.NameText.{labelled_text}
 use Rattle.loader80_board.specs.BoardCounts.{CountsSteps}
 use Rattle.loader80_board.specs.BoardLines.{AreFirstLinesOf, AreLinesOf, IsTraced}
-use Rattle.loader80_board.specs.{BoardSays.IsBoardTranscript, BoardSays.IsRunTranscript, declared.running.BoardOutcome.BoardOutcome}
+use Rattle.loader80_board.specs.{BoardSays.IsRunTranscript, OnBoards.StandsOnBoard, declared.running.BoardOutcome.BoardOutcome}
 use Rattle.loader80_board.specs.BoardStates.{EndsSo}
 use Rattle.loader80_board.specs.BoardTranscript.{board_end_line}
 use Rattle.loader80_board.specs.declared.ended.BoardEnded.{BoardEnded}
 use Rattle.loader80_trace.specs.{Cover.CoversReached, declared.limits.Limits.Limits, declared.limits.Span.Span}
 use Rattle.machine80.specs.World.{World}
-use Rattle.machine80_board.specs.BoardRun.{BoardState, IsReached, board_start}
+use Rattle.machine80_board.specs.BoardRun.{BoardState, DevicesAreData, IsReached, board_start}
 use Rattle.omf_model.specs.declared.symbols.Public.{Public}
 use Rattle.plm80_boards.specs.Boards.{HaveNoBoard, IsBoardRead, WithBoard, board_paths}
 use Rattle.plm80_console.specs.Answer.{AnswerValue, prints}
 use Rattle.plm80_console.specs.Journal.{FileValue, Journal}
-use Rattle.plm80_names.specs.{Arguments.asks_names, Arguments.program_paths, Verdict.AnswersProgram, Verdict.AnswersVerdict, Verdict.HaveNoProgram, Verdict.IsProgramRead}
+use Rattle.plm80_names.specs.{Arguments.asks_names, Arguments.program_paths, Verdict.AnswersProgram, Verdict.AnswersVerdict, Verdict.HaveNoProgram, Verdict.IsAccepted, Verdict.IsProgramRead, Verdict.IsRefusal}
 use Rattle.plm80_runs.specs.{Running.AreLimitsOf, Running.IsSpanOf, Running.named_ending, Status.board_end_status}
 use Rattle.plm80_runs.specs.declared.board_cover.BoardCoverArguments.{BoardCoverArguments}
 use Rattle.plm80_runs.specs.declared.board_files.BoardFiles.{BoardFiles}
 use Rattle.plm80_runs.specs.declared.board_run.BoardRunArguments.{BoardRunArguments}
 use Rattle.plm80_runs.specs.declared.board_trace.BoardTraceArguments.{BoardTraceArguments}
+use Rattle.plm80_runs.specs.declared.runnable.{Judged.Judged, Judged.TheVariants.Refused, Judged.TheVariants.Runs}
+use Rattle.plm80_runs.specs.declared.runnable.{Runnable.Runnable, Runnable.TheVariants.Accepted, Runnable.TheVariants.Followed}
 use Rattle.verify80.specs.Vouched.{Voucher}
 use Rattle.verify80_follow.specs.{declared.fit.Table.Table, Promise.KeepsFollowed, Promise.PromiseOf}
 use Rattle.verify80_states.specs.QuietBoards.{is_quiet}
@@ -55,25 +57,40 @@ abbrev pub AnswersBoard : (Answers : List Line → Located → List Public → A
     AnswerValue → Type 0
 AnswersBoard Answers files = WithBoard (Some files.board) (λ board. AnswersProgram (IfGiven Answers board) (asks_names files.program))
 
--- such an answer of an image that is accepted
-abbrev pub AnswersOnBoard : (Answers : List Line → List Public → Voucher → AnswerValue → Type 0) → BoardFiles → List FileValue →
-    AnswerValue → Type 0
-AnswersOnBoard Answers = AnswersBoard (λ lines image publics. AnswersVerdict (Answers lines publics) image publics)
-
--- ---- run
-
--- The transcript of the program's run on the board is printed, with a name in its last line; it has the program's bytes of stack, and the
--- status is the run's. (That each state of the run keeps the promise is part of `IsBoardTranscript`.)
-pub record TranscribesRun (lines : List Line) (limits : Limits) (publics : List Public) (program : Voucher) (answer : AnswerValue) : Type 0 where
-  pub outcome : BoardOutcome
-  pub text : List ℕ
-  pub stack : outcome.stack_bytes ≡ program.stack_bytes
-  pub transcript : IsBoardTranscript lines program.image limits.outputs limits.steps outcome text
-  pub answer_is : answer ≡ prints (named_ending program.image.regions.code publics text) (board_end_status outcome.end)
+-- ---- programs that run
 
 -- a table that follows a program from SP at the stack's top, on every board, keeps its promise
 abbrev pub KeepsTable : Located → Table → Type 0
 KeepsTable image table = PromiseOf false image (is_quiet image.regions []) true table.ways.items table.listed table.bytes
+
+-- the verifier refuses the image, and such a table follows its program
+pub record IsFollowed (image : Located) (publics : List Public) (same : Located) (table : Table) : Type 0 where
+  pub image_is : same ≡ image
+  pub line : List ℕ
+  pub refused : IsRefusal image publics line
+  pub promise : KeepsTable image table
+
+-- the verifier accepts the image, or that
+abbrev pub HasGround : Located → List Public → Runnable → Type 0
+HasGround image publics (Accepted program) = IsAccepted image program
+HasGround image publics (Followed same table) = IsFollowed image publics same table
+
+abbrev pub image_of : Runnable → Located
+image_of (Accepted program) = program.image
+image_of (Followed image table) = image
+
+-- at most so many bytes of stack are needed
+abbrev pub stack_bytes_of : Runnable → ℕ
+stack_bytes_of (Accepted program) = program.stack_bytes
+stack_bytes_of (Followed image table) = table.bytes
+
+-- what is printed before all else: how many states follow the program, if a table does
+abbrev pub states_line : Table → List ℕ
+states_line table = codes "FOLLOWED " ++ (decimal (length table.states.items) ++ codes " STATES\n")
+
+abbrev pub first_line : Runnable → List ℕ
+first_line (Accepted program) = []
+first_line (Followed image table) = states_line table
 
 -- a state's machine, with some open calls, is a world that keeps what is promised of a program that this table follows
 pub record StandsFollowed (image : Located) (table : Table) (s : BoardState) : Type 0 where
@@ -81,77 +98,114 @@ pub record StandsFollowed (image : Located) (table : Table) (s : BoardState) : T
   pub same : world.machine ≡ s.machine
   pub keeps : KeepsFollowed image false table.bytes table.ways.items table.listed world
 
--- how many states follow a program
-abbrev pub states_line : Table → List ℕ
-states_line table = codes "FOLLOWED " ++ (decimal (length table.states.items) ++ codes " STATES\n")
+-- what is promised of a state
+abbrev pub KeepsPromise : Runnable → BoardState → Type 0
+KeepsPromise (Accepted program) s = StandsOnBoard program.image program.stack_bytes s
+KeepsPromise (Followed image table) s = StandsFollowed image table s
 
--- The same of a program that a table follows: behind a line that says so, with the table's bytes of stack. Each state of the run keeps
--- what is promised of it.
-pub record TranscribesFollowed (lines : List Line) (limits : Limits) (publics : List Public) (image : Located) (answer : AnswerValue) : Type 0 where
-  pub table : Table
+-- each state of each of its runs among devices in its data keeps that
+abbrev pub RunsKeepPromise : Runnable → Type 0
+RunsKeepPromise program = (lines : List Line) → DevicesAreData lines (image_of program).regions → (most steps : ℕ) (s : BoardState) →
+    IsReached lines (image_of program).regions most (board_start (image_of program)) steps s → KeepsPromise program s
+
+-- a program of this image that runs
+pub record IsRunnable (image : Located) (publics : List Public) (program : Runnable) : Type 0 where
+  pub ground : HasGround image publics program
+  pub promise : RunsKeepPromise program
+
+-- A program that runs has such an answer; of another one the line of its refusal is printed alone, and the status is 1.
+pub data AnswersRunnable (Answers : Runnable → AnswerValue → Type 0) (image : Located) (publics : List Public) (answer : AnswerValue) : Type 0 where
+  runs : (program : Runnable) → IsRunnable image publics program → Answers program answer → AnswersRunnable Answers image publics answer
+  refused : (line : List ℕ) → IsRefusal image publics line → answer ≡ prints line 1 → AnswersRunnable Answers image publics answer
+
+-- what is known of an image that was judged
+abbrev pub IsJudged : Located → List Public → Judged → Type 0
+IsJudged image publics (Runs program) = IsRunnable image publics program
+IsJudged image publics (Refused line) = IsRefusal image publics line.items
+
+-- ---- run
+
+-- The transcript of the program's run on the board is printed behind its first line, with a name in its last one; it has the program's
+-- bytes of stack, and the status is the run's.
+pub record TranscribesRun (limits : Limits) (lines : List Line) (publics : List Public) (program : Runnable) (answer : AnswerValue) : Type 0 where
   pub outcome : BoardOutcome
   pub text : List ℕ
-  pub stack : outcome.stack_bytes ≡ table.bytes
-  pub transcript : IsRunTranscript lines image limits.outputs limits.steps outcome text
-  pub promise : (steps : ℕ) (s : BoardState) → IsReached lines image.regions limits.outputs (board_start image) steps s →
-      StandsFollowed image table s
-  pub answer_is : answer ≡ prints (states_line table ++ named_ending image.regions.code publics text) (board_end_status outcome.end)
+  pub stack : outcome.stack_bytes ≡ stack_bytes_of program
+  pub transcript : IsRunTranscript lines (image_of program) limits.outputs limits.steps outcome text
+  pub answer_is : answer ≡ prints (first_line program ++ named_ending (image_of program).regions.code publics text) (board_end_status outcome.end)
 
--- a program that is accepted runs, and one that is refused runs if a table follows it; else its refusal is printed
-pub data AnswersBoardRun (lines : List Line) (limits : Limits) (image : Located) (publics : List Public) (answer : AnswerValue) : Type 0 where
-  verdict : AnswersVerdict (TranscribesRun lines limits publics) image publics answer → AnswersBoardRun lines limits image publics answer
-  followed : TranscribesFollowed lines limits publics image answer → AnswersBoardRun lines limits image publics answer
+abbrev pub TranscribesImage : Limits → List Line → Located → List Public → AnswerValue → Type 0
+TranscribesImage limits lines image publics = AnswersRunnable (TranscribesRun limits lines publics) image publics
 
 pub record RunsOnBoard (arguments : BoardRunArguments) (files : List FileValue) (answer : AnswerValue) : Type 0 where
   pub limits : Limits
   pub are_limits : AreLimitsOf arguments.limits limits
-  pub answers : AnswersBoard (λ lines. AnswersBoardRun lines limits) arguments.files files answer
+  pub answers : AnswersBoard (TranscribesImage limits) arguments.files files answer
 
 -- ---- trace
 
 -- how a run ended: its last line with a name, and its exit status
-abbrev pub board_ending : Voucher → List Public → BoardEnded → AnswerValue
-board_ending program publics ended =
-    prints (named_ending program.image.regions.code publics (board_end_line ended.end ended.at ended.steps)) (board_end_status ended.end)
+abbrev pub board_ending : Located → List Public → BoardEnded → AnswerValue
+board_ending image publics ended =
+    prints (named_ending image.regions.code publics (board_end_line ended.end ended.at ended.steps)) (board_end_status ended.end)
 
 -- what is printed behind the lines of a run: its last line, if they reached it; else nothing, and the status is 0
-abbrev pub board_trace_ending : Voucher → List Public → Option BoardEnded → AnswerValue
-board_trace_ending program publics None = prints [] 0
-board_trace_ending program publics (Some ended) = board_ending program publics ended
+abbrev pub board_trace_ending : Located → List Public → Option BoardEnded → AnswerValue
+board_trace_ending image publics None = prints [] 0
+board_trace_ending image publics (Some ended) = board_ending image publics ended
 
--- the lines are printed, and behind them how the run ended, if they reached that
-pub record TracesOnBoard (lines : List Line) (limits : Limits) (span : Span) (publics : List Public) (program : Voucher) (answer : AnswerValue) : Type 0 where
+-- a text is the lines of a run among devices in data, which ended so if they reached that
+pub record TracesLines (limits : Limits) (span : Span) (lines : List Line) (publics : List Public) (image : Located) (text : List ℕ)
+    (ended : Option BoardEnded) : Type 0 where
+  pub devices : DevicesAreData lines image.regions
+  pub are_lines : AreLinesOf lines image.regions (board_start image) limits span publics true text
+  pub traced : IsTraced lines image.regions (board_start image) limits span ended
+
+-- the program's first line and the lines of its run are printed, and behind them how the run ended, if they reached that
+pub record TracesOnBoard (limits : Limits) (span : Span) (lines : List Line) (publics : List Public) (program : Runnable) (answer : AnswerValue) : Type 0 where
   pub text : List ℕ
-  pub are_lines : AreLinesOf lines program.image.regions (board_start program.image) limits span publics true text
   pub ended : Option BoardEnded
-  pub traced : IsTraced lines program.image.regions (board_start program.image) limits span ended
-  pub answer_is : answer ≡ record (board_trace_ending program publics ended) { first = text }
+  pub traces : TracesLines limits span lines publics (image_of program) text ended
+  pub answer_is : answer ≡ record (board_trace_ending (image_of program) publics ended) { first = first_line program ++ text }
 
--- what a trace is that is given up: that, or the lines, as far as they came
-pub data TracesOnBoardInPart (lines : List Line) (limits : Limits) (span : Span) (publics : List Public) (program : Voucher) (answer : AnswerValue) : Type 0 where
-  whole : TracesOnBoard lines limits span publics program answer → TracesOnBoardInPart lines limits span publics program answer
-  first : (text : List ℕ) → AreFirstLinesOf lines program.image.regions (board_start program.image) limits span publics true text →
-      answer ≡ prints text 0 → TracesOnBoardInPart lines limits span publics program answer
+-- a text is the program's first line and the lines of a span's first states
+pub record BeginsTrace (limits : Limits) (span : Span) (lines : List Line) (publics : List Public) (program : Runnable) (begun : List ℕ) : Type 0 where
+  pub devices : DevicesAreData lines (image_of program).regions
+  pub text : List ℕ
+  pub are_lines : AreFirstLinesOf lines (image_of program).regions (board_start (image_of program)) limits span publics true text
+  pub is : begun ≡ first_line program ++ text
 
-pub record TracesBoardBy (Traces : List Line → Limits → Span → List Public → Voucher → AnswerValue → Type 0) (arguments : BoardTraceArguments)
+-- what a trace is that is given up: that, or such a text alone
+pub data TracesOnBoardInPart (limits : Limits) (span : Span) (lines : List Line) (publics : List Public) (program : Runnable) (answer : AnswerValue) : Type 0 where
+  whole : TracesOnBoard limits span lines publics program answer → TracesOnBoardInPart limits span lines publics program answer
+  first : (text : List ℕ) → BeginsTrace limits span lines publics program text → answer ≡ prints text 0 →
+      TracesOnBoardInPart limits span lines publics program answer
+
+abbrev pub TracesImage : Limits → Span → List Line → Located → List Public → AnswerValue → Type 0
+TracesImage limits span lines image publics = AnswersRunnable (TracesOnBoard limits span lines publics) image publics
+
+abbrev pub TracesImageInPart : Limits → Span → List Line → Located → List Public → AnswerValue → Type 0
+TracesImageInPart limits span lines image publics = AnswersRunnable (TracesOnBoardInPart limits span lines publics) image publics
+
+pub record TracesBoardBy (Traces : Limits → Span → List Line → Located → List Public → AnswerValue → Type 0) (arguments : BoardTraceArguments)
     (files : List FileValue) (answer : AnswerValue) : Type 0 where
   pub limits : Limits
   pub are_limits : AreLimitsOf arguments.limits limits
   pub span : Span
   pub is_span : IsSpanOf arguments.span span
-  pub answers : AnswersOnBoard (λ lines. Traces lines limits span) arguments.files files answer
+  pub answers : AnswersBoard (Traces limits span) arguments.files files answer
 
 abbrev pub TracesBoardFiles : BoardTraceArguments → List FileValue → AnswerValue → Type 0
-TracesBoardFiles = TracesBoardBy TracesOnBoard
+TracesBoardFiles = TracesBoardBy TracesImage
 
 -- what is given up of it
 abbrev pub TracesBoardFilesInPart : BoardTraceArguments → List FileValue → AnswerValue → Type 0
-TracesBoardFilesInPart = TracesBoardBy TracesOnBoardInPart
+TracesBoardFilesInPart = TracesBoardBy TracesImageInPart
 
 -- ---- cover
 
--- the instructions to which the program may come, with how often its run on the board began each; the status is the run's
-pub record CoversOnBoard (lines : List Line) (limits : Limits) (publics : List Public) (program : Voucher) (answer : AnswerValue) : Type 0 where
+-- the instructions to which an accepted program may come, with how often its run on the board began each; the status is the run's
+pub record CoversOnBoard (limits : Limits) (lines : List Line) (publics : List Public) (program : Voucher) (answer : AnswerValue) : Type 0 where
   pub ended : BoardEnded
   pub run : EndsSo lines program.image.regions (board_start program.image) limits ended
   pub counts : List ℕ
@@ -160,7 +214,10 @@ pub record CoversOnBoard (lines : List Line) (limits : Limits) (publics : List P
   pub covers : CoversReached program.image counts listed
   pub answer_is : answer ≡ prints (labelled_text publics false listed) (board_end_status ended.end)
 
+abbrev pub CoversImage : Limits → List Line → Located → List Public → AnswerValue → Type 0
+CoversImage limits lines image publics = AnswersVerdict (CoversOnBoard limits lines publics) image publics
+
 pub record CoversBoardFiles (arguments : BoardCoverArguments) (files : List FileValue) (answer : AnswerValue) : Type 0 where
   pub limits : Limits
   pub are_limits : AreLimitsOf arguments.limits limits
-  pub answers : AnswersOnBoard (λ lines. CoversOnBoard lines limits) arguments.files files answer
+  pub answers : AnswersBoard (CoversImage limits) arguments.files files answer

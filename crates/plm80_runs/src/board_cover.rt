@@ -2,18 +2,16 @@
 
 ghost use Rattle.std.specs.Prelude.{◌≡◌, None, IfErr, IfNone, IfOk, IfSome, codes};
 ghost use Rattle.clap.specs.Matches.{first_value, found_of};
-ghost use Rattle.plm80_console.specs.Answer.{Gives, GivesUp, IsAnswered, IsGivenUp};
-ghost use Rattle.plm80_names.specs.Verdict.{AnswersVerdict};
+ghost use Rattle.plm80_console.specs.Answer.{Gives, GivesUp};
 ghost use Rattle.plm80_runs.specs.Arguments.{AreBoardCoverArguments};
-ghost use Rattle.plm80_runs.specs.OnBoards.{AnswersOnBoard, CoversBoardFiles, CoversOnBoard, board_program_paths};
+ghost use Rattle.plm80_runs.specs.OnBoards.{CoversImage, CoversBoardFiles, CoversOnBoard, board_program_paths};
 
 use crate::board_files::{BoardFiles, BoardProgram};
-use crate::board_run::report_run;
+use crate::on_board::{BoardCommand, Ran, print_on_board, print_ran};
 use crate::run_arguments::LimitTexts;
 use crate::status::{BoardEndWords, board_status_of};
 use board80::Board;
 use clap::ArgMatches;
-use image80::Image;
 use loader80::Vouched;
 use loader80_board::{BoardRunFault, count_board_steps};
 use loader80_trace::{Limits, cover};
@@ -54,77 +52,45 @@ pub fn cover_among_devices<C: Console>(
         (C.journal console.old) (C.journal console.new)) }
 {
     let limits = arguments.limits.numbers(console)?;
-    let given = cover_within(console, arguments.files, limits);
+    let given = print_on_board(console, arguments.files, Cover { limits });
     arguments.files.program.explain(console, &given);
     given
 }
 
-/// Reads a board and a program, runs the program on the board within these limits, prints its code with the counts of the run, or its
-/// refusal, and returns the exit status.
-fn cover_within<C: Console>(
-    console: &mut C,
-    files: BoardFiles<'_>,
+/// The code with the counts of a run within these limits.
+#[derive(Clone, Copy)]
+struct Cover {
     limits: Limits,
-) -> Result<u8, Reported>
-    ensures done { IfOk result (Gives (AnswersOnBoard (λ lines. CoversOnBoard lines limits) files.entry) (board_program_paths files.entry)
-        (C.journal console.old) (C.journal console.new)) }
-    ensures fault { IfErr result (λ _. GivesUp (AnswersOnBoard (λ lines. CoversOnBoard lines limits) files.entry)
-        (board_program_paths files.entry) (C.journal console.old) (C.journal console.new)) }
+}
+
+impl BoardCommand for Cover {
+    ghost answers = { λ self. CoversImage self.limits };
+
+    ghost begins = { λ self. CoversImage self.limits };
+
+    fn print<C: Console>(
+        self,
+        console: &mut C,
+        program: BoardProgram,
+        path: &str,
+    ) -> Result<u8, Reported> {
+        let ran = cover_judged(console.alloc(), program, self.limits);
+        print_ran(console, ran, path)
+    }
+}
+
+/// What `cover --board` answers: the program's code with the counts of its run; the line of its refusal if the verifier refuses it.
+fn cover_judged(alloc: Global, program: BoardProgram, limits: Limits) -> Result<Ran, BoardRunFault>
+    ensures { IfOk result (λ ran. CoversImage limits program.board program.image program.names ran.answer) }
 {
     let BoardProgram {
         board,
         image,
         names,
-    } = files.read(console)?;
-    print_counts(console, image, &names, files.board, &board, limits)
-}
-
-/// What `cover` answers, and words on how the run ended.
-#[derive(Drop)]
-struct Covered {
-    answer: Answer<'static>,
-    /// Words on how the run ended; `None` if it halted, and of a refusal.
-    end: Option<BoardEndWords>,
-}
-
-/// Prints the code of `image` with the counts of its run on a board, whose text has this path, or the image's refusal, says how the run
-/// ended, and returns the exit status.
-fn print_counts<C: Console>(
-    console: &mut C,
-    image: Image,
-    names: &Names,
-    path: &str,
-    board: &Board,
-    limits: Limits,
-) -> Result<u8, Reported>
-    ensures done { IfOk result (IsAnswered (AnswersVerdict (CoversOnBoard board.now limits names.now) image names.now)
-        (C.journal console.old) (C.journal console.new)) }
-    ensures fault { IfErr result (λ _. IsGivenUp (AnswersVerdict (CoversOnBoard board.now limits names.now) image names.now)
-        (C.journal console.old) (C.journal console.new)) }
-{
-    match judged(console.alloc(), image, names, board, limits) {
-        Ok(Covered { answer, end }) => {
-            let status = console.give(answer)?;
-            console.explain_any(end);
-            Ok(status)
-        }
-        Err(fault) => Err(report_run(console, path, fault)),
-    }
-}
-
-/// What `cover --board` answers: the code of `image` with the counts of its run; the line of its refusal if the verifier refuses it.
-fn judged(
-    alloc: Global,
-    image: Image,
-    names: &Names,
-    board: &Board,
-    limits: Limits,
-) -> Result<Covered, BoardRunFault>
-    ensures { IfOk result (λ covered. AnswersVerdict (CoversOnBoard board.now limits names.now) image names.now covered.answer) }
-{
-    match judge(alloc, image, names)? {
-        Verdict::Accepted(vouched) => counted(alloc, &vouched, names, board, limits),
-        Verdict::Refused(line) => Ok(Covered {
+    } = program;
+    match judge(alloc, image, &names)? {
+        Verdict::Accepted(vouched) => cover_run(alloc, &vouched, &names, &board, limits),
+        Verdict::Refused(line) => Ok(Ran {
             answer: Answer::prints(line, 1),
             end: None,
         }),
@@ -132,20 +98,20 @@ fn judged(
 }
 
 /// The code of a program, with how often its run on a board begins each instruction, and how the run ends.
-fn counted(
+fn cover_run(
     alloc: Global,
     vouched: &Vouched,
     names: &Names,
     board: &Board,
     limits: Limits,
-) -> Result<Covered, BoardRunFault>
-    ensures { IfOk result (λ covered. CoversOnBoard board.now limits names.now vouched.now covered.answer) }
+) -> Result<Ran, BoardRunFault>
+    ensures { IfOk result (λ ran. CoversOnBoard limits board.now names.now vouched.now ran.answer) }
 {
-    let counts = count_board_steps(alloc, vouched, board, limits)?;
+    let counts = count_board_steps(alloc, vouched.image(), board, limits)?;
     let text = cover(alloc, vouched, &counts.steps)?;
     let text = names.label(alloc, false, text)?;
     let ended = counts.ended;
-    Ok(Covered {
+    Ok(Ran {
         answer: Answer::prints(text, board_status_of(ended.end)),
         end: BoardEndWords::of(ended.end, ended.at),
     })

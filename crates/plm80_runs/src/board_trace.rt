@@ -1,27 +1,30 @@
 //! `plm80 trace --board`: the instructions of a located program's run among the devices of a board.
 
-ghost use Rattle.std.specs.Prelude.{◌≡◌, None, IfErr, IfNone, IfOk, IfSome, codes};
+ghost use Rattle.std.specs.Prelude.{◌≡◌, ◌<◌, ◌++◌, ℕ, List, None, IfErr, IfNone, IfOk, IfSome, OnErr, OnOk, codes};
+ghost use Rattle.std.specs.Io.KnownBytes.{Appends};
 ghost use Rattle.clap.specs.Matches.{first_value, found_of};
+ghost use Rattle.loader80_trace.specs.Traces.{AppendsFront};
 ghost use Rattle.plm80_console.specs.{Answer.Gives, Answer.GivesUp, Answer.IsAnswered, Answer.IsGiven, Answer.IsGivenUp, Journal.and_reported};
-ghost use Rattle.plm80_names.specs.Verdict.{AnswersVerdict};
+ghost use Rattle.plm80_names.specs.Fronts.{LeavesFront};
 ghost use Rattle.plm80_runs.specs.Arguments.{AreBoardTraceArguments};
-ghost use Rattle.plm80_runs.specs.OnBoards.{AnswersOnBoard, TracesBoardFiles, TracesBoardFilesInPart, TracesOnBoard, TracesOnBoardInPart, board_program_paths, board_trace_ending};
+ghost use Rattle.plm80_runs.specs.OnBoards.{BeginsTrace, TracesImage, TracesBoardFiles, TracesBoardFilesInPart, TracesImageInPart, TracesLines, TracesOnBoard, TracesOnBoardInPart, board_program_paths, board_trace_ending, first_line, image_of};
 
-use crate::board_files::BoardFiles;
-use crate::board_run::report_run;
+use crate::board_files::{BoardFiles, BoardProgram};
 use crate::endings::board_trace_ending_of;
+use crate::on_board::{BoardCommand, print_on_board, report_run};
 use crate::run_arguments::{LimitTexts, SpanTexts};
+use crate::runnable::{Judged, Runnable, judge_run};
 use crate::status::BoardEndWords;
 use board80::Board;
 use clap::ArgMatches;
-use image80::Image;
-use loader80::Vouched;
 use loader80_board::{BoardEnded, BoardRunFault, write_board_lines};
-use loader80_trace::{Limits, LineForm, Span};
+use loader80_trace::{Limits, LineForm, Span, TraceFault};
+use machine80_board::misplaced_device;
 use plm80_console::{Answer, Console, Reported};
-use plm80_names::{Names, Verdict, judge};
-use std::alloc::AllocError;
+use plm80_names::Names;
+use std::alloc::{AllocError, Global};
 use std::io::ErrorKind;
+use stream80::{Sink, write_all};
 
 /// The arguments of the command `trace` with a board in place of inputs.
 #[derive(Clone, Copy)]
@@ -46,17 +49,8 @@ impl<'a> BoardTraceArguments<'a> {
     }
 }
 
-/// The trace of a run that is asked for: how long it may last, and which instructions are printed.
-#[derive(Clone, Copy)]
-struct Asked<'a> {
-    limits: Limits,
-    span: Span,
-    /// The path of the board's text.
-    board: &'a str,
-}
-
-/// Does `trace --board`: runs the image among the devices of the board and prints the instructions that are asked for, or its refusal, and
-/// returns the exit status.
+/// Does `trace --board`: runs the image among the devices of the board if the verifier accepts it or a table follows it, prints the
+/// instructions that are asked for, or the refusal of the image, and returns the exit status.
 pub fn trace_among_devices<C: Console>(
     console: &mut C,
     arguments: BoardTraceArguments<'_>,
@@ -68,91 +62,104 @@ pub fn trace_among_devices<C: Console>(
 {
     let limits = arguments.limits.numbers(console)?;
     let span = arguments.span.numbers(console)?;
-    let given = trace_within(console, arguments.files, limits, span);
+    let given = print_on_board(console, arguments.files, Trace { limits, span });
     arguments.files.program.explain(console, &given);
     given
 }
 
-/// Reads a board and a program, runs the program on the board within `limits`, prints the instructions of `span`, or the program's refusal,
-/// and returns the exit status.
-fn trace_within<C: Console>(
-    console: &mut C,
-    files: BoardFiles<'_>,
+/// The instructions of this span of a run within these limits.
+#[derive(Clone, Copy)]
+struct Trace {
     limits: Limits,
     span: Span,
-) -> Result<u8, Reported>
-    ensures done { IfOk result (Gives (AnswersOnBoard (λ lines. TracesOnBoard lines limits span) files.entry) (board_program_paths files.entry)
-        (C.journal console.old) (C.journal console.new)) }
-    ensures fault { IfErr result (λ _. GivesUp (AnswersOnBoard (λ lines. TracesOnBoardInPart lines limits span) files.entry)
-        (board_program_paths files.entry) (C.journal console.old) (C.journal console.new)) }
-{
-    let program = files.read(console)?;
-    let asked = Asked {
-        limits,
-        span,
-        board: files.board,
-    };
-    print_verdict(
-        console,
-        program.image,
-        &program.names,
-        &program.board,
-        asked,
-    )
 }
 
-/// Prints the instructions of the run of `image` on a board, or its refusal, and returns the exit status.
-fn print_verdict<C: Console>(
-    console: &mut C,
-    image: Image,
-    names: &Names,
-    board: &Board,
-    asked: Asked<'_>,
-) -> Result<u8, Reported>
-    ensures done { IfOk result (IsAnswered (AnswersVerdict (TracesOnBoard board.now asked.entry.limits asked.entry.span names.now) image names.now)
-        (C.journal console.old) (C.journal console.new)) }
-    ensures fault { IfErr result (λ _. IsGivenUp (AnswersVerdict (TracesOnBoardInPart board.now asked.entry.limits asked.entry.span names.now) image names.now)
-        (C.journal console.old) (C.journal console.new)) }
-{
-    match judge(console.alloc(), image, names) {
-        Ok(Verdict::Accepted(vouched)) => print_trace(console, &vouched, names, board, asked),
-        Ok(Verdict::Refused(line)) => console.give(Answer::prints(line, 1)),
-        Err(AllocError) => Err(console.report_memory()),
+impl BoardCommand for Trace {
+    ghost answers = { λ self. TracesImage self.limits self.span };
+
+    ghost begins = { λ self. TracesImageInPart self.limits self.span };
+
+    fn print<C: Console>(
+        self,
+        console: &mut C,
+        program: BoardProgram,
+        path: &str,
+    ) -> Result<u8, Reported> {
+        let BoardProgram {
+            board,
+            image,
+            names,
+        } = program;
+        match judge_run(console.alloc(), image, &names) {
+            Ok(Judged::Runs(program)) => print_trace(console, &program, &names, &board, path, self),
+            Ok(Judged::Refused(line)) => console.give(Answer::prints(line, 1)),
+            Err(AllocError) => Err(console.report_memory()),
+        }
     }
 }
 
-/// Prints the instructions of a program's run on a board, and how the run ended if they reach that, and returns the exit status.
+/// Prints the instructions of a program's run on a board, whose text has this path, behind the program's first line, and how the run ended
+/// if they reach that, and returns the exit status.
 fn print_trace<C: Console>(
     console: &mut C,
-    vouched: &Vouched,
+    program: &Runnable,
     names: &Names,
     board: &Board,
-    asked: Asked<'_>,
+    path: &str,
+    trace: Trace,
 ) -> Result<u8, Reported>
-    ensures done { IfOk result (IsAnswered (TracesOnBoard board.now asked.entry.limits asked.entry.span names.now vouched.now)
+    ensures done { IfOk result (IsAnswered (TracesOnBoard trace.limits trace.span board.now names.now program.now)
         (C.journal console.old) (C.journal console.new)) }
-    ensures fault { IfErr result (λ _. IsGivenUp (TracesOnBoardInPart board.now asked.entry.limits asked.entry.span names.now vouched.now)
+    ensures fault { IfErr result (λ _. IsGivenUp (TracesOnBoardInPart trace.limits trace.span board.now names.now program.now)
         (C.journal console.old) (C.journal console.new)) }
 {
+    let mut output = console.output();
+    let written = write_trace(console.alloc(), program, names, board, trace, &mut output);
+    let failure = console.take_back(output);
+    match written {
+        Ok(ended) => end_trace(console, program, &ended, names),
+        Err(fault) => Err(report_lines(console, path, fault, failure)),
+    }
+}
+
+/// Writes the first line of a program, if it has one, and behind it the instructions of its run on a board. Returns how the run ended if
+/// they reach that. Nothing is written if a device doesn't lie in the program's data.
+fn write_trace<K: Sink>(
+    alloc: Global,
+    program: &Runnable,
+    names: &Names,
+    board: &Board,
+    trace: Trace,
+    out: &mut K,
+) -> Result<Option<BoardEnded>, BoardRunFault>
+    requires { K.failed out.old < u64.MAX }
+    ensures written { IfOk result (λ ended. (text : List ℕ) × Appends (K.written out.old) (K.written out.new) (first_line program.now ++ text)
+        × TracesLines trace.limits trace.span board.now names.now (image_of program.now) text ended) }
+    ensures front { OnErr result (LeavesFront (BeginsTrace trace.limits trace.span board.now names.now program.now)
+        (K.written out.old) (K.written out.new)) }
+{
+    let image = program.image();
+    if let Some(number) = misplaced_device(board, &image.regions) {
+        return Err(BoardRunFault::DeviceOutsideData(number));
+    }
+    write_first(alloc, program, out)?;
     let form = LineForm {
         numbered: true,
         publics: names.publics(),
     };
-    let mut output = console.output();
-    let written = write_board_lines(
-        console.alloc(),
-        vouched,
-        board,
-        asked.limits,
-        asked.span,
-        form,
-        &mut output,
-    );
-    let failure = console.take_back(output);
-    match written {
-        Ok(ended) => end_trace(console, vouched, &ended, names),
-        Err(fault) => Err(report_lines(console, asked.board, fault, failure)),
-    }
+    write_board_lines(alloc, image, board, trace.limits, trace.span, form, out)
+}
+
+/// Writes the first line of a program, if it has one.
+fn write_first<K: Sink>(alloc: Global, program: &Runnable, out: &mut K) -> Result<(), TraceFault>
+    requires { K.failed out.old < u64.MAX }
+    ensures written { OnOk result (Appends (K.written out.old) (K.written out.new) (first_line program.now)) }
+    ensures front { OnErr result (AppendsFront (K.written out.old) (K.written out.new) (first_line program.now)) }
+    ensures failures { OnOk result (K.failed out.new ≡ K.failed out.old) }
+{
+    let first = program.first_line(alloc)?;
+    write_all(out, &first)?;
+    Ok(())
 }
 
 /// Reports why the instructions of a run on the board whose text has this path weren't all printed.
@@ -173,14 +180,14 @@ fn report_lines<C: Console>(
 /// Prints how a run ended, if its lines reached that, and returns the exit status: 0 if they didn't.
 fn end_trace<C: Console>(
     console: &mut C,
-    vouched: &Vouched,
+    program: &Runnable,
     ended: &Option<BoardEnded>,
     names: &Names,
 ) -> Result<u8, Reported>
-    ensures given { IfOk result (IsGiven (board_trace_ending vouched.now names.now ended.now) (C.journal console.old) (C.journal console.new)) }
-    ensures fault { IfErr result (λ _. IsGivenUp (λ answer. answer ≡ board_trace_ending vouched.now names.now ended.now) (C.journal console.old) (C.journal console.new)) }
+    ensures given { IfOk result (IsGiven (board_trace_ending (image_of program.now) names.now ended.now) (C.journal console.old) (C.journal console.new)) }
+    ensures fault { IfErr result (λ _. IsGivenUp (λ answer. answer ≡ board_trace_ending (image_of program.now) names.now ended.now) (C.journal console.old) (C.journal console.new)) }
 {
-    let Ok(ending) = board_trace_ending_of(console.alloc(), vouched, ended, names) else {
+    let Ok(ending) = board_trace_ending_of(console.alloc(), program.image(), ended, names) else {
         return Err(console.report_memory());
     };
     let status = console.give(ending)?;

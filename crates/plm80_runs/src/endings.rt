@@ -5,7 +5,7 @@ ghost use Rattle.plm80_runs.specs.OnBoards.{board_ending, board_trace_ending};
 ghost use Rattle.plm80_runs.specs.Running.{ending, named_ending, trace_ending};
 
 use crate::status::{board_status_of, status_of};
-use image80::Range;
+use image80::{Image, Range};
 use loader80::{Ended, Vouched, ending_text};
 use loader80_board::{BoardEnded, board_ending_text};
 use plm80_console::Answer;
@@ -58,28 +58,28 @@ pub fn trace_ending_of(
 /// What is printed of how a run on a board ended: its last line, with a name for the address in it, and the exit status.
 pub fn board_ending_of(
     alloc: Global,
-    vouched: &Vouched,
+    image: &Image,
     ended: &BoardEnded,
     names: &Names,
 ) -> Result<Answer<'static>, AllocError>
-    ensures { IfOk result (λ answer. answer ≡ board_ending vouched.now names.now ended.now) }
+    ensures { IfOk result (λ answer. answer ≡ board_ending image.now names.now ended.now) }
 {
     let text = board_ending_text(alloc, ended.end, ended.at, ended.steps)?.into_bytes();
-    let text = name_ending(alloc, vouched.image().regions.code(), text, names)?;
+    let text = name_ending(alloc, image.regions.code(), text, names)?;
     Ok(Answer::prints(text, board_status_of(ended.end)))
 }
 
 /// What `trace --board` prints behind the lines of a run: how the run ended; if the lines didn't reach that, nothing with status 0.
 pub fn board_trace_ending_of(
     alloc: Global,
-    vouched: &Vouched,
+    image: &Image,
     ended: &Option<BoardEnded>,
     names: &Names,
 ) -> Result<Answer<'static>, AllocError>
-    ensures { IfOk result (λ answer. answer ≡ board_trace_ending vouched.now names.now ended.now) }
+    ensures { IfOk result (λ answer. answer ≡ board_trace_ending image.now names.now ended.now) }
 {
     match ended {
-        Some(ended) => board_ending_of(alloc, vouched, ended, names),
+        Some(ended) => board_ending_of(alloc, image, ended, names),
         None => Ok(Answer::prints(Vec::new(alloc), 0)),
     }
 }

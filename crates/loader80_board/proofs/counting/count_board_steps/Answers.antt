@@ -1,4 +1,4 @@
-use Rattle.std.proofs.Common.{◌≡◌, ◌∙◌, List, ap, subst, sym}
+use Rattle.std.proofs.Common.{◌≡◌, List, ap, subst, sym}
 use Rattle.image80.specs.Image.{Located}
 use Rattle.image80.specs.Regions.{Areas}
 use Rattle.board80.specs.declared.line.Line.{Line}
@@ -19,9 +19,9 @@ count_each-requires-clause-zeros c = c.in_ok-steps.ensures.items_if_clones_equal
 
 pub returns : goal.returns
 returns c =
-    let image : Located = c.args.vouched.now.image in
-    let regions : c.image.inside.regions ≡ image.regions = ap (λ (v : Located). v.regions) (c.image.view_is ∙ c.image-image.ensures.image) in
-    let now : IsNow c.in_ok-lines.lines (board_start image) c.in_ok-running.running = subst (λ (i : Located). IsNow c.in_ok-lines.lines (board_start i) c.in_ok-running.running) c.image-image.ensures.image (c.in_ok-running.ensures.starts c.in_ok-lines.lines) in
+    let image : Located = c.args.image.now in
+    let regions : c.image.inside.regions ≡ image.regions = ap (λ (v : Located). v.regions) c.image.view_is in
+    let now : IsNow c.in_ok-lines.lines (board_start image) c.in_ok-running.running = c.in_ok-running.ensures.starts c.in_ok-lines.lines in
     subst (λ (l : List Line). EndsSo l image.regions (board_start image) c.args.limits c.in_ok-ended.ended × CountsSteps l image.regions c.args.limits.outputs (board_start image) c.in_ok-ended.ended.steps c.count_each.new.counts.items) c.in_ok-lines.ensures
     (subst (λ (r : Areas). EndsSo c.in_ok-lines.lines r (board_start image) c.args.limits c.in_ok-ended.ended × CountsSteps c.in_ok-lines.lines r c.args.limits.outputs (board_start image) c.in_ok-ended.ended.steps c.count_each.new.counts.items) regions
     (c.in_ok-ended.ensures.counted (board_start image) now))

@@ -2,7 +2,7 @@ use Rattle.plm80_console.specs.AnswerLaws.{err_from, gives_more, gives_up_more, 
 use Rattle.plm80_console.specs.Journal.{and_blamed}
 use Rattle.plm80_runs.proofs.ReadLemmas.{same_limits, same_span}
 use Rattle.plm80_runs.proofs.Names.{◌∙◌, ap, subst, Limits, Span}
-use Rattle.plm80_runs.specs.OnBoards.{AnswersOnBoard, TracesBoardFiles, TracesBoardFilesInPart, TracesOnBoard, TracesOnBoardInPart, board_program_paths}
+use Rattle.plm80_runs.specs.OnBoards.{AnswersBoard, TracesBoardFiles, TracesBoardFilesInPart, TracesImage, TracesImageInPart, board_program_paths}
 use Rattle.plm80_runs.proofs.board_trace.trace_among_devices.Goals as goal
 
 pub returns : goal.returns
@@ -12,25 +12,25 @@ returns g c =
     let span = c.in_ok-span.span in
     let old = g.C.Console.journal c.args.console.now in
     let between = g.C.Console.journal c.numbers-2.new.console in
-    let new = g.C.Console.journal c.trace_within-given.new.console in
+    let new = g.C.Console.journal c.print_on_board-given.new.console in
     let same = c.in_ok-span.ensures.unchanged ∙ c.in_ok-limits.ensures.unchanged in
     record {
-      done = gives_more (AnswersOnBoard (λ lines. TracesOnBoard lines limits span) asked.files) (TracesBoardFiles asked) (board_program_paths asked.files)
+      done = gives_more (AnswersBoard (TracesImage limits span) asked.files) (TracesBoardFiles asked) (board_program_paths asked.files)
           old between new
           (λ files answer answers.
           record { limits = limits; are_limits = c.in_ok-limits.ensures.limits; span = span; is_span = c.in_ok-span.ensures.span; answers = answers })
-          same c.trace_within-given.result c.trace_within-given.ensures.done;
-      fault = gives_up_more (AnswersOnBoard (λ lines. TracesOnBoardInPart lines limits span) asked.files) (TracesBoardFilesInPart asked)
+          same c.print_on_board-given.result c.print_on_board-given.ensures.done;
+      fault = gives_up_more (AnswersBoard (TracesImageInPart limits span) asked.files) (TracesBoardFilesInPart asked)
           (board_program_paths asked.files) old between new
           (λ files answer answers.
           record { limits = limits; are_limits = c.in_ok-limits.ensures.limits; span = span; is_span = c.in_ok-span.ensures.span; answers = answers })
           same
           (λ files answer traces.
-          subst (λ (l : Limits). AnswersOnBoard (λ lines. TracesOnBoardInPart lines l span) asked.files files answer)
+          subst (λ (l : Limits). AnswersBoard (TracesImageInPart l span) asked.files files answer)
           (same_limits asked.limits traces.limits limits traces.are_limits c.in_ok-limits.ensures.limits)
-          (subst (λ (s : Span). AnswersOnBoard (λ lines. TracesOnBoardInPart lines traces.limits s) asked.files files answer)
+          (subst (λ (s : Span). AnswersBoard (TracesImageInPart traces.limits s) asked.files files answer)
           (same_span asked.span traces.span span traces.is_span c.in_ok-span.ensures.span) traces.answers))
-          c.trace_within-given.result c.trace_within-given.ensures.fault;
+          c.print_on_board-given.result c.print_on_board-given.ensures.fault;
     }
 
 pub returns-in_err-limits-clause-fault : goal.returns-in_err-limits-clause-fault
