@@ -1,11 +1,12 @@
 use Rattle.plm80_console.specs.AnswerLaws.{err_from}
 use Rattle.std.specs.Prelude.{false, true}
+use Rattle.std.proofs.Common.{rules}
 use Rattle.std.proofs.lemmas.Bool.{false≢true}
 use Rattle.omf_library.specs.Writing.{is_too_large}
 use Rattle.plm80_console.specs.Journal.{OnlyBlames, OnlyBlames.other, OnlyBlames.wrong, and_blamed}
 use Rattle.plm80_files.specs.Wrong.{SpellsNoModules}
 use Rattle.plm80_objects.proofs.FaultLemmas.{all_of_them, no_modules, one_list_of_modules}
-use Rattle.plm80_objects.proofs.Names.{◌≡◌, Bor, ℕ, List, [], ◌++◌, ◌∙◌, ap, append-nil, refl, subst, sym, AreAllRead, Journal, ModuleValue, paths_of}
+use Rattle.plm80_objects.proofs.Names.{◌≡◌, Bor, ℕ, List, [], ◌++◌, ◌∙◌, ap, append-nil, subst, sym, AreAllRead, Journal, ModuleValue, paths_of}
 use Rattle.plm80_objects.proofs.ReadLemmas.{all_read, one_before, texts}
 use Rattle.plm80_objects.specs.Modules.{GivesUpLibrary, GivesUpLibrary.before, GivesUpLibrary.unanswered, GivesUpLibrary.within, library_paths}
 use Rattle.plm80_objects.specs.{Wrong.OfOne, declared.library.LibraryArguments.LibraryArguments}
@@ -41,7 +42,7 @@ pub returns-clause-fault : goal.returns-clause-fault
 returns-clause-fault g c =
     let asked = c.args.arguments.now in
     let read = texts_read c.deref.ensures.value c.in_ok-modules.ensures.read in
-    let too_large = subst (λ (ms : List ModuleValue). is_too_large ms ≡ true) c.deref-2.ensures.value (c.in-Err-TooLarge.ensures.too_large refl) in
+    let too_large = subst (λ (ms : List ModuleValue). is_too_large ms ≡ true) c.deref-2.ensures.value (c.in-Err-TooLarge.ensures.too_large (search rules)) in
     unanswered read.files [] (sym (append-nil (paths_of read.files) ∙ read.paths_are))
     (λ others modules named are fits.
     let same = one_list_of_modules c.one_file_reading.ensures.file (read.files ++ others) read.files modules c.in_ok-modules.modules.items are read.have
