@@ -1,2 +1,3 @@
-pub mod ReadLemmas
+mod FaultLemmas
 mod Names
+mod ReadLemmas

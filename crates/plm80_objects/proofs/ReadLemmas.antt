@@ -4,8 +4,12 @@ use Rattle.plm80_objects.proofs.Names.{arith, get_or, subst, sym, append-nil, ap
 use Rattle.plm80_objects.proofs.Names.{PlacedBytes, chunks_of, AnswerValue, paths_of, FileValue, Journal, and_read, and_read_files}
 use Rattle.plm80_objects.proofs.Names.{file_value, FaultsFollowReading, OnlyReports, RomFile, AreDumpsRead, chunks_from, rom_paths}
 use Rattle.plm80_objects.proofs.Names.{AnswersModules, OfProgram, AreRead, and_reported, take-append-drop}
-use Rattle.plm80_console.specs.Journal.OnlyReports.{read as read_it}
-use Rattle.std.specs.Prelude.{◌≢◌}
+use Rattle.std.specs.Prelude.{◌≢◌, ◌⊎◌}
+use Rattle.std.proofs.Common.{inl, inr}
+use Rattle.plm80_console.specs.AnswerLaws.{more_blamed}
+use Rattle.plm80_console.specs.Journal.{OnlyBlames, and_blamed, OnlyBlames.other, OnlyBlames.wrong, OnlyReports.read as read_it, OnlyReports.unread as nothing_read}
+use Rattle.plm80_files.specs.Wrong.{OfFirst}
+use Rattle.plm80_objects.specs.Wrong.{OfOne}
 use Rattle.rom80.specs.declared.fault.RomFault.{RomFault, TheVariants.PastMemory, TheVariants.EmptyFile, TheVariants.DumpsOverlap, TheVariants.Memory}
 use Rattle.plm80_objects.specs.{Compare.IsDump, RomFaults.IsRefused}
 
@@ -17,10 +21,10 @@ texts ps = map text_of ps
 
 -- ---- files, one after another
 
-read_more : (old : Journal) (files : List FileValue) (path bytes : List ℕ)
-    → and_read (and_read_files old files) path bytes ≡ and_read_files old (files ++ file_value path bytes ∷ [])
-read_more old [] path bytes = refl
-read_more old (file ∷ files) path bytes = read_more (and_read old file.path file.bytes) files path bytes
+read_behind : (old : Journal) (files others : List FileValue)
+    → and_read_files (and_read_files old files) others ≡ and_read_files old (files ++ others)
+read_behind old [] others = refl
+read_behind old (file ∷ files) others = read_behind (and_read old file.path file.bytes) files others
 
 -- none
 pub none_read : {A X : Type 0} (path_of : A → List ℕ) (xs : List A) (old : Journal) (Have : List FileValue → X → Type 0) (read zero : X)
@@ -43,7 +47,7 @@ one_read path_of xs i d old between new Have More bytes before after made below 
           ∙ ap (λ (ps : List (List ℕ)). ps ++ file.path ∷ []) read.paths_are
           ∙ sym (map_more path_of xs i d below);
       have = subst (More (read.files ++ file ∷ [])) (sym is) (more read.files read.paths_are read.have);
-      journal = one ∙ ap (λ (j : Journal). and_read j file.path bytes) read.journal ∙ read_more old read.files file.path bytes;
+      journal = one ∙ ap (λ (j : Journal). and_read j file.path bytes) read.journal ∙ read_behind old read.files (file ∷ []);
     }
 
 -- the paths of files, those that were read before the next one and those behind it
@@ -53,6 +57,46 @@ paths_at {A = A} path_of xs i d below =
     ap (map path_of) (sym (take-append-drop (i + 1) xs) ∙ ap (λ (ys : List A). ys ++ drop (i + 1) xs) (take_more xs i d below)
     ∙ append_assoc (take i xs) (get_or xs i d ∷ []) (drop (i + 1) xs))
     ∙ map-append path_of (take i xs) (get_or xs i d ∷ drop (i + 1) xs)
+
+-- ---- what is wrong with one of files
+
+one_behind : (Wrong : List ℕ → Type 0) (files others : List FileValue) → OfFirst Wrong others → OfOne Wrong (files ++ others)
+one_behind Wrong [] [] w = absurd w
+one_behind Wrong [] (file ∷ others) w = inl w
+one_behind Wrong (file ∷ files) others w = inr (one_behind Wrong files others w)
+
+pub one_before : (Wrong : List ℕ → Type 0) (files others : List FileValue) → OfOne Wrong files → OfOne Wrong (files ++ others)
+one_before Wrong [] others w = absurd w
+one_before Wrong (file ∷ files) others (inl w) = inl w
+one_before Wrong (file ∷ files) others (inr w) = inr (one_before Wrong files others w)
+
+-- nothing, if it is wrong neither with the last nor with one before that
+pub none_of : (Wrong : List ℕ → Type 0) (files : List FileValue) (file : FileValue) → (OfOne Wrong files → ⊥) → (Wrong file.bytes → ⊥)
+    → OfOne Wrong (files ++ file ∷ []) → ⊥
+none_of Wrong [] file before last (inl w) = last w
+none_of Wrong [] file before last (inr w) = w
+none_of Wrong (f ∷ files) file before last (inl w) = before (inl w)
+none_of Wrong (f ∷ files) file before last (inr w) = none_of Wrong files file (λ one. before (inr one)) last w
+
+-- what is wrong with further files, behind files that were read
+pub blamed_behind : (Wrong More : List FileValue → Type 0) {old between new : Journal} {paths further : List (List ℕ)} (files : List FileValue)
+    → paths ≡ paths_of files ++ further → between ≡ and_read_files old files → ((others : List FileValue) → Wrong others → More (files ++ others))
+    → OnlyBlames Wrong further between new → OnlyBlames More paths old new
+blamed_behind Wrong More {old = old} {between = between} {new = new} {paths = paths} {further = further} files are were more blames = of_blames blames
+  where
+    paths_are : (others : List FileValue) (rest : List (List ℕ)) → further ≡ paths_of others ++ rest → paths ≡ paths_of (files ++ others) ++ rest
+    paths_are others rest first =
+        are ∙ ap (λ (ps : List (List ℕ)). paths_of files ++ ps) first ∙ sym (append_assoc (paths_of files) (paths_of others) rest)
+        ∙ ap (λ (ps : List (List ℕ)). ps ++ rest) (sym (map-append (λ (f : FileValue). f.path) files others))
+
+    read_both : (others : List FileValue) → and_read_files between others ≡ and_read_files old (files ++ others)
+    read_both others = ap (λ (j : Journal). and_read_files j others) were ∙ read_behind old files others
+
+    of_blames : OnlyBlames Wrong further between new → OnlyBlames More paths old new
+    of_blames (other (nothing_read is)) = other (read_it files further are (is ∙ ap and_reported were))
+    of_blames (other (read_it others rest first is)) = other (read_it (files ++ others) rest (paths_are others rest first) (is ∙ ap and_reported (read_both others)))
+    of_blames (wrong others rest first w is) =
+        wrong (files ++ others) rest (paths_are others rest first) (more others w) (is ∙ ap and_blamed (read_both others))
 
 module _ {A X : Type 0} (path_of : A → List ℕ) (xs : List A) (i : ℕ) {Have : List FileValue → X → Type 0} {old between new : Journal} {x : X}
     (so_far : AreRead Have (map path_of (take i xs)) old between x) where
@@ -72,6 +116,16 @@ module _ {A X : Type 0} (path_of : A → List ℕ) (xs : List A) (i : ℕ) {Have
       (paths_at path_of xs i d below
       ∙ ap (λ (ps : List (List ℕ)). ps ++ (path_of (get_or xs i d) ∷ map path_of (drop (i + 1) xs))) (sym so_far.paths_are))
       so_far.journal only
+
+  -- what is wrong with the next one is wrong with one of all
+  pub blames_at : (Wrong : List ℕ → Type 0) (d : A) → i < length xs → OnlyBlames (OfFirst Wrong) (path_of (get_or xs i d) ∷ []) between new
+      → OnlyBlames (OfOne Wrong) (map path_of xs) old new
+  blames_at Wrong d below blames =
+      let behind = map path_of (drop (i + 1) xs) in
+      blamed_behind (OfFirst Wrong) (OfOne Wrong) so_far.files
+      (paths_at path_of xs i d below
+      ∙ ap (λ (ps : List (List ℕ)). ps ++ (path_of (get_or xs i d) ∷ behind)) (sym so_far.paths_are))
+      so_far.journal (one_behind Wrong so_far.files) (more_blamed behind blames)
 
 -- a fault behind all files
 pub all_read : {X : Type 0} {Have : List FileValue → X → Type 0} {paths : List (List ℕ)} {old between new : Journal} {x : X}
@@ -118,7 +172,7 @@ refused_dump first bytes Memory no_memory memory is = no_memory refl
 
 -- ---- the one module of a file
 
-alone : (modules : List ModuleValue) (m : ModuleValue) → length modules ≡ 1 → m ≡ slice_index_or modules 0 m → modules ≡ m ∷ []
+pub alone : (modules : List ModuleValue) (m : ModuleValue) → length modules ≡ 1 → m ≡ slice_index_or modules 0 m → modules ≡ m ∷ []
 alone [] m one is = absurd (omega (arith, one))
 alone (n ∷ []) m one is = ap (λ (x : ModuleValue). x ∷ []) (sym is)
 alone (n ∷ o ∷ modules) m one is = absurd (omega (arith, one))

@@ -8,3 +8,4 @@ pub mod Locate
 pub mod Absolute
 -- what the crate's own functions promise one another: no public contract cites these
 pub mod RomFaults
+pub mod Wrong

@@ -9,7 +9,7 @@ use Rattle.omf_library.specs.Writing.{is_too_large, library_bytes}
 use Rattle.omf_text.specs.ModuleText.{module_text}
 use Rattle.place80.specs.{declared.options.Options.Options, Layout.layout_of, PlaceFault.locate_fault}
 use Rattle.place80_text.specs.Map.{IsMap}
-use Rattle.plm80_console.specs.Journal.{FileValue, Journal, OnlyReports}
+use Rattle.plm80_console.specs.Journal.{FileValue, Journal, OnlyReports, and_blamed, and_read_files, paths_of}
 use Rattle.board80.specs.declared.line.Kind.TheVariants.{Ram, Rom}
 use Rattle.board80.specs.declared.line.Line.{Line}
 use Rattle.plm80_boards.specs.Boards.{AreRangesIn}
@@ -89,9 +89,16 @@ pub record WritesLibrary (arguments : LibraryArguments) (old new : Journal) (sta
   pub replaced : IsReplacedKeeping arguments.library.now (library_bytes modules) between new
   pub status_is : status ≡ 0
 
--- No library was written, which was reported: nothing was tried; or the files were read, and then the library's path was tried, and may be
--- spoiled, or a copy kept.
+-- With the bytes of these files one library holds no modules of the files of these paths, whatever bytes the others have.
+abbrev pub NoLibrary : (paths : List (List ℕ)) → List FileValue → Type 0
+NoLibrary paths files = (others : List FileValue) (modules : List ModuleValue) → paths_of (files ++ others) ≡ paths
+    → AreModulesOf (files ++ others) modules → is_too_large modules ≡ false → ⊥
+
+-- No library was written, which was reported: nothing was tried, and files were blamed only if there is none of their modules; or the files
+-- were read, and then the library's path was tried, and may be spoiled, or a copy kept.
 pub data GivesUpLibrary (arguments : LibraryArguments) (old new : Journal) : Type 0 where
   before : OnlyReports (library_paths arguments) old new → GivesUpLibrary arguments old new
+  unanswered : (files : List FileValue) (rest : List (List ℕ)) → library_paths arguments ≡ paths_of files ++ rest
+      → NoLibrary (library_paths arguments) files → new ≡ and_blamed (and_read_files old files) → GivesUpLibrary arguments old new
   within : (between : Journal) (modules : List ModuleValue) → AreAllRead (library_paths arguments) old between modules
       → GaveUpKeeping arguments.library.now between new → GivesUpLibrary arguments old new

@@ -2,9 +2,10 @@
 
 ghost use Rattle.std.specs.Prelude.{◌≡◌, ◌∷◌, [], map, IfOk, IfErr, OnOk};
 ghost use Rattle.rom80_find.specs.Dump.{dump_of};
-ghost use Rattle.plm80_console.specs.{Answer.Gives, Answer.GivesUp, Journal.OnlyReports};
+ghost use Rattle.plm80_console.specs.{Answer.Gives, Answer.GivesUp, Journal.OnlyBlames};
+ghost use Rattle.plm80_files.specs.Wrong.{SpellsNeither};
 ghost use Rattle.plm80_objects.specs.Find.{AreFilesRead, FindsModules, PrintsFile, PrintsFound};
-ghost use Rattle.plm80_objects.specs.{Arguments.AreFindArguments, Compare.IsDump, RomFaults.IsRefused};
+ghost use Rattle.plm80_objects.specs.{Arguments.AreFindArguments, Compare.IsDump, RomFaults.IsRefused, Wrong.OfOne};
 
 use crate::extract::FIRST;
 use crate::helpers::dump_words::DumpWords;
@@ -13,7 +14,6 @@ use crate::helpers::other_words::explain_other;
 use crate::helpers::rom_faults::blame_rom_fault;
 use clap::ArgMatches;
 use omf_core::RecordKind;
-use plm80_console::laws::faults_follow_reading;
 use plm80_console::{
     Answer, Argument, Console, FaultOf, Kind, OptionText, ReadFile, Reported, Syntax,
     argument_text, argument_values,
@@ -141,7 +141,6 @@ fn find_in_dump<C: Console>(console: &mut C, arguments: &FindArguments<'_>) -> R
     ensures fault { IfErr result (λ _. GivesUp (FindsModules arguments.now) (arguments.now.dump.now ∷ map (λ path. path.now) arguments.now.files.items)
         (C.journal console.old) (C.journal console.new)) }
 {
-    faults_follow_reading();
     let first = arguments.first.word(console)?;
     let file = console.read_file(arguments.dump)?;
     let dump = match dump_of(first, &file) {
@@ -158,9 +157,9 @@ fn find_in_dump<C: Console>(console: &mut C, arguments: &FindArguments<'_>) -> R
 fn read_all<C: Console>(console: &mut C, paths: &[&str]) -> Result<Vec<LinkFile>, Reported>
     ensures read { IfOk result (λ files. AreFilesRead (map (λ path. path.now) paths.now)
         (C.journal console.old) (C.journal console.new) files.items) }
-    ensures fault { IfErr result (λ _. OnlyReports (map (λ path. path.now) paths.now) (C.journal console.old) (C.journal console.new)) }
+    ensures fault { IfErr result (λ _. OnlyBlames (OfOne SpellsNeither) (map (λ path. path.now) paths.now)
+        (C.journal console.old) (C.journal console.new)) }
 {
-    faults_follow_reading();
     let mut files = Vec::new(console.alloc());
     for path in paths {
         let file = read_link_file(console, path)?;

@@ -2,15 +2,16 @@
 
 ghost use Rattle.std.specs.Prelude.{◌≡◌, false, map, IfErr, IfOk, IsErrOf, IsTrue, OnOk};
 ghost use Rattle.omf_library.specs.Writing.{library_bytes, is_too_large};
-ghost use Rattle.plm80_console.specs.Journal.{OnlyReports};
-ghost use Rattle.plm80_objects.specs.{Arguments.AreLibraryArguments, Modules.AreAllRead, Modules.GivesUpLibrary, Modules.WritesLibrary};
+ghost use Rattle.plm80_console.specs.Journal.{OnlyBlames};
+ghost use Rattle.plm80_files.specs.Wrong.{SpellsNoModules};
+ghost use Rattle.plm80_objects.specs.{Arguments.AreLibraryArguments, Modules.AreAllRead, Modules.GivesUpLibrary, Modules.WritesLibrary, Wrong.OfOne};
 
 use crate::helpers::image_words::explain_images;
 use crate::link::IMAGE_ADVICE;
 use clap::ArgMatches;
 use omf_library::{LibraryPutFault, write_library};
 use omf_module::Module;
-use plm80_console::laws::faults_follow_reading;
+use omf_module::laws::one_file_reading;
 use plm80_console::{Argument, Console, Kind, Reported, Syntax, argument_text, argument_values};
 use plm80_files::{append_modules, explain_unread, read_modules};
 use std::alloc::{AllocError, Global};
@@ -78,6 +79,7 @@ pub fn write_library_file<C: Console>(
     ensures done { IfOk result (WritesLibrary arguments.now (C.journal console.old) (C.journal console.new)) }
     ensures fault { IfErr result (λ _. GivesUpLibrary arguments.now (C.journal console.old) (C.journal console.new)) }
 {
+    one_file_reading();
     let modules = modules_of(console, &arguments.files)?;
     match library_of(console.alloc(), &modules) {
         Ok(library) => {
@@ -92,8 +94,8 @@ pub fn write_library_file<C: Console>(
             Ok(0)
         }
         Err(LibraryPutFault::Memory) => Err(console.report_memory()),
-        Err(fault) => {
-            let reported = console.report(fault);
+        Err(LibraryPutFault::TooLarge) => {
+            let reported = console.blame(LibraryPutFault::TooLarge);
             console.explain("it has too many modules, names or bytes for one library: make two");
             Err(reported)
         }
@@ -116,9 +118,9 @@ fn library_of(alloc: Global, modules: &[Module]) -> Result<Vec<u8>, LibraryPutFa
 fn modules_of<C: Console>(console: &mut C, paths: &[&str]) -> Result<Vec<Module>, Reported>
     ensures read { IfOk result (λ modules. AreAllRead (map (λ path. path.now) paths.now)
         (C.journal console.old) (C.journal console.new) modules.items) }
-    ensures fault { IfErr result (λ _. OnlyReports (map (λ path. path.now) paths.now) (C.journal console.old) (C.journal console.new)) }
+    ensures fault { IfErr result (λ _. OnlyBlames (OfOne SpellsNoModules) (map (λ path. path.now) paths.now)
+        (C.journal console.old) (C.journal console.new)) }
 {
-    faults_follow_reading();
     let mut modules = Vec::new(console.alloc());
     for path in paths {
         let mut read = read_modules(console, path)?;

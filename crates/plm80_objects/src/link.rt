@@ -4,18 +4,21 @@ ghost use Rattle.std.specs.Prelude.{◌≡◌, ◌++◌, map, IfErr, IfOk, OnOk}
 ghost use Rattle.link80.specs.Selection.{IsSelection};
 ghost use Rattle.link80_text.specs.Parts.{IsMade};
 ghost use Rattle.plm80_objects.specs.Link.{AddsFile, AddsLibrary, AddsModules, AreLinkFilesRead, LinksFiles, LinksInto, WritesLinked};
-ghost use Rattle.plm80_objects.specs.Arguments.{AreLinkArguments};
-ghost use Rattle.plm80_console.specs.{Answer.Gives, Answer.GivesUp, Journal.OnlyReports, Journal.and_reported};
+ghost use Rattle.plm80_objects.specs.{Arguments.AreLinkArguments, Wrong.LinksNone, Wrong.OfOne};
+ghost use Rattle.plm80_files.specs.Wrong.{SpellsNeither};
+ghost use Rattle.plm80_console.specs.{Answer.Gives, Answer.GivesUp, Journal.Blames, Journal.OnlyBlames};
 
 use crate::helpers::causes::report_link_fault;
 use crate::helpers::image_words::explain_images;
 use crate::helpers::link_lines::{LinkLines, append_rest, taken_lines};
 use clap::ArgMatches;
 use link80::{Linked, link};
+use link80_select::laws::selections_are_unique;
 use omf_core::Name;
 use omf_library::Library;
+use omf_library::laws::one_library;
+use omf_module::laws::one_file_reading;
 use omf_module::{Module, write_file};
-use plm80_console::laws::faults_follow_reading;
 use plm80_console::{
     Answer, Argument, Console, Kind, OptionText, Reported, Syntax, argument_text, argument_values,
 };
@@ -134,6 +137,8 @@ pub fn link_files<C: Console>(
     ensures fault { IfErr result (λ _. GivesUp (LinksFiles arguments.now) (map (λ path. path.now) arguments.now.files.items)
         (C.journal console.old) (C.journal console.new)) }
 {
+    one_file_reading();
+    one_library();
     let name = arguments.name.module_name(console)?;
     let files = read_files(console, &arguments.files)?;
     match link_read(console, arguments, &name, &files) {
@@ -159,8 +164,10 @@ fn link_read<'a, C: Console>(
 ) -> Result<Answer<'a>, Reported>
     ensures links { IfOk result (LinksInto arguments.now.out.now arguments.now.lines name.now files.now) }
     ensures unchanged { IfOk result (λ _. C.journal console.new ≡ C.journal console.old) }
-    ensures fault { IfErr result (λ _. C.journal console.new ≡ and_reported (C.journal console.old)) }
+    ensures fault { IfErr result (λ _. Blames (LinksNone files.now.roots.items files.now.libraries.items)
+        (C.journal console.old) (C.journal console.new)) }
 {
+    selections_are_unique();
     let alloc = console.alloc();
     let made = match link(alloc, name, &files.roots, &files.libraries) {
         Ok(linked) => answer(alloc, arguments.out, arguments.lines, &linked, files),
@@ -176,9 +183,9 @@ fn link_read<'a, C: Console>(
 /// is reported.
 fn read_files<'a, C: Console>(console: &mut C, paths: &[&'a str]) -> Result<LinkFiles<'a>, Reported>
     ensures read { IfOk result (AreLinkFilesRead (map (λ path. path.now) paths.now) (C.journal console.old) (C.journal console.new)) }
-    ensures fault { IfErr result (λ _. OnlyReports (map (λ path. path.now) paths.now) (C.journal console.old) (C.journal console.new)) }
+    ensures fault { IfErr result (λ _. OnlyBlames (OfOne SpellsNeither) (map (λ path. path.now) paths.now)
+        (C.journal console.old) (C.journal console.new)) }
 {
-    faults_follow_reading();
     let mut files = LinkFiles {
         roots: Vec::new(console.alloc()),
         root_files: Vec::new(console.alloc()),

@@ -1,13 +1,13 @@
 //! `plm80 locate`: an object file's one module at its places, as an image and its regions.
 
-ghost use Rattle.std.specs.Prelude.{◌≡◌, ◌⊎◌, ◌∷◌, ◌++◌, None, Some, [], length, IfOk, IfErr, OnOk};
+ghost use Rattle.std.specs.Prelude.{◌≡◌, ◌≢◌, ◌⊎◌, ◌∷◌, ◌++◌, None, Some, [], length, IfOk, IfErr, OnOk};
 ghost use Rattle.image80.specs.RegionsText.{regions_text};
 ghost use Rattle.place80.specs.declared.place_fault.PlaceFault.TheVariants.{Memory};
-ghost use Rattle.plm80_console.specs.{Answer.Gives, Answer.GivesUp, Answer.writes_both, Journal.OnlyReports, Journal.and_reported, Journal.file_value};
-ghost use Rattle.plm80_files.specs.LinkFiles.{AreModulesRead};
+ghost use Rattle.plm80_console.specs.{Answer.Gives, Answer.GivesUp, Answer.writes_both, Journal.Blames, Journal.OnlyBlames, Journal.file_value};
+ghost use Rattle.plm80_files.specs.{LinkFiles.AreModulesRead, Wrong.OfFirst};
 ghost use Rattle.plm80_boards.specs.Boards.{WithBoard, board_paths};
 ghost use Rattle.plm80_objects.specs.Locate.{IsImageOf, fault_of, image_file, unmapped_of};
-ghost use Rattle.plm80_objects.specs.{Arguments.AreLocateArguments, Modules.LocatesFile, Modules.WritesLocated};
+ghost use Rattle.plm80_objects.specs.{Arguments.AreLocateArguments, Modules.LocatesFile, Modules.WritesLocated, Wrong.LocatesNone, Wrong.SpellsNoProgram};
 
 use crate::helpers::board_options::{BOARD_TEXT, RAM_RANGE, ROM_RANGE, unmapped_of};
 use crate::helpers::causes::{report_place_fault, report_unmapped};
@@ -21,6 +21,7 @@ use image80::{Image, write_regions};
 use image80_file::write_image;
 use omf_core::segment_id::ABSOLUTE;
 use omf_module::Module;
+use omf_module::laws::one_file_reading;
 use place80::{Options, PlaceFault, layout, locate, locate_with_restart};
 use place80_text::{Board, write_image_with_publics};
 use plm80_boards::{GivenBoard, board_path};
@@ -162,6 +163,7 @@ fn locate_on_board<C: Console>(
     ensures fault { let asked = arguments.now in IfErr result (λ _. GivesUp (LocatesFile asked given_board.now.board) (asked.object.now ∷ [])
         (C.journal console.old) (C.journal console.new)) }
 {
+    one_file_reading();
     let options = arguments.options.numbers(console)?;
     let rom = given_board.rom(console, ROM_RANGE.name, &arguments.rom)?;
     let ram = given_board.ram(console, RAM_RANGE.name, &arguments.ram)?;
@@ -205,7 +207,8 @@ fn locate_program<'a, C: Console>(
 ) -> Result<Answer<'a>, Reported>
     ensures located { IfOk result (WritesLocated arguments.now options.now board.entry.rom.now board.entry.ram.now program.now) }
     ensures unchanged { IfOk result (λ _. C.journal console.new ≡ C.journal console.old) }
-    ensures fault { IfErr result (λ _. C.journal console.new ≡ and_reported (C.journal console.old)) }
+    ensures fault { IfErr result (λ _. Blames (LocatesNone arguments.now options.now board.entry.rom.now board.entry.ram.now program.now)
+        (C.journal console.old) (C.journal console.new)) }
 {
     match image_of(console.alloc(), arguments.restart, program, options) {
         Ok(image) => answer_on_board(console, arguments, program, options, board, &image),
@@ -235,7 +238,9 @@ fn answer_on_board<'a, C: Console>(
         (file_value asked.image.now (image_file asked.publics options.now program.now image.now))
         (file_value asked.regions.now (regions_text image.now.regions))) }
     ensures unchanged { IfOk result (λ _. C.journal console.new ≡ C.journal console.old) }
-    ensures fault { IfErr result (λ _. C.journal console.new ≡ and_reported (C.journal console.old)) }
+    ensures fault { let asked = arguments.now in IfErr result (λ _. Blames
+        (unmapped_of board.entry.rom.now board.entry.ram.now asked.restart options.now program.now ≢ None)
+        (C.journal console.old) (C.journal console.new)) }
 {
     match unmapped_of(console.alloc(), program, options, arguments.restart, board) {
         Ok(None) => {}
@@ -329,13 +334,14 @@ fn file_of(
 pub fn read_program<C: Console>(console: &mut C, path: &str) -> Result<Vec<Module>, Reported>
     ensures one { IfOk result (λ modules. length modules.items ≡ 1) }
     ensures read { IfOk result (λ modules. AreModulesRead path.now (C.journal console.old) (C.journal console.new) modules.items) }
-    ensures fault { IfErr result (λ _. OnlyReports (path.now ∷ []) (C.journal console.old) (C.journal console.new)) }
+    ensures fault { IfErr result (λ _. OnlyBlames (OfFirst SpellsNoProgram) (path.now ∷ []) (C.journal console.old) (C.journal console.new)) }
 {
+    one_file_reading();
     let modules = read_modules(console, path)?;
     if modules.len() == 1 {
         Ok(modules)
     } else {
-        let reported = console.report_file(path, "NotOneModule");
+        let reported = console.blame_file(path, "NotOneModule");
         console.explain("plm80 link makes one module of its modules");
         Err(reported)
     }

@@ -14,6 +14,7 @@ use crate::helpers::locate_options::{
 use crate::locate::read_program;
 use clap::ArgMatches;
 use omf_module::Module;
+use omf_module::laws::one_file_reading;
 use place80::{Options, PlaceFault};
 use place80_text::map_text;
 use plm80_console::{Answer, Argument, Console, Kind, Reported, Syntax, argument_text};
@@ -81,6 +82,7 @@ pub fn map_file<C: Console>(console: &mut C, arguments: MapArguments<'_>) -> Res
     ensures fault { IfErr result (λ _. GivesUp (MapsFile arguments.entry) (arguments.entry.object.now ∷ [])
         (C.journal console.old) (C.journal console.new)) }
 {
+    one_file_reading();
     let options = arguments.options.numbers(console)?;
     let modules = read_program(console, arguments.object)?;
     let program = &modules[0];

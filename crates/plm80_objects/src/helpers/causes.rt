@@ -1,9 +1,9 @@
 //! Words below a fault of `link`, `locate` and `map`: where its cause is. If memory runs out for them, the fault stands alone.
 
-ghost use Rattle.std.specs.Prelude.{◌≡◌, ◌++◌, ◌∷◌, [], map, IfOk, OnOk};
+ghost use Rattle.std.specs.Prelude.{◌≡◌, ◌≢◌, ◌++◌, ◌∷◌, [], map, IfOk, OnOk};
 ghost use Rattle.std.specs.List.{repeat};
 ghost use Rattle.link80_text.specs.Causes.{PrintsCause};
-ghost use Rattle.plm80_console.specs.Journal.{and_reported};
+ghost use Rattle.plm80_console.specs.Journal.{Blames, and_blamed};
 ghost use Rattle.plm80_objects.specs.Link.{root_paths};
 ghost use Rattle.place80.specs.{Causes.cause_text, Layout.layout_of};
 ghost use Rattle.place80_text.specs.Board.{unmapped_text};
@@ -19,15 +19,19 @@ use plm80_console::{Console, Reported};
 use std::alloc::{AllocError, Global};
 use std::str;
 
-/// Reports why the modules of these files can't be linked, and shows where the cause is, if words are asked for.
+/// Reports why the modules of these files can't be linked, and shows where the cause is, if words are asked for; or reports that memory ran
+/// out.
 pub(crate) fn report_link_fault<C: Console>(
     console: &mut C,
     files: &LinkFiles<'_>,
     fault: &LinkFault,
 ) -> Reported
-    ensures { C.journal console.new ≡ and_reported (C.journal console.old) }
+    ensures { Blames (fault.now ≢ LinkFault.Memory) (C.journal console.old) (C.journal console.new) }
 {
-    let reported = console.report(fault);
+    if let LinkFault::Memory = fault {
+        return console.report_memory();
+    }
+    let reported = console.blame(fault);
     if console.explains() {
         explain_lines(console, link_lines(console.alloc(), files, fault));
     }
@@ -80,16 +84,20 @@ fn push_paths<'a>(paths: &mut Vec<&'a [u8]>, count: usize, path: &'a [u8]) -> Re
     Ok(())
 }
 
-/// Reports why LOCATE can't place `program` by these options, and shows where the cause is, if words are asked for.
+/// Reports why LOCATE can't place `program` by these options, and shows where the cause is, if words are asked for; or reports that memory
+/// ran out.
 pub(crate) fn report_place_fault<C: Console>(
     console: &mut C,
     program: &Module,
     options: &Options,
     fault: &PlaceFault,
 ) -> Reported
-    ensures { C.journal console.new ≡ and_reported (C.journal console.old) }
+    ensures { Blames (fault.now ≢ PlaceFault.Memory) (C.journal console.old) (C.journal console.new) }
 {
-    let reported = console.report(fault);
+    if let PlaceFault::Memory = fault {
+        return console.report_memory();
+    }
+    let reported = console.blame(fault);
     if console.explains() {
         let lines = place_lines(console.alloc(), program, options, fault);
         explain_lines(console, lines);
@@ -141,9 +149,9 @@ pub(crate) fn report_unmapped<C: Console>(
     options: &Options,
     found: Unmapped,
 ) -> Reported
-    ensures { C.journal console.new ≡ and_reported (C.journal console.old) }
+    ensures { C.journal console.new ≡ and_blamed (C.journal console.old) }
 {
-    let reported = console.report(found);
+    let reported = console.blame(found);
     if console.explains() {
         let lines = unmapped_lines(console.alloc(), program, options, found);
         explain_lines(console, lines);

@@ -1,12 +1,14 @@
-use Rattle.plm80_console.specs.AnswerLaws.{both_if_made, err_from, wrong_arguments, wrong_so_far}
-use Rattle.plm80_console.specs.{Answer.AnswerValue, Journal.FileValue}
+use Rattle.plm80_console.specs.AnswerLaws.{both_if_made, err_from, gives_up_unanswered, wrong_arguments, wrong_so_far}
+use Rattle.plm80_console.specs.{Answer.AnswerValue, Journal.FileValue, Journal.OnlyBlames}
+use Rattle.plm80_files.specs.Wrong.{SpellsNeither}
+use Rattle.plm80_objects.specs.Wrong.{OfOne}
+use Rattle.plm80_objects.proofs.FaultLemmas.{none_found}
 use Rattle.plm80_objects.specs.{Arguments.WritesWord, Compare.IsDump, declared.find.FindArguments.FindArguments}
 use Rattle.std.specs.Prelude.{slice_index_or}
-use Rattle.plm80_objects.proofs.Names.{◌++◌}
-use Rattle.plm80_objects.proofs.Names.{◌≡◌, Bor, ℕ, List, [], ◌∷◌, append-nil, refl, ◌∙◌, ap, subst, sym, IfOk, IfOk-weaker, DumpValue, LinkFile, dump_of, Journal, OnlyReports}
+use Rattle.plm80_objects.proofs.Names.{◌++◌, drop}
+use Rattle.plm80_objects.proofs.Names.{◌≡◌, Bor, ℕ, List, [], ◌∷◌, refl, ◌∙◌, ap, subst, sym, IfOk, IfOk-weaker, DumpValue, LinkFile, dump_of, Journal}
 use Rattle.plm80_objects.proofs.Names.{and_read, and_read_files, file_value, FindsModules, PrintsFound}
-use Rattle.plm80_objects.proofs.{ReadLemmas.refused_dump, ReadLemmas.texts}
-use Rattle.plm80_console.specs.Answer.GivesUp.{before}
+use Rattle.plm80_objects.proofs.ReadLemmas.{blamed_behind, refused_dump, texts}
 use Rattle.plm80_objects.proofs.find.find_in_dump.Goals as goal
 
 -- a file that is no dump is that of no answer
@@ -77,10 +79,8 @@ returns-in_err-files-clause-fault g c =
     let file = file_value asked.dump.now c.in_ok-file.file.bytes.items in
     let further = texts asked.files.items in
     err_from c.from_residual-in_err-files.result
-    (before
-    (c.faults_follow_reading.ensures (g.C.Console.journal c.args.console.now) (g.C.Console.journal c.read_file.new.self)
-    (g.C.Console.journal c.read_all.new.console) (file ∷ []) (file.path ∷ further) further []
-    (ap (λ (ps : List (List ℕ)). file.path ∷ ps) (sym (append-nil further)))
-    (c.in_ok-file.ensures.read ∙ ap (λ (j : Journal). and_read j file.path file.bytes) c.in_ok-first.ensures.unchanged)
-    (subst (λ (ps : List (Bor (List ℕ))). OnlyReports (texts ps) (g.C.Console.journal c.read_file.new.self) (g.C.Console.journal c.read_all.new.console))
+    (gives_up_unanswered (FindsModules asked) (λ files lacks others answer named is. none_found asked files others answer is lacks)
+    (blamed_behind (OfOne SpellsNeither) (λ (files : List FileValue). OfOne SpellsNeither (drop 1 files)) {paths = file.path ∷ further} (file ∷ []) refl
+    (c.in_ok-file.ensures.read ∙ ap (λ (j : Journal). and_read j file.path file.bytes) c.in_ok-first.ensures.unchanged) (λ others lacks. lacks)
+    (subst (λ (ps : List (Bor (List ℕ))). OnlyBlames (OfOne SpellsNeither) (texts ps) (g.C.Console.journal c.read_file.new.self) (g.C.Console.journal c.read_all.new.console))
     c.deref.ensures.value c.in_err-files.ensures.fault)))

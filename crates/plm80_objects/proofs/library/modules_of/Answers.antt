@@ -1,6 +1,8 @@
 use Rattle.plm80_console.specs.AnswerLaws.{err_from}
 use Rattle.plm80_objects.proofs.Names.{◌++◌, [], ◌∙◌, AreModulesOf}
-use Rattle.plm80_objects.proofs.{ReadLemmas.faults_at, ReadLemmas.none_read, ReadLemmas.one_read, ReadLemmas.read_then_reported, ReadLemmas.text_of}
+use Rattle.plm80_console.specs.Journal.OnlyBlames.{other}
+use Rattle.plm80_files.specs.Wrong.{SpellsNoModules}
+use Rattle.plm80_objects.proofs.{ReadLemmas.blames_at, ReadLemmas.none_read, ReadLemmas.one_read, ReadLemmas.read_then_reported, ReadLemmas.text_of}
 use Rattle.plm80_objects.specs.Modules.AreModulesOf.{none, more}
 use Rattle.plm80_objects.proofs.library.modules_of.Goals as goal
 
@@ -11,14 +13,15 @@ loop-path-init g c =
 pub returns-in_err-read-clause-fault : goal.returns-in_err-read-clause-fault
 returns-in_err-read-clause-fault g c =
     err_from c.from_residual.result
-    (faults_at text_of c.args.paths.now c.loop-path.path-index c.loop-path.invariant _ c.loop-path-test.true c.faults_follow_reading.ensures c.in_err-read.ensures.fault)
+    (blames_at text_of c.args.paths.now c.loop-path.path-index c.loop-path.invariant SpellsNoModules _ c.loop-path-test.true c.in_err-read.ensures.fault)
 
 pub returns-in_err-append_modules-clause-fault : goal.returns-in_err-append_modules-clause-fault
 returns-in_err-append_modules-clause-fault g c =
     err_from c.from_residual-in_err-append_modules.result
-    (faults_at text_of c.args.paths.now c.loop-path.path-index c.loop-path.invariant _ c.loop-path-test.true c.faults_follow_reading.ensures
+    (blames_at text_of c.args.paths.now c.loop-path.path-index c.loop-path.invariant SpellsNoModules _ c.loop-path-test.true
+    (other
     (read_then_reported _ c.in_ok-read.ensures.read.0 (g.C.Console.journal c.loop-path.console) (g.C.Console.journal c.read_modules.new.console)
-    (g.C.Console.journal c.append_modules.new.console) c.in_ok-read.ensures.read.1 c.in_err-append_modules.ensures.fault))
+    (g.C.Console.journal c.append_modules.new.console) c.in_ok-read.ensures.read.1 c.in_err-append_modules.ensures.fault)))
 
 pub loop-path-preserved : goal.loop-path-preserved
 loop-path-preserved g c =

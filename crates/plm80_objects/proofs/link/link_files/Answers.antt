@@ -1,7 +1,10 @@
-use Rattle.plm80_console.specs.AnswerLaws.{err_from, gives_or_gives_up}
-use Rattle.plm80_objects.proofs.Names.{Bor, ℕ, List, ◌∙◌, ap, subst, Journal, and_read_files, AreLinkFilesRead, LinksFiles, LinksInto}
-use Rattle.plm80_objects.proofs.{Names.OnlyReports, ReadLemmas.all_read, ReadLemmas.texts}
-use Rattle.plm80_console.specs.Answer.GivesUp.{before}
+use Rattle.plm80_console.specs.{AnswerLaws.err_from, AnswerLaws.gives_or_gives_up, AnswerLaws.gives_up_unanswered, AnswerLaws.only_blames_same}
+use Rattle.plm80_console.specs.{AnswerLaws.wrong_files, Journal.OnlyBlames}
+use Rattle.plm80_files.specs.Wrong.{SpellsNeither}
+use Rattle.plm80_objects.specs.Wrong.{OfOne}
+use Rattle.plm80_objects.proofs.FaultLemmas.{all_of_them, links_none, no_link_files}
+use Rattle.plm80_objects.proofs.Names.{Bor, ℕ, List, ◌++◌, ◌∙◌, ap, subst, Journal, and_read_files, AreLinkFilesRead, LinksFiles, LinksInto}
+use Rattle.plm80_objects.proofs.ReadLemmas.{one_before, texts}
 use Rattle.plm80_objects.proofs.link.link_files.Goals as goal
 
 pub returns-in-Ok : goal.returns-in-Ok
@@ -28,15 +31,20 @@ returns-clause-fault g c =
     let asked = c.args.arguments.now in
     let read = subst (λ (ps : List (Bor (List ℕ))). AreLinkFilesRead (texts ps) (g.C.Console.journal c.module_name.new.console)
     (g.C.Console.journal c.read_files.new.console) c.in_ok-files.files) c.deref.ensures.value c.in_ok-files.ensures.read in
-    before
-    (subst (λ (j : Journal). OnlyReports (texts asked.files.items) j (g.C.Console.journal c.link_read.new.console)) c.in_ok-name.ensures.unchanged
-    (all_read read c.in-Err.ensures.fault))
+    wrong_files (LinksFiles asked) (texts asked.files.items) (g.C.Console.journal c.args.console.now) (g.C.Console.journal c.read_files.new.console)
+    (g.C.Console.journal c.link_read.new.console) read.files read.paths_are
+    (read.journal ∙ ap (λ (j : Journal). and_read_files j read.files) c.in_ok-name.ensures.unchanged)
+    (λ lacks others answer named is.
+    links_none c.one_file_reading.ensures.file c.one_library.ensures.library asked read.files (read.files ++ others) c.in_ok-files.files answer read.have
+    (all_of_them read.files others (texts asked.files.items) read.paths_are named) is lacks)
+    c.in-Err.ensures.fault
 
 pub returns-in_err-files-clause-fault : goal.returns-in_err-files-clause-fault
 returns-in_err-files-clause-fault g c =
     let new = g.C.Console.journal c.read_files.new.console in
     err_from c.from_residual-in_err-files.result
-    (before
-    (subst (λ (j : Journal). OnlyReports (texts c.args.arguments.now.files.items) j new) c.in_ok-name.ensures.unchanged
-    (subst (λ (ps : List (Bor (List ℕ))). OnlyReports (texts ps) (g.C.Console.journal c.module_name.new.console) new) c.deref.ensures.value
-    c.in_err-files.ensures.fault)))
+    (gives_up_unanswered (LinksFiles c.args.arguments.now)
+    (λ files lacks others answer named is. no_link_files (files ++ others) is.files is.are (one_before SpellsNeither files others lacks))
+    (only_blames_same c.in_ok-name.ensures.unchanged
+    (subst (λ (ps : List (Bor (List ℕ))). OnlyBlames (OfOne SpellsNeither) (texts ps) (g.C.Console.journal c.module_name.new.console) new)
+    c.deref.ensures.value c.in_err-files.ensures.fault)))

@@ -1,6 +1,8 @@
 use Rattle.plm80_console.specs.AnswerLaws.{err_from}
 use Rattle.plm80_objects.proofs.Names.{refl, AreLinkFilesOf}
-use Rattle.plm80_objects.proofs.{ReadLemmas.faults_at, ReadLemmas.none_read, ReadLemmas.one_read, ReadLemmas.read_then_reported, ReadLemmas.text_of}
+use Rattle.plm80_console.specs.Journal.OnlyBlames.{other}
+use Rattle.plm80_files.specs.Wrong.{SpellsNeither}
+use Rattle.plm80_objects.proofs.{ReadLemmas.blames_at, ReadLemmas.none_read, ReadLemmas.one_read, ReadLemmas.read_then_reported, ReadLemmas.text_of}
 use Rattle.plm80_objects.specs.Link.AreLinkFilesOf.{none, more}
 use Rattle.plm80_objects.proofs.link.read_files.Goals as goal
 
@@ -12,13 +14,14 @@ loop-path-init g c =
 pub returns-in_err-file-clause-fault : goal.returns-in_err-file-clause-fault
 returns-in_err-file-clause-fault g c =
     err_from c.from_residual.result
-    (faults_at text_of c.args.paths.now c.loop-path.path-index c.loop-path.invariant _ c.loop-path-test.true c.faults_follow_reading.ensures c.in_err-file.ensures.fault)
+    (blames_at text_of c.args.paths.now c.loop-path.path-index c.loop-path.invariant SpellsNeither _ c.loop-path-test.true c.in_err-file.ensures.fault)
 
 pub returns-in-Err-clause-fault : goal.returns-in-Err-clause-fault
 returns-in-Err-clause-fault g c =
-    faults_at text_of c.args.paths.now c.loop-path.path-index c.loop-path.invariant _ c.loop-path-test.true c.faults_follow_reading.ensures
+    blames_at text_of c.args.paths.now c.loop-path.path-index c.loop-path.invariant SpellsNeither _ c.loop-path-test.true
+    (other
     (read_then_reported _ c.in_ok-file.ensures.read.0 (g.C.Console.journal c.loop-path.console) (g.C.Console.journal c.read_link_file.new.console)
-    (g.C.Console.journal c.report_memory.new.self) c.in_ok-file.ensures.read.1 c.report_memory.ensures)
+    (g.C.Console.journal c.report_memory.new.self) c.in_ok-file.ensures.read.1 c.report_memory.ensures))
 
 pub loop-path-preserved : goal.loop-path-preserved
 loop-path-preserved g c =

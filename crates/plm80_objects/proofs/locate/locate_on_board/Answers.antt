@@ -1,11 +1,11 @@
-use Rattle.plm80_console.specs.AnswerLaws.{err_from, gives_or_gives_up, wrong_arguments}
-use Rattle.plm80_objects.proofs.Names.{Bor, ℕ, List, [], ◌∷◌, refl, ◌∙◌, ap, subst, Range, Journal, and_read, file_value}
+use Rattle.place80.specs.declared.options.Options.{Options}
+use Rattle.plm80_console.specs.AnswerLaws.{err_from, gives_or_gives_up, gives_up_unanswered, only_blames_same, wrong_arguments, wrong_files}
+use Rattle.plm80_objects.proofs.FaultLemmas.{no_program, of_its_program, one_list_of_ranges, one_numbers}
+use Rattle.plm80_objects.proofs.Names.{Bor, ℕ, List, [], ◌∷◌, refl, ◌∙◌, ap, subst, sym, Range, Journal, and_read, file_value}
 use Rattle.plm80_objects.proofs.Names.{LocatesFile, WritesLocated}
-use Rattle.plm80_objects.proofs.{Names.OnlyReports, Names.and_reported, ReadLemmas.of_program}
-use Rattle.plm80_objects.proofs.ReadLemmas.{texts}
+use Rattle.plm80_objects.proofs.ReadLemmas.{of_program, texts}
 use Rattle.board80.specs.declared.line.Kind.TheVariants.{Ram, Rom}
 use Rattle.plm80_boards.specs.Boards.{AreRangesIn}
-use Rattle.plm80_console.specs.{Answer.GivesUp.before, Journal.OnlyReports.read as read_it}
 use Rattle.plm80_objects.proofs.locate.locate_on_board.Goals as goal
 
 pub returns : goal.returns
@@ -42,20 +42,37 @@ returns g c =
 
 pub returns-in_err-answer-clause-fault : goal.returns-in_err-answer-clause-fault
 returns-in_err-answer-clause-fault g c =
-    let path = c.args.arguments.now.object.now in
+    let asked = c.args.arguments.now in
+    let board = c.args.given_board.now.board in
     let read = c.in_ok-modules.ensures.read in
+    let file = file_value asked.object.now read.0 in
+    let program = c.index-program.result.now in
     err_from c.from_residual-in_err-answer.result
-    (before
-    (read_it (file_value path read.0 ∷ []) [] refl
-    (c.in_err-answer.ensures.fault ∙ ap and_reported (read.1 ∙ ap (λ (j : Journal). and_read j path read.0)
-    (c.in_ok-ram.ensures.unchanged ∙ c.in_ok-rom.ensures.unchanged ∙ c.in_ok-options.ensures.unchanged)))))
+    (wrong_files (LocatesFile asked board) (file.path ∷ []) (g.C.Console.journal c.args.console.now) (g.C.Console.journal c.read_program.new.console)
+    (g.C.Console.journal c.locate_program.new.console) (file ∷ []) refl
+    (read.1 ∙ ap (λ (j : Journal). and_read j file.path file.bytes)
+    (c.in_ok-ram.ensures.unchanged ∙ c.in_ok-rom.ensures.unchanged ∙ c.in_ok-options.ensures.unchanged))
+    (λ lacks others answer named is.
+    let options = one_numbers asked.options is.options c.in_ok-options.options is.are_options c.in_ok-options.ensures.numbers in
+    let rom = one_list_of_ranges Rom board (texts asked.rom.items) is.rom c.in_ok-rom.rom.items is.is_rom
+    (subst (λ (l : List (Bor (List ℕ))). AreRangesIn Rom board (texts l) c.in_ok-rom.rom.items) c.deref.ensures.value c.in_ok-rom.ensures.ranges) in
+    let ram = one_list_of_ranges Ram board (texts asked.ram.items) is.ram c.in_ok-ram.ram.items is.is_ram
+    (subst (λ (l : List (Bor (List ℕ))). AreRangesIn Ram board (texts l) c.in_ok-ram.ram.items) c.deref-2.ensures.value c.in_ok-ram.ensures.ranges) in
+    let writes = of_its_program c.one_file_reading.ensures.file (WritesLocated asked is.options is.rom is.ram) file others c.in_ok-modules.modules.items program answer
+    read.2 c.in_ok-modules.ensures.one c.index-program.ensures is.answers in
+    lacks answer
+    (subst (λ (l : List Range). WritesLocated asked c.in_ok-options.options c.deref-3.result.now l program answer) (ram ∙ sym c.deref-4.ensures.value)
+    (subst (λ (l : List Range). WritesLocated asked c.in_ok-options.options l is.ram program answer) (rom ∙ sym c.deref-3.ensures.value)
+    (subst (λ (o : Options). WritesLocated asked o is.rom is.ram program answer) options writes))))
+    c.in_err-answer.ensures.fault)
 
 pub returns-in_err-modules-clause-fault : goal.returns-in_err-modules-clause-fault
 returns-in_err-modules-clause-fault g c =
+    let asked = c.args.arguments.now in
     err_from c.from_residual-in_err-modules.result
-    (before
-    (subst (λ (j : Journal). OnlyReports (c.args.arguments.now.object.now ∷ []) j (g.C.Console.journal c.read_program.new.console))
-    (c.in_ok-ram.ensures.unchanged ∙ c.in_ok-rom.ensures.unchanged ∙ c.in_ok-options.ensures.unchanged) c.in_err-modules.ensures.fault))
+    (gives_up_unanswered (LocatesFile asked c.args.given_board.now.board)
+    (λ files lacks others answer named is. no_program (WritesLocated asked is.options is.rom is.ram) files others answer is.answers lacks)
+    (only_blames_same (c.in_ok-ram.ensures.unchanged ∙ c.in_ok-rom.ensures.unchanged ∙ c.in_ok-options.ensures.unchanged) c.in_err-modules.ensures.fault))
 
 pub returns-in_err-options-clause-fault : goal.returns-in_err-options-clause-fault
 returns-in_err-options-clause-fault g c =

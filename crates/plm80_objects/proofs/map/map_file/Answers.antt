@@ -1,7 +1,9 @@
-use Rattle.plm80_console.specs.AnswerLaws.{err_from, gives_or_gives_up, wrong_arguments}
-use Rattle.plm80_objects.proofs.Names.{[], ◌∷◌, refl, ◌∙◌, ap, Journal, and_read, file_value, MapsFile, PrintsMap}
-use Rattle.plm80_objects.proofs.{Names.OnlyReports, Names.and_reported, Names.subst, ReadLemmas.of_program}
-use Rattle.plm80_console.specs.{Answer.GivesUp.before, Journal.OnlyReports.read as read_it}
+use Rattle.std.specs.Prelude.{None}
+use Rattle.place80.specs.{PlaceFault.locate_fault, declared.options.Options.Options, declared.place_fault.PlaceFault.TheVariants.Memory}
+use Rattle.plm80_console.specs.AnswerLaws.{err_from, gives_or_gives_up, gives_up_unanswered, only_blames_same, wrong_arguments, wrong_files}
+use Rattle.plm80_objects.proofs.FaultLemmas.{is_there, no_program, of_its_program, one_numbers}
+use Rattle.plm80_objects.proofs.Names.{◌≡◌, [], ◌∷◌, refl, ◌∙◌, ap, Journal, and_read, file_value, MapsFile, PrintsMap, subst}
+use Rattle.plm80_objects.proofs.ReadLemmas.{of_program}
 use Rattle.plm80_objects.proofs.map.map_file.Goals as goal
 
 pub returns-in-Ok : goal.returns-in-Ok
@@ -25,17 +27,25 @@ pub returns-clause-fault : goal.returns-clause-fault
 returns-clause-fault g c =
     let asked = c.args.arguments in
     let read = c.in_ok-modules.ensures.read in
-    before
-    (read_it (file_value asked.object.now read.0 ∷ []) [] refl
-    (c.report_place_fault-reported.ensures ∙ ap and_reported (read.1
-    ∙ ap (λ (j : Journal). and_read j asked.object.now read.0) c.in_ok-options.ensures.unchanged)))
+    let file = file_value asked.object.now read.0 in
+    let options = c.in_ok-options.options in
+    wrong_files (MapsFile asked) (file.path ∷ []) (g.C.Console.journal c.args.console.now) (g.C.Console.journal c.read_program.new.console)
+    (g.C.Console.journal c.report_place_fault-reported.new.console) (file ∷ []) refl
+    (read.1 ∙ ap (λ (j : Journal). and_read j file.path file.bytes) c.in_ok-options.ensures.unchanged)
+    (λ other others answer named is.
+    let same = one_numbers asked.options is.options options is.are_options c.in_ok-options.ensures.numbers in
+    let prints = of_its_program c.one_file_reading.ensures.file (PrintsMap is.options) file others c.in_ok-modules.modules.items c.index-program.result.now answer
+    read.2 c.in_ok-modules.ensures.one c.index-program.ensures is.answers in
+    is_there (locate_fault options c.index-program.result.now) Memory c.in-Err.fault c.in-Err.ensures.fault other
+    (subst (λ (o : Options). locate_fault o c.index-program.result.now ≡ None) same prints.none))
+    c.report_place_fault-reported.ensures
 
 pub returns-in_err-modules-clause-fault : goal.returns-in_err-modules-clause-fault
 returns-in_err-modules-clause-fault g c =
     err_from c.from_residual-in_err-modules.result
-    (before
-    (subst (λ (j : Journal). OnlyReports (c.args.arguments.object.now ∷ []) j (g.C.Console.journal c.read_program.new.console))
-    c.in_ok-options.ensures.unchanged c.in_err-modules.ensures.fault))
+    (gives_up_unanswered (MapsFile c.args.arguments)
+    (λ files lacks others answer named is. no_program (PrintsMap is.options) files others answer is.answers lacks)
+    (only_blames_same c.in_ok-options.ensures.unchanged c.in_err-modules.ensures.fault))
 
 pub returns-in_err-options-clause-fault : goal.returns-in_err-options-clause-fault
 returns-in_err-options-clause-fault g c =

@@ -1,6 +1,6 @@
-use Rattle.plm80_console.specs.AnswerLaws.{both_if_made}
+use Rattle.plm80_console.specs.AnswerLaws.{both_if_made, gives_up_unanswered}
+use Rattle.plm80_files.specs.{Wrong.SpellsNoModules, WrongLaws.of_first}
 use Rattle.plm80_objects.proofs.Names.{List, [], ◌∷◌, refl, subst, IfOk, IfOk-weaker, ModuleValue, file_value, AnswersModules, DescribesModules}
-use Rattle.plm80_console.specs.Answer.GivesUp.{before}
 use Rattle.plm80_objects.proofs.module.describe_file.Goals as goal
 
 pub returns-in-Ok : goal.returns-in-Ok
@@ -19,4 +19,7 @@ returns-in-Ok g c =
     record { done = both.0; fault = both.1 }
 
 pub returns-in-Err-clause-fault : goal.returns-in-Err-clause-fault
-returns-in-Err-clause-fault g c = before c.in-Err.ensures.fault
+returns-in-Err-clause-fault g c =
+    gives_up_unanswered (AnswersModules DescribesModules)
+    (λ files lacks others answer named is. of_first SpellsNoModules files others [] is.file is.files_are lacks is.modules is.spelled)
+    c.in-Err.ensures.fault
