@@ -7,7 +7,7 @@ use Rattle.std.specs.Str.Parse.{AllDigits}
 use Rattle.omf_module.specs.ReadingLaws.{OneFile}
 use Rattle.omf_library.specs.Laws.{OneLibrary}
 use Rattle.board80.specs.declared.line.{Kind.Kind, Line.Line}
-use Rattle.link80.specs.{declared.linking.Linked.Linked, Selection.IsSelection}
+use Rattle.link80.specs.Selection.{IsSelection}
 use Rattle.link80_text.specs.Parts.{IsMade}
 use Rattle.place80.specs.declared.options.Options.{Options}
 use Rattle.plm80_boards.specs.Boards.{AreRangesIn}

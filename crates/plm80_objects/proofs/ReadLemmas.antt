@@ -4,7 +4,7 @@ use Rattle.plm80_objects.proofs.Names.{arith, get_or, subst, sym, append-nil, ap
 use Rattle.plm80_objects.proofs.Names.{PlacedBytes, chunks_of, AnswerValue, paths_of, FileValue, Journal, and_read, and_read_files}
 use Rattle.plm80_objects.proofs.Names.{file_value, FaultsFollowReading, OnlyReports, RomFile, AreDumpsRead, chunks_from, rom_paths}
 use Rattle.plm80_objects.proofs.Names.{AnswersModules, OfProgram, AreRead, and_reported, take-append-drop}
-use Rattle.std.specs.Prelude.{◌≢◌, ◌⊎◌}
+use Rattle.std.specs.Prelude.{◌≢◌}
 use Rattle.std.proofs.Common.{inl, inr}
 use Rattle.plm80_console.specs.AnswerLaws.{more_blamed}
 use Rattle.plm80_console.specs.Journal.{OnlyBlames, and_blamed, OnlyBlames.other, OnlyBlames.wrong, OnlyReports.read as read_it, OnlyReports.unread as nothing_read}
