@@ -10,7 +10,8 @@ use Rattle.board80.specs.declared.line.Line.{Line}
 use Rattle.board80.specs.declared.place.Place.{Place}
 use Rattle.machine80_board.specs.declared.end.BoardEnd.{BoardEnd}
 use Rattle.machine80_board.specs.declared.output.Output.{Output}
-use Rattle.machine80_board.specs.BoardRun.{BoardState, EndsAt, EndsBy, IsAnswered, IsReached, Steps, answered, is_empty_place, machine_by, outputs_by, reads_by, refused_output, without_ports, begins, goes_on, unfetched, unanswered, stopped, refused}
+use Rattle.machine80_board.specs.BoardRun.{BoardState, EndsAt, EndsBy, IsAnswered, IsReached, Steps, answered, is_empty_place, machine_by, outputs_by}
+use Rattle.machine80_board.specs.BoardRun.{reads_by, refused_output, without_ports, begins, goes_on, unfetched, unanswered, stopped, refused}
 use Rattle.machine80_board.specs.Exchanges.{answer_at, outputs_of, places_read}
 use Rattle.loader80_board.specs.BoardStates.{BoardsDecideRuns}
 

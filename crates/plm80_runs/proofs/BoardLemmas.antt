@@ -1,6 +1,7 @@
 -- Answers that are given to a board, an image and its regions that were read.
 use Rattle.plm80_runs.proofs.Names.{◌≡◌, ◌∙◌, ap, arith, ℕ, true, List, [], ◌∷◌, Option, None, Some, Result, Ok, Err, IfOk, IfErr, IsOkAnd, refl, Public, Located}
-use Rattle.plm80_runs.proofs.Names.{AnswerValue, Appends, Appends-trans, AppendsFront, GaveUp, Gives, GivesUp, IsAnswered, IsGiven, IsGivenUp, prints, Journal, file_value, FileValue, IfErr-weaker, Bor, ◌++◌, drop, subst, sym}
+use Rattle.plm80_runs.proofs.Names.{AnswerValue, Appends, Appends-trans, AppendsFront, GaveUp, Gives, GivesUp, IsAnswered, IsGiven}
+use Rattle.plm80_runs.proofs.Names.{IsGivenUp, prints, Journal, file_value, FileValue, IfErr-weaker, Bor, ◌++◌, drop, subst, sym}
 use Rattle.plm80_runs.proofs.Names.{IsRefusal, LeavesFront, Limits, Span}
 use Rattle.std.proofs.Common.{inr}
 use Rattle.board80.specs.declared.line.Line.{Line}
@@ -24,7 +25,8 @@ use Rattle.plm80_names.specs.VerdictLaws.{no_program, program_answered, program_
 use Rattle.plm80_runs.specs.declared.board_files.BoardFiles.{BoardFiles}
 use Rattle.plm80_runs.specs.declared.on_board.Ran.{Ran}
 use Rattle.plm80_runs.specs.declared.runnable.Runnable.{Runnable}
-use Rattle.plm80_runs.specs.OnBoards.{AnswersBoard, AnswersRunnable, BeginsTrace, HaveNoBoardProgram, IfGiven, IsBoardProgramRead, IsRunnable, TracesLines, board_program_paths, board_trace_ending, first_line, image_of}
+use Rattle.plm80_runs.specs.OnBoards.{AnswersBoard, AnswersRunnable, BeginsTrace, HaveNoBoardProgram, IfGiven, IsBoardProgramRead}
+use Rattle.plm80_runs.specs.OnBoards.{IsRunnable, TracesLines, board_program_paths, board_trace_ending, first_line, image_of}
 use Rattle.plm80_runs.specs.OnBoards.AnswersRunnable.{refused, runs}
 
 module _ {paths : BoardFiles} {old between : Journal} {board : List Line} {image : Located} {publics : List Public}

@@ -17,7 +17,8 @@ use Rattle.omf_model.specs.declared.symbols.Public.{Public}
 use Rattle.plm80_boards.specs.Boards.{HaveNoBoard, IsBoardRead, WithBoard, board_paths}
 use Rattle.plm80_console.specs.Answer.{AnswerValue, prints}
 use Rattle.plm80_console.specs.Journal.{FileValue, Journal}
-use Rattle.plm80_names.specs.{Arguments.asks_names, Arguments.program_paths, Verdict.AnswersProgram, Verdict.AnswersVerdict, Verdict.HaveNoProgram, Verdict.IsAccepted, Verdict.IsProgramRead, Verdict.IsRefusal}
+use Rattle.plm80_names.specs.{Arguments.asks_names, Arguments.program_paths, Verdict.AnswersProgram, Verdict.AnswersVerdict}
+use Rattle.plm80_names.specs.{Verdict.HaveNoProgram, Verdict.IsAccepted, Verdict.IsProgramRead, Verdict.IsRefusal}
 use Rattle.plm80_runs.specs.{Running.AreLimitsOf, Running.IsSpanOf, Running.named_ending, Status.board_end_status}
 use Rattle.plm80_runs.specs.declared.board_cover.BoardCoverArguments.{BoardCoverArguments}
 use Rattle.plm80_runs.specs.declared.board_files.BoardFiles.{BoardFiles}

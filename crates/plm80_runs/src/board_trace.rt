@@ -7,7 +7,8 @@ ghost use Rattle.loader80_trace.specs.Traces.{AppendsFront};
 ghost use Rattle.plm80_console.specs.{Answer.Gives, Answer.GivesUp, Answer.IsAnswered, Answer.IsGiven, Answer.IsGivenUp, Journal.and_reported};
 ghost use Rattle.plm80_names.specs.Fronts.{LeavesFront};
 ghost use Rattle.plm80_runs.specs.Arguments.{AreBoardTraceArguments};
-ghost use Rattle.plm80_runs.specs.OnBoards.{BeginsTrace, TracesImage, TracesBoardFiles, TracesBoardFilesInPart, TracesImageInPart, TracesLines, TracesOnBoard, TracesOnBoardInPart, board_program_paths, board_trace_ending, first_line, image_of};
+ghost use Rattle.plm80_runs.specs.OnBoards.{BeginsTrace, TracesImage, TracesBoardFiles, TracesBoardFilesInPart, TracesImageInPart, TracesLines};
+ghost use Rattle.plm80_runs.specs.OnBoards.{TracesOnBoard, TracesOnBoardInPart, board_program_paths, board_trace_ending, first_line, image_of};
 
 use crate::board_files::{BoardFiles, BoardProgram};
 use crate::endings::board_trace_ending_of;
